@@ -39,7 +39,7 @@ syn keyword scenarioMessage unset sreg agent watch raw prcsig prcfault prstep pr
 
 " files, tools
 syn keyword scenarioFile ctl status lstatus psinfo map usage as sigact fds lwpctl lwpstatus
-syn keyword scenarioTool pflags psig pstack pmap pfiles ptree pstop prun pwait
+syn keyword scenarioTool pflags psig pstack pmap pfiles ptree pstop prun pwait gcore apfiles
 
 hi def link scenarioComment Comment
 hi def link scenarioText String

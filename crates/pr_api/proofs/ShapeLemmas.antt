@@ -48,7 +48,7 @@ use Rattle.pr_model.specs.declared.calls.Mode.{Mode}
 use Rattle.pr_model.specs.declared.calls.Reply.{Reply}
 use Rattle.pr_model.specs.declared.calls.Reply.TheVariants.{Bytes, Done, Fail, Used}
 use Rattle.pr_model.specs.declared.handles.Held.{Held}
-use Rattle.pr_proc.proofs.ByteLemmas.{length-bytes_for}
+use Rattle.pr_parts.proofs.ByteLemmas.{length-bytes_for}
 use Rattle.pr_api.specs.Shapes.{answers_message, has_shape, is_at_most, is_done, is_failure, is_used}
 use Rattle.pr_num.proofs.BoolLemmas.{either}
 

@@ -8,9 +8,8 @@ ghost use Rattle.pr_api.specs.TableKernels.{after_call, after_tick, after_turn, 
 ghost use Rattle.pr_api.specs.Views.{IsLawful, next_of};
 
 use crate::{Kernel, has_shape};
-use pr_model::{Act, Actor, Call, Did, Entry, History, Reply, Turned};
+use pr_model::{Act, Actor, Call, Did, Entry, History, Reply, Turned, is_after};
 use pr_num::{Bytes, Errno, NoMemory};
-use pr_proc::is_after;
 use std::alloc::Global;
 use std::marker::Model;
 

@@ -10,7 +10,7 @@ use Rattle.pr_parts.specs.FileTables.{open_of}
 use Rattle.pr_parts.specs.FileTransfers.{has_reader, has_writer, pipe_bytes, read_fd, read_file, read_pipe, write_fd, write_file, write_pipe}
 use Rattle.pr_parts.specs.declared.files.FileNo.{FileNo}
 use Rattle.pr_parts.specs.declared.files.FileNo.TheVariants.{NoMemory}
-use Rattle.pr_model.specs.FileCallRows.{file_effect}
+use Rattle.pr_model.specs.FileCallRows.{file_effect, refusal_effect}
 use Rattle.pr_call.specs.Effects.{may_lack_memory}
 use Rattle.pr_call.specs.FileAnswers.{lacks_memory}
 use Rattle.pr_call.specs.declared.answers.Refusal.TheVariants.{Files}
@@ -133,3 +133,8 @@ module _ {A : Type 0} (t : FileTable) (fds : Descriptors) (f : FileTable) (d : D
 pub lacking-file : (t : FileTable) (fds : Descriptors) (f : FileTable) (d : Descriptors) (e : FileEffect ℕ) (why : FileNo) → record { files = f; fds = d; answer = Err why } ≡ unless_no_memory t fds (Err why) e → lacks_memory (Err (Files why)) ≡ true → may_lack_memory (file_effect e) ≡ true
 unfolding file_effect
 lacking-file t fds f d e = lacking-by t fds f d e (λ r. may_lack_memory (file_effect (record { files = e.files; fds = e.fds; answer = r })) ≡ true) (λ value. refl) refl
+
+-- a refusal that lacks memory is one where memory may run out
+pub refusal-lacks : (why : FileNo) → lacks_memory (Err (Files why)) ≡ true → may_lack_memory (refusal_effect why) ≡ true
+refusal-lacks NoMemory lacks = refl
+refusal-lacks why lacks = absurd (cc)

@@ -1,4 +1,4 @@
-use Rattle.std.proofs.Common.{◌≡◌, ◌*◌, ℕ, Option, Some, None, Ok, Err, List, [], ◌∷◌, ◌++◌, true, false, is_some, length, ltb, inl, inr, refl, sym}
+use Rattle.std.proofs.Common.{◌≡◌, ◌*◌, ℕ, Option, Some, None, Ok, Err, List, [], ◌∷◌, ◌++◌, true, false, is_some, length, ltb, inl, inr, refl, sym, ap, subst, ◌∙◌}
 use Rattle.std.specs.List.{count_by}
 use Rattle.std.proofs.lemmas.Bool.{cases_Bool}
 use Rattle.pr_num.specs.Files.{FileTable, Descriptors}
@@ -7,13 +7,13 @@ use Rattle.pr_num.specs.Words.{word_bytes}
 use Rattle.pr_num.specs.declared.errnos.Errno.{Errno}
 use Rattle.pr_num.specs.declared.errnos.Errno.TheVariants.{Inval, Fault}
 use Rattle.pr_parts.specs.AddressSpaces.{with_bytes}
-use Rattle.pr_parts.specs.FileCalls.{are_open_flags, created_file, creates, made_pipe, opened, opened_file, piped, unless_no_memory}
+use Rattle.pr_parts.specs.FileCalls.{FileEffect, are_open_flags, created_file, creates, made_pipe, opened, opened_file, piped, unless_no_memory}
 use Rattle.pr_parts.specs.FileTables.{file_named, free_fd, free_fd_behind}
 use Rattle.pr_parts.specs.declared.files.FileNo.{FileNo}
 use Rattle.pr_model.specs.Changes.{fails, gives, files_are, space_is}
 use Rattle.pr_model.specs.FileCallRows.{file_effect, open_effect, pipe_effect, refusal_effect, word_size}
 use Rattle.pr_model.specs.MemoryCalls.{can_write, path_at}
-use Rattle.pr_call.proofs.FileKeptLemmas.{Keeps, lacking-by, lacking-file, unless-fds, unless-files, unless-refused}
+use Rattle.pr_call.proofs.FileKeptLemmas.{Keeps, lacking-by, lacking-file, refusal-lacks, unless-fds, unless-files, unless-refused}
 use Rattle.pr_call.specs.Effects.{may_lack_memory}
 use Rattle.pr_call.specs.FileAnswers.{lacks_memory}
 use Rattle.pr_call.specs.declared.answers.Refusal.TheVariants.{Files}
@@ -111,6 +111,26 @@ module _ (t : FileTable) (fds : Descriptors) (space : Space) (at : ℕ) where
     unfolding pipe_effect
     pipe-lacks why is lacks = lacking-by t fds f d (piped t fds) (λ r. (piped t fds).answer ≡ r → may_lack_memory (pipe_effect t fds space at) ≡ true) (λ value e. rw (can, e) refl) (λ e. rw (can, e) refl) why is lacks refl
 
+    -- the descriptors that were looked up are those of the pipe
+    pub pipe-made : (ends : ℕ × ℕ) (reader writer : ℕ) (new : Space) → Ok (reader, writer) ≡ (piped t fds).answer → record { files = f; fds = d; answer = Ok ends } ≡ unless_no_memory t fds (Ok ends) (piped t fds) → new ≡ with_bytes at (word_bytes reader ++ word_bytes writer) space → gives 0 (files_are f d ∷ space_is new ∷ []) ≡ pipe_effect t fds space at
+    pipe-made ends reader writer new looked is stored =
+        let answer : Ok ends ≡ (piped t fds).answer = ap (λ (e : FileEffect (ℕ × ℕ)). e.answer) is in
+        let both = answer ∙ sym looked in
+        let same : ends ≡ (reader, writer) = cc in
+        pipe-done reader writer new (subst (λ (p : ℕ × ℕ). record { files = f; fds = d; answer = Ok p } ≡ unless_no_memory t fds (Ok p) (piped t fds)) same is) stored
+
+  -- what was looked up is refused, or can be stored
+  pub pipe-unlooked : (why : FileNo) → can_write space at (2 * word_size) ≡ true → Err why ≡ (piped t fds).answer → refusal_effect why ≡ pipe_effect t fds space at
+  unfolding pipe_effect
+  pipe-unlooked why can is = rw (can, sym is) refl
+
+  pub pipe-unlooked-lacks : (why : FileNo) → can_write space at (2 * word_size) ≡ true → Err why ≡ (piped t fds).answer → lacks_memory (Err (Files why)) ≡ true → may_lack_memory (pipe_effect t fds space at) ≡ true
+  pipe-unlooked-lacks why can is lacks = ap may_lack_memory (sym (pipe-unlooked why can is)) ∙ refusal-lacks why lacks
+
+  pub pipe-looked-lacks : (ends : ℕ × ℕ) → can_write space at (2 * word_size) ≡ true → Ok ends ≡ (piped t fds).answer → may_lack_memory (pipe_effect t fds space at) ≡ true
+  unfolding pipe_effect
+  pipe-looked-lacks ends can is = rw (can, sym is) refl
+
 module _ (t : FileTable) (fds : Descriptors) (f : FileTable) (d : Descriptors) (why : FileNo) (is : record { files = f; fds = d; answer = Err why } ≡ unless_no_memory t fds (Err why) (piped t fds)) where
   pub pipe-files : f ≡ t
   pipe-files = unless-files t fds f d (piped t fds) why (piped-keeps t fds) is
@@ -118,4 +138,4 @@ module _ (t : FileTable) (fds : Descriptors) (f : FileTable) (d : Descriptors) (
   pub pipe-fds : d ≡ fds
   pipe-fds = unless-fds t fds f d (piped t fds) why (piped-keeps t fds) is
 
-pub ruleset piping = (pipe-fault)
+pub ruleset piping = (pipe-fault, pipe-unlooked, pipe-unlooked-lacks, pipe-looked-lacks)

@@ -8,13 +8,6 @@ use Rattle.pr_codec.proofs.WordLemmas.{words_bytes-two}
 
 -- Words that calls store.
 
--- an access that can be made is not refused
-pub access-can : (r : Result (List ℕ) BadByte) (fault : MemFault) → is_ok r ≡ true → Err fault ≡ access_answer r → ⊥
-access-can (Ok bytes) fault can e = cc
-access-can (Err bad) fault can e = cc
-
-pub ruleset storing = (access-can)
-
 pub three-words : (first second third : ℕ) → words_bytes (first ∷ second ∷ third ∷ []) ≡ word_bytes first ++ word_bytes second ++ word_bytes third
 three-words first second third = rw append_assoc (ap (λ (bytes : List ℕ). word_bytes first ++ bytes) (words_bytes-two second third))
 

@@ -20,11 +20,12 @@ use Rattle.pr_parts.specs.declared.files.FileNo.TheVariants.{BadFd, NoFile, NoPl
 use Rattle.pr_model.specs.Changes.{Effect, fails, files_are, gives, is_over, space_is}
 use Rattle.pr_model.specs.FileCallRows.{file_effect, read_effect, refusal_effect, write_effect}
 use Rattle.pr_model.specs.MemoryCalls.{can_read, can_write}
-use Rattle.pr_proc.proofs.ByteLemmas.{length-bytes_for}
+use Rattle.pr_parts.proofs.ByteLemmas.{length-bytes_for}
+use Rattle.pr_call.specs.Effects.{may_lack_memory}
 use Rattle.pr_call.specs.FileAnswers.{lacks_memory}
 use Rattle.pr_call.specs.Transfers.{read_meant}
 use Rattle.pr_call.specs.declared.answers.Refusal.TheVariants.{Files}
-use Rattle.pr_call.proofs.FileKeptLemmas.{read-keeps, unless-files, unless-refused, written-keeps}
+use Rattle.pr_call.proofs.FileKeptLemmas.{read-keeps, refusal-lacks, unless-files, unless-refused, written-keeps}
 
 -- What reads and writes do.
 
@@ -204,6 +205,18 @@ module _ (t : FileTable) (fds : Descriptors) (space : Space) (fd at size : ℕ) 
           let same : why ≡ other = (let e = answer ∙ ap count_of is in cc) in
           rw same (sym (read-made t fds space fd at size (Err other) ready within can is))
 
+  -- memory may run out where bytes are stored, or where the files say so
+  pub fill-lacks : (count : ℕ) → is_some (open_for_reading t fds fd) ≡ true → size ≤ transfer_limit → can_write space at size ≡ true → Ok count ≡ count_of (read_fd t fds fd size).bytes → may_lack_memory (read_effect t fds space fd at size) ≡ true
+  fill-lacks count ready within can answer = by (read_fd t fds fd size).bytes refl
+    where
+      by : (r : Result (List ℕ) FileNo) → (read_fd t fds fd size).bytes ≡ r → may_lack_memory (read_effect t fds space fd at size) ≡ true
+      by (Ok bytes) is = ap may_lack_memory (read-made t fds space fd at size (Ok bytes) ready within can is)
+      by (Err why) is = absurd (let wrong = answer ∙ ap count_of is in cc)
+
+  pub fill-refused-lacks : (why : FileNo) → is_some (open_for_reading t fds fd) ≡ true → size ≤ transfer_limit → can_write space at size ≡ true → Err why ≡ count_of (read_fd t fds fd size).bytes → lacks_memory (Err (Files why)) ≡ true → may_lack_memory (read_effect t fds space fd at size) ≡ true
+  fill-refused-lacks why ready within can answer lacks =
+      ap may_lack_memory (sym (fill-refused why ready within can answer)) ∙ refusal-lacks why lacks
+
   pub fill-files : (why : FileNo) (f : FileTable) → f ≡ (read_fd t fds fd size).files → Err why ≡ count_of (read_fd t fds fd size).bytes → f ≡ t
   fill-files why f files answer = by (read_fd t fds fd size).bytes refl
     where
@@ -211,7 +224,13 @@ module _ (t : FileTable) (fds : Descriptors) (space : Space) (fd at size : ℕ) 
       by (Ok bytes) is = absurd (let wrong = answer ∙ ap count_of is in cc)
       by (Err other) is = files ∙ rw is at (read-keeps t fds fd size)
 
-pub ruleset filling = (fill-refused, fill-files)
+-- a second read of as many bytes gives as many
+pub read-again : (t : FileTable) (fds : Descriptors) (fd size again count : ℕ) (why : FileNo) → Ok count ≡ count_of (read_fd t fds fd size).bytes → Err why ≡ count_of (read_fd t fds fd again).bytes → again ≡ size → ⊥
+read-again t fds fd size again count why first second same =
+    let wrong : Err why ≡ Ok count = second ∙ ap (λ n. count_of (read_fd t fds fd n).bytes) same ∙ sym first in
+    absurd (cc)
+
+pub ruleset filling = (fill-refused, fill-lacks, fill-refused-lacks)
 
 pub ruleset reading = (read-closed, read-long, read-faulty)
 

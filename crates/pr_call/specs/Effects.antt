@@ -1,7 +1,7 @@
 use Rattle.std.specs.Prelude.{◌-◌, ℕ, Bool, true, false, List, [], ◌∷◌, Option, Some, None, length, slice_get, take}
 use Rattle.pr_num.specs.declared.errnos.Errno.TheVariants.{Nomem}
 use Rattle.pr_num.specs.declared.syscalls.Sysno.{Sysno}
-use Rattle.pr_num.specs.declared.syscalls.Sysno.TheVariants.{Fork, Vfork, Write, Open, Exec, Pipe, Brk, Mmap, LwpCreate, Exit, Getpid, Getppid, Sigaction, Sigmask, Pause, Sigreturn, Time, Sleep, LwpExit, LwpSuspend, LwpContinue}
+use Rattle.pr_num.specs.declared.syscalls.Sysno.TheVariants.{Fork, Vfork, Write, Open, Exec, Pipe, Brk, Mmap, LwpCreate, Fstat, Wait, Read, Exit, Getpid, Getppid, Sigaction, Sigmask, Pause, Sigreturn, Time, Sleep, LwpExit, LwpSuspend, LwpContinue}
 use Rattle.pr_model.specs.CallEffects.{call_effect}
 use Rattle.pr_model.specs.Changes as changes
 use Rattle.pr_model.specs.Changes.{all_changed, ended, with_disposition_of, with_held, with_suspended, resumed}
@@ -111,7 +111,7 @@ may_lack_memory (changes.does (Value value) made) = true
 may_lack_memory (changes.does (Error Nomem) made) = true
 may_lack_memory _ = false
 
--- whether a call takes memory
+-- whether a call takes memory; one that stores bytes in memory may have to copy the pages that another process shares
 abbrev pub takes_memory : Sysno → Bool
 takes_memory Fork = true
 takes_memory Vfork = true
@@ -122,4 +122,7 @@ takes_memory Pipe = true
 takes_memory Brk = true
 takes_memory Mmap = true
 takes_memory LwpCreate = true
+takes_memory Fstat = true
+takes_memory Wait = true
+takes_memory Read = true
 takes_memory _ = false

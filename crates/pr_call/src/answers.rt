@@ -20,6 +20,18 @@ pub enum Refusal {
     Files(FileNo),
 }
 
+impl From<NoMemory> for Refusal {
+    ghost use Rattle.std.specs.Prelude.{◌≡◌};
+    ghost use Rattle.pr_call.specs.declared.answers.Refusal.TheVariants as variants;
+    ghost use Rattle.pr_parts.specs.declared.files.FileNo.TheVariants as reasons;
+
+    ghost from_gives = { λ _ e. e ≡ variants.Files reasons.NoMemory };
+
+    fn from(error: NoMemory) -> Refusal {
+        Refusal::Files(FileNo::from(error))
+    }
+}
+
 /// Whether memory ran out.
 pub fn lacks_memory(answer: Result<u64, Refusal>) -> bool
     ensures { result ≡ lacks_memory answer }

@@ -10,7 +10,7 @@ ghost use Rattle.pr_parts.specs.FileTables.{HasRoom};
 
 use crate::answers::Refusal;
 use crate::paths::name_at;
-use crate::stores::{can_write, store_three, store_two};
+use crate::stores::{can_write, store_three, with_two};
 use pr_file::{Fds, Files};
 use pr_mem::Space;
 use pr_num::Errno;
@@ -90,7 +90,8 @@ pub fn open(
     }
 }
 
-/// pipe(2) stores the descriptors of its read end and its write end as two words. EFAULT, EMFILE, ENFILE.
+/// pipe(2) stores the descriptors of its read end and its write end as two words. EFAULT, EMFILE, ENFILE. They are
+/// stored in a copy of the space, which takes its place once the pipe stands: both can find no memory.
 #[tactic(auto, using(crate::proofs::OpenLemmas::piping))]
 pub fn pipe(
     alloc: Global,
@@ -108,19 +109,25 @@ pub fn pipe(
     if !can_write(space, at, 16) {
         return Err(Refusal::Fails(Errno::Fault));
     }
+    let (reader, writer) = match files.pipe_ends(fds) {
+        Ok(ends) => ends,
+        Err(why) => return Err(Refusal::Files(why)),
+    };
+    let stored = with_two(alloc, space, at, reader, writer)?;
     match files.pipe(alloc, fds) {
-        Ok((reader, writer)) => {
-            store_two(space, at, reader, writer);
+        Ok(_) => {
+            *space = stored;
             Ok(0)
         }
         Err(why) => Err(Refusal::Files(why)),
     }
 }
 
-/// fstat(2) stores kind, size and offset as three words. EBADF, EFAULT.
+/// fstat(2) stores kind, size and offset as three words. EBADF, EFAULT. Memory runs out only where none of these comes.
 #[tactic(auto, using(crate::proofs::StatLemmas::describing))]
 pub fn fstat(files: &Files, fds: &Fds, space: &mut Space, fd: u64, at: u64) -> Result<u64, Refusal>
-    ensures effect { answer_meant result (space_is space.new ∷ []) ≡ fstat_effect files.now fds.now space.old fd at }
+    ensures effect { lacks_memory result ≡ false → answer_meant result (space_is space.new ∷ []) ≡ fstat_effect files.now fds.now space.old fd at }
+    ensures memory { lacks_memory result ≡ true → may_lack_memory (fstat_effect files.now fds.now space.old fd at) ≡ true }
     ensures space { OnErr result (space.new ≡ space.old) }
 {
     let stat = match files.stat(fds, fd) {
@@ -130,6 +137,6 @@ pub fn fstat(files: &Files, fds: &Fds, space: &mut Space, fd: u64, at: u64) -> R
     if !can_write(space, at, 24) {
         return Err(Refusal::Fails(Errno::Fault));
     }
-    store_three(space, at, stat.kind, stat.size, stat.offset);
+    store_three(space, at, stat.kind, stat.size, stat.offset)?;
     Ok(0)
 }

@@ -48,16 +48,19 @@ pub fn lseek(sys: &mut Sys, pid: u32, id: u32, fd: u64, offset: u64) -> Performe
     settle(sys, pid, id, answer)
 }
 
-/// fstat(2). EBADF, EFAULT. Takes no memory.
+/// fstat(2). EBADF, EFAULT. Memory runs out only where none of these comes, and the system then stays as it is.
 #[tactic(auto, using(pr_proc::proofs::LifeLemmas::life_laws))]
-pub fn fstat(sys: &mut Sys, pid: u32, id: u32, fd: u64, at: u64) -> Performed
+pub fn fstat(sys: &mut Sys, pid: u32, id: u32, fd: u64, at: u64) -> Result<Performed, NoMemory>
     requires live { IsSome (live_process sys.old pid) }
-    ensures system { ForSome (live_process sys.old pid) (λ p. (l : TracedLwp) → sys.new ≡ after_effect pid p id l (fstat_effect sys.old.files p.fds p.space fd at) sys.old) }
-    ensures outcome { ForSome (live_process sys.old pid) (λ p. result ≡ outcome_of (fstat_effect sys.old.files p.fds p.space fd at)) }
+    ensures system { IfOk result (λ outcome. ForSome (live_process sys.old pid) (λ p. (l : TracedLwp) → sys.new ≡ after_effect pid p id l (fstat_effect sys.old.files p.fds p.space fd at) sys.old)) }
+    ensures outcome { IfOk result (λ outcome. ForSome (live_process sys.old pid) (λ p. outcome ≡ outcome_of (fstat_effect sys.old.files p.fds p.space fd at))) }
+    ensures memory { OnErr result (ForSome (live_process sys.old pid) (λ p. may_lack_memory (fstat_effect sys.old.files p.fds p.space fd at) ≡ true)) }
+    ensures err { OnErr result (sys.new ≡ sys.old) }
 {
     let process = sys.processes.get_mut(pid);
     let answer = files::fstat(&sys.files, &process.fds, &mut process.space, fd, at);
-    settle(sys, pid, id, answer)
+    let answer = unless_no_memory(answer)?;
+    Ok(settle(sys, pid, id, answer))
 }
 
 /// open(2). EFAULT, EINVAL, ENOENT, EMFILE, ENFILE. Memory runs out only where none of these comes, and the system then stays as it is.

@@ -12,10 +12,10 @@ ghost use Rattle.pr_num.specs.Spaces.{mapping_limit, Space as AnySpace};
 
 use crate::maps::PROT_LIMIT;
 use crate::requests::Performed;
-use pr_mem::Space;
+use pr_mem::{Mapping, Space};
 use pr_model::Res;
 use pr_num::layout::rounded;
-use pr_num::{Errno, Mapping, MappingKind};
+use pr_num::{Errno, MappingKind};
 use pr_proc::Sys;
 
 /// A length rounded up to whole pages; `None` where no mapping is that long.
@@ -43,9 +43,7 @@ fn is_mapped_kind(kind: MappingKind) -> bool
 fn is_mapped_range(mapping: &Mapping, at: u64, size: u64) -> bool
     ensures { result ≡ is_mapped_range at size mapping.now }
 {
-    mapping.at == at
-        && mapping.bytes.as_slice().len() as u64 == size
-        && is_mapped_kind(mapping.kind)
+    mapping.at() == at && mapping.size() == size && is_mapped_kind(mapping.kind())
 }
 
 fn has_mapped_range(mappings: &[Mapping], at: u64, size: u64) -> bool

@@ -101,7 +101,7 @@ pub fn is_written(files: &Files, fds: &Fds, space: &Space, fd: u64, at: u64, siz
 }
 
 /// Reads through a descriptor that is open for reading, at most so many bytes as the buffer has, and stores them; memory
-/// can take as many.
+/// can take as many. They are looked at and stored first, since memory can run out then: nothing is read in that case.
 #[tactic(auto, using(crate::proofs::TransferLemmas::filling))]
 fn fill(
     files: &mut Files,
@@ -114,16 +114,19 @@ fn fill(
     requires readable { is_some (open_for_reading files.old fds.now fd) ≡ true }
     requires within { length buffer.old ≤ transfer_limit }
     requires can { can_write space.old at (length buffer.old) ≡ true }
-    ensures effect { answer_meant result (files_are files.new fds.now ∷ space_is space.new ∷ []) ≡ read_effect files.old fds.now space.old fd at (length buffer.old) }
+    ensures effect { lacks_memory result ≡ false → answer_meant result (files_are files.new fds.now ∷ space_is space.new ∷ []) ≡ read_effect files.old fds.now space.old fd at (length buffer.old) }
+    ensures memory { lacks_memory result ≡ true → may_lack_memory (read_effect files.old fds.now space.old fd at (length buffer.old)) ≡ true }
     ensures files { OnErr result (files.new ≡ files.old) }
     ensures space { OnErr result (space.new ≡ space.old) }
 {
+    let count = match files.look(fds, fd, buffer) {
+        Ok(count) => count,
+        Err(why) => return Err(Refusal::Files(why)),
+    };
+    store(space, at, &buffer[..count])?;
     match files.read(fds, fd, buffer) {
-        Ok(count) => {
-            store(space, at, &buffer[..count]);
-            Ok(count as u64)
-        }
-        Err(why) => Err(Refusal::Files(why)),
+        Ok(count) => Ok(count as u64),
+        Err(_) => unreachable!(),
     }
 }
 
@@ -136,7 +139,8 @@ fn read_into(
     at: u64,
     size: u64,
 ) -> Result<u64, Refusal>
-    ensures effect { answer_meant result (files_are files.new fds.now ∷ space_is space.new ∷ []) ≡ read_effect files.old fds.now space.old fd at size }
+    ensures effect { lacks_memory result ≡ false → answer_meant result (files_are files.new fds.now ∷ space_is space.new ∷ []) ≡ read_effect files.old fds.now space.old fd at size }
+    ensures memory { lacks_memory result ≡ true → may_lack_memory (read_effect files.old fds.now space.old fd at size) ≡ true }
     ensures files { OnErr result (files.new ≡ files.old) }
     ensures space { OnErr result (space.new ≡ space.old) }
 {
@@ -212,12 +216,22 @@ fn write_from(
 }
 
 /// read(2) by an lwp of the process of an id, with these arguments: a descriptor, the address of the buffer, and its
-/// length. EBADF, EINVAL, EFAULT; it sleeps where a pipe is empty that can still be written. Takes no memory.
+/// length. EBADF, EINVAL, EFAULT; it sleeps where a pipe is empty that can still be written. Memory runs out only where
+/// none of these comes, and the system then stays as it is.
 #[tactic(auto, using(pr_proc::proofs::LifeLemmas::life_laws))]
-pub fn read(sys: &mut Sys, pid: u32, id: u32, fd: u64, at: u64, size: u64) -> Performed
+pub fn read(
+    sys: &mut Sys,
+    pid: u32,
+    id: u32,
+    fd: u64,
+    at: u64,
+    size: u64,
+) -> Result<Performed, NoMemory>
     requires { IsSome (live_process sys.old pid) }
-    ensures system { ForSome (live_process sys.old pid) (λ p. (l : TracedLwp) → sys.new ≡ after_effect pid p id l (read_effect sys.old.files p.fds p.space fd at size) sys.old) }
-    ensures outcome { ForSome (live_process sys.old pid) (λ p. result ≡ outcome_of (read_effect sys.old.files p.fds p.space fd at size)) }
+    ensures system { IfOk result (λ outcome. ForSome (live_process sys.old pid) (λ p. (l : TracedLwp) → sys.new ≡ after_effect pid p id l (read_effect sys.old.files p.fds p.space fd at size) sys.old)) }
+    ensures outcome { IfOk result (λ outcome. ForSome (live_process sys.old pid) (λ p. outcome ≡ outcome_of (read_effect sys.old.files p.fds p.space fd at size))) }
+    ensures memory { OnErr result (ForSome (live_process sys.old pid) (λ p. may_lack_memory (read_effect sys.old.files p.fds p.space fd at size) ≡ true)) }
+    ensures err { OnErr result (sys.new ≡ sys.old) }
 {
     let process = sys.processes.get_mut(pid);
     let answer = read_into(
@@ -228,7 +242,8 @@ pub fn read(sys: &mut Sys, pid: u32, id: u32, fd: u64, at: u64, size: u64) -> Pe
         at,
         size,
     );
-    settle(sys, pid, id, answer)
+    let answer = unless_no_memory(answer)?;
+    Ok(settle(sys, pid, id, answer))
 }
 
 /// write(2) by an lwp of the process of an id, with the same arguments. EBADF, EINVAL, EFAULT, ENOSPC; EPIPE, and

@@ -1,6 +1,5 @@
 //! Messages that read and write memory, whatever its protection (proc(4), "PCREAD", "PCWRITE").
-ghost use Rattle.std.specs.Prelude.{◌≡◌, ◌≤◌, ℕ, List, Option, None, IsSome, IfOk, is_ok, length};
-ghost use Rattle.std.specs.Bool.{OnFalse, OnTrue};
+ghost use Rattle.std.specs.Prelude.{◌≡◌, ◌≤◌, ℕ, List, Option, None, IsSome, IfOk, OnErr, is_ok, length, true, false};
 ghost use Rattle.std.specs.Option.{ForSome};
 ghost use Rattle.pr_num.specs.Limits.{message_bytes_limit};
 ghost use Rattle.pr_num.specs.Messages.{bad_operand};
@@ -14,7 +13,7 @@ ghost use Rattle.pr_ctl.specs.Answers.{Answers};
 ghost use Rattle.pr_ctl.specs.Memory.{memory_reply};
 
 use crate::lending::has_lent;
-use pr_mem::Space;
+use pr_mem::{MemFault, Space};
 use pr_model::Reply;
 use pr_num::{Bytes, Errno, NoMemory};
 use pr_proc::{Proc, Sys, live, seen};
@@ -44,41 +43,47 @@ pub fn read(alloc: Global, sys: &Sys, pid: u32, at: u64, size: u64) -> Result<Re
 }
 
 /// Writes bytes to a process's memory from an address on, whatever its protection; false: not all of it is mapped, and
-/// nothing is written.
+/// nothing is written. Nor is it where memory runs out.
 #[tactic(auto, unfolding(pr_model::specs::Changes::with_space))]
-fn write_in(process: &mut Proc, at: u64, bytes: &[u8]) -> bool
-    ensures value { result ≡ is_ok (bytes_for 0 process.old.space at (length bytes.now)) }
-    ensures written { OnTrue result (process.new ≡ with_space (with_bytes at bytes.now process.old.space) process.old) }
-    ensures refused { OnFalse result (process.new ≡ process.old) }
+fn write_in(process: &mut Proc, at: u64, bytes: &[u8]) -> Result<bool, NoMemory>
+    ensures value { IfOk result (λ done. done ≡ is_ok (bytes_for 0 process.old.space at (length bytes.now))) }
+    ensures written { IfOk result (λ done. done ≡ true → process.new ≡ with_space (with_bytes at bytes.now process.old.space) process.old) }
+    ensures refused { IfOk result (λ done. done ≡ false → process.new ≡ process.old) }
+    ensures err { OnErr result (process.new ≡ process.old) }
 {
     match process.space.write(at, bytes, 0) {
-        Ok(()) => true,
-        Err(_) => false,
+        Ok(()) => Ok(true),
+        Err(MemFault::NoMemory) => Err(NoMemory),
+        Err(_) => Ok(false),
     }
 }
 
-/// Writes bytes to the memory of a process, which it has not lent (EIO where not all of the range is mapped).
+/// Writes bytes to the memory of a process, which it has not lent (EIO where not all of the range is mapped). Where
+/// memory runs out the system stays as it is.
 #[tactic(auto, using(pr_num::proofs::ByIdLaws::by_id_laws, pr_proc::proofs::LifeLemmas::life_laws), unfolding(pr_model::specs::Messages::write_answer, pr_model::specs::State::with_process))]
-fn write_own(sys: &mut Sys, pid: u32, at: u64, bytes: &[u8], used: u64) -> Reply
+fn write_own(sys: &mut Sys, pid: u32, at: u64, bytes: &[u8], used: u64) -> Result<Reply, NoMemory>
     requires { IsSome (live_process sys.old pid) }
-    ensures { ForSome (live_process sys.old pid) (λ p. (record { system = sys.new; reply = result }) ≡ write_answer sys.old pid p at bytes.now used) }
+    ensures ok { IfOk result (λ reply. ForSome (live_process sys.old pid) (λ p. (record { system = sys.new; reply = reply }) ≡ write_answer sys.old pid p at bytes.now used)) }
+    ensures err { OnErr result (sys.new ≡ sys.old) }
 {
-    if write_in(sys.processes.get_mut(pid), at, bytes) {
-        Reply::Used(used)
+    let done = write_in(sys.processes.get_mut(pid), at, bytes)?;
+    if done {
+        Ok(Reply::Used(used))
     } else {
-        Reply::Fail(Errno::Io)
+        Ok(Reply::Fail(Errno::Io))
     }
 }
 
 /// PCWRITE: writes bytes from an address on, whatever the protection (EBUSY where the process has lent its memory, EIO
-/// where not all of the range is mapped).
+/// where not all of the range is mapped). Where memory runs out the system stays as it is.
 #[tactic(auto, unfolding(pr_model::specs::Messages::message_answer))]
-pub fn write(sys: &mut Sys, pid: u32, at: u64, bytes: &[u8], used: u64) -> Reply
+pub fn write(sys: &mut Sys, pid: u32, at: u64, bytes: &[u8], used: u64) -> Result<Reply, NoMemory>
     requires { IsSome (live_process sys.old pid) }
-    ensures { (lwp : Option ℕ) (size : ℕ) → Answers sys.old pid lwp (message.Write at size) bytes.now used sys.new result }
+    ensures ok { (lwp : Option ℕ) (size : ℕ) → IfOk result (λ reply. Answers sys.old pid lwp (message.Write at size) bytes.now used sys.new reply) }
+    ensures err { OnErr result (sys.new ≡ sys.old) }
 {
     if has_lent(sys, pid) {
-        return Reply::Fail(Errno::Busy);
+        return Ok(Reply::Fail(Errno::Busy));
     }
     write_own(sys, pid, at, bytes, used)
 }

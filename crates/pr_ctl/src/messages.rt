@@ -56,7 +56,7 @@ fn tail(bytes: &[u8], message: Message) -> &[u8]
 }
 
 /// What a message of so many bytes does that a live process takes, through the file of the lwp of an id or of the
-/// process, a row a message. PCREAD and PCAGENT alone take memory; where it runs out, the system stays as it is.
+/// process, a row a message. PCREAD, PCWRITE and PCAGENT alone take memory; where it runs out, the system stays as it is.
 #[tactic(auto, unfolding(pr_model::specs::Messages::message_answer))]
 fn handle(
     alloc: Global,
@@ -97,7 +97,7 @@ fn handle(
         Message::Watch { at, size, flags } => Ok(watch(sys, pid, at, size, flags, length)),
         Message::Agent { regs } => agent(sys, pid, regs, length),
         Message::Read { at, len } => read(alloc, sys, pid, at, len),
-        Message::Write { at, .. } => Ok(write(sys, pid, at, tail, length)),
+        Message::Write { at, .. } => write(sys, pid, at, tail, length),
     }
 }
 
@@ -130,8 +130,8 @@ fn handle_first(alloc: Global, sys: &mut Sys, held: Held, bytes: &[u8]) -> Resul
 }
 
 /// Handles the first control message of a write by a controller, or refuses it: EBADF, ENOENT, EINVAL for bytes that
-/// begin with no message, and what process 0 and the message itself refuse, in this order. PCREAD and PCAGENT alone
-/// take memory; where it runs out, the system stays as it is.
+/// begin with no message, and what process 0 and the message itself refuse, in this order. PCREAD, PCWRITE and PCAGENT
+/// alone take memory; where it runs out, the system stays as it is.
 #[tactic(auto, unfolding(pr_model::specs::ControlMessages::control_answer))]
 pub fn control(
     alloc: Global,

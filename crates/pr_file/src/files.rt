@@ -4,6 +4,7 @@ ghost use Rattle.pr_num.specs.Files.{with_all_closed, no_descriptors};
 ghost use Rattle.pr_parts.specs.FileTables.{open_of, at_place, file_named, HasRoom, IsOpenFile};
 ghost use Rattle.pr_parts.specs.FileCalls.{name_of, unless_no_memory, no_files, with_file, closed, duplicated, with_all_shared, are_open_flags, access_of, opened_file, created_file, opened, piped, sought, described, reads, writes, open_for_reading, open_for_writing};
 
+mod looks;
 mod transfers;
 mod waits;
 
@@ -47,7 +48,7 @@ impl Files {
     }
 
     /// The open file that a descriptor stands for, with its place.
-    #[tactic(auto, unfolding(pr_parts::specs::FileTables::open_of), using(crate::proofs::TableLemmas::opens_in_order))]
+    #[tactic(auto, unfolding(pr_parts::specs::FileTables::open_of), using(pr_file_laws::proofs::TableLemmas::opens_in_order))]
     fn open_of(&self, fds: &Fds, fd: u64) -> Option<(usize, OpenFile)>
         ensures open { result ≡ open_of self.now fds.now fd }
         ensures within { IfSome result (λ _. fd < descriptor_limit) }

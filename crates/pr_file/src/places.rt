@@ -11,7 +11,7 @@ pub(crate) fn first_free<T>(places: &[Option<T>]) -> Option<usize>
 
 /// Puts something at the least free place of a list with room for one more place, and answers the place. Takes no
 /// memory.
-#[tactic(auto, using(crate::proofs::PlaceLemmas::placings))]
+#[tactic(auto, using(pr_file_laws::proofs::PlaceLemmas::placings))]
 pub(crate) fn put<T: Drop>(places: &mut Vec<Option<T>>, item: T) -> usize
     requires { vec_len places.old < vec_capacity places.old }
     ensures items { places.new.items ≡ with_placed places.old.items item }

@@ -120,7 +120,7 @@ impl Tables {
     }
 
     /// For each of these places one descriptor fewer stands for its open file.
-    #[tactic(auto, using(crate::proofs::UserLemmas::closing))]
+    #[tactic(auto, using(pr_file_laws::proofs::UserLemmas::closing))]
     pub(crate) fn remove_users(&mut self, places: &[Option<usize>])
         ensures { self.new ≡ with_all_closed self.old places.now }
     {
@@ -132,7 +132,7 @@ impl Tables {
     }
 
     /// For each of these places one descriptor more stands for its open file.
-    #[tactic(auto, using(crate::proofs::UserLemmas::sharing))]
+    #[tactic(auto, using(pr_file_laws::proofs::UserLemmas::sharing))]
     pub(crate) fn add_users(&mut self, places: &[Option<usize>])
         requires { HasRoom self.old (length places.now) }
         ensures { self.new ≡ with_all_shared self.old places.now }
@@ -154,7 +154,7 @@ impl Tables {
     }
 
     /// The place of the file of a name.
-    #[tactic(auto, unfolding(pr_parts::specs::FileTables::file_named), using(crate::proofs::PlaceLemmas::positions))]
+    #[tactic(auto, unfolding(pr_parts::specs::FileTables::file_named), using(pr_file_laws::proofs::PlaceLemmas::positions))]
     pub(crate) fn file_named(&self, name: &Name) -> Option<usize>
         ensures place { result ≡ file_named self.now name.now }
         ensures within { IfSome result (λ place. place < length self.now.files) }

@@ -62,7 +62,7 @@ unfolding uncovered_process size_of
 sizes-seen covers [] = refl
 sizes-seen covers (e ∷ es) = rw (mapped-patched (covers e.0).patches e.1.space, sizes-seen covers es) refl
 
-room-uncovered : (covers : Covers) (s : TracedSystem) (more less : ℕ)
+pub room-uncovered : (covers : Covers) (s : TracedSystem) (more less : ℕ)
     → total_has_room (uncovered covers s) more less ≡ total_has_room s more less
 unfolding total_has_room total_size uncovered
 room-uncovered covers s more less =
@@ -72,7 +72,7 @@ size-uncovered : (c : Cover) (p : TracedProcess) → size_of (uncovered_process 
 unfolding size_of uncovered_process
 size-uncovered c p = mapped-patched c.patches p.space
 
-life-uncovered : (covers : Covers) (s : TracedSystem) (pid : ℕ) → life_of (uncovered covers s) pid ≡ life_of s pid
+pub life-uncovered : (covers : Covers) (s : TracedSystem) (pid : ℕ) → life_of (uncovered covers s) pid ≡ life_of s pid
 unfolding life_of uncovered_process
 life-uncovered covers s pid = found (process_of s pid) refl
   where

@@ -17,7 +17,7 @@ use Rattle.pr_hidden.proofs.StateCovers.{with_lwp-uncovered, with_process-uncove
 -- What a turn changes of the system, without what is hidden: a line a kind of change.
 
 -- a signal is generated
-generated-uncovered : (covers : Covers) (pid : ℕ) (target : Option ℕ) (g : Sig) (info : Info) (s : TracedSystem)
+pub generated-uncovered : (covers : Covers) (pid : ℕ) (target : Option ℕ) (g : Sig) (info : Info) (s : TracedSystem)
     → (is_kill g ≡ true → MayEnd covers s pid)
     → uncovered covers (generated traced pid target g info s) ≡ generated traced pid target g info (uncovered covers s)
 unfolding generated

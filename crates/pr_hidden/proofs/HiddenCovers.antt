@@ -78,7 +78,7 @@ process-hidden covers s pid p c f rising found same =
     process-followed covers s pid p c f kept-process rising found same ∙ unchanged (uncovered covers s) pid
 
 -- the same under the cover that was
-same_cover-hidden : (covers : Covers) (s : TracedSystem) (pid : ℕ) (p : TracedProcess) (f : TracedProcess → TracedProcess)
+pub same_cover-hidden : (covers : Covers) (s : TracedSystem) (pid : ℕ) (p : TracedProcess) (f : TracedProcess → TracedProcess)
     → IsRising s.processes → process_of s pid ≡ Some p
     → erased_process (uncovered_process (covers pid) (f p)) ≡ erased_process (uncovered_process (covers pid) p)
     → seen covers (with_process pid f s) ≡ seen covers s
@@ -190,7 +190,7 @@ cleared-hidden covers s pid p id l f address st kept own is =
 
 -- ---- an agent of the controller's
 
-agent_made : (c : Cover) (regs : List ℕ) (p : TracedProcess) → c.agent ≡ false → lwp_of p agent_id ≡ None
+pub agent_made : (c : Cover) (regs : List ℕ) (p : TracedProcess) → c.agent ≡ false → lwp_of p agent_id ≡ None
     → uncovered_process (with_own_agent true c) (with_agent regs p) ≡ uncovered_process c p
 unfolding uncovered_process with_agent
 agent_made c regs p none free =
@@ -205,7 +205,7 @@ agent-made covers s pid p regs rising live none free =
     process-hidden covers s pid p (with_own_agent true (covers pid)) (with_agent regs) rising
     (live_process-found s pid p live) (ap erased_process (agent_made (covers pid) regs p none free))
 
-agent_gone : (c : Cover) (p : TracedProcess) → c.agent ≡ true → IsRising p.lwps
+pub agent_gone : (c : Cover) (p : TracedProcess) → c.agent ≡ true → IsRising p.lwps
     → uncovered_process (with_own_agent false c) (without_lwp agent_id p) ≡ uncovered_process c p
 unfolding uncovered_process without_lwp
 agent_gone c p own rising =
@@ -222,7 +222,7 @@ agent-gone covers s pid p rising live lwps own =
     (live_process-found s pid p live) (ap erased_process (agent_gone (covers pid) p own lwps))
 
 -- a hidden agent moves
-hidden_lwp : (c : Cover) (id : ℕ) (f : TracedLwp → TracedLwp) (p : TracedProcess) → keeps_lwp c id ≡ false
+pub hidden_lwp : (c : Cover) (id : ℕ) (f : TracedLwp → TracedLwp) (p : TracedProcess) → keeps_lwp c id ≡ false
     → uncovered_process c (with_lwp id f p) ≡ uncovered_process c p
 unfolding uncovered_process with_lwp
 hidden_lwp c id f p none =

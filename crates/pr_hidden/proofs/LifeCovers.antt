@@ -173,7 +173,7 @@ reaped-uncovered covers pid s =
 
 -- ---- beginnings
 
-made-uncovered : (covers : Covers) (p : TracedProcess) (s : TracedSystem)
+pub made-uncovered : (covers : Covers) (p : TracedProcess) (s : TracedSystem)
     → uncovered covers (with_made p s) ≡ with_made (uncovered_process (covers s.made) p) (uncovered covers s)
 unfolding uncovered with_made
 made-uncovered covers p s =
@@ -248,12 +248,13 @@ pub program-uncovered : (c : Cover) (id : ℕ) (l : TracedLwp) (program : Progra
 unfolding uncovered_process with_program started uncovered_lwp
 program-uncovered c id l program p none kept = rw (none, kept) refl
 
-new_lwp-uncovered : (regs : List ℕ) (held : ℕ)
-    → uncovered_lwp false (new_lwp traced regs held (no_marks false)) ≡ new_lwp traced regs held (no_marks false)
+new_lwp-uncovered : (own : Bool) (regs : List ℕ) (held : ℕ)
+    → uncovered_lwp own (new_lwp traced regs held (no_marks false)) ≡ new_lwp traced regs held (no_marks false)
 unfolding uncovered_lwp new_lwp traced no_marks step_taken
-new_lwp-uncovered regs held = refl
+new_lwp-uncovered true regs held = refl
+new_lwp-uncovered false regs held = refl
 
-one_more-uncovered : (c : Cover) (id : ℕ) (regs : List ℕ) (held : ℕ) (p : TracedProcess) → MayMakeLwp c id
+one_more-uncovered : (c : Cover) (id : ℕ) (regs : List ℕ) (held : ℕ) (p : TracedProcess) → MayMakeLwp c
     → uncovered_process c
     (record p { next_lwp = id + 1; lwps = inserted id (new_lwp traced regs held (no_marks false)) p.lwps })
     ≡ record (uncovered_process c p) {
@@ -266,9 +267,9 @@ one_more-uncovered c id regs held p may =
     ap (λ ls. record (uncovered_process c p) { next_lwp = id + 1; lwps = ls })
     (seen-inserted (keeps_lwp c) (lwp_beneath c) (keeping c may.no_agent) id made p.lwps
     ∙ ap (λ x. inserted id x (uncovered_process c p).lwps)
-    (ap (λ (b : Bool). uncovered_lwp b made) may.no_fault ∙ new_lwp-uncovered regs held))
+    (new_lwp-uncovered (c.faulted id) regs held))
 
-pub with_new_lwp-uncovered : (c : Cover) (id : ℕ) (regs : List ℕ) (held : ℕ) (p : TracedProcess) → MayMakeLwp c id
+pub with_new_lwp-uncovered : (c : Cover) (id : ℕ) (regs : List ℕ) (held : ℕ) (p : TracedProcess) → MayMakeLwp c
     → uncovered_process c (with_new_lwp traced id regs held p) ≡ with_new_lwp traced id regs held (uncovered_process c p)
 unfolding with_new_lwp traced
 with_new_lwp-uncovered c id regs held p may =

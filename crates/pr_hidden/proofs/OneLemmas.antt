@@ -67,7 +67,7 @@ module _ {X Y : Type 0} (view : ℕ → X → Y) (id : ℕ) where
   abbrev all : ℕ → Bool
   all n = true
 
-  absent : (es : List (ℕ × X)) → under id es ≡ None → seen_under but view es ≡ seen_under all view es
+  pub absent : (es : List (ℕ × X)) → under id es ≡ None → seen_under but view es ≡ seen_under all view es
   absent [] none = refl
   absent (e ∷ es) none =
       elim (cases_Bool (eqb e.0 id)) [

@@ -99,7 +99,7 @@ patched-append [] qs space = refl
 patched-append (p ∷ ps) qs space = ap (with_bytes p.at p.bytes) (patched-append ps qs space)
 
 -- a store covers its own range
-same-range : (p : Patch) (ps : List Patch) → Covered (p ∷ ps) p.at (length p.bytes)
+pub same-range : (p : Patch) (ps : List Patch) → Covered (p ∷ ps) p.at (length p.bytes)
 same-range p ps a low high =
     let has : has_byte a p ≡ true =
     and_from (leb p.at a) (ltb a (p.at + length p.bytes)) (le-leb p.at a low) (lt-ltb a (p.at + length p.bytes) high) in

@@ -56,10 +56,9 @@ pub record MayRunProgram (covers : Covers) (pid : ℕ) (p : TracedProcess) (id :
   pub kept : keeps_lwp (covers pid) id ≡ true
   pub returnable : IsReturnable covers pid p
 
--- an lwp is made where no agent is hidden, which would count, and its id is not taken for one at a fault
-pub record MayMakeLwp (c : Cover) (id : ℕ) : Type 0 where
+-- an lwp is made where no agent is hidden, which would count
+pub record MayMakeLwp (c : Cover) : Type 0 where
   pub no_agent : c.agent ≡ false
-  pub no_fault : c.faulted id ≡ false
 
 abbrev pub Allows : Covers → TracedSystem → ℕ → TracedProcess → ℕ → Change → Type 0
 Allows covers s pid p id (files_are files fds) = Unit {0}
@@ -74,7 +73,7 @@ Allows covers s pid p id (resumes frame frames) = Unit {0}
 Allows covers s pid p id (forks birth args) = MayMakeChild covers pid s.made
 Allows covers s pid p id (reaps child) = Unit {0}
 Allows covers s pid p id (becomes program) = MayRunProgram covers pid p id
-Allows covers s pid p id (makes_lwp new regs held) = MayMakeLwp (covers pid) new
+Allows covers s pid p id (makes_lwp new regs held) = MayMakeLwp (covers pid)
 Allows covers s pid p id (suspends other suspended) = Unit {0}
 
 -- changes one after another

@@ -4,15 +4,20 @@
 
 mod changes;
 mod hidden;
+mod history;
+mod nobody;
 mod patches;
 mod steps;
 mod turns;
+mod writes;
 
 pub use changes::{calls_spare_patches, changes_are_followed, instructions_spare_patches};
 pub use hidden::{
     an_own_agent_is_hidden, clearing_an_own_fault_is_hidden, patching_is_hidden,
     what_controllers_set_is_hidden,
 };
+pub use history::breakpoints_and_agents_are_hidden;
+pub use nobody::where_nobody_hides_all_is_seen;
 pub use patches::{
     bytes_written_where_a_patch_is_noted_are_hidden, stores_into_patches_are_hidden,
     what_is_read_stands_there, what_is_written_back_is_no_patch,
@@ -22,3 +27,4 @@ pub use steps::{
     stepped_returns_are_hidden,
 };
 pub use turns::turns_are_followed;
+pub use writes::tidy_writes_are_hidden;

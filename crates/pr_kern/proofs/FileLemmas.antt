@@ -10,7 +10,7 @@ use Rattle.pr_parts.specs.FileTables.{file_named, has_name, names_differ}
 use Rattle.pr_proc.specs.FirstFiles.{stored_alone}
 use Rattle.pr_model.specs.FirstState.{stored_file}
 use Rattle.pr_kern.specs.Starts.{stored}
-use Rattle.pr_file.proofs.TableLemmas.{has_name-false}
+use Rattle.pr_file_laws.proofs.TableLemmas.{has_name-false}
 
 -- Files that are stored one after another, each under a name of its own.
 

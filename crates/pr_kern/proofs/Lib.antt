@@ -10,3 +10,4 @@ pub mod StartLemmas
 pub mod StepLemmas
 pub mod ViewLemmas
 pub mod WaitLemmas
+pub mod ReadyLemmas

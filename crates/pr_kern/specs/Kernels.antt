@@ -51,8 +51,8 @@ after_turn pid id k = option_map (after_lwp_turn pid id k) (turn_of k.state.syst
 unfoldable pub after_tick : Kernel → Kernel
 after_tick k = with_entry (with_system ticked k.state) (tick_entry (k.state.system.clock + 1)) k
 
--- calls that take no memory: all but reads, lists, processes that are made, and the control messages that answer bytes
--- or make an lwp
+-- calls that take no memory: all but reads, lists, processes that are made, and the control messages that answer bytes,
+-- write bytes or make an lwp
 abbrev pub takes_no_memory : Call → Bool
 takes_no_memory (Open pid id file mode) = true
 takes_no_memory (Close handle) = true

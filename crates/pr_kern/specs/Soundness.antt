@@ -4,6 +4,8 @@ use Rattle.pr_proc.specs.Counts.{AllUsedAtMost}
 use Rattle.pr_model.specs.HistoryViews.{HistoryView}
 use Rattle.pr_model.specs.Lawful.{IsLawful}
 use Rattle.pr_model.specs.State.{TracedState, TracedSystem}
+use Rattle.pr_ready.specs.Queues.{AreReady}
+use Rattle.pr_ready.specs.Ready.{ReadySets}
 
 -- What the kernel keeps of its state and its history, so that all numbers fit their types, each step has its place, and
 -- turns and calls find what they need.
@@ -18,3 +20,8 @@ pub record IsSoundKernel (s : TracedState) (history : HistoryView) (places : ℕ
   pub sound : IsSound (length history.entries) s.system
   pub lawful : IsLawful s
   pub room : HasRoom history places
+
+-- So the kernel is, and its sets have every process that is looked at for a turn.
+pub record IsReadyKernel (s : TracedState) (history : HistoryView) (places : ℕ) (ready : ReadySets) : Type 0 where
+  pub kept : IsSoundKernel s history places
+  pub looks : AreReady s.system ready

@@ -22,8 +22,8 @@ use pr_model::{Call, Held, Reply};
 use pr_num::NoMemory;
 use std::alloc::Global;
 
-/// Handles the first control message of a write. PCREAD and PCAGENT alone take memory; where it runs out, the state is
-/// as it was.
+/// Handles the first control message of a write. PCREAD, PCWRITE and PCAGENT alone take memory; where it runs out, the
+/// state is as it was.
 fn write(
     state: &mut Machine,
     alloc: Global,

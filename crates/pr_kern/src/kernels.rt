@@ -13,13 +13,14 @@ ghost use Rattle.pr_turn.specs.CallTurns.{may_take_memory};
 
 use crate::Machine;
 use crate::calls::{answer, ready};
-use crate::sleepers::some_sleeper;
+use crate::following::{around_call, call_changes_files};
 use crate::starts::{first_machine, keep_limits};
-use crate::turns::next_movable;
+use crate::turns::{CanMove, next_movable};
 use pr_asm::Program;
 use pr_model::{Act, Actor, Call, Entry, History, Reply, Turned};
 use pr_num::{Bytes, Name, NoMemory};
 use pr_proc::next_lwp;
+use pr_ready::{Ready, after_call, after_tick, after_turn, around_lwp, some_sleeper};
 use pr_turn::{movable, turn};
 use std::alloc::Global;
 use std::marker::Model;
@@ -32,17 +33,19 @@ pub struct Kern {
     state: Machine,
     history: History,
     places: u32,
+    /// Which processes are looked at for a turn. Nothing that contracts see depends on it.
+    ready: Ready,
 }
 
 impl Model for Kern {
     ghost use Rattle.pr_kern.specs.Kernels.{Kernel};
-    ghost use Rattle.pr_kern.specs.Soundness.{IsSoundKernel};
+    ghost use Rattle.pr_kern.specs.Soundness.{IsReadyKernel};
 
     ghost Value = { Kernel };
 
     ghost view = { λ a. record { state = a.state; history = a.history.entries; places = a.places } };
 
-    ghost invariant = { λ a. IsSoundKernel a.state a.history a.places };
+    ghost invariant = { λ a. IsReadyKernel a.state a.history a.places a.ready };
 }
 
 impl Kern {
@@ -72,11 +75,13 @@ impl Kern {
         let state = first_machine(alloc, programs, files, spawns)?;
         let mut history = History::new(alloc);
         history.reserve(places as usize)?;
+        let ready = Ready::all(state.system.made);
         Ok(Kern {
             alloc,
             state,
             history,
             places,
+            ready,
         })
     }
 
@@ -88,8 +93,8 @@ impl Kern {
     }
 
     /// Makes a call of a controller: the machine answers it, and its entry is added. Reads, lists, the making of
-    /// processes, PCREAD and PCAGENT alone take memory; where it runs out, the kernel is as it was. The state that it
-    /// finds is lawful.
+    /// processes, PCREAD, PCWRITE and PCAGENT alone take memory; where it runs out, the kernel is as it was. The state
+    /// that it finds is lawful.
     #[tactic(auto, unfolding(crate::specs::Kernels::after_call))]
     pub fn call(&mut self, by: u32, call: Call) -> Result<(), NoMemory>
         requires by { by < controller_limit }
@@ -100,7 +105,11 @@ impl Kern {
         ensures sure { takes_no_memory call ≡ true → IsOk result }
         ensures lawful { IsLawful self.old.state }
     {
+        let around = around_call(&self.state, by, &call);
         let reply = answer(&mut self.state, self.alloc, by, &call)?;
+        let sys = &self.state.system;
+        let files = call_changes_files(&call);
+        after_call(&mut self.ready, sys, around, files, &CanMove(sys));
         self.history.push(Entry {
             actor: Actor::Controller(by),
             act: Act::Call(call, reply),
@@ -133,13 +142,13 @@ impl Kern {
         ensures { result ≡ next_of movable self.now.state.system after }
     {
         match movable {
-            true => next_movable(&self.state.system, after),
+            true => next_movable(&self.state.system, &self.ready.movable, after),
             false => next_lwp(&self.state.system, after),
         }
     }
 
-    /// Gives an lwp a turn, and adds its entry. A turn may take memory where it performs a call that does; where memory
-    /// runs out, the kernel is as it was.
+    /// Gives an lwp a turn, and adds its entry. A turn may take memory where it runs an instruction, which may store
+    /// bytes, or performs a call that does; where memory runs out, the kernel is as it was.
     #[tactic(auto, unfolding(crate::specs::Kernels::after_turn))]
     pub fn lwp_turn(&mut self, pid: u32, lwp: u32) -> Result<Turned, NoMemory>
         requires movable { can_move self.old.state.system pid lwp ≡ true }
@@ -148,7 +157,10 @@ impl Kern {
         ensures err { OnErr result (self.new ≡ self.old) }
         ensures sure { may_take_memory self.old.state.system pid lwp ≡ false → IsOk result }
     {
+        let around = around_lwp(&self.state.system, pid, lwp);
         let turned = turn(self.alloc, &mut self.state.system, pid, lwp)?;
+        let sys = &self.state.system;
+        after_turn(&mut self.ready, sys, pid, around, turned.did, &CanMove(sys));
         self.history.push(Entry {
             actor: Actor::Lwp(pid, lwp),
             act: Act::Turn(turned),
@@ -164,6 +176,8 @@ impl Kern {
         ensures { self.new ≡ after_tick self.old }
     {
         self.state.system.clock += 1;
+        let sys = &self.state.system;
+        after_tick(&mut self.ready, sys, &CanMove(sys));
         let clock = self.state.system.clock;
         self.history.push(Entry {
             actor: Actor::Clock,
@@ -183,7 +197,7 @@ impl Kern {
     pub fn sleeper(&self) -> bool
         ensures { result ≡ some_sleeper self.now.state.system }
     {
-        some_sleeper(&self.state.system)
+        some_sleeper(&self.state.system, &self.ready.dozing)
     }
 
     /// How many entries the history has.

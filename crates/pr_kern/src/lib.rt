@@ -4,6 +4,7 @@
 mod as_kernel;
 mod calls;
 mod closes;
+mod following;
 mod interrupts;
 mod kernels;
 mod laws;
@@ -11,7 +12,6 @@ mod opens;
 mod processes;
 mod reads;
 mod sending;
-mod sleepers;
 mod starts;
 mod turns;
 

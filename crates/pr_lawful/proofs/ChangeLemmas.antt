@@ -16,9 +16,9 @@ use Rattle.pr_num.specs.Signals.{signal_number}
 use Rattle.pr_num.specs.Spaces.{first_space, mapped_size}
 use Rattle.pr_num.specs.declared.signals.Sig.{Sig}
 use Rattle.pr_num.specs.declared.signals.Sig.TheVariants.{Kill, Stop}
-use Rattle.pr_file.proofs.CountLemmas.{users-all_shared}
-use Rattle.pr_file.proofs.EndLemmas.{ends-all_shared}
-use Rattle.pr_file.proofs.UserLemmas.{IsFileTable-all_shared}
+use Rattle.pr_file_laws.proofs.CountLemmas.{users-all_shared}
+use Rattle.pr_file_laws.proofs.EndLemmas.{ends-all_shared}
+use Rattle.pr_file_laws.proofs.UserLemmas.{IsFileTable-all_shared}
 use Rattle.pr_parts.specs.FileCalls.{with_all_shared}
 use Rattle.pr_model.specs.Changes.{Change, files_are, space_is, signals, signals_itself, takes_shared, job_stops, disposition_is, held_is, resumes, forks, reaps, becomes, makes_lwp, suspends, with_fds, with_space, with_shared_taken, with_job_stop, with_disposition_of, with_held, resumed, with_suspended, changed, all_changed}
 use Rattle.pr_model.specs.Lawful.{IsHoldable, IsLawfulFrame, IsLawfulLwp, AreUncaught, IsLawfulProcess, IsLawfulSystem}

@@ -57,7 +57,7 @@ use Rattle.pr_lawful.proofs.ChangeLemmas.{changed-lawful}
 use Rattle.pr_num.proofs.TableLaws.{All-without_first}
 use Rattle.pr_parts.specs.AddressSpaces.{LeavesHeapPlace}
 use Rattle.pr_parts.proofs.HeapLemmas.{LeavesHeapPlace-with_heap}
-use Rattle.pr_mem.proofs.HeapPlaceLemmas.{LeavesHeapPlace-with_bytes, LeavesHeapPlace-with_mapping, LeavesHeapPlace-with_protected}
+use Rattle.pr_parts.proofs.HeapPlaceLemmas.{LeavesHeapPlace-with_bytes, LeavesHeapPlace-with_mapping, LeavesHeapPlace-with_protected}
 use Rattle.pr_rec.specs.InRange.{IsInfo}
 use Rattle.pr_lawful.proofs.EndLemmas.{own-id}
 use Rattle.pr_lawful.proofs.ProgramLemmas.{gap-outside, named-lawful, program-leaves, program-small}

@@ -13,9 +13,9 @@ use Rattle.pr_num.specs.declared.infos.Info.{Info}
 use Rattle.pr_num.specs.declared.signals.Sig.{Sig}
 use Rattle.pr_num.specs.declared.signals.Sig.TheVariants.{Cld, Kill}
 use Rattle.pr_num.specs.Signals.{signal_number}
-use Rattle.pr_file.proofs.CountLemmas.{users-all_closed}
-use Rattle.pr_file.proofs.EndLemmas.{ends-all_closed}
-use Rattle.pr_file.proofs.UserLemmas.{IsFileTable-all_closed}
+use Rattle.pr_file_laws.proofs.CountLemmas.{users-all_closed}
+use Rattle.pr_file_laws.proofs.EndLemmas.{ends-all_closed}
+use Rattle.pr_file_laws.proofs.UserLemmas.{IsFileTable-all_closed}
 use Rattle.pr_model.specs.FirstState.{system_process}
 use Rattle.pr_model.specs.Generation.{signalled}
 use Rattle.pr_model.specs.Lawful.{IsLawfulLwp, IsLawfulProcess, IsNumberedBelow, HasParent, IsLawfulSystem}

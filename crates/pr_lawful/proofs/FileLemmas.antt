@@ -12,9 +12,9 @@ use Rattle.pr_parts.specs.FileCalls.{FileEffect, access_of, closed, contents, cr
 use Rattle.pr_parts.specs.FileTables.{CountsUsers, IsFileTable, PipesHaveEnds, at_place, count_at, file_named, free_fd_behind, free_place, has_name, open_of, users_at}
 use Rattle.pr_parts.specs.FileTransfers.{ReadEffect, bytes_from, has_reader, has_writer, pipe_bytes, read_fd, read_file, read_open, read_pipe, write_fd, write_file, write_open, write_pipe}
 use Rattle.pr_parts.specs.declared.files.FileNo.TheVariants.{BadFd, BadOffset, NotSeekable}
-use Rattle.pr_file.proofs.CountLemmas.{CountsUsers-closed, CountsUsers-duplicated, CountsUsers-opened, CountsUsers-piped, open_of-there, read-there, write-there, users-sought, users-read, users-written}
-use Rattle.pr_file.proofs.EndLemmas.{ends-closed, ends-duplicated, ends-opened, ends-piped, ends-sought, ends-read, ends-written}
-use Rattle.pr_file.proofs.TableLemmas.{IsFileTable-user_gone, IsFileTable-user_added, IsFileTable-created, IsFileTable-opened, IsFileTable-with_pipe, IsFileTable-moved, IsFileTable-dropped, IsFileTable-extended, IsFileTable-written, IsOpenFile-at, length-contents}
+use Rattle.pr_file_laws.proofs.CountLemmas.{CountsUsers-closed, CountsUsers-duplicated, CountsUsers-opened, CountsUsers-piped, open_of-there, read-there, write-there, users-sought, users-read, users-written}
+use Rattle.pr_file_laws.proofs.EndLemmas.{ends-closed, ends-duplicated, ends-opened, ends-piped, ends-sought, ends-read, ends-written}
+use Rattle.pr_file_laws.proofs.TableLemmas.{IsFileTable-user_gone, IsFileTable-user_added, IsFileTable-created, IsFileTable-opened, IsFileTable-with_pipe, IsFileTable-moved, IsFileTable-dropped, IsFileTable-extended, IsFileTable-written, IsOpenFile-at, length-contents}
 use Rattle.pr_num.proofs.TableLemmas.{position-within}
 
 -- What a call on files makes of a table that is in order is in order, and counts the descriptors that there are then.

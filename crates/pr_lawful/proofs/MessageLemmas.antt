@@ -29,7 +29,7 @@ use Rattle.pr_model.specs.Running.{without_current, without_fault, with_step, wi
 use Rattle.pr_model.specs.State.{TracedControl, TracedLwp, TracedProcess, TracedSystem, has_agent, process_of}
 use Rattle.pr_lawful.proofs.EndLemmas.{ended-lawful, generated-lawful}
 use Rattle.pr_lawful.proofs.HoldableLemmas.{holdable-holdable}
-use Rattle.pr_mem.proofs.HeapPlaceLemmas.{LeavesHeapPlace-with_bytes}
+use Rattle.pr_parts.proofs.HeapPlaceLemmas.{LeavesHeapPlace-with_bytes}
 use Rattle.pr_rec.specs.InRange.{IsInfo}
 use Rattle.pr_lawful.proofs.InfoLemmas.{no-infos, taken-infos}
 use Rattle.pr_lawful.proofs.LocalLemmas.{KeepsLwp, live-empty, StaysLawful, kept-same, kept-next, same_rest, same_lwps, kept-parts, keeps-lwp, keeps-each}

@@ -7,10 +7,9 @@ use Rattle.pr_num.specs.Layout.{break_limit, gap_base, heap_base, page_size}
 use Rattle.pr_num.proofs.ListLemmas.{length-text}
 use Rattle.pr_num.specs.Programs.{Program, text_of}
 use Rattle.pr_num.specs.Spaces.{Space, first_space, mapped_size, mapping_limit}
-use Rattle.pr_parts.specs.AddressSpaces.{LeavesHeapPlace, gap_from, gap_in, is_gap}
+use Rattle.pr_parts.specs.AddressSpaces.{LeavesHeapPlace, gap_from, gap_in, is_gap, is_outside_heap_place}
 use Rattle.pr_parts.proofs.FirstLemmas.{IsSpace-first, first_space-mappings}
-use Rattle.pr_mem.proofs.HeapPlaceLemmas.{LeavesHeapPlace-first}
-use Rattle.pr_mem.specs.Answers.{is_outside_heap_place}
+use Rattle.pr_parts.proofs.HeapPlaceLemmas.{LeavesHeapPlace-first}
 use Rattle.pr_model.specs.Lawful.{IsLawfulProgram}
 use Rattle.pr_model.specs.ProcessCalls.{is_program_of, program_named}
 

@@ -8,7 +8,7 @@ use Rattle.pr_num.specs.ById.{under, rises_from}
 use Rattle.pr_num.proofs.ByIdLemmas.{rises_from-head, rises_from-tail}
 use Rattle.pr_num.proofs.ByIdLaws.{All-under}
 use Rattle.pr_parts.specs.FileTables.{HasRoom, users_at, stands_for}
-use Rattle.pr_file.proofs.CountLemmas.{HasRoom-from_users}
+use Rattle.pr_file_laws.proofs.CountLemmas.{HasRoom-from_users}
 use Rattle.pr_model.specs.Handles.{has_writer, is_writer}
 use Rattle.pr_model.specs.Lawful.{IsLawful, IsOfMade, IsLawfulLwp, IsLawfulProcess, IsNumberedBelow, IsLawfulSystem}
 use Rattle.pr_num.specs.Limits.{last_lwp, descriptor_limit}

@@ -1,5 +1,5 @@
 //! How an instruction accesses memory.
-ghost use Rattle.std.specs.Prelude.{◌≡◌, ◌≤◌, IsOk, length};
+ghost use Rattle.std.specs.Prelude.{◌≡◌, ◌≤◌, IsOk, OnOk, OnErr, length};
 ghost use Rattle.std.specs.Result.{result_err};
 ghost use Rattle.pr_num.specs.Control.{prot_exec, prot_read, prot_write};
 ghost use Rattle.pr_num.specs.Spaces.{bytes_for};
@@ -11,7 +11,7 @@ ghost use Rattle.pr_lwp.specs.Plain.{stored_bytes};
 use crate::decoding::{Store, Stored};
 use pr_codec::put_words;
 use pr_mem::{MemFault, Space};
-use pr_num::{BadByte, PROT_EXEC, PROT_READ, PROT_WRITE};
+use pr_num::{BadByte, NoMemory, PROT_EXEC, PROT_READ, PROT_WRITE};
 
 /// The byte at which an access failed; `None` for a fault that no access has.
 fn bad_byte(fault: MemFault) -> Option<BadByte>
@@ -81,20 +81,24 @@ fn frame_bytes(fp: u64, pc: u64) -> [u8; 16]
     bytes
 }
 
-/// Writes bytes that can be written.
-#[tactic(auto, using(crate::proofs::AccessLemmas::access_laws))]
-fn write(space: &mut Space, at: u64, bytes: &[u8])
+/// Writes bytes that can be written, so that only memory can run out; the space then stays as it is.
+fn write(space: &mut Space, at: u64, bytes: &[u8]) -> Result<(), NoMemory>
     requires { IsOk (bytes_for prot_write space.old at (length bytes.now)) }
-    ensures { space.new ≡ with_bytes at bytes.now space.old }
+    ensures ok { OnOk result (space.new ≡ with_bytes at bytes.now space.old) }
+    ensures err { OnErr result (space.new ≡ space.old) }
 {
-    space.write(at, bytes, PROT_WRITE).unwrap();
+    match space.write(at, bytes, PROT_WRITE) {
+        Ok(()) => Ok(()),
+        Err(_) => Err(NoMemory),
+    }
 }
 
-/// Makes a store that can be made.
+/// Makes a store that can be made. Where memory runs out the space stays as it is.
 #[tactic(auto, using(crate::proofs::AccessLemmas::size_laws))]
-pub fn make_store(space: &mut Space, store: Store)
+pub fn make_store(space: &mut Space, store: Store) -> Result<(), NoMemory>
     requires { IsOk (bytes_for prot_write space.old store.at (length (stored_bytes store.bytes))) }
-    ensures { space.new ≡ with_bytes store.at (stored_bytes store.bytes) space.old }
+    ensures ok { OnOk result (space.new ≡ with_bytes store.at (stored_bytes store.bytes) space.old) }
+    ensures err { OnErr result (space.new ≡ space.old) }
 {
     match store.bytes {
         Stored::Byte(byte) => write(space, store.at, &[byte]),

@@ -1,6 +1,6 @@
 //! What the instruction at pc does. It is tried in this order: its fetch, areas watched for execution, its decoding, its
 //! own faults, areas watched for the data that it reads or writes, and its effect.
-ghost use Rattle.std.specs.Prelude.{◌≡◌, length, None, Some};
+ghost use Rattle.std.specs.Prelude.{◌≡◌, length, None, Some, IfOk, OnOk, OnErr};
 ghost use Rattle.pr_num.specs.Control.{prot_read, watch_exec, watch_write};
 ghost use Rattle.pr_num.specs.Instructions.{instruction_in};
 ghost use Rattle.pr_num.specs.Spaces.{bytes_for};
@@ -14,7 +14,7 @@ use crate::decoding::{Decoded, Load, Store, Stored, decode};
 use crate::registers::{computed, moved_on, returned};
 use pr_mem::Space;
 use pr_model::PC;
-use pr_num::{BadByte, Flt, Instruction, Reg, Sysno};
+use pr_num::{BadByte, Flt, Instruction, NoMemory, Reg, Sysno};
 use pr_watch::Areas;
 
 /// What an instruction came to, once what it stores is stored.
@@ -168,7 +168,7 @@ fn load_effect(
     }
 }
 
-/// A write of bytes, which needs that all of them can be written.
+/// A write of bytes, which needs that all of them can be written. Where memory runs out the space stays as it is.
 #[tactic(auto, using(crate::proofs::ExecutionLemmas::storing))]
 fn store_effect(
     space: &mut Space,
@@ -177,19 +177,20 @@ fn store_effect(
     stack: bool,
     regs: [u64; 11],
     store: Store,
-) -> Outcome
-    ensures outcome { result ≡ outcome_of (store_effect space.old areas.now exec_hit stack regs (store_of store)) }
-    ensures space { space.new ≡ space_after (store_effect space.old areas.now exec_hit stack regs (store_of store)) space.old }
+) -> Result<Outcome, NoMemory>
+    ensures outcome { IfOk result (λ outcome. outcome ≡ outcome_of (store_effect space.old areas.now exec_hit stack regs (store_of store))) }
+    ensures space { OnOk result (space.new ≡ space_after (store_effect space.old areas.now exec_hit stack regs (store_of store)) space.old) }
+    ensures err { OnErr result (space.new ≡ space.old) }
 {
     if let Some(bad) = bad_store(space, store) {
-        return access_fault(stack, bad);
+        return Ok(access_fault(stack, bad));
     }
     let hit = store_hit(areas, store);
     match hit_before(hit) {
-        Some(at) => Outcome::Faults(Flt::Watch, at),
+        Some(at) => Ok(Outcome::Faults(Flt::Watch, at)),
         None => {
-            make_store(space, store);
-            trapped_after(exec_hit, hit_after(hit), regs)
+            make_store(space, store)?;
+            Ok(trapped_after(exec_hit, hit_after(hit), regs))
         }
     }
 }
@@ -202,15 +203,16 @@ fn executed(
     exec_hit: Option<u64>,
     regs: &[u64; 11],
     decoded: Decoded,
-) -> Outcome
-    ensures outcome { result ≡ outcome_of (executed space.old areas.now exec_hit regs.now (decoded_of decoded)) }
-    ensures space { space.new ≡ space_after (executed space.old areas.now exec_hit regs.now (decoded_of decoded)) space.old }
+) -> Result<Outcome, NoMemory>
+    ensures outcome { IfOk result (λ outcome. outcome ≡ outcome_of (executed space.old areas.now exec_hit regs.now (decoded_of decoded))) }
+    ensures space { OnOk result (space.new ≡ space_after (executed space.old areas.now exec_hit regs.now (decoded_of decoded)) space.old) }
+    ensures err { OnErr result (space.new ≡ space.old) }
 {
     match decoded {
-        Decoded::FaultsItself(fault) => Outcome::Faults(fault, regs[PC]),
-        Decoded::EntersCall(call) => Outcome::Calls(call, moved_on(regs)),
-        Decoded::Leaves(new) => trapped_after(exec_hit, None, new),
-        Decoded::Loads { load, at } => load_effect(space, areas, exec_hit, regs, load, at),
+        Decoded::FaultsItself(fault) => Ok(Outcome::Faults(fault, regs[PC])),
+        Decoded::EntersCall(call) => Ok(Outcome::Calls(call, moved_on(regs))),
+        Decoded::Leaves(new) => Ok(trapped_after(exec_hit, None, new)),
+        Decoded::Loads { load, at } => Ok(load_effect(space, areas, exec_hit, regs, load, at)),
         Decoded::Stores { stack, regs, store } => {
             store_effect(space, areas, exec_hit, stack, regs, store)
         }
@@ -224,12 +226,13 @@ fn of_instruction(
     exec_hit: Option<u64>,
     regs: &[u64; 11],
     instruction: Option<Instruction>,
-) -> Outcome
-    ensures outcome { result ≡ outcome_of (of_instruction space.old areas.now exec_hit regs.now instruction) }
-    ensures space { space.new ≡ space_after (of_instruction space.old areas.now exec_hit regs.now instruction) space.old }
+) -> Result<Outcome, NoMemory>
+    ensures outcome { IfOk result (λ outcome. outcome ≡ outcome_of (of_instruction space.old areas.now exec_hit regs.now instruction)) }
+    ensures space { OnOk result (space.new ≡ space_after (of_instruction space.old areas.now exec_hit regs.now instruction) space.old) }
+    ensures err { OnErr result (space.new ≡ space.old) }
 {
     match instruction {
-        None => Outcome::Faults(Flt::Ill, regs[PC]),
+        None => Ok(Outcome::Faults(Flt::Ill, regs[PC])),
         Some(instruction) => {
             let decoded = decode(instruction, regs);
             executed(space, areas, exec_hit, regs, decoded)
@@ -238,13 +241,19 @@ fn of_instruction(
 }
 
 /// What bytes that were fetched do, unless an area watched for execution forbids it.
-fn unless_watched(space: &mut Space, areas: &Areas, regs: &[u64; 11], bytes: &[u8; 16]) -> Outcome
-    ensures outcome { result ≡ outcome_of (unless_exec_watched space.old areas.now (hit_in watch_exec areas.now (pc_of regs.now) 16) regs.now bytes.now) }
-    ensures space { space.new ≡ space_after (unless_exec_watched space.old areas.now (hit_in watch_exec areas.now (pc_of regs.now) 16) regs.now bytes.now) space.old }
+fn unless_watched(
+    space: &mut Space,
+    areas: &Areas,
+    regs: &[u64; 11],
+    bytes: &[u8; 16],
+) -> Result<Outcome, NoMemory>
+    ensures outcome { IfOk result (λ outcome. outcome ≡ outcome_of (unless_exec_watched space.old areas.now (hit_in watch_exec areas.now (pc_of regs.now) 16) regs.now bytes.now)) }
+    ensures space { OnOk result (space.new ≡ space_after (unless_exec_watched space.old areas.now (hit_in watch_exec areas.now (pc_of regs.now) 16) regs.now bytes.now) space.old) }
+    ensures err { OnErr result (space.new ≡ space.old) }
 {
     let hit = areas.hit(regs[PC], Instruction::SIZE as u64, WATCH_EXEC);
     match hit_before(hit) {
-        Some(at) => Outcome::Faults(Flt::Watch, at),
+        Some(at) => Ok(Outcome::Faults(Flt::Watch, at)),
         None => {
             let instruction = Instruction::decode(bytes);
             of_instruction(space, areas, hit_after(hit), regs, instruction)
@@ -252,14 +261,15 @@ fn unless_watched(space: &mut Space, areas: &Areas, regs: &[u64; 11], bytes: &[u
     }
 }
 
-/// What the instruction at pc does.
+/// What the instruction at pc does. Where memory runs out for what it stores, the space stays as it is.
 #[tactic(auto, unfolding(pr_model::specs::InstructionEffects::instruction_effect))]
-pub fn execute(regs: &[u64; 11], space: &mut Space, areas: &Areas) -> Outcome
-    ensures outcome { result ≡ outcome_of (instruction_effect space.old areas.now regs.now) }
-    ensures space { space.new ≡ space_after (instruction_effect space.old areas.now regs.now) space.old }
+pub fn execute(regs: &[u64; 11], space: &mut Space, areas: &Areas) -> Result<Outcome, NoMemory>
+    ensures outcome { IfOk result (λ outcome. outcome ≡ outcome_of (instruction_effect space.old areas.now regs.now)) }
+    ensures space { OnOk result (space.new ≡ space_after (instruction_effect space.old areas.now regs.now) space.old) }
+    ensures err { OnErr result (space.new ≡ space.old) }
 {
     match fetch(space, regs[PC]) {
-        Err(bad) => access_fault(false, bad),
+        Err(bad) => Ok(access_fault(false, bad)),
         Ok(bytes) => unless_watched(space, areas, regs, &bytes),
     }
 }

@@ -1,4 +1,4 @@
-ghost use Rattle.std.specs.Prelude.{◌≡◌, IsOk, IfOk, OnOk};
+ghost use Rattle.std.specs.Prelude.{◌≡◌, IfOk, OnErr, OnOk};
 ghost use Rattle.pr_model.specs.InstructionEffects.{instruction_effect};
 ghost use Rattle.pr_lwp.specs.Plain.{outcome_of, space_after};
 ghost use Rattle.pr_lwp.specs.Steps.{ran, stepped};
@@ -54,12 +54,14 @@ fn finish<P>(lwp: &mut Lwp<P>, outcome: Outcome) -> Effect
 }
 
 /// Runs the instruction at pc. A fault changes neither registers nor memory, but one of an area that traps after the
-/// access, and FLTTRACE, for which the lwp's step mark is used up. It takes no memory as yet.
+/// access, and FLTTRACE, for which the lwp's step mark is used up. Only what stores bytes takes memory; where that runs
+/// out nothing is changed.
 pub fn step<P>(lwp: &mut Lwp<P>, space: &mut Space, areas: &Areas) -> Result<Effect, NoMemory>
     ensures lwp { IfOk result (λ effect. (record { lwp = lwp.new; effect = effect }) ≡ stepped (outcome_of (instruction_effect space.old areas.now lwp.old.regs)) lwp.old) }
     ensures space { OnOk result (space.new ≡ space_after (instruction_effect space.old areas.now lwp.old.regs) space.old) }
-    ensures sure { IsOk result }
+    ensures kept_lwp { OnErr result (lwp.new ≡ lwp.old) }
+    ensures kept_space { OnErr result (space.new ≡ space.old) }
 {
-    let outcome = execute(&lwp.regs, space, areas);
+    let outcome = execute(&lwp.regs, space, areas)?;
     Ok(finish(lwp, outcome))
 }

@@ -1,6 +1,6 @@
 pub mod GapLemmas
-pub mod HeapPlaceLemmas
 pub mod LawLemmas
+pub mod PageLemmas
 pub mod PlaceLemmas
 pub mod RoomLemmas
 pub mod RunLemmas

@@ -1,5 +1,5 @@
 -- How an access finds its mappings: the first by a search, and each other behind the one before it.
-use Rattle.std.proofs.Common.{◌≡◌, ℕ, zero, suc, ◌+◌, ◌-◌, ◌<◌, ◌≤◌, Bool, true, false, ltb, Some, None, [], ◌∷◌, length, get_or, refl, sym, ◌∙◌, ap, arith, subst, inl, inr}
+use Rattle.std.proofs.Common.{◌≡◌, ℕ, zero, suc, ◌+◌, ◌<◌, ◌≤◌, Bool, true, false, ltb, Some, None, [], ◌∷◌, length, get_or, refl, sym, ◌∙◌, ap, arith, subst, inl, inr}
 use Rattle.std.specs.List.{All, AllWithin, find, slice_get}
 use Rattle.std.specs.List.Sorted.{IsPartitionedBy, IsPartitionPoint}
 use Rattle.std.proofs.lemmas.Bool.{cases_Bool, ltb-true, ltb-false, leb-true, leb-false, le-leb}
@@ -7,7 +7,7 @@ use Rattle.std.proofs.lemmas.Option.{same_Some, slice_get_within, get_or_from_sl
 use Rattle.pr_num.specs.Spaces.{Space, IsSpace, covers}
 use Rattle.pr_num.specs.declared.mappings.Mapping.{Mapping}
 use Rattle.pr_parts.proofs.AccessLemmas.{covers-at, covers-end, covers-from}
-use Rattle.pr_mem.specs.Places.{GoesOn, IsPlace, ends_before}
+use Rattle.pr_mem.specs.Places.{IsPlace, ends_before}
 
 -- ---- the search for the first
 
@@ -86,27 +86,6 @@ find-between space a i m kept place is begins = find_nowhere (covers a) space ou
     out k d within =
         elim (cases_Bool (ltb k i)) [ inl t ↦ past a (get_or space k d) (place.before k d (omega arith) (ltb-true k i t)) | inr f ↦ here k d within (ltb-false k i f) ]
 
--- ---- the next place
-
--- the place of the end of a mapping is behind it
-pub IsPlace-next : (space : Space) (a i : ℕ) (m : Mapping) → IsSpace space → IsPlace space a i → slice_get space i ≡ Some m → IsPlace space (m.at + length m.bytes) (i + 1)
-IsPlace-next space a i m kept place is =
-    let stands = slice_get_within space i m is in
-    let high = place-end space a i m place is in
-    record { within = omega arith; before = before high; behind = behind stands }
-  where
-    here : (d : Mapping) → get_or space i d ≡ m
-    here d = get_or_from_slice_get space i m d is
-
-    before : a < m.at + length m.bytes → (k : ℕ) (d : Mapping) → 0 ≤ k → k < i + 1 → (get_or space k d).at + length (get_or space k d).bytes ≤ m.at + length m.bytes
-    before high k d low near =
-        elim (cases_Bool (ltb k i)) [ inl t ↦ omega (arith, place.before k d low (ltb-true k i t)) | inr f ↦ let order = ltb-false k i f in let e : i ≡ k = omega arith in subst (λ (n : ℕ). (get_or space n d).at + length (get_or space n d).bytes ≤ m.at + length m.bytes) e (subst (λ (n : Mapping). n.at + length n.bytes ≤ m.at + length m.bytes) (sym (here d)) (omega arith)) ]
-
-    behind : i < length space → (k : ℕ) (d : Mapping) → i + 1 ≤ k → k < length space → m.at + length m.bytes < (get_or space k d).at + length (get_or space k d).bytes
-    behind stands k d from within =
-        let first : m.at + length m.bytes ≤ (get_or space k d).at = subst (λ (n : Mapping). n.at + length n.bytes ≤ (get_or space k d).at) (here d) (ends_first space i k d kept (omega arith) within) in
-        omega (arith, first, kept.not_empty k d within)
-
 -- ---- an access under way
 
 -- so many bytes of an access are done, and the next of them, if there is one, has this place
@@ -117,8 +96,3 @@ pub IsUnderWay-start : (space : Space) (at len first : ℕ) → IsPlace space at
 IsUnderWay-start space at len first is =
     let start : at ≡ at + 0 = omega arith in
     record { place = λ some. subst (λ (a : ℕ). IsPlace space a first) start is }
-
-pub IsUnderWay-more : (space : Space) (at len done most size i : ℕ) → most ≡ len - done → done < len → GoesOn space (at + done) most size i → IsUnderWay space at len (done + size) (i + 1)
-IsUnderWay-more space at len done most size i asked near more =
-    let there : at + done + size ≡ at + (done + size) = omega arith in
-    record { place = λ left. subst (λ (a : ℕ). IsPlace space a (i + 1)) there (more.next (omega arith)) }

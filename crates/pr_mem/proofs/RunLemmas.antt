@@ -1,5 +1,5 @@
 -- The steps of an access, which takes a run of bytes at a time.
-use Rattle.std.proofs.Common.{◌≡◌, ℕ, ◌+◌, ◌-◌, ◌^◌, ◌%◌, ◌<◌, ◌≤◌, true, Some, Result, Ok, Err, List, ◌++◌, length, take, drop, refl, sym, ◌∙◌, ap, arith, min, max}
+use Rattle.std.proofs.Common.{◌≡◌, ℕ, ◌+◌, ◌-◌, ◌^◌, ◌<◌, ◌≤◌, true, Some, Result, Ok, Err, List, ◌++◌, length, take, drop, refl, sym, ◌∙◌, ap, arith, min, max}
 use Rattle.std.specs.List.{find}
 use Rattle.std.proofs.lemmas.List.{take-append-drop, length-append, length-take-le, length-drop}
 use Rattle.std.proofs.lemmas.Slice.{take-put_mid}
@@ -105,8 +105,8 @@ written_bytes-none at bytes first old start end e1 e2 none = sym (written_bytes-
 -- ---- a run in a mapping
 
 -- the part of a mapping from an address on, as far as it goes or is asked for
-pub IsRun-within : (need : ℕ) (space : Space) (m : Mapping) (at most size from : ℕ) (part : List ℕ) → IsSpace space → find (covers at) space ≡ Some m → has_flags m.prot need ≡ true → 0 < most → from ≡ at - m.at → size ≡ min most (length m.bytes - from) → part ≡ take size (drop from m.bytes) → IsRun need space at most part
-IsRun-within need space m at most size from part kept found allowed some e1 e2 e3 =
+pub IsRun-within : (need : ℕ) (space : Space) (m : Mapping) (at most size from : ℕ) (part : List ℕ) → IsSpace space → find (covers at) space ≡ Some m → has_flags m.prot need ≡ true → from ≡ at - m.at → 0 < size → size ≤ most → size ≤ length m.bytes - from → part ≡ take size (drop from m.bytes) → IsRun need space at most part
+IsRun-within need space m at most size from part kept found allowed e1 some asked inside e3 =
     let low = found-low at space m found in
     let high = found-high at space m found in
     let limit = found-limit at space m kept found in

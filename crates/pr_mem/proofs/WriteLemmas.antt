@@ -1,5 +1,5 @@
 -- What is written where: the mappings that meet a range of bytes stand behind each other, and the others stay.
-use Rattle.std.proofs.Common.{◌≡◌, ℕ, zero, suc, ◌+◌, ◌<◌, ◌≤◌, List, [], ◌∷◌, ◌++◌, length, map, take, drop, get_or, refl, sym, ◌∙◌, ap, arith, subst, inl, inr, ltb}
+use Rattle.std.proofs.Common.{◌≡◌, ℕ, zero, suc, ◌+◌, ◌<◌, ◌≤◌, List, [], ◌∷◌, ◌++◌, length, map, take, drop, get_or, refl, sym, ◌∙◌, ap, arith, subst, inl, inr, ltb, set}
 use Rattle.std.specs.List.{All, AllWithin}
 use Rattle.std.proofs.lemmas.Bool.{cases_Bool, ltb-true, ltb-false}
 use Rattle.std.proofs.lemmas.List.{drop_more, get_or_at, length-map, length-take-le, map-append, take-append-drop}
@@ -7,7 +7,8 @@ use Rattle.pr_num.specs.Spaces.{Space, IsSpace}
 use Rattle.pr_num.specs.declared.mappings.Mapping.{Mapping}
 use Rattle.pr_parts.specs.AddressSpaces.{with_bytes, with_written}
 use Rattle.pr_parts.proofs.AccessLemmas.{written_bytes-outside}
-use Rattle.pr_mem.specs.Places.{IsPlace}
+use Rattle.pr_num.proofs.TableLemmas.{map_step}
+use Rattle.pr_mem.specs.Places.{IsLast, IsPlace}
 use Rattle.pr_mem.proofs.PlaceLemmas.{ends_first}
 
 -- a mapping that has no byte of a range of bytes stays
@@ -49,6 +50,22 @@ unfolding with_bytes
 written at bytes space now i so_far stay =
     let f = with_written at bytes in
     so_far ∙ ap (λ xs. map f (take i space) ++ xs) (sym (map_back f space i stay)) ∙ sym (map-append f (take i space) (drop i space)) ∙ ap (map f) (take-append-drop i space)
+
+-- the one in a place is, and the others begin behind the bytes
+pub is_written-one : (at : ℕ) (bytes : List ℕ) (space : Space) (place : ℕ) (m n : Mapping) → IsSpace space → IsPlace space at place → IsLast space place (at + length bytes) → place < length space → n ≡ with_written at bytes (get_or space place m) → set space place n ≡ with_bytes at bytes space
+is_written-one at bytes space place m n kept is last within step =
+    let f = with_written at bytes in
+    let so_far = map_step f space space place m within (is_written-start at bytes space place is) in
+    written at bytes space (set space place n) (place + 1) (ap (set space place) step ∙ so_far) (λ k d from near. stays_behind at bytes (get_or space k d) (behind k d from near))
+  where
+    behind : (k : ℕ) (d : Mapping) → place + 1 ≤ k → k < length space → at + length bytes ≤ (get_or space k d).at
+    behind k d from near =
+        elim (cases_Bool (ltb (place + 1) k)) [ inl t ↦ omega (arith, last.next d (omega arith), ends_first space (place + 1) k d kept (ltb-true (place + 1) k t) near) | inr f ↦ let order = ltb-false (place + 1) k f in let e : place + 1 ≡ k = omega arith in subst (λ (n : ℕ). at + length bytes ≤ (get_or space n d).at) e (last.next d (omega arith)) ]
+
+-- nothing is mapped from the place on
+pub is_written-none : (at : ℕ) (bytes : List ℕ) (space : Space) (place : ℕ) → IsPlace space at place → length space ≤ place → space ≡ with_bytes at bytes space
+is_written-none at bytes space place is all =
+    written at bytes space space place (is_written-start at bytes space place is) (λ k d low near. absurd (omega arith))
 
 -- all of them are
 pub is_written-all : (at : ℕ) (bytes : List ℕ) (space now : Space) (i : ℕ) → now ≡ map (with_written at bytes) (take i space) ++ drop i space → length space ≤ i → now ≡ with_bytes at bytes space

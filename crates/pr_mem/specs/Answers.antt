@@ -1,6 +1,6 @@
 -- What the calls on an address space answer.
-use Rattle.std.specs.Prelude.{◌≡◌, ◌==◌, ◌||◌, ◌+◌, ◌-◌, ◌<◌, ◌≤◌, ◌^◌, ◌++◌, ℕ, Bool, not, List, length, drop, Option, Some, None, Result, Ok, Err, find, nat_le, if◌then◌else◌}
-use Rattle.pr_num.specs.Layout.{break_limit, heap_base}
+use Rattle.std.specs.Prelude.{◌≡◌, ◌+◌, ◌-◌, ◌<◌, ◌≤◌, ◌^◌, ◌++◌, ℕ, Bool, not, List, length, drop, Option, Some, None, Result, Ok, Err, find, nat_le, if◌then◌else◌}
+use Rattle.pr_num.specs.Layout.{heap_base}
 use Rattle.pr_num.specs.Programs.{rounded}
 use Rattle.pr_num.specs.Spaces.{Space, bytes_for, mapped_size, mapping_limit}
 use Rattle.pr_num.specs.declared.mappings.BadByte.{BadByte}
@@ -9,7 +9,6 @@ use Rattle.pr_num.specs.declared.mappings.Mapping.{Mapping}
 use Rattle.pr_parts.specs.AddressSpaces.{has_range, has_room, is_break_heap, is_free, with_heap}
 use Rattle.pr_mem.specs.declared.faults.MemFault.{MemFault}
 use Rattle.pr_mem.specs.declared.faults.MemFault.TheVariants.{Hole, NotAllowed, Overlap, TooBig}
-use Rattle.pr_num.specs.Padding.{is_zero}
 
 -- the fault of the byte at which an access fails
 abbrev pub fault_of : BadByte → MemFault
@@ -34,10 +33,6 @@ range_refusal at size space = if has_range at size space then None else Some (Ho
 -- whether the heap can have so many bytes
 abbrev pub has_heap_room : ℕ → Space → Bool
 has_heap_room size space = nat_le (mapped_size (with_heap size space)) mapping_limit
-
--- whether a range has no byte where the heap can be
-abbrev pub is_outside_heap_place : ℕ → ℕ → Bool
-is_outside_heap_place at size = nat_le (at + size) heap_base || nat_le break_limit at
 
 -- why the break is not moved: the space would pass its limit
 abbrev pub break_refusal : ℕ → Space → Option MemFault

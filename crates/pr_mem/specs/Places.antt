@@ -1,5 +1,6 @@
 -- Where in the list of mappings the bytes of an access stand.
 use Rattle.std.specs.Prelude.{◌+◌, ◌<◌, ◌≤◌, ℕ, Bool, length, nat_le}
+use Rattle.std.specs.Prelude.{slice_index_or}
 use Rattle.std.specs.List.{AllWithin}
 use Rattle.pr_num.specs.Spaces.{Space}
 use Rattle.pr_num.specs.declared.mappings.Mapping.{Mapping}
@@ -15,8 +16,6 @@ pub record IsPlace (space : Space) (address place : ℕ) : Type 0 where
   pub before : AllWithin (λ (m : Mapping). m.at + length m.bytes ≤ address) space 0 place
   pub behind : AllWithin (λ (m : Mapping). address < m.at + length m.bytes) space place (length space)
 
--- An access to so many bytes took a run of them from the mapping in a place; where it wants more, the next of them has
--- the next place.
-pub record GoesOn (space : Space) (at most size place : ℕ) : Type 0 where
-  pub stands : place < length space
-  pub next : size < most → IsPlace space (at + size) (place + 1)
+-- no mapping behind the one in a place begins before an address
+pub record IsLast (space : Space) (place end : ℕ) : Type 0 where
+  pub next : (m : Mapping) → place + 1 < length space → end ≤ (slice_index_or space (place + 1) m).at

@@ -1,16 +1,17 @@
 ghost use Rattle.std.specs.Prelude.{◌≡◌, ◌≤◌, ◌<◌, ◌+◌, ◌^◌, length, Ok, Err, IfOk, IfErr, OnOk};
 ghost use Rattle.pr_num.specs.Spaces.{IsSpace, byte_for, bytes_for};
 ghost use Rattle.pr_mem.specs.Answers.{checked, IsRun};
-ghost use Rattle.pr_mem.specs.Places.{GoesOn, IsPlace};
+ghost use Rattle.pr_mem.specs.Places.{IsPlace};
 
+use crate::mappings::Mapping;
 use crate::ranges;
-use pr_num::{BadByte, Mapping};
+use pr_num::BadByte;
 
-// The bytes that an access gets. Each step takes all that one mapping has of them, and the next step goes on in the
-// mapping behind it. So only the first has to be searched for, once for the steps of a call: its place is passed in.
+// The bytes that an access gets. Each step takes those that one page has, and the next step goes on behind them. The place
+// of the first is passed in, since the steps of a call share it.
 
-/// Bytes from an address on, of which this is the place, that one mapping has, at least one and at most `most`; or why
-/// the first of them cannot be accessed.
+/// Bytes from an address on, of which this is the place, that one page has, at least one and at most `most`; or why the
+/// first of them cannot be accessed.
 pub fn run_at(
     mappings: &[Mapping],
     place: usize,
@@ -22,7 +23,6 @@ pub fn run_at(
     requires place { IsPlace mappings.now at place }
     requires some { 0 < most }
     ensures ok { IfOk result (λ run. IsRun need mappings.now at most run.now) }
-    ensures next { IfOk result (λ run. GoesOn mappings.now at most (length run.now) place) }
     ensures err { IfErr result (λ bad. byte_for need mappings.now at ≡ Err bad) }
 {
     let Some(mapping) = ranges::mapping_at(mappings, place, at) else {
@@ -31,10 +31,8 @@ pub fn run_at(
     if !ranges::allows(mapping, need) {
         return Err(BadByte::NotAllowed(at));
     }
-    let from = (at - mapping.at) as usize;
-    let bytes = mapping.bytes.as_slice();
-    let size = most.min(bytes.len() - from);
-    Ok(&bytes[from..from + size])
+    let run = mapping.run(at);
+    Ok(&run[..run.len().min(most)])
 }
 
 /// Whether an access can be made from an address on, of which `first` is the place; or the first byte at which it
@@ -56,7 +54,7 @@ pub fn check(
     while done < len {
         let run = run_at(mappings, place, need, at + done as u64, len - done)?;
         done += run.len();
-        place += 1;
+        place = ranges::next_place(mappings, at + done as u64, len - done);
     }
     Ok(())
 }
@@ -81,7 +79,7 @@ pub fn fill(
         let run = run_at(mappings, place, need, at + done as u64, out.len() - done)?;
         out[done..done + run.len()].copy_from_slice(run);
         done += run.len();
-        place += 1;
+        place = ranges::next_place(mappings, at + done as u64, out.len() - done);
     }
     Ok(())
 }

@@ -4,8 +4,8 @@ ghost use Rattle.pr_num.specs.Spaces.{IsSpace};
 ghost use Rattle.pr_parts.specs.AddressSpaces.{gap_in};
 ghost use Rattle.pr_mem.specs.Gaps.{moved_behind, moved_past};
 
+use crate::mappings::Mapping;
 use crate::ranges;
-use pr_num::Mapping;
 use pr_num::layout::{GAP_BASE, STACK_BASE, rounded};
 
 // The least gap: an address is moved behind each mapping in its way.
@@ -18,9 +18,7 @@ fn move_behind(mapping: &Mapping, at: u64, size: u64) -> u64
     ensures limit { result ≤ stack_base }
 {
     if ranges::meets(mapping, at, size) {
-        let end = mapping
-            .at
-            .saturating_add(mapping.bytes.as_slice().len() as u64);
+        let end = mapping.at().saturating_add(mapping.size());
         rounded(end.min(STACK_BASE))
     } else {
         at

@@ -5,7 +5,10 @@ mod accesses;
 mod faults;
 mod gaps;
 mod laws;
+mod mapping_lists;
 mod mappings;
+mod page_writes;
+mod pages;
 mod ranges;
 mod spaces;
 mod texts;
@@ -13,4 +16,5 @@ mod writes;
 
 pub use faults::{Map, MemFault};
 pub use laws::{a_gap_is_free_and_least, what_is_written_is_read};
+pub use mappings::Mapping;
 pub use spaces::Space;

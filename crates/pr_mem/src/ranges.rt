@@ -10,8 +10,9 @@ ghost use Rattle.pr_parts.specs.AddressSpaces.{address_of, meets, is_break_heap,
 ghost use Rattle.pr_mem.specs.Answers.{heap_bytes};
 ghost use Rattle.pr_mem.specs.Places.{IsPlace, ends_before};
 
+use crate::mappings::Mapping;
+use pr_num::MappingKind;
 use pr_num::layout::{HEAP_BASE, rounded};
-use pr_num::{Mapping, MappingKind};
 
 // Which mapping has a byte, and which stands in a range. Mappings stand by rising address, so that each byte has its
 // place among them, and this is searched for by halves.
@@ -19,7 +20,8 @@ use pr_num::{Mapping, MappingKind};
 fn ends_before(mapping: &Mapping, address: u64) -> bool
     ensures { result ≡ ends_before address mapping.now }
 {
-    mapping.at <= address && mapping.bytes.as_slice().len() as u64 <= address - mapping.at
+    let at = mapping.at();
+    at <= address && mapping.size() <= address - at
 }
 
 /// The place of an address, by a search of the mappings. No mapping but the one in this place has the byte there.
@@ -30,8 +32,7 @@ pub fn place_at(mappings: &[Mapping], address: u64) -> usize
     mappings.partition_point(|mapping| ends_before(mapping, address))
 }
 
-/// The mapping that has the byte at an address, of which this is the place. The byte behind that mapping has the next
-/// place.
+/// The mapping that has the byte at an address, of which this is the place.
 #[tactic(auto, using(pr_parts::proofs::AccessLemmas::finds))]
 pub fn mapping_at(mappings: &[Mapping], place: usize, address: u64) -> Option<&Mapping>
     requires space { IsSpace mappings.now }
@@ -40,13 +41,24 @@ pub fn mapping_at(mappings: &[Mapping], place: usize, address: u64) -> Option<&M
     ensures low { IfSome result (λ m. m.now.at ≤ address) }
     ensures high { IfSome result (λ m. address < m.now.at + length m.now.bytes) }
     ensures limit { IfSome result (λ m. m.now.at + length m.now.bytes < 2 ^ 64) }
-    ensures next { IfSome result (λ m. IsPlace mappings.now (m.now.at + length m.now.bytes) (place + 1)) }
 {
     let mapping = mappings.get(place)?;
-    if mapping.at <= address {
+    if mapping.at() <= address {
         Some(mapping)
     } else {
         None
+    }
+}
+
+/// The place of an address, unless no byte is left to be accessed there.
+pub fn next_place(mappings: &[Mapping], address: u64, left: usize) -> usize
+    requires { IsSpace mappings.now }
+    ensures { 0 < left → IsPlace mappings.now address result }
+{
+    if left == 0 {
+        0
+    } else {
+        place_at(mappings, address)
     }
 }
 
@@ -55,15 +67,15 @@ pub fn mapping_at(mappings: &[Mapping], place: usize, address: u64) -> Option<&M
 pub fn allows(mapping: &Mapping, need: u8) -> bool
     ensures { result ≡ has_flags mapping.now.prot need }
 {
-    mapping.prot.word() & u64::from(need) == u64::from(need)
+    mapping.prot().word() & u64::from(need) == u64::from(need)
 }
 
 /// Whether a mapping has a byte of a range.
 pub fn meets(mapping: &Mapping, at: u64, size: u64) -> bool
     ensures { result ≡ meets at size mapping.now }
 {
-    let len = mapping.bytes.as_slice().len() as u64;
-    (at < mapping.at || at - mapping.at < len) && (mapping.at < at || mapping.at - at < size)
+    let first = mapping.at();
+    (at < first || at - first < mapping.size()) && (first < at || first - at < size)
 }
 
 fn is_met(mappings: &[Mapping], at: u64, size: u64) -> bool
@@ -83,13 +95,13 @@ pub fn is_free(mappings: &[Mapping], at: u64, size: u64) -> bool
 fn is_range(mapping: &Mapping, at: u64, size: u64) -> bool
     ensures { result ≡ is_range at size mapping.now }
 {
-    mapping.at == at && mapping.bytes.as_slice().len() as u64 == size
+    mapping.at() == at && mapping.size() == size
 }
 
 fn is_break_heap(mapping: &Mapping) -> bool
     ensures { result ≡ is_break_heap mapping.now }
 {
-    mapping.at == HEAP_BASE && matches!(mapping.kind, MappingKind::Heap)
+    mapping.at() == HEAP_BASE && matches!(mapping.kind(), MappingKind::Heap)
 }
 
 /// The place of the mapping that is just this range.
@@ -105,7 +117,7 @@ pub fn place_of(mappings: &[Mapping], at: u64, size: u64) -> Option<usize>
 fn place_behind(mappings: &[Mapping], at: u64) -> Option<usize>
     ensures { result ≡ position (is_behind address_of at) mappings.now }
 {
-    mappings.iter().position(|mapping| mapping.at > at)
+    mappings.iter().position(|mapping| mapping.at() > at)
 }
 
 /// The place of a mapping that is to begin at an address: before the first that stands behind it, or behind all.
@@ -141,7 +153,7 @@ pub fn heap_bytes(mappings: &[Mapping]) -> u64
     ensures within { result ≤ mapped_size mappings.now }
 {
     match find_heap(mappings) {
-        Some(heap) => heap.bytes.as_slice().len() as u64,
+        Some(heap) => heap.size(),
         None => 0,
     }
 }

@@ -1,15 +1,16 @@
-ghost use Rattle.std.specs.Prelude.{◌≡◌, ◌≤◌, ◌<◌, ◌+◌, ◌^◌, [], All, length, position, remove, true, Some, None, Ok, Err, OnOk, OnErr, IfOk, IfSome, IsSome, IsOkUnless, IsTrue, is_ok};
+ghost use Rattle.std.specs.Prelude.{◌≡◌, ◌≤◌, ◌<◌, ◌+◌, ◌^◌, [], All, length, position, remove, true, Some, None, Ok, Err, OnOk, OnErr, IfErr, IfOk, IfSome, IsSome, IsOkUnless, IsTrue, is_ok};
 ghost use Rattle.pr_num.specs.Limits.{data_limit, path_limit, text_limit};
 ghost use Rattle.pr_num.specs.Layout.{break_limit, heap_base};
 ghost use Rattle.pr_num.specs.Programs.{rounded};
 ghost use Rattle.pr_num.specs.Spaces.{mapped_size, mapping_limit, bytes_for, first_mappings, kind_of_number};
-ghost use Rattle.pr_parts.specs.AddressSpaces.{LeavesHeapPlace, gap_in, is_break_heap, is_free, text_at, with_break, with_bytes, with_heap, with_mapping, with_protected, without_range, zeros_at};
-ghost use Rattle.pr_mem.specs.Answers.{access_answer, break_refusal, done_unless, has_heap_room, is_outside_heap_place, map_refusal, range_refusal, text_answer, with_text};
+ghost use Rattle.pr_parts.specs.AddressSpaces.{LeavesHeapPlace, gap_in, is_break_heap, is_free, is_outside_heap_place, text_at, with_break, with_bytes, with_heap, with_mapping, with_protected, without_range, zeros_at};
+ghost use Rattle.pr_mem.specs.Answers.{access_answer, break_refusal, done_unless, has_heap_room, map_refusal, range_refusal, text_answer, with_text};
 
-use crate::{Map, MemFault, accesses, gaps, mappings, ranges, texts, writes};
+use crate::mappings::{self, Mapping};
+use crate::{Map, MemFault, accesses, gaps, mapping_lists, ranges, texts, writes};
 use pr_num::layout::{self, HEAP_BASE, PAGE_SIZE, rounded};
 use pr_num::limits::{MAPPING_LIMIT, PATH_LIMIT};
-use pr_num::{Mapping, MappingKind, NoMemory, Prot};
+use pr_num::{MappingKind, NoMemory, Prot};
 use std::alloc::Global;
 use std::marker::Model;
 
@@ -63,7 +64,7 @@ impl Space {
         ensures value { IfOk result (λ space. space ≡ first_mappings text.now bytes.now) }
         ensures heap_place { IfOk result (λ space. All LeavesHeapPlace space) }
     {
-        let mappings = mappings::first_mappings(alloc, text, bytes)?;
+        let mappings = mapping_lists::first_mappings(alloc, text, bytes)?;
         let mapped = rounded(text.len() as u64) + rounded(bytes.len() as u64) + PAGE_SIZE;
         Ok(Space { mappings, mapped })
     }
@@ -105,16 +106,17 @@ impl Space {
     }
 
     /// Writes bytes from an address on, which need these protections. Where that fails at a byte, the first such byte
-    /// is named, and the space stays as it is.
+    /// is named. Then, and where memory runs out, the space stays as it is.
     pub fn write(&mut self, at: u64, bytes: &[u8], need: u8) -> Result<(), MemFault>
-        ensures answer { result ≡ access_answer (bytes_for need self.old at (length bytes.now)) }
+        ensures refused { IfErr (access_answer (bytes_for need self.old at (length bytes.now))) (λ fault. result ≡ Err fault) }
+        ensures granted { OnOk (access_answer (bytes_for need self.old at (length bytes.now))) (IsOkUnless result MemFault.NoMemory) }
         ensures ok { OnOk result (self.new ≡ with_bytes at bytes.now self.old) }
         ensures err { OnErr result (self.new ≡ self.old) }
         ensures heap_place { All LeavesHeapPlace self.old → All LeavesHeapPlace self.new }
     {
         let first = ranges::place_at(&self.mappings, at);
         accesses::check(&self.mappings, first, need, at, bytes.len())?;
-        writes::write_from(&mut self.mappings, first, at, bytes);
+        writes::write_from(&mut self.mappings, first, at, bytes)?;
         Ok(())
     }
 
@@ -159,7 +161,7 @@ impl Space {
         if size > Space::LIMIT - self.mapped {
             return Err(MemFault::TooBig);
         }
-        let mapping = mappings::zeros_at(alloc, at, size as usize, prot, kind)?;
+        let mapping = Mapping::zeros_at(alloc, at, size as usize, prot, kind)?;
         self.add(mapping)?;
         Ok(())
     }
@@ -206,7 +208,7 @@ impl Space {
         let Some(place) = ranges::place_of(&self.mappings, at, size) else {
             return Err(MemFault::Hole { at });
         };
-        mappings::set_prot(&mut self.mappings[place], prot);
+        self.mappings[place].set_prot(prot);
         Ok(())
     }
 
@@ -271,7 +273,7 @@ impl Space {
         ensures { IfOk result (λ copy. copy ≡ self.now) }
     {
         Ok(Space {
-            mappings: mappings::copies(alloc, &self.mappings)?,
+            mappings: mapping_lists::copies(alloc, &self.mappings)?,
             mapped: self.mapped,
         })
     }
@@ -285,9 +287,9 @@ impl Space {
         ensures ok { OnOk result (self.new ≡ with_mapping mapping self.old) }
         ensures err { OnErr result (self.new ≡ self.old) }
     {
-        let size = mapping.bytes.as_slice().len() as u64;
-        let place = ranges::place_for(&self.mappings, mapping.at);
-        mappings::put(&mut self.mappings, place, mapping)?;
+        let size = mapping.size();
+        let place = ranges::place_for(&self.mappings, mapping.at());
+        mapping_lists::put(&mut self.mappings, place, mapping)?;
         self.mapped += size;
         Ok(())
     }
@@ -335,7 +337,7 @@ impl Space {
             return Ok(());
         }
         let prot = mappings::prot_of(mappings::READ_WRITE);
-        let heap = mappings::zeros_at(alloc, HEAP_BASE, size as usize, prot, MappingKind::Heap)?;
+        let heap = Mapping::zeros_at(alloc, HEAP_BASE, size as usize, prot, MappingKind::Heap)?;
         self.add(heap)
     }
 
@@ -352,8 +354,8 @@ impl Space {
             self.remove(place);
             return Ok(());
         }
-        let old = self.mappings[place].bytes.as_slice().len() as u64;
-        mappings::resize_at(&mut self.mappings, alloc, place, size as usize)?;
+        let old = self.mappings[place].size();
+        mapping_lists::resize_at(&mut self.mappings, alloc, place, size as usize)?;
         self.mapped = self.mapped - old + size;
         Ok(())
     }
@@ -364,6 +366,6 @@ impl Space {
         ensures { self.new ≡ remove self.old place }
     {
         let gone = self.mappings.remove(place);
-        self.mapped -= gone.bytes.as_slice().len() as u64;
+        self.mapped -= gone.size();
     }
 }

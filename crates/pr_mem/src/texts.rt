@@ -5,8 +5,9 @@ ghost use Rattle.pr_parts.specs.AddressSpaces.{text_at};
 ghost use Rattle.pr_mem.specs.Answers.{length_read, with_text};
 ghost use Rattle.pr_mem.specs.Places.{IsPlace};
 
+use crate::mappings::Mapping;
 use crate::{accesses, ranges};
-use pr_num::{BadByte, Mapping, PROT_READ, zero_in};
+use pr_num::{BadByte, PROT_READ, zero_in};
 
 // Texts that end with a zero byte.
 
@@ -30,7 +31,7 @@ fn length_at(
             return Ok(Some(done + end));
         }
         done += run.len();
-        place += 1;
+        place = ranges::next_place(mappings, at + done as u64, most - done);
     }
     Ok(None)
 }

@@ -1,61 +1,113 @@
-ghost use Rattle.std.specs.Prelude.{◌≡◌, ◌≤◌, ◌<◌, ◌+◌, ◌^◌, length};
+ghost use Rattle.std.specs.Prelude.{◌≡◌, ◌≤◌, ◌<◌, ◌+◌, ◌^◌, length, OnOk, OnErr};
+ghost use Rattle.std.specs.Bool.{OnTrue};
 ghost use Rattle.pr_num.specs.Spaces.{IsSpace};
-ghost use Rattle.pr_parts.specs.AddressSpaces.{written_bytes, with_written, with_bytes};
-ghost use Rattle.pr_mem.specs.Places.{IsPlace};
+ghost use Rattle.pr_parts.specs.AddressSpaces.{with_bytes};
+ghost use Rattle.pr_mem.specs.Places.{IsLast, IsPlace};
 
-use crate::mappings::take_bytes;
-use pr_num::{Bytes, Mapping};
+use crate::mapping_lists;
+use crate::mappings::Mapping;
+use pr_num::NoMemory;
 use std::alloc::Global;
 
 // Bytes are written mapping by mapping, each what it has of them, from the first that has some on. Those before it, and
-// those that begin behind the last byte, are not touched.
+// those that begin behind the last byte, are not touched. Where more than one has some, they are written over copies,
+// which share the pages that are not touched: so that nothing is changed where memory runs out on the way.
 
-/// Writes a range of bytes over those that stand from the address `first` on, as far as these reach.
-fn write_part(old: &mut [u8], first: u64, at: u64, bytes: &[u8])
-    requires { at + length bytes.now < 2 ^ 64 }
-    ensures { old.new ≡ written_bytes at bytes.now first old.old }
+/// Whether no mapping behind this place begins before an address.
+fn is_last(mappings: &[Mapping], place: usize, end: u64) -> bool
+    requires { place ≤ length mappings.now }
+    ensures { OnTrue result (IsLast mappings.now place end) }
 {
-    let start = at.max(first);
-    let end = (at + bytes.len() as u64).min(first.saturating_add(old.len() as u64));
-    if start < end {
-        let part = &bytes[(start - at) as usize..(end - at) as usize];
-        old[(start - first) as usize..(end - first) as usize].copy_from_slice(part);
+    match mappings.get(place + 1) {
+        Some(next) => end <= next.at(),
+        None => true,
     }
 }
 
-/// Writes what a mapping has of a range of bytes.
-#[tactic(auto, unfolding(pr_parts::specs::AddressSpaces::with_written))]
-fn write_over(mapping: &mut Mapping, alloc: Global, at: u64, bytes: &[u8])
-    requires { at + length bytes.now < 2 ^ 64 }
-    ensures { mapping.new ≡ with_written at bytes.now mapping.old }
+/// Writes bytes from an address on, of which `place` is the place, where only the mapping there has some of them. Where
+/// memory runs out it stays as it is.
+fn write_one(
+    mappings: &mut [Mapping],
+    place: usize,
+    alloc: Global,
+    at: u64,
+    bytes: &[u8],
+) -> Result<(), NoMemory>
+    requires space { IsSpace mappings.old }
+    requires place { IsPlace mappings.old at place }
+    requires last { IsLast mappings.old place (at + length bytes.now) }
+    requires end { at + length bytes.now < 2 ^ 64 }
+    ensures ok { OnOk result (mappings.new ≡ with_bytes at bytes.now mappings.old) }
+    ensures err { OnErr result (mappings.new ≡ mappings.old) }
 {
-    let mut written = take_bytes(mapping, alloc);
-    write_part(&mut written, mapping.at, at, bytes);
-    mapping.bytes = Bytes::from_vec(written);
+    if place < mappings.len() {
+        mappings[place].write(alloc, at, bytes)
+    } else {
+        Ok(())
+    }
 }
 
-/// Writes bytes from an address on, of which `first` is the place, wherever something is mapped.
-fn write_each(mappings: &mut [Mapping], first: usize, alloc: Global, at: u64, bytes: &[u8])
+/// Writes bytes from an address on, of which `first` is the place, wherever something is mapped. Where memory runs out
+/// it is not said what the mappings have.
+fn write_each(
+    mappings: &mut [Mapping],
+    first: usize,
+    alloc: Global,
+    at: u64,
+    bytes: &[u8],
+) -> Result<(), NoMemory>
     requires space { IsSpace mappings.old }
     requires place { IsPlace mappings.old at first }
     requires end { at + length bytes.now < 2 ^ 64 }
-    ensures { mappings.new ≡ with_bytes at bytes.now mappings.old }
+    ensures { OnOk result (mappings.new ≡ with_bytes at bytes.now mappings.old) }
 {
     let end = at + bytes.len() as u64;
     let mut place = first;
-    while place < mappings.len() && mappings[place].at < end {
-        write_over(&mut mappings[place], alloc, at, bytes);
+    while place < mappings.len() && mappings[place].at() < end {
+        mappings[place].write(alloc, at, bytes)?;
         place += 1;
     }
+    Ok(())
 }
 
-/// The same of a vector of mappings. Takes no memory.
-pub fn write_from(mappings: &mut Vec<Mapping>, first: usize, at: u64, bytes: &[u8])
+/// The same over a copy, which takes the place of the mappings. Where memory runs out they stay as they are.
+fn write_over_copy(
+    mappings: &mut Vec<Mapping>,
+    first: usize,
+    at: u64,
+    bytes: &[u8],
+) -> Result<(), NoMemory>
     requires space { IsSpace mappings.old.items }
     requires place { IsPlace mappings.old.items at first }
     requires end { at + length bytes.now < 2 ^ 64 }
-    ensures { mappings.new.items ≡ with_bytes at bytes.now mappings.old.items }
+    ensures ok { OnOk result (mappings.new.items ≡ with_bytes at bytes.now mappings.old.items) }
+    ensures err { OnErr result (mappings.new.items ≡ mappings.old.items) }
 {
     let alloc = *mappings.allocator();
-    write_each(mappings, first, alloc, at, bytes);
+    let mut copies = mapping_lists::copies(alloc, mappings)?;
+    write_each(&mut copies, first, alloc, at, bytes)?;
+    *mappings = copies;
+    Ok(())
+}
+
+/// Writes bytes from an address on, of which `first` is the place, wherever something is mapped. Where memory runs out
+/// the mappings stay as they are.
+pub fn write_from(
+    mappings: &mut Vec<Mapping>,
+    first: usize,
+    at: u64,
+    bytes: &[u8],
+) -> Result<(), NoMemory>
+    requires space { IsSpace mappings.old.items }
+    requires place { IsPlace mappings.old.items at first }
+    requires end { at + length bytes.now < 2 ^ 64 }
+    ensures ok { OnOk result (mappings.new.items ≡ with_bytes at bytes.now mappings.old.items) }
+    ensures err { OnErr result (mappings.new.items ≡ mappings.old.items) }
+{
+    if is_last(mappings, first, at + bytes.len() as u64) {
+        let alloc = *mappings.allocator();
+        write_one(mappings, first, alloc, at, bytes)
+    } else {
+        write_over_copy(mappings, first, at, bytes)
+    }
 }

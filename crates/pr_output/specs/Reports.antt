@@ -3,13 +3,15 @@ use Rattle.std.specs.Prelude.{ℕ, List, ◌++◌, codes, decimal}
 use Rattle.std.specs.List.{flat_map}
 use Rattle.pr_model.specs.ToolNames.{tool_name}
 use Rattle.pr_output.specs.declared.reports.Printer.{Printer}
-use Rattle.pr_output.specs.declared.reports.Printer.TheVariants.{Truss, Tool}
+use Rattle.pr_output.specs.declared.reports.Printer.TheVariants.{Truss, Tool, Gcore, Probe}
 use Rattle.pr_output.specs.declared.reports.Report.{Report}
 
 -- the name of a controller that prints
 unfoldable pub printer_name : Printer → List ℕ
 printer_name Truss = codes "truss"
 printer_name (Tool kind) = tool_name kind
+printer_name Gcore = codes "gcore"
+printer_name Probe = codes "apfiles"
 
 -- a line of a title, a number and a name
 unfoldable pub titled : List ℕ → ℕ → List ℕ → List ℕ

@@ -14,6 +14,8 @@ use pr_num::{Bytes, NoMemory};
 pub enum Printer {
     Truss,
     Tool(ToolKind),
+    Gcore,
+    Probe,
 }
 
 impl Printer {
@@ -25,6 +27,8 @@ impl Printer {
         match self {
             Printer::Truss => "truss",
             Printer::Tool(kind) => tool_name(kind),
+            Printer::Gcore => "gcore",
+            Printer::Probe => "apfiles",
         }
     }
 }

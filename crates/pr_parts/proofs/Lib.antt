@@ -1,8 +1,10 @@
 pub mod AccessLemmas
 pub mod AreaLemmas
 pub mod ByAddressLemmas
+pub mod ByteLemmas
 pub mod FirstLemmas
 pub mod HeapLemmas
+pub mod HeapPlaceLemmas
 pub mod PendingLemmas
 pub mod SignalLemmas
 pub mod SpaceLemmas

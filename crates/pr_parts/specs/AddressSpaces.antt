@@ -87,6 +87,10 @@ with_protected at size prot space = change_first (is_range at size) (with_prot p
 abbrev pub is_break_heap : Mapping → Bool
 is_break_heap m = (m.at == heap_base) && is_heap m.kind
 
+-- whether a range has no byte where the heap can be
+abbrev pub is_outside_heap_place : ℕ → ℕ → Bool
+is_outside_heap_place at size = nat_le (at + size) heap_base || nat_le break_limit at
+
 -- a mapping is the heap, or has no byte where the heap can be
 abbrev pub LeavesHeapPlace : Mapping → Type 0
 LeavesHeapPlace m = IsTrue (is_break_heap m || (nat_le (m.at + length m.bytes) heap_base || nat_le break_limit m.at))

@@ -1,7 +1,4 @@
-use Rattle.std.proofs.Common.{◌≡◌, ℕ, ◌+◌, ◌≤◌, Bool, true, false, eqb, cond, Some, None, List, length, drop, refl, ap, ◌∙◌}
-use Rattle.std.specs.List.{slice_get}
-use Rattle.std.proofs.lemmas.List.{drop_all}
-use Rattle.pr_num.proofs.ListLemmas.{drop-at}
+use Rattle.std.proofs.Common.{◌≡◌, ℕ, Bool, true, false, eqb, cond, Some, None, List, [], ◌∷◌, refl, ap, ◌∙◌}
 use Rattle.pr_model.specs.Readers.{Children, no_child, all_live, first_zombie, child_before, children_among}
 use Rattle.pr_model.specs.State.{TracedProcess}
 
@@ -26,21 +23,21 @@ dead : (any : Bool) (id status : ℕ) → told_behind any (first_zombie id statu
 dead true id status = refl
 dead false id status = refl
 
-module _ (parent : ℕ) (processes : List (ℕ × TracedProcess)) (i : ℕ) (any : Bool) where
-  module _ (pid : ℕ) (p : TracedProcess) where
-    at-place : slice_get processes i ≡ Some (pid, p) → children_among parent (drop i processes) ≡ cond (eqb p.parent parent) (child_before pid p.ended (children_among parent (drop (i + 1) processes))) (children_among parent (drop (i + 1) processes))
-    at-place at = ap (children_among parent) (drop-at processes i (pid, p) at)
+module _ (parent : ℕ) (es : List (ℕ × TracedProcess)) (any : Bool) where
+  module _ (ds : List (ℕ × TracedProcess)) (pid : ℕ) (p : TracedProcess) (at : es ≡ (pid, p) ∷ ds) where
+    at-place : children_among parent es ≡ cond (eqb p.parent parent) (child_before pid p.ended (children_among parent ds)) (children_among parent ds)
+    at-place = ap (children_among parent) at
 
-    pub no-child : slice_get processes i ≡ Some (pid, p) → eqb p.parent parent ≡ false → told_behind any (children_among parent (drop i processes)) ≡ told_behind any (children_among parent (drop (i + 1) processes))
-    no-child at other = ap (told_behind any) (at-place at ∙ rw other refl)
+    pub no-child : eqb p.parent parent ≡ false → told_behind any (children_among parent es) ≡ told_behind any (children_among parent ds)
+    no-child other = ap (told_behind any) (at-place ∙ rw other refl)
 
-    pub living-child : slice_get processes i ≡ Some (pid, p) → eqb p.parent parent ≡ true → p.ended ≡ None → told_behind any (children_among parent (drop i processes)) ≡ told_behind true (children_among parent (drop (i + 1) processes))
-    living-child at own lives = ap (told_behind any) (at-place at ∙ rw (own, lives) refl) ∙ alive any pid (children_among parent (drop (i + 1) processes))
+    pub living-child : eqb p.parent parent ≡ true → p.ended ≡ None → told_behind any (children_among parent es) ≡ told_behind true (children_among parent ds)
+    living-child own lives = ap (told_behind any) (at-place ∙ rw (own, lives) refl) ∙ alive any pid (children_among parent ds)
 
-    pub ended-child : (status : ℕ) → slice_get processes i ≡ Some (pid, p) → eqb p.parent parent ≡ true → p.ended ≡ Some status → told_behind any (children_among parent (drop i processes)) ≡ first_zombie pid status
-    ended-child status at own ended = ap (told_behind any) (at-place at ∙ rw (own, ended) refl) ∙ dead any pid status
+    pub ended-child : (status : ℕ) → eqb p.parent parent ≡ true → p.ended ≡ Some status → told_behind any (children_among parent es) ≡ first_zombie pid status
+    ended-child status own ended = ap (told_behind any) (at-place ∙ rw (own, ended) refl) ∙ dead any pid status
 
-  pub no-more : length processes ≤ i → told_behind any (children_among parent (drop i processes)) ≡ told_behind any no_child
-  no-more past = ap (λ es. told_behind any (children_among parent es)) (drop_all i processes past)
+  pub no-more : es ≡ [] → told_behind any (children_among parent es) ≡ told_behind any no_child
+  no-more end = ap (λ cs. told_behind any (children_among parent cs)) end
 
-pub ruleset family_laws = (no-child, living-child, ended-child, no-more)
+pub ruleset family_laws = (no-more)

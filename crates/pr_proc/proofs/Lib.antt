@@ -1,4 +1,3 @@
-pub mod ByteLemmas
 pub mod CountLemmas
 pub mod ExecLemmas
 pub mod FamilyLemmas
@@ -13,4 +12,5 @@ pub mod SendingLemmas
 pub mod SignalLemmas
 pub mod SizeLemmas
 pub mod SpaceLemmas
+pub mod TotalLemmas
 pub mod UsageLemmas

@@ -1,5 +1,7 @@
-use Rattle.std.proofs.Common.{◌≡◌, List, ℕ, true, Option, Some, None, IsSome, length, is_some, is_none, refl, ap, ◌∙◌}
+use Rattle.std.proofs.Common.{◌≡◌, ◌≢◌, List, ℕ, true, Option, Some, None, IsSome, length, is_some, is_none, refl, ap, ◌∙◌}
+use Rattle.std.proofs.lemmas.Bool.{ne_eqb}
 use Rattle.pr_num.specs.ById.{change_under, map_each, under}
+use Rattle.pr_slots.proofs.WalkLaws.{change_under-idle}
 use Rattle.pr_num.specs.Files.{Descriptors, FileTable, with_all_closed}
 use Rattle.pr_model.specs.Lives.{orphaned, with_ended, with_lender_of, with_loan_back, with_loans_passed, with_lwp_ended, with_parent_signalled, with_this_ended, zombie}
 use Rattle.pr_model.specs.Machines.{traced}
@@ -20,6 +22,12 @@ live-some s pid (Some p) e some = ap is_some (live_process-found s pid p e)
 
 pub live_process-under : (s : TracedSystem) (pid : ℕ) → IsSome (live_process s pid) → IsSome (under pid s.processes)
 live_process-under s pid some = live-some s pid (live_process s pid) refl some
+
+-- one that is no child of a process that ends keeps its parent
+pub orphaned-other : (parent id : ℕ) (p : TracedProcess) (es : List (ℕ × TracedProcess)) → under id es ≡ Some p → p.parent ≢ parent → change_under id (orphaned parent) es ≡ es
+unfolding orphaned
+orphaned-other parent id p es found other =
+    change_under-idle id (orphaned parent) p es found (rw (ne_eqb p.parent parent other) refl)
 
 -- what a process that ends leaves, before what it borrowed or lent is passed on
 abbrev left_by : ℕ → ℕ → TracedProcess → TracedSystem → TracedSystem

@@ -7,10 +7,11 @@ use Rattle.std.proofs.lemmas.List.{drop_all}
 use Rattle.std.proofs.lemmas.List.Folds.{find-append}
 use Rattle.pr_num.proofs.BoolLemmas.{and_true}
 use Rattle.pr_num.proofs.ListLemmas.{drop-at}
-use Rattle.pr_num.specs.ById.{place_from}
+use Rattle.pr_slots.proofs.WalkLaws.{rest-all}
+use Rattle.pr_slots.specs.Walks.{rest_from}
 use Rattle.pr_model.specs.Order.{is_after, live_lwps, lwps_among, lwps_in, next_lwp, pairs_of}
 use Rattle.pr_model.specs.State.{TracedLwp, TracedProcess, TracedSystem}
-use Rattle.pr_proc.specs.Orders.{asked_after, next_asked}
+use Rattle.pr_proc.specs.Orders.{asked_after, first_id, next_asked}
 
 -- What a walk over lists by id finds, whatever it looks for.
 
@@ -24,21 +25,20 @@ module _ (q : ℕ × ℕ → Bool) (pid : ℕ) (lwps : List (ℕ × TracedLwp)) 
 pub first-end : (q : ℕ × ℕ → Bool) (pid : ℕ) (lwps : List (ℕ × TracedLwp)) (i : ℕ) → length lwps ≤ i → find q (pairs_of pid (drop i lwps)) ≡ None
 first-end q pid lwps i past = ap (λ es. find q (pairs_of pid es)) (drop_all i lwps past)
 
-module _ (q : ℕ × ℕ → Bool) (processes : List (ℕ × TracedProcess)) (i : ℕ) (pid : ℕ) (p : TracedProcess) where
-  among : slice_get processes i ≡ Some (pid, p) → find q (lwps_among (drop i processes)) ≡ option_or (find q (lwps_in (pid, p))) (find q (lwps_among (drop (i + 1) processes)))
-  among at =
-      ap (λ es. find q (lwps_among es)) (drop-at processes i (pid, p) at) ∙ find-append q (lwps_in (pid, p)) (lwps_among (drop (i + 1) processes))
+module _ (q : ℕ × ℕ → Bool) (es ds : List (ℕ × TracedProcess)) (pid : ℕ) (p : TracedProcess) where
+  among : es ≡ (pid, p) ∷ ds → find q (lwps_among es) ≡ option_or (find q (lwps_in (pid, p))) (find q (lwps_among ds))
+  among at = ap (λ cs. find q (lwps_among cs)) at ∙ find-append q (lwps_in (pid, p)) (lwps_among ds)
 
-  pub next-here : (x : ℕ × ℕ) → slice_get processes i ≡ Some (pid, p) → find q (lwps_in (pid, p)) ≡ Some x → find q (lwps_among (drop i processes)) ≡ Some x
-  next-here x at here = among at ∙ ap (λ o. option_or o (find q (lwps_among (drop (i + 1) processes)))) here
+  pub next-here : (x : ℕ × ℕ) → es ≡ (pid, p) ∷ ds → find q (lwps_in (pid, p)) ≡ Some x → find q (lwps_among es) ≡ Some x
+  next-here x at here = among at ∙ ap (λ o. option_or o (find q (lwps_among ds))) here
 
-  pub next-on : slice_get processes i ≡ Some (pid, p) → find q (lwps_in (pid, p)) ≡ None → find q (lwps_among (drop (i + 1) processes)) ≡ find q (lwps_among (drop i processes))
-  next-on at none = sym (among at ∙ ap (λ o. option_or o (find q (lwps_among (drop (i + 1) processes)))) none)
+  pub next-on : es ≡ (pid, p) ∷ ds → find q (lwps_in (pid, p)) ≡ None → find q (lwps_among ds) ≡ find q (lwps_among es)
+  next-on at none = sym (among at ∙ ap (λ o. option_or o (find q (lwps_among ds))) none)
 
-pub next-end : (q : ℕ × ℕ → Bool) (processes : List (ℕ × TracedProcess)) (i : ℕ) → length processes ≤ i → find q (lwps_among (drop i processes)) ≡ None
-next-end q processes i past = ap (λ es. find q (lwps_among es)) (drop_all i processes past)
+pub next-end : (q : ℕ × ℕ → Bool) (es : List (ℕ × TracedProcess)) → es ≡ [] → find q (lwps_among es) ≡ None
+next-end q es empty = ap (λ cs. find q (lwps_among cs)) empty
 
-pub ruleset order_laws = (first-here, first-on, first-end, next-here, next-on, next-end)
+pub ruleset order_laws = (first-here, first-on, first-end, next-end)
 
 -- ---- where the walk begins: no lwp of a process of a lower id comes after an lwp
 
@@ -54,18 +54,15 @@ module _ (q : ℕ × ℕ → Bool) (pid lwp : ℕ) where
   none-in e below =
       elim (is_none e.1.ended) as (λ b. find (asked_after q (Some (pid, lwp))) (cond b (pairs_of e.0 e.1.lwps) []) ≡ None) [ true ↦ none-of e.0 below e.1.lwps | false ↦ refl ]
 
-  passed-below : (low : ℕ) → low ≤ pid → (es : List (ℕ × TracedProcess)) → find (asked_after q (Some (pid, lwp))) (lwps_among (drop (place_from low es) es)) ≡ find (asked_after q (Some (pid, lwp))) (lwps_among es)
+  passed-below : (low : ℕ) → low ≤ pid → (es : List (ℕ × TracedProcess)) → find (asked_after q (Some (pid, lwp))) (lwps_among (rest_from low es)) ≡ find (asked_after q (Some (pid, lwp))) (lwps_among es)
   passed-below low under [] = refl
   passed-below low under (e ∷ es) =
       elim (cases_Bool (ltb e.0 low)) [ inl below ↦ let less = ltb-true e.0 low below in rw below (passed-below low under es ∙ sym (find-append (asked_after q (Some (pid, lwp))) (lwps_in e) (lwps_among es) ∙ ap (λ o. option_or o (find (asked_after q (Some (pid, lwp))) (lwps_among es))) (none-in e (omega arith)))) | inr here ↦ rw here refl ]
 
-  passed-first : (es : List (ℕ × TracedProcess)) (i : ℕ) → 0 < pid → i ≡ place_from (pid - 1 + 1) es → find (asked_after q (Some (pid, lwp))) (lwps_among (drop i es)) ≡ find (asked_after q (Some (pid, lwp))) (lwps_among es)
-  passed-first es i some at =
-      ap (λ n. find (asked_after q (Some (pid, lwp))) (lwps_among (drop n es))) at ∙ passed-below (pid - 1 + 1) (omega arith) es
-
--- so the walk for the lwps after one of a process with a higher id than 0 begins at that process
-pub passed-at : (q : ℕ × ℕ → Bool) (after : Option (ℕ × ℕ)) (x : ℕ × ℕ) (es : List (ℕ × TracedProcess)) (i : ℕ) → after ≡ Some x → 0 < x.0 → i ≡ place_from (x.0 - 1 + 1) es → find (asked_after q after) (lwps_among (drop i es)) ≡ find (asked_after q after) (lwps_among es)
-passed-at q after x es i is some at = rw is (passed-first q x.0 x.1 es i some at)
+-- so the walk for the lwps after another one begins at that one's process
+pub passed-first : (q : ℕ × ℕ → Bool) (after : Option (ℕ × ℕ)) (es : List (ℕ × TracedProcess)) → find (asked_after q after) (lwps_among (rest_from (first_id after) es)) ≡ find (asked_after q after) (lwps_among es)
+passed-first q None es = ap (λ cs. find (asked_after q None) (lwps_among cs)) (rest-all es)
+passed-first q (Some x) es = passed-below q x.0 x.1 x.0 (omega arith) es
 
 -- ---- any lwp
 

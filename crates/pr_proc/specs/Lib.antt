@@ -3,7 +3,9 @@ pub mod Families
 pub mod FirstFiles
 pub mod Forks
 pub mod Orders
+pub mod ProcessesLending
 pub mod Refusals
 pub mod Room
 pub mod Sendings
 pub mod Shows
+pub mod Totals

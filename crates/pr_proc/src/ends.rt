@@ -1,7 +1,7 @@
 //! How processes end.
 ghost use Rattle.std.specs.Prelude.{◌≡◌, IsSome, None};
 ghost use Rattle.std.specs.Option.{ForSome};
-ghost use Rattle.pr_num.specs.ById.{map_each, under};
+ghost use Rattle.pr_num.specs.ById.{change_under, map_each, under};
 ghost use Rattle.pr_num.specs.Infos.{of_child};
 ghost use Rattle.pr_num.specs.declared.signals.Sig.TheVariants.{Cld};
 ghost use Rattle.pr_model.specs.Generation.{signalled};
@@ -11,7 +11,7 @@ ghost use Rattle.pr_model.specs.State.{live_process, with_process};
 
 use crate::loans::{give_back, leave_lender};
 use crate::signals::tell;
-use crate::{Proc, Sys, live};
+use crate::{Proc, Processes, Sys, live};
 use pr_file::Fds;
 use pr_mem::Space;
 use pr_model::Control;
@@ -36,7 +36,7 @@ fn clear_control(control: &mut Control<Areas>)
 }
 
 /// Leaves of a process what a zombie keeps: its parent, program name, moment and usage, and this wait status. Answers
-/// the memory and the descriptors that it had. Takes no memory.
+/// the memory and the descriptors that it had; that of its lwps is freed. Takes no memory.
 #[tactic(auto, unfolding(pr_model::specs::Lives::zombie, pr_model::specs::Lives::bare_process, pr_model::specs::Machines::traced))]
 fn become_zombie(alloc: Global, process: &mut Proc, status: u64) -> (Space, Fds)
     ensures process { process.new ≡ zombie traced status process.old }
@@ -52,7 +52,7 @@ fn become_zombie(alloc: Global, process: &mut Proc, status: u64) -> (Space, Fds)
     process.pending = Pendings::new();
     process.job_stop = None;
     process.next_lwp = 1;
-    process.lwps.clear();
+    process.lwps = ById::new(alloc);
     clear_control(&mut process.control);
     (space, fds)
 }
@@ -67,12 +67,27 @@ fn orphan(process: &mut Proc, parent: u32)
     }
 }
 
+/// The same of the process of an id; one that is no child of it is not touched.
 #[tactic(auto, using(pr_num::proofs::ByIdLaws::by_id_laws))]
-fn orphan_each(processes: &mut ById<Proc>, parent: u32)
+fn orphan_under(processes: &mut Processes, id: u32, parent: u32)
+    requires { IsSome (under id processes.old) }
+    ensures { processes.new ≡ change_under id (orphaned parent) processes.old }
+{
+    let process = processes.get(id).unwrap();
+    if process.parent == parent {
+        orphan(processes.get_mut(id), parent);
+    }
+}
+
+/// The same of every process.
+fn orphan_each(processes: &mut Processes, parent: u32)
     ensures { processes.new ≡ map_each (orphaned parent) processes.old }
 {
-    for place in 0..processes.len() {
-        orphan(processes.at_mut(place), parent);
+    processes.ids_rise();
+    let mut low = 0;
+    while let Some((id, _)) = processes.next_from(low) {
+        orphan_under(processes, id, parent);
+        low = id as u64 + 1;
     }
 }
 

@@ -11,7 +11,7 @@ ghost use Rattle.pr_proc.specs.Refusals.{Says, exec_refusal};
 use crate::loans::give_back;
 use crate::sizes::given_up;
 use crate::spawns::{FIRST_REGISTERS, first_lwp, first_space, one_lwp};
-use crate::{Lwp, Proc, ProcNo, Sys, live, total_has_room};
+use crate::{Lwp, Proc, ProcNo, Processes, Sys, live, total_has_room};
 use pr_asm::Program;
 use pr_mem::Space;
 use pr_model::{Control, Frames};
@@ -88,7 +88,7 @@ fn run(process: &mut Proc, id: u32, program: &Program, space: Space, only: ById<
 /// The same of the process of an id.
 #[tactic(auto, using(pr_num::proofs::ByIdLaws::by_id_laws))]
 fn run_under(
-    processes: &mut ById<Proc>,
+    processes: &mut Processes,
     pid: u32,
     id: u32,
     program: &Program,

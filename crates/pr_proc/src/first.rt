@@ -7,11 +7,11 @@ ghost use Rattle.pr_proc.specs.Counts.{IsNumbered};
 ghost use Rattle.pr_proc.specs.FirstFiles.{stored_alone};
 
 use crate::spawns::{bare_process, spawn_unlimited};
-use crate::{Proc, Programs, Sys};
+use crate::{Proc, Processes, Programs, Sys};
 use pr_asm::Program;
 use pr_file::Files;
 use pr_model::System;
-use pr_num::{ById, Name, NoMemory};
+use pr_num::{Name, NoMemory};
 use std::alloc::Global;
 
 /// Process 0, the system process.
@@ -30,7 +30,7 @@ fn bare_system(alloc: Global, programs: Programs, files: Files) -> Result<Sys, N
     ensures value { IfOk result (λ s. s ≡ bare_system programs files.files) }
     ensures ids { IfOk result (λ s. IsNumbered s) }
 {
-    let mut processes = ById::new(alloc);
+    let mut processes = Processes::new(alloc)?;
     processes.insert(0, system_process(alloc))?;
     Ok(System {
         programs,

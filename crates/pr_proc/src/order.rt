@@ -1,9 +1,10 @@
 //! The order in which lwps are looked at for a turn.
-ghost use Rattle.std.specs.Prelude.{◌≡◌, ◌<◌, ℕ, Bool, drop, find};
+ghost use Rattle.std.specs.Prelude.{◌≡◌, find};
 ghost use Rattle.pr_model.specs.Order.{is_after, live_lwps, lwps_among, lwps_in, next_lwp, pairs_of};
-ghost use Rattle.pr_proc.specs.Orders.{asked_after, next_asked};
+ghost use Rattle.pr_proc.specs.Orders.{asked_after, first_id, next_asked};
 
-use crate::{Lwp, Proc, Sys};
+use crate::{Lwp, Proc, Processes, Sys};
+use pr_model::is_after;
 use pr_num::ById;
 
 /// A question about an lwp, which is named by the ids of its process and its own.
@@ -26,18 +27,6 @@ impl Question for Any {
 
     fn ask(&self, _pid: u32, _lwp: u32) -> bool {
         true
-    }
-}
-
-/// Whether the lwp `x` comes after the lwp `after`: by process, and then by lwp. Each comes after none. Both are the
-/// ids of a process and of its lwp.
-#[tactic(auto, unfolding(pr_model::specs::Order::is_after))]
-pub fn is_after(after: Option<(u32, u32)>, x: (u32, u32)) -> bool
-    ensures { result ≡ is_after after x }
-{
-    match after {
-        None => true,
-        Some((pid, lwp)) => pid < x.0 || (pid == x.0 && lwp < x.1),
     }
 }
 
@@ -83,33 +72,30 @@ fn first_in<Q: Question>(
     first_among(question, after, pid, &process.lwps)
 }
 
-/// The place of the first process that can have an lwp after another one: that of the other one's process, or that
-/// behind it.
-fn first_place(after: Option<(u32, u32)>, processes: &ById<Proc>) -> usize
-    ensures { (q : ℕ × ℕ → Bool) → find (asked_after q after) (lwps_among (drop result processes.now)) ≡ find (asked_after q after) (lwps_among processes.now) }
+/// The least id of a process that can have an lwp after another one: that of the other one's process.
+fn first_id(after: Option<(u32, u32)>) -> u64
+    ensures { result ≡ first_id after }
 {
-    let Some((pid, _)) = after else {
-        return 0;
-    };
-    if pid == 0 {
-        return 0;
+    match after {
+        Some((pid, _)) => pid as u64,
+        None => 0,
     }
-    processes.place_after(Some(pid - 1))
 }
 
 #[tactic(auto, using(crate::proofs::OrderLemmas::order_laws))]
 fn next_among<Q: Question>(
     question: &Q,
     after: Option<(u32, u32)>,
-    processes: &ById<Proc>,
+    processes: &Processes,
 ) -> Option<(u32, u32)>
     ensures { result ≡ find (asked_after (Q.answer question.now) after) (lwps_among processes.now) }
 {
-    for place in first_place(after, processes)..processes.len() {
-        let (pid, process) = processes.at(place);
+    let mut low = first_id(after);
+    while let Some((pid, process)) = processes.next_from(low) {
         if let Some(lwp) = first_in(question, after, pid, process) {
             return Some(lwp);
         }
+        low = pid as u64 + 1;
     }
     None
 }

@@ -6,7 +6,6 @@ ghost use Rattle.pr_num.specs.declared.signals.Sig.{Sig as AnySig};
 ghost use Rattle.pr_proc.specs.Sendings.{IsSent, sending_meant};
 
 use crate::Sys;
-use crate::ids::id_of;
 use pr_num::limits::SIGNAL_COUNT;
 use pr_num::{Errno, Sig};
 
@@ -33,7 +32,7 @@ pub fn sending_of(sys: &Sys, target: u64, number: u64) -> Sending
     if target == 0 {
         return Sending::Refused(Errno::Perm);
     }
-    let Some(id) = id_of(&sys.processes, target) else {
+    let Some(id) = sys.processes.id_of(target) else {
         return Sending::Refused(Errno::Srch);
     };
     let process = sys.processes.get(id).unwrap();

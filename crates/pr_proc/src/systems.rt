@@ -3,7 +3,7 @@ ghost use Rattle.std.specs.Option.{option_copied};
 ghost use Rattle.pr_model.specs.Readers.{space_seen};
 ghost use Rattle.pr_model.specs.State.{has_agent, live_process};
 
-use crate::Programs;
+use crate::{Processes, Programs};
 use pr_file::{Fds, Files};
 use pr_mem::Space;
 use pr_model::{Control, ProcessOf, System};
@@ -18,7 +18,7 @@ pub type Lwp = pr_model::Lwp<Pendings>;
 pub type Proc = ProcessOf<Space, Fds, Pendings, ById<Lwp>, Control<Areas>>;
 
 /// The system with its files. Contracts see it as the traced system of the definitions.
-pub type Sys = System<Programs, Files, ById<Proc>>;
+pub type Sys = System<Programs, Files, Processes>;
 
 /// The live process of an id: `None` for an id that no process has, and for a zombie's.
 #[tactic(auto, unfolding(pr_model::specs::State::live_process))]

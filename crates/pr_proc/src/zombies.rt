@@ -4,16 +4,16 @@ ghost use Rattle.pr_model.specs.Lives.{with_reaped};
 ghost use Rattle.pr_model.specs.Readers.{children_among, children_of};
 ghost use Rattle.pr_proc.specs.Families.{children_told};
 
-use crate::{Children, Proc, Sys};
-use pr_num::ById;
+use crate::{Children, Processes, Sys};
 
 #[tactic(auto, using(crate::proofs::FamilyLemmas::family_laws))]
-fn children_among(parent: u32, processes: &ById<Proc>) -> Children
+fn children_among(parent: u32, processes: &Processes) -> Children
     ensures { children_told result ≡ children_among parent processes.now }
 {
+    let mut low = 0;
     let mut any = false;
-    for place in 0..processes.len() {
-        let (id, process) = processes.at(place);
+    while let Some((id, process)) = processes.next_from(low) {
+        low = id as u64 + 1;
         if process.parent != parent {
             continue;
         }

@@ -1,8 +1,12 @@
-use Rattle.std.proofs.Common.{◌≡◌, ◌+◌, ℕ, Bool, true, false, Option, Some, None, List, [], ◌∷◌, ◌++◌, IfSome, cond, drop, length, nat_le, option_map, slice_get, refl, sym, subst}
+use Rattle.std.proofs.Common.{◌≡◌, ◌+◌, ℕ, Bool, true, false, Option, Some, None, List, [], ◌∷◌, ◌++◌, IfSome, cond, drop, replicate, length, nat_le, option_map, slice_get, refl, ap, sym, subst, arith, ◌∙◌}
 use Rattle.std.specs.List.{All}
 use Rattle.std.specs.Option.{option_and_then}
-use Rattle.std.proofs.lemmas.List.Elements.{All-append, All-cons, All-drop, All-nil, All-set}
+use Rattle.std.proofs.lemmas.List.Elements.{All-append, All-cons, All-drop, All-nil, All-replicate, All-set}
 use Rattle.pr_codec.proofs.WordLemmas.{AreBytes-words_bytes}
+use Rattle.pr_core.specs.Gcores as gcores
+use Rattle.pr_core.specs.declared.gcore_stages.GcoreStage.{GcoreStage}
+use Rattle.pr_core.specs.declared.gcore_stages.GcoreStage.TheVariants as gcore
+use Rattle.pr_core.specs.declared.memory_walks.MemoryWalk.{MemoryWalk}
 use Rattle.pr_model.specs.Legal.{IsLegal, IsLegalEntry, after}
 use Rattle.pr_model.specs.Replies.{handle_in}
 use Rattle.pr_model.specs.State.{TracedState}
@@ -21,7 +25,27 @@ use Rattle.pr_num.specs.Messages.{message_code, operands, spelling}
 use Rattle.pr_num.specs.Words.{IsByte, words_bytes}
 use Rattle.pr_num.specs.declared.messages.Message.{Message}
 use Rattle.pr_num.specs.declared.messages.Message.TheVariants as message
+use Rattle.pr_model.specs.Calls.{answer_to}
+use Rattle.pr_num.specs.Instructions.{fields_of}
+use Rattle.pr_num.specs.Layout.{stack_base, text_base}
+use Rattle.pr_num.specs.Messages.{padding}
+use Rattle.pr_num.specs.Syscalls.{syscall_number}
+use Rattle.pr_num.specs.Words.{word_bytes}
+use Rattle.pr_probe.specs.AgentCode.{agent_registers, code_size, exit_pc, planted, stack_size}
+use Rattle.pr_probe.specs.Probes as probes
+use Rattle.pr_probe.specs.TracedSets.{agent_sets, no_sets, set_word, trace_message}
+use Rattle.pr_probe.specs.declared.probe_stages.AskingStep.{AskingStep}
+use Rattle.pr_probe.specs.declared.probe_stages.AskingStep.TheVariants as asking
+use Rattle.pr_probe.specs.declared.probe_stages.ProbeStage.{ProbeStage}
+use Rattle.pr_probe.specs.declared.probe_stages.ProbeStage.TheVariants as probe
+use Rattle.pr_probe.specs.declared.traced_sets.SetKind.{SetKind}
+use Rattle.pr_probe.specs.declared.traced_sets.SetKind.TheVariants.{Exits}
+use Rattle.pr_probe.specs.declared.traced_sets.TracedSets.{TracedSets}
+use Rattle.pr_reached.proofs.ReachedLemmas.{later-reached}
+use Rattle.pr_reached.specs.InRange.{IsInRange}
+use Rattle.pr_reached.specs.Reached.{IsReached}
 use Rattle.pr_reached.specs.ByteHistories.{HasBytes, IsActOfBytes, IsEntryOfBytes, IsOfBytes}
+use Rattle.pr_run_laws.proofs.ProbeByteLemmas.{GivesBytes, SavesBytes, code-given, fed-saves, stack-given}
 use Rattle.pr_run_laws.specs.ScenarioRanges.{IsCoreOfBytes, IsLineOfBytes}
 use Rattle.pr_scen.specs.Bindings.{handle_of}
 use Rattle.pr_scen.specs.Scripts as scripts
@@ -45,7 +69,7 @@ use Rattle.pr_truss.specs.declared.stages.OpeningStep.TheVariants as opening
 use Rattle.pr_truss.specs.declared.stages.Stage.{Stage}
 use Rattle.pr_truss.specs.declared.stages.Stage.TheVariants as stage
 use Rattle.pr_world.specs.Controllers.{after_reply, call_by, feed_at, next_call, with_fed}
-use Rattle.pr_world.specs.ControllerStates.{ControllerState, Script, Truss, Tool}
+use Rattle.pr_world.specs.ControllerStates.{ControllerState, Script, Truss, Tool, Gcore, Probe}
 use Rattle.pr_world.specs.Protocol.{Follows, FollowsAt, controllers_after}
 
 -- What the controllers of a run write is bytes.
@@ -140,6 +164,88 @@ step-bytes s step.Close = closing-bytes (last_open s.opened)
 tool-bytes : (s : tools.ToolState) → IfSome (tools.next_call_of s) IsOfBytes
 unfolding tools.next_call_of
 tool-bytes s = step-bytes s s.step
+
+-- ---- gcore, a row a stage
+
+memory-bytes : (s : gcores.GcoreState) (o : Option MemoryWalk) → IsOfBytes (gcores.memory_call s o)
+memory-bytes s None = tt
+memory-bytes s (Some w) = tt
+
+gcore-stage-bytes : (s : gcores.GcoreState) (g : GcoreStage) → IfSome (gcores.call_of s g) IsOfBytes
+unfolding gcores.call_of
+gcore-stage-bytes s gcore.OpenCtl = tt
+gcore-stage-bytes s gcore.OpenStatus = tt
+gcore-stage-bytes s (gcore.OpenPart part) = tt
+gcore-stage-bytes s gcore.OpenMemory = tt
+gcore-stage-bytes s gcore.ReadFirst = tt
+gcore-stage-bytes s gcore.Stop = spelt-bytes message.Stop
+gcore-stage-bytes s gcore.AwaitStop = tt
+gcore-stage-bytes s gcore.ReadStatus = tt
+gcore-stage-bytes s (gcore.ReadPart part) = tt
+gcore-stage-bytes s gcore.ReadMemory = memory-bytes s s.walk
+gcore-stage-bytes s gcore.Run = spelt-bytes (message.Run 0)
+gcore-stage-bytes s gcore.Release = spelt-bytes (message.Run 0)
+gcore-stage-bytes s gcore.Close = closing-bytes (last_open s.opened)
+
+gcore-bytes : (s : gcores.GcoreState) → IfSome (gcores.next_call_of s) IsOfBytes
+unfolding gcores.next_call_of
+gcore-bytes s = gcore-stage-bytes s s.stage
+
+-- ---- a probe, a row a stage
+
+-- bytes behind a message are written as they are
+written-bytes : (m : Message) (bytes : List ℕ) → All IsByte bytes → All IsByte (spelling m bytes)
+written-bytes m bytes all =
+    let words : List ℕ = words_bytes (message_code m ∷ operands m) in
+    let zeros : List ℕ = replicate (padding (length bytes)) 0 in
+    All-append IsByte (words ++ bytes) zeros
+    (All-append IsByte words bytes (AreBytes-words_bytes (message_code m ∷ operands m)) all)
+    (All-replicate IsByte (padding (length bytes)) 0 (omega arith))
+
+planted-bytes : All IsByte planted
+unfolding planted fields_of syscall_number word_bytes
+planted-bytes = AreBytes-words_bytes (19 ∷ 29 ∷ 19 ∷ 26 ∷ [])
+
+set-bytes : (p : probes.ProbeState) (k : SetKind) (sets : TracedSets) → IsOfBytes (probes.set_call p k sets)
+set-bytes p k sets = spelt-bytes (trace_message k (set_word sets k))
+
+asking-bytes : (p : probes.ProbeState) (d : ℕ) (a : AskingStep) → IsOfBytes (probes.asking_call p d a)
+unfolding probes.asking_call
+asking-bytes p d asking.SetRegisters = spelt-bytes (message.Sreg (agent_registers d text_base))
+asking-bytes p d asking.Run = spelt-bytes (message.Run 0)
+asking-bytes p d asking.Await = tt
+asking-bytes p d asking.ReadAgent = tt
+asking-bytes p d asking.ReadKind = spelt-bytes (message.Read stack_base probes.kind_size)
+
+probe-stage-bytes : (p : probes.ProbeState) (g : ProbeStage) → SavesBytes p → IfSome (probes.call_of p g) IsOfBytes
+unfolding probes.call_of
+probe-stage-bytes p (probe.Open f) saves = tt
+probe-stage-bytes p probe.ReadFirst saves = tt
+probe-stage-bytes p probe.Stop saves = spelt-bytes message.Stop
+probe-stage-bytes p probe.AwaitStop saves = tt
+probe-stage-bytes p probe.ReadStatus saves = tt
+probe-stage-bytes p probe.ReadMap saves = tt
+probe-stage-bytes p probe.SaveCode saves = spelt-bytes (message.Read text_base code_size)
+probe-stage-bytes p probe.SaveStack saves = spelt-bytes (message.Read stack_base stack_size)
+probe-stage-bytes p (probe.Trace k) saves = set-bytes p k agent_sets
+probe-stage-bytes p probe.MakeAgent saves = spelt-bytes (message.Agent (agent_registers 0 text_base))
+probe-stage-bytes p probe.PlantCode saves = written-bytes (message.Write text_base (length planted)) planted planted-bytes
+probe-stage-bytes p (probe.Asking d a) saves = asking-bytes p d a
+probe-stage-bytes p probe.UntraceExits saves = set-bytes p Exits no_sets
+probe-stage-bytes p probe.SetExit saves = spelt-bytes (message.Sreg (agent_registers 0 exit_pc))
+probe-stage-bytes p probe.RunExit saves = spelt-bytes (message.Run 0)
+probe-stage-bytes p probe.AwaitExit saves = tt
+probe-stage-bytes p probe.WriteCode saves = written-bytes (message.Write text_base (length p.code)) p.code saves.0
+probe-stage-bytes p probe.WriteStack saves = written-bytes (message.Write stack_base (length p.stack)) p.stack saves.1
+probe-stage-bytes p (probe.Retrace k) saves = set-bytes p k p.sets
+probe-stage-bytes p probe.Run saves = spelt-bytes (message.Run 0)
+probe-stage-bytes p (probe.Restore k) saves = set-bytes p k p.sets
+probe-stage-bytes p probe.Release saves = spelt-bytes (message.Run 0)
+probe-stage-bytes p probe.Close saves = closing-bytes (last_open p.opened)
+
+probe-bytes : (p : probes.ProbeState) → SavesBytes p → IfSome (probes.next_call_of p) IsOfBytes
+unfolding probes.next_call_of
+probe-bytes p saves = probe-stage-bytes p p.stage saves
 
 -- ---- a script writes what is left of a line's bytes
 
@@ -239,12 +345,27 @@ unfolding next_call IsCoreOfBytes
 core-bytes (Script s) bytes = script-bytes s bytes
 core-bytes (Truss t) bytes = truss-bytes t
 core-bytes (Tool t) bytes = tool-bytes t
+core-bytes (Gcore g) bytes = gcore-bytes g
+core-bytes (Probe p) bytes = probe-bytes p bytes
 
-reply-bytes : (c : ControllerState) (r : Reply) → IsCoreOfBytes c → IsCoreOfBytes (after_reply c r)
+-- what a reply gives to a probe that saves is bytes
+abbrev Gives : ControllerState → Reply → Type 0
+Gives (Probe p) r = (p.stage ≡ probe.SaveCode → GivesBytes r) × (p.stage ≡ probe.SaveStack → GivesBytes r)
+Gives _ r = Unit {0}
+
+reply-bytes : (c : ControllerState) (r : Reply) → Gives c r → IsCoreOfBytes c → IsCoreOfBytes (after_reply c r)
 unfolding after_reply IsCoreOfBytes
-reply-bytes (Script s) r bytes = subst (All IsLineOfBytes) (sym (fed-lines s r)) bytes
-reply-bytes (Truss t) r bytes = tt
-reply-bytes (Tool t) r bytes = tt
+reply-bytes (Script s) r gives bytes = subst (All IsLineOfBytes) (sym (fed-lines s r)) bytes
+reply-bytes (Probe p) r gives bytes = fed-saves p r bytes gives.0 gives.1
+reply-bytes _ r gives bytes = tt
+
+-- the machine gives bytes
+core-gives : (core : ControllerState) (s : TracedState) (by : ℕ) (c : Call) (t : TracedState) (r : Reply)
+    → IsInRange s.system → next_call core ≡ Some c → answer_to s by c ≡ Some (record { state = t; reply = r })
+    → Gives core r
+unfolding next_call
+core-gives (Probe p) s by c t r h asks given = (code-given p s by c t r h asks given, stack-given p s by c t r h asks given)
+core-gives _ s by c t r h asks given = tt
 
 -- the call of a controller
 call-bytes : (controllers : List ControllerState) (k : ℕ) (c : Call) → All IsCoreOfBytes controllers
@@ -271,32 +392,39 @@ entry-bytes controllers n s (Lwp p l) (act.Call c r) all legal follows = absurd 
 entry-bytes controllers n s Clock (act.Call c r) all legal follows = absurd legal
 
 -- the controllers after it write bytes too
-fed-bytes : (controllers : List ControllerState) (k : ℕ) (r : Reply) → All IsCoreOfBytes controllers
+fed-bytes : (controllers : List ControllerState) (k : ℕ) (r : Reply)
+    → ((core : ControllerState) → slice_get controllers k ≡ Some core → Gives core r) → All IsCoreOfBytes controllers
     → All IsCoreOfBytes (with_fed k r controllers)
 unfolding with_fed
-fed-bytes controllers k r all = of (slice_get controllers k) refl
+fed-bytes controllers k r gives all = of (slice_get controllers k) refl
   where
     of : (o : Option ControllerState) → slice_get controllers k ≡ o → All IsCoreOfBytes (feed_at k r controllers o)
     of None found = all
     of (Some c) found =
         All-set IsCoreOfBytes controllers k (after_reply c r)
-        (reply-bytes c r (All-at IsCoreOfBytes controllers k c found all)) all
+        (reply-bytes c r (gives c found) (All-at IsCoreOfBytes controllers k c found all)) all
 
-after-bytes : (controllers : List ControllerState) (actor : Actor) (it : Act) → All IsCoreOfBytes controllers
-    → All IsCoreOfBytes (controllers_after controllers (record { actor = actor; act = it }))
-unfolding controllers_after
-after-bytes controllers (Controller k) (act.Call c r) all = fed-bytes controllers k r all
-after-bytes controllers (Controller k) (act.Turn t) all = all
-after-bytes controllers (Controller k) (act.Tick moment) all = all
-after-bytes controllers (Lwp p l) it all = all
-after-bytes controllers Clock it all = all
+after-bytes : (controllers : List ControllerState) (n : ℕ) (s : TracedState) (actor : Actor) (it : Act) → IsInRange s.system
+    → IsLegalEntry n s (record { actor = actor; act = it }) → FollowsAt controllers s (record { actor = actor; act = it })
+    → All IsCoreOfBytes controllers → All IsCoreOfBytes (controllers_after controllers (record { actor = actor; act = it }))
+unfolding controllers_after IsLegalEntry FollowsAt call_by
+after-bytes controllers n s (Controller k) (act.Call c r) h legal follows all =
+    fed-bytes controllers k r
+    (λ core found.
+    core-gives core s k c legal.1.0 r h (sym (ap (option_and_then next_call) found) ∙ follows) legal.1.1) all
+after-bytes controllers n s (Controller k) (act.Turn t) h legal follows all = all
+after-bytes controllers n s (Controller k) (act.Tick moment) h legal follows all = all
+after-bytes controllers n s (Lwp p l) it h legal follows all = all
+after-bytes controllers n s Clock it h legal follows all = all
 
-pub follows-bytes : (controllers : List ControllerState) (n : ℕ) (s : TracedState) (h : List Entry)
+pub follows-bytes : (controllers : List ControllerState) (n : ℕ) (s : TracedState) (h : List Entry) → IsReached s
     → All IsCoreOfBytes controllers → IsLegal n s h → Follows controllers s h → HasBytes h
-follows-bytes controllers n s [] all legal follows = All-nil IsEntryOfBytes
-follows-bytes controllers n s (e ∷ h) all legal follows =
+follows-bytes controllers n s [] reached all legal follows = All-nil IsEntryOfBytes
+follows-bytes controllers n s (e ∷ h) reached all legal follows =
     let here = entry-bytes controllers n s e.actor e.act all legal.0 follows.0 in
+    let alone : HasBytes (e ∷ []) = All-cons IsEntryOfBytes e [] here (All-nil IsEntryOfBytes) in
+    let later : IsReached (after s e) = later-reached n s (e ∷ []) reached alone (legal.0, tt) in
     let rest =
-    follows-bytes (controllers_after controllers e) n (after s e) h
-    (after-bytes controllers e.actor e.act all) legal.1 follows.1 in
+    follows-bytes (controllers_after controllers e) n (after s e) h later
+    (after-bytes controllers n s e.actor e.act reached.in_range legal.0 follows.0 all) legal.1 follows.1 in
     All-cons IsEntryOfBytes e h here rest

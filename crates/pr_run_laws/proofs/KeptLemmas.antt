@@ -14,7 +14,7 @@ use Rattle.pr_model.specs.declared.tools.ToolKind.{ToolKind}
 use Rattle.pr_model.specs.declared.tools.ToolKind.TheVariants.{Pstack}
 use Rattle.pr_reached.proofs.ReachedLemmas.{first-reached}
 use Rattle.pr_reached.specs.Reached.{IsReached}
-use Rattle.pr_scen.specs.Scenarios.{Scenario, script_in, scripts_of}
+use Rattle.pr_scen.specs.Scenarios.{Scenario, probe_in, probes_of, script_in, scripts_of}
 use Rattle.pr_scen.specs.declared.plans.Plan.{Plan}
 use Rattle.pr_scen.specs.declared.plans.Plan.TheVariants as plan
 use Rattle.pr_truss.specs.Trusses.{first_truss}
@@ -47,22 +47,25 @@ pub first-told : (s : Scenario) → IsTold (first_world s)
 unfolding first_world kernel_of
 first-told s = record { machine = first_state_of s; is = refl }
 
--- controllers none of which is a script
-controllers-tracers : (plans : List Plan) → flat_map script_in plans ≡ [] → All IsTracer (map controller_of plans)
+-- controllers none of which is a script or asks by an agent
+controllers-tracers : (plans : List Plan) → flat_map script_in plans ≡ [] → flat_map probe_in plans ≡ [] → All IsTracer (map controller_of plans)
 unfolding controller_of IsTracer
-controllers-tracers [] none = All-nil IsTracer
-controllers-tracers (plan.Script script ∷ plans) none = absurd (cc)
-controllers-tracers (plan.Truss options ∷ plans) none = All-cons IsTracer (controller_of (plan.Truss options)) (map
-    controller_of plans) tt (controllers-tracers plans none)
-controllers-tracers (plan.Tool kind pid ∷ plans) none = All-cons IsTracer (controller_of (plan.Tool kind pid)) (map
-    controller_of plans) tt (controllers-tracers plans none)
+controllers-tracers [] none quiet = All-nil IsTracer
+controllers-tracers (plan.Script script ∷ plans) none quiet = absurd (cc)
+controllers-tracers (plan.Truss options ∷ plans) none quiet = All-cons IsTracer (controller_of (plan.Truss options)) (map
+    controller_of plans) tt (controllers-tracers plans none quiet)
+controllers-tracers (plan.Tool kind pid ∷ plans) none quiet = All-cons IsTracer (controller_of (plan.Tool kind pid)) (map
+    controller_of plans) tt (controllers-tracers plans none quiet)
+controllers-tracers (plan.Gcore pid ∷ plans) none quiet = All-cons IsTracer (controller_of (plan.Gcore pid)) (map
+    controller_of plans) tt (controllers-tracers plans none quiet)
+controllers-tracers (plan.Probe pid ∷ plans) none quiet = absurd (cc)
 
--- without scripts a history that follows the protocol is passive, and so tracing is transparent in it
+-- without scripts and probes a history that follows the protocol is passive, and so tracing is transparent in it
 transparent-tracers : (s : Scenario) (h : List Entry) → IsLegal (length (controllers_of s)) (first_state_of s) h →
-    Follows (controllers_of s) (first_state_of s) h → scripts_of s ≡ [] → IsTransparent (first_state_of s) h
-transparent-tracers s h legal follows none =
+    Follows (controllers_of s) (first_state_of s) h → scripts_of s ≡ [] → probes_of s ≡ [] → IsTransparent (first_state_of s) h
+transparent-tracers s h legal follows none quiet =
     let n = length (controllers_of s) in
-    let passive = tracers-passive (controllers_of s) n (first_state_of s) h (controllers-tracers s.controllers none)
+    let passive = tracers-passive (controllers_of s) n (first_state_of s) h (controllers-tracers s.controllers none quiet)
     legal follows in
     transparent-first n s.programs (files_of s) s.spawns h legal passive
 
@@ -87,7 +90,8 @@ trusses-kept : (s : Scenario) (h : List Entry) → IsScenarioInRange s → IsLeg
     s.controllers k ≡ Some (plan.Truss o) → IsTrussKept (controllers_of s) (first_state_of s) h k o
 trusses-kept s h range legal follows k o at =
     truss-kept (controllers_of s) (length (controllers_of s)) (first_state_of s) h k o (state-reached s range)
-    (follows-bytes (controllers_of s) (length (controllers_of s)) (first_state_of s) h range.bytes legal follows)
+    (follows-bytes (controllers_of s) (length (controllers_of s)) (first_state_of s) h (state-reached s range) range.bytes legal
+    follows)
     (truss-first s k o at) (first-held s k) legal follows
 
 -- ---- tools
@@ -106,7 +110,7 @@ tools-kept s h range legal follows k kind pid at = record {
       let n = length (controllers_of s) in
       let reached = state-reached s range in
       tool-shows (controllers_of s) n k kind pid (first_state_of s) h t programs reached.lawful reached.in_range
-      (follows-bytes (controllers_of s) n (first_state_of s) h range.bytes legal follows) once (tool-first s k kind
+      (follows-bytes (controllers_of s) n (first_state_of s) h reached range.bytes legal follows) once (tool-first s k kind
       pid at) legal follows ends ended accepted;
   stack = λ t programs ends ended accepted same.
       let n = length (controllers_of s) in
@@ -114,7 +118,7 @@ tools-kept s h range legal follows k kind pid at = record {
       let begins : slice_get (controllers_of s) k ≡ Some (Tool (first_tool Pstack pid)) = tool-first s k kind pid at ∙
       ap (λ (which : ToolKind). Some (Tool (first_tool which pid))) same in
       shows-one-stack (controllers_of s) n k pid (first_state_of s) h t programs reached.lawful reached.in_range
-      (follows-bytes (controllers_of s) n (first_state_of s) h range.bytes legal follows) begins legal follows ends
+      (follows-bytes (controllers_of s) n (first_state_of s) h reached range.bytes legal follows) begins legal follows ends
       ended accepted;
 }
 

@@ -1,5 +1,9 @@
 use Rattle.std.proofs.Common.{◌≡◌, ◌==◌, ◌/◌, ◌-◌, ℕ, Bool, true, false, Option, Some, None, List, [], Result, Ok, Err, IfOk, IfSome, cond, length, nat_lt, option_map, refl}
 use Rattle.std.specs.List.{list_all, slice_range}
+use Rattle.pr_core.specs.Gcores as gcores
+use Rattle.pr_core.specs.declared.gcore_stages.GcoreStage.{GcoreStage}
+use Rattle.pr_core.specs.declared.gcore_stages.GcoreStage.TheVariants as gcore
+use Rattle.pr_core.specs.declared.memory_walks.MemoryWalk.{MemoryWalk}
 use Rattle.pr_model.specs.Passive.{is_passive_message}
 use Rattle.pr_model.specs.declared.calls.Call.TheVariants as call
 use Rattle.pr_num.specs.Control.{fork_mode, has_flags, rlc_mode}
@@ -28,7 +32,7 @@ use Rattle.pr_truss.specs.declared.stages.Stage.{Stage}
 use Rattle.pr_truss.specs.declared.stages.Stage.TheVariants as stage
 use Rattle.pr_run_laws.specs.Tracers.{BeginsPassively, IsPassiveCall}
 
--- Truss and the tools send passive calls alone.
+-- Truss, the tools and gcore send passive calls alone.
 
 -- ---- messages as bytes
 
@@ -205,3 +209,30 @@ step-passive s step.Close = closing-passive (last_open s.opened)
 pub tool-passive : (s : tools.ToolState) → IfSome (tools.next_call_of s) IsPassiveCall
 unfolding tools.next_call_of
 tool-passive s = step-passive s s.step
+
+-- ---- gcore, a row a stage
+
+memory-passive : (s : gcores.GcoreState) (o : Option MemoryWalk) → IsPassiveCall (gcores.memory_call s o)
+unfolding IsPassiveCall
+memory-passive s None = tt
+memory-passive s (Some w) = tt
+
+gcore-stage-passive : (s : gcores.GcoreState) (g : GcoreStage) → IfSome (gcores.call_of s g) IsPassiveCall
+unfolding gcores.call_of IsPassiveCall
+gcore-stage-passive s gcore.OpenCtl = tt
+gcore-stage-passive s gcore.OpenStatus = tt
+gcore-stage-passive s (gcore.OpenPart part) = tt
+gcore-stage-passive s gcore.OpenMemory = tt
+gcore-stage-passive s gcore.ReadFirst = tt
+gcore-stage-passive s gcore.Stop = stop-begins
+gcore-stage-passive s gcore.AwaitStop = stop-begins
+gcore-stage-passive s gcore.ReadStatus = tt
+gcore-stage-passive s (gcore.ReadPart part) = tt
+gcore-stage-passive s gcore.ReadMemory = memory-passive s s.walk
+gcore-stage-passive s gcore.Run = run-begins
+gcore-stage-passive s gcore.Release = run-begins
+gcore-stage-passive s gcore.Close = closing-passive (last_open s.opened)
+
+pub gcore-passive : (s : gcores.GcoreState) → IfSome (gcores.next_call_of s) IsPassiveCall
+unfolding gcores.next_call_of
+gcore-passive s = gcore-stage-passive s s.stage

@@ -22,11 +22,12 @@ use Rattle.pr_run_laws.proofs.WordRanges.{AreWordsOfBytes, name_of-range, quoted
 use Rattle.pr_run_laws.proofs.WritingRanges.{messages-bytes}
 use Rattle.pr_run_laws.specs.ScenarioRanges.{IsCoreOfBytes, IsLineOfBytes, IsScenarioInRange}
 use Rattle.pr_run_laws.specs.ScenarioRuns.{controller_of}
+use Rattle.pr_probe.specs.Probes.{first_probe}
 use Rattle.pr_scen.proofs.LimitLemmas.{scenario_within}
 use Rattle.pr_scen.proofs.StepLemmas.{if_ok, then_ok, of_ok, numbered_ok, folded_ok, ok_some, of_some}
 use Rattle.pr_scen.specs.Blocks.{begun, block_added, ended, endless_kind, item_in, line_added, numbered, part_added, parts_added, program_added, program_read, script_added, script_line_read, script_words_added}
 use Rattle.pr_scen.specs.Drafts.{call_added, has_program, knows_program, made, may_begin, nothing, script_line_added, with_controller, with_file, with_item, with_line, with_process, with_program, with_schedule, with_script, with_spawn, with_truss, with_turns}
-use Rattle.pr_scen.specs.Items.{file_of, item_of, item_with, program_of, schedule_of, script_of, tool_line_of, truss_of, truss_read, turns_of}
+use Rattle.pr_scen.specs.Items.{file_of, item_of, item_with, process_tool_line, program_of, schedule_of, script_of, tool_line_of, truss_of, truss_read, turns_of}
 use Rattle.pr_scen.specs.Items as items
 use Rattle.pr_scen.specs.Lines.{readable}
 use Rattle.pr_scen.specs.Messages.{messages_of}
@@ -42,7 +43,7 @@ use Rattle.pr_scen.specs.declared.drafts.Draft.{Draft}
 use Rattle.pr_scen.specs.declared.items.Item.{Item}
 use Rattle.pr_scen.specs.declared.items.Item.TheVariants as item
 use Rattle.pr_scen.specs.declared.plans.Plan.{Plan}
-use Rattle.pr_scen.specs.declared.plans.Plan.TheVariants.{Script, Truss, Tool}
+use Rattle.pr_scen.specs.declared.plans.Plan.TheVariants.{Script, Truss, Tool, Gcore, Probe}
 use Rattle.pr_scen.specs.declared.refusals.ScenKind.TheVariants.{BadOperand, UnknownName}
 use Rattle.pr_scen.specs.declared.schedules.Turns.{Turns}
 use Rattle.pr_scen.specs.declared.script_blocks.InScript.{InScript}
@@ -60,15 +61,9 @@ use Rattle.pr_text.specs.Words.{texts_of}
 -- ---- what a line says outside blocks: files in range, and names of programs
 
 abbrev InRange : Item → Type 0
-InRange item.Blank = Unit {0}
-InRange (item.Turns n) = Unit {0}
 InRange (item.File name bytes) = IsFileInRange (stored_file (name, bytes))
 InRange (item.Program name) = IsShortName name
-InRange (item.Spawn name) = Unit {0}
-InRange item.Script = Unit {0}
-InRange (item.Truss options) = Unit {0}
-InRange (item.Tool kind pid) = Unit {0}
-InRange (item.Schedule turns) = Unit {0}
+InRange _ = Unit {0}
 
 -- what is read as a name is one
 named : {E : Type 0} (e : E) (word name : List ℕ) → ok_or e (name_of word) ≡ Ok name → IsShortName name
@@ -93,6 +88,14 @@ in_truss : (words : List (List ℕ)) (r : Result Options WordFault) → IfOk (tr
 in_truss words (Ok options) = tt
 in_truss words (Err fault) = if_ok InRange (has_bad_option words) _ _ (λ _. tt) (λ _. tt)
 
+in_process_tool : (word : List ℕ) (pid : ℕ) → IfOk (process_tool_line word pid) InRange
+unfolding process_tool_line
+in_process_tool word pid =
+    if_ok InRange (bytes_eq word (codes "ptree")) _ _ (λ _. tt)
+    (λ _. if_ok InRange (bytes_eq word (codes "gcore")) _ _ (λ _. tt)
+    (λ _. if_ok InRange (bytes_eq word (codes "apfiles")) _ _ (λ _. tt)
+    (λ _. then_ok InRange (ok_or UnknownName (process_tool_of_name word)) _ (λ kind _. tt))))
+
 in_tool : (operands : List (List ℕ)) → IfOk (tool_line_of operands) InRange
 unfolding tool_line_of
 in_tool [] = tt
@@ -100,8 +103,7 @@ in_tool (word ∷ []) = if_ok InRange (bytes_eq word (codes "ptree")) _ _ (λ _.
 in_tool (word ∷ id ∷ []) =
     then_ok InRange (ok_or BadOperand (name_of word)) _
     (λ _ _. then_ok InRange (ok_or BadOperand (id_of id)) _
-    (λ pid _. if_ok InRange (bytes_eq word (codes "ptree")) _ _ (λ _. tt)
-    (λ _. then_ok InRange (ok_or UnknownName (process_tool_of_name word)) _ (λ kind _. tt))))
+    (λ pid _. in_process_tool word pid))
 in_tool (word ∷ id ∷ more ∷ others) = tt
 
 in_schedule : (turns : List Turns) → IfOk (items.unless_none turns) InRange
@@ -294,7 +296,7 @@ range_schedule d turns s =
     (λ _. record { programs = s.programs; files = s.files; controllers = s.controllers; lines = s.lines }) (λ _. tt)
 
 range_with : (d : Draft) (i : Item) → InRange i → IsDraftInRange d → IfOk (with_item d i) IsDraftInRange
-unfolding with_item IsCoreOfBytes controller_of
+unfolding with_item IsCoreOfBytes controller_of first_probe
 range_with d item.Blank h s = s
 range_with d (item.Turns n) h s = range_turns d n s
 range_with d (item.File name bytes) h s = range_file d name bytes h s
@@ -303,6 +305,8 @@ range_with d (item.Spawn name) h s = range_spawn d name s
 range_with d item.Script h s = s
 range_with d (item.Truss options) h s = range_truss d options s
 range_with d (item.Tool kind pid) h s = range_controller d (Tool kind pid) tt s
+range_with d (item.Gcore pid) h s = range_controller d (Gcore pid) tt s
+range_with d (item.Probe pid) h s = range_controller d (Probe pid) (All-nil IsByte, All-nil IsByte) s
 range_with d (item.Schedule turns) h s = range_schedule d turns s
 
 range_line : (d : Draft) (this : List ℕ) → IsDraftInRange d → IfOk (line_added d this) IsDraftInRange

@@ -6,7 +6,7 @@ use Rattle.pr_scen.specs.Scenarios.{Scenario}
 use Rattle.pr_scen.specs.declared.script_lines.ScriptLine.{ScriptLine}
 use Rattle.pr_scen.specs.declared.script_lines.ScriptLine.TheVariants as line
 use Rattle.pr_run_laws.specs.ScenarioRuns.{controllers_of, files_of}
-use Rattle.pr_world.specs.ControllerStates.{ControllerState, Script, Truss, Tool}
+use Rattle.pr_world.specs.ControllerStates.{ControllerState, Script, Probe}
 
 -- What is so of each scenario that was read, beside its limits.
 
@@ -15,11 +15,12 @@ abbrev pub IsLineOfBytes : ScriptLine → Type 0
 IsLineOfBytes (line.Write name bytes) = All IsByte bytes
 IsLineOfBytes _ = Unit {0}
 
--- what a controller writes is bytes; of truss and the tools it always is
+-- what a controller writes is bytes, of a probe also what it has saved to write back; of truss, the tools and gcore it
+-- always is
 unfoldable pub IsCoreOfBytes : ControllerState → Type 0
 IsCoreOfBytes (Script s) = All IsLineOfBytes s.lines
-IsCoreOfBytes (Truss t) = Unit {0}
-IsCoreOfBytes (Tool t) = Unit {0}
+IsCoreOfBytes (Probe p) = All IsByte p.code × All IsByte p.stack
+IsCoreOfBytes _ = Unit {0}
 
 -- A scenario in range: its first state is one that can be started, of programs and files in range, and what its scripts
 -- write is bytes.

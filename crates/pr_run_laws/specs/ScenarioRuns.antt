@@ -1,5 +1,7 @@
 use Rattle.std.specs.Prelude.{◌≡◌, ℕ, List, [], None, Some, length, map, slice_get}
 use Rattle.pr_api.specs.Views.{kernel_of}
+use Rattle.pr_core.specs.Gcores.{first_gcore}
+use Rattle.pr_probe.specs.Probes.{first_probe}
 use Rattle.pr_erasure.specs.Transparency.{IsTransparent}
 use Rattle.pr_line.specs.declared.options.Options.{Options}
 use Rattle.pr_model.specs.FirstState.{first_state, stored_file}
@@ -9,7 +11,7 @@ use Rattle.pr_model.specs.State.{TracedState}
 use Rattle.pr_model.specs.declared.events.Entry.{Entry}
 use Rattle.pr_model.specs.declared.tools.ToolKind.{ToolKind}
 use Rattle.pr_num.specs.declared.files.StoredFile.{StoredFile}
-use Rattle.pr_scen.specs.Scenarios.{Scenario, scripts_of}
+use Rattle.pr_scen.specs.Scenarios.{Scenario, probes_of, scripts_of}
 use Rattle.pr_scen.specs.declared.plans.Plan.{Plan}
 use Rattle.pr_scen.specs.declared.plans.Plan.TheVariants as plan
 use Rattle.pr_tools.specs.Tools.{first_tool}
@@ -19,7 +21,7 @@ use Rattle.pr_run_laws.specs.TrussRuns.{IsTrussKept}
 use Rattle.pr_world.specs.Protocol.{Follows}
 use Rattle.pr_world.specs.Runs.{after_moves}
 use Rattle.pr_world.specs.Worlds.{WorldState}
-use Rattle.pr_world.specs.ControllerStates.{ControllerState, Script, Truss, Tool}
+use Rattle.pr_world.specs.ControllerStates.{ControllerState, Script, Truss, Tool, Gcore, Probe}
 
 -- The runs of a scenario.
 
@@ -36,6 +38,8 @@ unfoldable pub controller_of : Plan → ControllerState
 controller_of (plan.Script script) = Script script
 controller_of (plan.Truss options) = Truss (first_truss options)
 controller_of (plan.Tool kind pid) = Tool (first_tool kind pid)
+controller_of (plan.Gcore pid) = Gcore (first_gcore pid)
+controller_of (plan.Probe pid) = Probe (first_probe pid)
 
 -- its controllers before their first calls, in order
 abbrev pub controllers_of : Scenario → List ControllerState
@@ -54,8 +58,9 @@ first_world s = record {
 
 -- What every run of a scenario keeps, in whatever order its actors move: each entry is what the machine does; the
 -- controllers make the calls that come after the replies that they got, and the clock goes on only where it is awaited;
--- and if controllers only stopped, ran and read, the programs did what they could have done without controllers. Truss
--- and the tools do no more than that: where no controller is a script, the programs always did so.
+-- and if controllers only stopped, ran and read, the programs did what they could have done without controllers. Truss,
+-- the tools and gcore do no more than that: where no controller is a script, and none asks by an agent, the programs
+-- always did so.
 --
 -- Each truss has shown what was selected while it watched, on the conditions of TrussRuns; it lets a process go for a
 -- reason alone, and releases it. When it has finished, it has attached what it was given or reported its refusal,
@@ -66,7 +71,7 @@ pub record IsKept (s : Scenario) (h : List Entry) : Type 0 where
   pub legal : IsLegal (length (controllers_of s)) (first_state_of s) h
   pub follows : Follows (controllers_of s) (first_state_of s) h
   pub transparent : IsPassive h → IsTransparent (first_state_of s) h
-  pub transparent_without_scripts : scripts_of s ≡ [] → IsTransparent (first_state_of s) h
+  pub transparent_without_scripts : scripts_of s ≡ [] → probes_of s ≡ [] → IsTransparent (first_state_of s) h
   pub trusses : (k : ℕ) (o : Options) → slice_get s.controllers k ≡ Some (plan.Truss o)
       → IsTrussKept (controllers_of s) (first_state_of s) h k o
   pub tools : (k : ℕ) (kind : ToolKind) (pid : ℕ) → slice_get s.controllers k ≡ Some (plan.Tool kind pid)

@@ -3,14 +3,15 @@ use Rattle.pr_model.specs.Passive.{is_passive_message}
 use Rattle.pr_model.specs.declared.calls.Call.{Call}
 use Rattle.pr_model.specs.declared.calls.Call.TheVariants as call
 use Rattle.pr_num.specs.Messages.{first_message}
-use Rattle.pr_world.specs.ControllerStates.{ControllerState, Script, Truss, Tool}
+use Rattle.pr_world.specs.ControllerStates.{ControllerState, Script, Probe}
 
--- Controllers that trace and show: truss and the proc tools. A script may make any call.
+-- Controllers that trace and show: truss, the proc tools and gcore. A script may make any call, and a probe makes an agent
+-- and writes memory.
 
 unfoldable pub IsTracer : ControllerState → Type 0
 IsTracer (Script s) = ⊥
-IsTracer (Truss t) = Unit {0}
-IsTracer (Tool t) = Unit {0}
+IsTracer (Probe p) = ⊥
+IsTracer _ = Unit {0}
 
 -- The control message with which bytes begin is passive. Bytes that begin with none are refused.
 abbrev pub BeginsPassively : List ℕ → Type 0

@@ -1,5 +1,7 @@
 ghost use Rattle.std.specs.Prelude.{◌≡◌, ℕ, IfSome, List, Some, true};
 ghost use Rattle.std.specs.List.{All};
+ghost use Rattle.pr_core.specs.Gcores as gcores;
+ghost use Rattle.pr_core.specs.Gcores.{GcoreState};
 ghost use Rattle.pr_model.specs.Calls.{Answer, answer_to};
 ghost use Rattle.pr_model.specs.Legal.{IsLegal};
 ghost use Rattle.pr_model.specs.Passive.{IsPassive, is_passive_call};
@@ -27,6 +29,12 @@ pub fn tools_send_passive_messages()
     ensures { (t : ToolState) → IfSome (tools.next_call_of t) IsPassiveCall }
 {}
 
+/// Whatever gcore has learnt, the control message that it sends next, if it sends one, is passive: PCSTOP, PCWSTOP or
+/// PCRUN without flags.
+pub fn gcore_sends_passive_messages()
+    ensures { (g : GcoreState) → IfSome (gcores.next_call_of g) IsPassiveCall }
+{}
+
 /// A call that sends a passive message, or none, is passive as the machine answers it. A set of signals, faults or
 /// calls that lies outside its column is refused.
 pub fn calls_that_send_passive_messages_are_passive()
@@ -34,8 +42,8 @@ pub fn calls_that_send_passive_messages_are_passive()
         → is_passive_call c a.reply ≡ true }
 {}
 
-/// A legal history is passive in which each controller is a truss or a tool and makes the calls that come after the
-/// replies that it got.
+/// A legal history is passive in which no controller is a script or asks by an agent, and each makes the calls that come
+/// after the replies that it got.
 pub fn histories_of_tracers_are_passive()
     ensures { (controllers : List ControllerState) (n : ℕ) (s : TracedState) (h : List Entry) → All IsTracer controllers
         → IsLegal n s h → Follows controllers s h → IsPassive h }

@@ -253,15 +253,9 @@ unfolding block_added program_added script_added
 by_begun n d first body last fault (Err k) begins h =
     let same : fault_at n k ≡ fault = cc in
     inl (record { at = sym (ap (λ f. f.line) same); refused = begins ∙ ap (λ f. Err f.kind) same })
-by_begun n d first body last fault (Ok item.Blank) begins h = cc
-by_begun n d first body last fault (Ok (item.Turns t)) begins h = cc
-by_begun n d first body last fault (Ok (item.File name bytes)) begins h = cc
 by_begun n d first body last fault (Ok (item.Program name)) begins h = inr (inl (program_stops n d first name body last fault (program_read name (n + 1) body) begins refl h))
-by_begun n d first body last fault (Ok (item.Spawn name)) begins h = cc
 by_begun n d first body last fault (Ok item.Script) begins h = inr (inr (script_stops n d first body last fault (folded script_line_read (n + 1) d body) begins refl h))
-by_begun n d first body last fault (Ok (item.Truss options)) begins h = cc
-by_begun n d first body last fault (Ok (item.Tool kind pid)) begins h = cc
-by_begun n d first body last fault (Ok (item.Schedule turns)) begins h = cc
+by_begun n d first body last fault (Ok _) begins h = cc
 
 pub least_in_block : (d : Draft) (n : ℕ) (first : List ℕ) (body : List (List ℕ)) (last : List ℕ) (fault : ScenFault) → part_added d (block n first body last) ≡ Err fault → IsLeastInBlock d n first body last fault
 unfolding part_added

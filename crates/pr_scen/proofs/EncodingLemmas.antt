@@ -37,7 +37,7 @@ use Rattle.pr_text.proofs.PlainLemmas.{decimal-plain, decimal_token, split_lwp, 
 use Rattle.pr_text.proofs.SpacedLemmas.{IsToken, is_plain, plain_token, texts_of-spaced}
 use Rattle.pr_scen.specs.Encoding.{actor_word, IsActor, turns_word, AreTurns, tool_words, IsTool, item_words, IsItem, IsId, line_words, IsLine}
 use Rattle.pr_scen.specs.Items as outside
-use Rattle.pr_scen.specs.Items.{tool_line_of, item_with, item_of}
+use Rattle.pr_scen.specs.Items.{process_tool_line, tool_line_of, item_with, item_of}
 use Rattle.pr_scen.specs.MessageWords.{message_name, message_word_of, operands_of, message_of, bytes_with, bytes_of}
 use Rattle.pr_scen.specs.Messages.{Writing, with_whole, operand_read, message_begun, word_written, words_written, write_over, messages_of}
 use Rattle.pr_scen.specs.Schedules.{lwp_at, lwp_from, numbered_actor, actor_of, turns_at, turns_from, turns_of, with_turns_of}
@@ -173,7 +173,7 @@ turns_tokens (t ∷ turns) all = (turns_token t all.0, turns_tokens turns all.1)
 -- ---- tools
 
 read_tool : (k : ToolKind) (pid : ℕ) → IsTool k pid → tool_line_of (tool_words k pid) ≡ Ok (item.Tool k pid)
-unfolding tool_line_of tool_words IsTool tool_name process_tool_of_name is_name is_name_byte
+unfolding tool_line_of process_tool_line tool_words IsTool tool_name process_tool_of_name is_name is_name_byte
 read_tool Pflags pid h = some_step BadOperand (id_of (decimal pid)) pid _ (Ok (item.Tool Pflags pid)) (id_of-decimal pid h) refl
 read_tool Psig pid h = some_step BadOperand (id_of (decimal pid)) pid _ (Ok (item.Tool Psig pid)) (id_of-decimal pid h) refl
 read_tool Pstack pid h = some_step BadOperand (id_of (decimal pid)) pid _ (Ok (item.Tool Pstack pid)) (id_of-decimal pid h) refl
@@ -183,6 +183,14 @@ read_tool Pstop pid h = some_step BadOperand (id_of (decimal pid)) pid _ (Ok (it
 read_tool Prun pid h = some_step BadOperand (id_of (decimal pid)) pid _ (Ok (item.Tool Prun pid)) (id_of-decimal pid h) refl
 read_tool Pwait pid h = some_step BadOperand (id_of (decimal pid)) pid _ (Ok (item.Tool Pwait pid)) (id_of-decimal pid h) refl
 read_tool Ptree pid h = ap (λ n. Ok (item.Tool Ptree n)) (sym h)
+
+read_gcore : (pid : ℕ) → IsId pid → tool_line_of (codes "gcore" ∷ decimal pid ∷ []) ≡ Ok (item.Gcore pid)
+unfolding tool_line_of process_tool_line is_name is_name_byte
+read_gcore pid h = some_step BadOperand (id_of (decimal pid)) pid _ (Ok (item.Gcore pid)) (id_of-decimal pid h) refl
+
+read_apfiles : (pid : ℕ) → IsId pid → tool_line_of (codes "apfiles" ∷ decimal pid ∷ []) ≡ Ok (item.Probe pid)
+unfolding tool_line_of process_tool_line is_name is_name_byte
+read_apfiles pid h = some_step BadOperand (id_of (decimal pid)) pid _ (Ok (item.Probe pid)) (id_of-decimal pid h) refl
 
 tool_token : (k : ToolKind) → IsToken (tool_name k)
 unfolding tool_name
@@ -225,6 +233,8 @@ read_item (item.Spawn name) h = some_step BadOperand (name_of name) name _ _ (na
 read_item item.Script h = refl
 read_item (item.Truss options) h = absurd h
 read_item (item.Tool kind pid) h = read_tool kind pid h
+read_item (item.Gcore pid) h = read_gcore pid h
+read_item (item.Probe pid) h = read_apfiles pid h
 read_item (item.Schedule []) h = absurd h
 read_item (item.Schedule (t ∷ turns)) h = ap (λ r. r >>= outside.unless_none) (turns_more [] (t ∷ turns) h)
 
@@ -238,6 +248,10 @@ item_tokens (item.Spawn name) h = (plain_token (codes "spawn") (omega arith) ref
 item_tokens item.Script h = (plain_token (codes "script") (omega arith) refl, tt)
 item_tokens (item.Truss options) h = absurd h
 item_tokens (item.Tool kind pid) h = (plain_token (codes "tool") (omega arith) refl, tool_tokens kind pid h)
+item_tokens (item.Gcore pid) h =
+    (plain_token (codes "tool") (omega arith) refl, (plain_token (codes "gcore") (omega arith) refl, (id_token pid h, tt)))
+item_tokens (item.Probe pid) h =
+    (plain_token (codes "tool") (omega arith) refl, (plain_token (codes "apfiles") (omega arith) refl, (id_token pid h, tt)))
 item_tokens (item.Schedule []) h = absurd h
 item_tokens (item.Schedule (t ∷ turns)) h = (plain_token (codes "schedule") (omega arith) refl, turns_tokens (t ∷ turns) h)
 

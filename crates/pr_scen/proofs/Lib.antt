@@ -8,6 +8,7 @@ pub mod LimitLemmas
 pub mod LineLemmas
 pub mod NameLemmas
 pub mod PartLemmas
+pub mod ProgramTextLemmas
 pub mod ScenarioTextLemmas
 pub mod SizeLemmas
 pub mod StepLemmas

@@ -24,7 +24,7 @@ use Rattle.pr_scen.proofs.StepLemmas.{if_ok, then_ok, of_ok, numbered_ok, folded
 use Rattle.pr_scen.specs.Blocks.{numbered, item_in, line_added, begun, ended, program_read, program_added, script_words_added, script_line_read, script_added, block_added, endless_kind, part_added, parts_added}
 use Rattle.pr_scen.specs.Drafts.{nothing, with_turns, with_file, with_process, with_spawn, with_controller, knows_program, has_program, with_truss, with_schedule, with_item, may_begin, with_program, with_line, call_added, script_line_added, with_script, made}
 use Rattle.pr_model.specs.ToolNames.{process_tool_of_name}
-use Rattle.pr_scen.specs.Items.{turns_of, file_of, program_of, spawn_of, script_of, truss_read, truss_of, tool_line_of, unless_none, schedule_of, item_with, item_of}
+use Rattle.pr_scen.specs.Items.{turns_of, file_of, program_of, spawn_of, script_of, truss_read, truss_of, process_tool_line, tool_line_of, unless_none, schedule_of, item_with, item_of}
 use Rattle.pr_num.specs.Limits.{default_turns, all_mappings_limit, controller_limit, file_limit, file_size_limit, list_line_limit, program_limit, schedule_limit, spawn_limit, turn_limit}
 use Rattle.pr_text.specs.Comments.{begins_comment}
 use Rattle.pr_scen.specs.Lines.{readable}
@@ -40,7 +40,7 @@ use Rattle.pr_scen.specs.declared.drafts.Draft.{Draft}
 use Rattle.pr_scen.specs.declared.items.Item.{Item}
 use Rattle.pr_scen.specs.declared.items.Item.TheVariants as item
 use Rattle.pr_scen.specs.declared.plans.Plan.{Plan}
-use Rattle.pr_scen.specs.declared.plans.Plan.TheVariants.{Script, Truss, Tool}
+use Rattle.pr_scen.specs.declared.plans.Plan.TheVariants.{Script, Truss, Tool, Gcore, Probe}
 use Rattle.pr_scen.specs.declared.refusals.ScenKind.{ScenKind}
 use Rattle.pr_scen.specs.declared.refusals.ScenKind.TheVariants.{BadOperand, UnknownName, Double, TooMany}
 use Rattle.pr_scen.specs.declared.schedules.Turns.{Turns}
@@ -54,15 +54,8 @@ use Rattle.pr_scen.proofs.DraftLemmas.{room_after, may}
 -- ---- what a line says of turns: not 0
 
 abbrev InRange : Item → Type 0
-InRange item.Blank = Unit {0}
 InRange (item.Turns n) = 1 ≤ n
-InRange (item.File name bytes) = Unit {0}
-InRange (item.Program name) = Unit {0}
-InRange (item.Spawn name) = Unit {0}
-InRange item.Script = Unit {0}
-InRange (item.Truss options) = Unit {0}
-InRange (item.Tool kind pid) = Unit {0}
-InRange (item.Schedule turns) = Unit {0}
+InRange _ = Unit {0}
 
 not_zero : (n : ℕ) (b : Bool) → (n == 0) ≡ b → IfOk (cond b (Err BadOperand) (Ok (item.Turns n))) InRange
 not_zero n true e = tt
@@ -73,12 +66,20 @@ in_truss : (words : List (List ℕ)) (r : Result Options WordFault) → IfOk (tr
 in_truss words (Ok options) = tt
 in_truss words (Err fault) = if_ok InRange (has_bad_option words) _ _ (λ _. tt) (λ _. tt)
 
+in_process_tool : (word : List ℕ) (pid : ℕ) → IfOk (process_tool_line word pid) InRange
+unfolding process_tool_line
+in_process_tool word pid =
+    if_ok InRange (bytes_eq word (codes "ptree")) _ _ (λ _. tt) (λ _.
+    if_ok InRange (bytes_eq word (codes "gcore")) _ _ (λ _. tt) (λ _.
+    if_ok InRange (bytes_eq word (codes "apfiles")) _ _ (λ _. tt) (λ _.
+    then_ok InRange (ok_or UnknownName (process_tool_of_name word)) _ (λ kind _. tt))))
+
 in_tool : (operands : List (List ℕ)) → IfOk (tool_line_of operands) InRange
 unfolding tool_line_of
 in_tool [] = tt
 in_tool (word ∷ []) = if_ok InRange (bytes_eq word (codes "ptree")) _ _ (λ _. tt) (λ _. tt)
 in_tool (word ∷ id ∷ []) =
-    then_ok InRange (ok_or BadOperand (name_of word)) _ (λ _ _. then_ok InRange (ok_or BadOperand (id_of id)) _ (λ pid _. if_ok InRange (bytes_eq word (codes "ptree")) _ _ (λ _. tt) (λ _. then_ok InRange (ok_or UnknownName (process_tool_of_name word)) _ (λ kind _. tt))))
+    then_ok InRange (ok_or BadOperand (name_of word)) _ (λ _ _. then_ok InRange (ok_or BadOperand (id_of id)) _ (λ pid _. in_process_tool word pid))
 in_tool (word ∷ id ∷ more ∷ others) = tt
 
 in_schedule : (turns : List Turns) → IfOk (unless_none turns) InRange
@@ -245,6 +246,8 @@ sound_with d (item.Spawn name) range s = sound_spawn d name s
 sound_with d item.Script range s = s
 sound_with d (item.Truss options) range s = sound_truss d options s
 sound_with d (item.Tool kind pid) range s = sound_controller d (Tool kind pid) refl s
+sound_with d (item.Gcore pid) range s = sound_controller d (Gcore pid) refl s
+sound_with d (item.Probe pid) range s = sound_controller d (Probe pid) refl s
 sound_with d (item.Schedule turns) range s = sound_schedule d turns s
 
 in_range : (this : List ℕ) → IfOk (item_in this) InRange
@@ -360,15 +363,9 @@ room_at false e = cc
 
 sound_block : (n : ℕ) (d : Draft) (i : Item) (body : List (List ℕ)) (last : List ℕ) → may_begin d i ≡ Ok tt → IsSound d → IfOk (block_added n d i body last) IsSound
 unfolding block_added may_begin
-sound_block n d item.Blank body last m s = s
-sound_block n d (item.Turns t) body last m s = s
-sound_block n d (item.File name bytes) body last m s = s
 sound_block n d (item.Program name) body last m s = sound_program_block n d name body last (ltb-true _ _ (room_after (has_program d name) (nat_lt (length d.program_names) program_limit) m)) s
-sound_block n d (item.Spawn name) body last m s = s
 sound_block n d item.Script body last m s = sound_script_block n d body last (ltb-true _ _ (room_at (nat_lt (length d.controllers) controller_limit) m)) s
-sound_block n d (item.Truss options) body last m s = s
-sound_block n d (item.Tool kind pid) body last m s = s
-sound_block n d (item.Schedule turns) body last m s = s
+sound_block n d _ body last m s = s
 
 may_at : (d : Draft) (first : List ℕ) → IfOk (begun d first) (λ i. may_begin d i ≡ Ok tt)
 unfolding begun

@@ -10,7 +10,7 @@ use Rattle.pr_scen.specs.Lines.{is_end}
 use Rattle.pr_scen.specs.Parts.{Part, line, block, endless, begins_block, parts_from, block_from}
 use Rattle.pr_scen.proofs.LineLemmas.{bytes_of}
 use Rattle.pr_scen.specs.Reads.{Stops}
-use Rattle.pr_scen.specs.Taken.{TakesPart}
+use Rattle.pr_scen.specs.Taken.{StopsAtPart, TakesPart}
 use Rattle.pr_scen.specs.declared.drafts.Draft.{Draft}
 use Rattle.pr_scen.specs.declared.refusals.ScenFault.{ScenFault}
 use Rattle.pr_scen.specs.declared.refusals.ScenRefusal.{ScenRefusal}
@@ -129,47 +129,78 @@ pub stops_whole : {X Y : Type 0} (e : ScenRefusal) (part : Result X ScenFault) (
 stops_whole NoMemory part whole stopped on = tt
 stops_whole (Fault fault) part whole stopped on = on fault stopped
 
--- ---- what the first part of lines makes
+-- ---- what the first part of lines is
 
-pub endless_stops : (e : ScenRefusal) (d : Draft) (n : ℕ) (first : List ℕ) (below : List (List ℕ)) → begins_block first ≡ true → position_from is_end 0 below ≡ None → Stops e (part_added d (endless n first)) → Stops e (parts_added d (parts_from n (first ∷ below)))
-endless_stops e d n first below begins none stopped =
-    stops_whole e (part_added d (endless n first)) _ stopped (λ fault at. part-stop d (endless n first) [] _ fault (part-endless n first below begins none) at)
+pub endless_stops : (e : ScenRefusal) (d : Draft) (n : ℕ) (first : List ℕ) (below : List (List ℕ)) → begins_block first ≡ true → position_from is_end 0 below ≡ None → Stops e (part_added d (endless n first)) → StopsAtPart n d (first ∷ below) e
+endless_stops e d n first below begins none stopped = record {
+  part = endless n first;
+  others = [];
+  first = part-endless n first below begins none;
+  begins = refl;
+  stops = stopped;
+}
 
 module _ (d : Draft) (n : ℕ) (first : List ℕ) (below : List (List ℕ)) where
-  pub line_stops : (e : ScenRefusal) → begins_block first ≡ false → Stops e (part_added d (line n first)) → Stops e (parts_added d (parts_from n (first ∷ below)))
-  line_stops e outside stopped =
-      stops_whole e (part_added d (line n first)) _ stopped (λ fault at. part-stop d (line n first) (parts_from (n + 1) below) _ fault (part-line n first below outside) at)
+  pub line_stops : (e : ScenRefusal) → begins_block first ≡ false → Stops e (part_added d (line n first)) → StopsAtPart n d (first ∷ below) e
+  line_stops e outside stopped = record {
+    part = line n first;
+    others = parts_from (n + 1) below;
+    first = part-line n first below outside;
+    begins = refl;
+    stops = stopped;
+  }
 
   pub line_takes : (e : Draft) → begins_block first ≡ false → part_added d (line n first) ≡ Ok e → TakesPart n d e (first ∷ below) 1
   line_takes e outside ok = record {
     some = omega arith;
     inside = omega arith;
-    rest = part-more d e (line n first) (parts_from (n + 1) below) _ (part-line n first below outside) ok;
+    part = line n first;
+    first = part-line n first below outside;
+    begins = refl;
+    added = ok;
   }
 
   module _ (k : ℕ) (body : List (List ℕ)) (last : List ℕ) (begins : begins_block first ≡ true) (found : position_from is_end 0 below ≡ Some k) (taken : body ≡ take k below) (is : last ≡ get_or below k []) where
     whole_block : parts_from n (first ∷ below) ≡ block n first body last ∷ parts_from (n + (k + 2)) (drop (k + 1) below)
     whole_block = part-block n k first last below begins found is ∙ ap (λ xs. block n first xs last ∷ parts_from (n + (k + 2)) (drop (k + 1) below)) (sym taken)
 
-    pub block_stops : (e : ScenRefusal) → Stops e (part_added d (block n first body last)) → Stops e (parts_added d (parts_from n (first ∷ below)))
-    block_stops e stopped =
-        stops_whole e (part_added d (block n first body last)) _ stopped (λ fault at. part-stop d (block n first body last) (parts_from (n + (k + 2)) (drop (k + 1) below)) _ fault whole_block at)
+    pub block_stops : (e : ScenRefusal) → Stops e (part_added d (block n first body last)) → StopsAtPart n d (first ∷ below) e
+    block_stops e stopped = record {
+      part = block n first body last;
+      others = parts_from (n + (k + 2)) (drop (k + 1) below);
+      first = whole_block;
+      begins = refl;
+      stops = stopped;
+    }
 
     pub block_takes : (e : Draft) → k < length below → part_added d (block n first body last) ≡ Ok e → TakesPart n d e (first ∷ below) (k + 2)
     block_takes e within ok = record {
       some = omega arith;
       inside = omega arith;
-      rest = part-more d e (block n first body last) (parts_from (n + (k + 2)) (drop (k + 1) below)) _ whole_block ok ∙ ap (λ m. parts_added e (parts_from (n + (k + 2)) (drop m (first ∷ below)))) (two_more k);
+      part = block n first body last;
+      first = whole_block ∙ ap (λ m. block n first body last ∷ parts_from (n + (k + 2)) (drop m (first ∷ below))) (two_more k);
+      begins = refl;
+      added = ok;
     }
+
+-- the lines that are left, which count from the number behind the part
+pub left_parts : (draft new : Draft) (n k : ℕ) (first : Bor (List ℕ)) (rest below : List (Bor (List ℕ))) (e : rest ≡ first ∷ below) (takes : TakesPart n draft new (first.now ∷ map bytes_of below) k) → parts_from n (map bytes_of rest) ≡ takes.part ∷ parts_from (n + k) (map bytes_of (drop k rest))
+left_parts draft new n k first rest below e takes =
+    ap (λ xs. parts_from n (map bytes_of xs)) e
+    ∙ takes.first
+    ∙ ap (λ xs. takes.part ∷ parts_from (n + k) (drop k (map bytes_of xs))) (sym e)
+    ∙ ap (λ xs. takes.part ∷ parts_from (n + k) xs) (drop-map bytes_of k rest)
 
 -- the lines that are left make of the new draft what all of them made of the old one
 pub next_part : (draft new : Draft) (n k : ℕ) (first : Bor (List ℕ)) (rest below : List (Bor (List ℕ))) (whole : Result Draft ScenFault) → rest ≡ first ∷ below → TakesPart n draft new (first.now ∷ map bytes_of below) k → parts_added draft (parts_from n (map bytes_of rest)) ≡ whole → parts_added new (parts_from (n + k) (map bytes_of (drop k rest))) ≡ whole
 next_part draft new n k first rest below whole e takes kept =
-    ap (λ xs. parts_added new (parts_from (n + k) xs)) (sym (drop-map bytes_of k rest))
-    ∙ ap (λ xs. parts_added new (parts_from (n + k) (drop k (map bytes_of xs)))) e
-    ∙ sym takes.rest
-    ∙ ap (λ xs. parts_added draft (parts_from n (map bytes_of xs))) (sym e)
-    ∙ kept
+    sym (part-more draft new takes.part _ _ (left_parts draft new n k first rest below e takes) takes.added) ∙ kept
+
+-- a part that is refused is what all lines make
+pub stopping_part : (e : ScenRefusal) (draft : Draft) (n : ℕ) (first : Bor (List ℕ)) (rest below : List (Bor (List ℕ))) (whole : Result Draft ScenFault) → rest ≡ first ∷ below → StopsAtPart n draft (first.now ∷ map bytes_of below) e → parts_added draft (parts_from n (map bytes_of rest)) ≡ whole → Stops e whole
+stopping_part e draft n first rest below whole is stops kept =
+    stops_whole e (part_added draft stops.part) whole stops.stops
+    (λ fault at. sym kept ∙ part-stop draft stops.part stops.others _ fault (ap (λ xs. parts_from n (map bytes_of xs)) is ∙ stops.first) at)
 
 -- no line is left
 pub no_part : (draft : Draft) (n : ℕ) (rest : List (Bor (List ℕ))) (whole : Result Draft ScenFault) → length rest ≡ 0 → parts_added draft (parts_from n (map bytes_of rest)) ≡ whole → whole ≡ Ok draft

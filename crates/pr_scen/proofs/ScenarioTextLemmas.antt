@@ -29,7 +29,7 @@ use Rattle.pr_scen.specs.TextEncoding.{Piece, outside, program, script, piece_li
 use Rattle.pr_scen.specs.declared.drafts.Draft.{Draft}
 use Rattle.pr_scen.specs.declared.items.Item.TheVariants as item
 use Rattle.pr_scen.specs.declared.plans.Plan.{Plan}
-use Rattle.pr_scen.specs.declared.plans.Plan.TheVariants.{Script, Truss, Tool}
+use Rattle.pr_scen.specs.declared.plans.Plan.TheVariants.{Script}
 use Rattle.pr_scen.specs.declared.refusals.ScenFault.{ScenFault}
 use Rattle.pr_scen.specs.declared.refusals.ScenKind.TheVariants.{UnknownName, Double, TooMany, TooBig}
 use Rattle.pr_scen.specs.declared.script_lines.ScriptLine.{ScriptLine}
@@ -244,8 +244,7 @@ module _ (rest : List Piece) (r : Result Draft ScenFault) (t : ℕ) where
             (λ k. ap (λ cs. pieces_added k (drafted t names programs files spawns mapped cs (lists + count_by is_list s.lines + sum_by lists_in more) []) rest) (append_assoc controllers (Script s ∷ []) more)
             ∙ ap (λ c. pieces_added k (drafted t names programs files spawns mapped (controllers ++ Script s ∷ more) c []) rest) (omega (arith, whole))
             ∙ on k))
-        scripts_first n controllers lists (Truss options ∷ more) are few listed on = absurd are.0
-        scripts_first n controllers lists (Tool kind pid ∷ more) are few listed on = absurd are.0
+        scripts_first n controllers lists (_ ∷ more) are few listed on = absurd are.0
 
         -- ---- turns at the beginning
 

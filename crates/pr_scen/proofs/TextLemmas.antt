@@ -91,6 +91,8 @@ outside_words (item.Spawn name) h o = refl
 outside_words item.Script h o = absurd o
 outside_words (item.Truss options) h o = absurd h
 outside_words (item.Tool kind pid) h o = refl
+outside_words (item.Gcore pid) h o = refl
+outside_words (item.Probe pid) h o = refl
 outside_words (item.Schedule turns) h o = refl
 
 begins_as : (i : Item) (b : Bool) → IsItem i → begins (item_words i) ≡ b → begins_block (item_line i) ≡ b

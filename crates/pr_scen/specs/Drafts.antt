@@ -13,7 +13,7 @@ use Rattle.pr_scen.specs.declared.drafts.Draft.{Draft}
 use Rattle.pr_scen.specs.declared.items.Item.{Item}
 use Rattle.pr_scen.specs.declared.items.Item.TheVariants as item
 use Rattle.pr_scen.specs.declared.plans.Plan.{Plan}
-use Rattle.pr_scen.specs.declared.plans.Plan.TheVariants.{Script, Truss, Tool}
+use Rattle.pr_scen.specs.declared.plans.Plan.TheVariants.{Script, Truss, Tool, Gcore, Probe}
 use Rattle.pr_scen.specs.declared.refusals.ScenKind.{ScenKind}
 use Rattle.pr_scen.specs.declared.refusals.ScenKind.TheVariants.{UnknownName, Double, TooMany, TooBig}
 use Rattle.pr_scen.specs.declared.schedules.Turns.{Turns}
@@ -105,6 +105,8 @@ with_item d (item.Spawn name) = with_spawn d name
 with_item d item.Script = Ok d
 with_item d (item.Truss options) = with_truss d options
 with_item d (item.Tool kind pid) = with_controller d (Tool kind pid)
+with_item d (item.Gcore pid) = with_controller d (Gcore pid)
+with_item d (item.Probe pid) = with_controller d (Probe pid)
 with_item d (item.Schedule turns) = with_schedule d turns
 
 -- ---- blocks

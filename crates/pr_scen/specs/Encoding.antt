@@ -65,6 +65,8 @@ item_words (item.Spawn name) = codes "spawn" ∷ name ∷ []
 item_words item.Script = codes "script" ∷ []
 item_words (item.Truss options) = []
 item_words (item.Tool kind pid) = codes "tool" ∷ tool_words kind pid
+item_words (item.Gcore pid) = codes "tool" ∷ codes "gcore" ∷ decimal pid ∷ []
+item_words (item.Probe pid) = codes "tool" ∷ codes "apfiles" ∷ decimal pid ∷ []
 item_words (item.Schedule turns) = codes "schedule" ∷ map turns_word turns
 
 -- what can be encoded: names have their form, and numbers are words
@@ -77,6 +79,8 @@ IsItem (item.Spawn name) = is_name name ≡ true
 IsItem item.Script = Unit {0}
 IsItem (item.Truss options) = ⊥
 IsItem (item.Tool kind pid) = IsTool kind pid
+IsItem (item.Gcore pid) = IsId pid
+IsItem (item.Probe pid) = IsId pid
 IsItem (item.Schedule turns) = SomeTurns turns
 
 -- ---- lines of scripts; in an `open` lwp 0 stands for the process

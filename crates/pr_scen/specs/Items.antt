@@ -60,13 +60,21 @@ truss_read words (Err fault) = if has_bad_option words then Err BadOperand else 
 unfoldable pub truss_of : List (List ℕ) → Result Item ScenKind
 truss_of words = truss_read words (options_of words)
 
+-- a tool of a process, by its name, a row a name; ptree has no process
+unfoldable pub process_tool_line : List ℕ → ℕ → Result Item ScenKind
+process_tool_line word pid =
+    if bytes_eq word (codes "ptree") then Err BadOperand
+    else (if bytes_eq word (codes "gcore") then Ok (item.Gcore pid)
+    else (if bytes_eq word (codes "apfiles") then Ok (item.Probe pid)
+    else (ok_or UnknownName (process_tool_of_name word) >>= λ kind. Ok (item.Tool kind pid))))
+
 -- tool TOOL PID, tool ptree
 unfoldable pub tool_line_of : List (List ℕ) → Result Item ScenKind
 tool_line_of (word ∷ []) = if bytes_eq word (codes "ptree") then Ok (item.Tool Ptree 0) else Err BadOperand
 tool_line_of (word ∷ id ∷ []) = do
   _ ← ok_or BadOperand (name_of word)
   pid ← ok_or BadOperand (id_of id)
-  if bytes_eq word (codes "ptree") then Err BadOperand else (ok_or UnknownName (process_tool_of_name word) >>= λ kind. Ok (item.Tool kind pid))
+  process_tool_line word pid
 tool_line_of _ = Err BadOperand
 
 abbrev pub unless_none : List Turns → Result Item ScenKind

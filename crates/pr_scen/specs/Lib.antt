@@ -11,6 +11,7 @@ pub mod MessageWords
 pub mod Messages
 pub mod Names
 pub mod Parts
+pub mod ProgramTexts
 pub mod Reading
 pub mod Reads
 pub mod ScenarioText

@@ -11,6 +11,12 @@ pub data Part : Type 0 where
   block : ℕ → List ℕ → List (List ℕ) → List ℕ → Part
   endless : ℕ → List ℕ → Part
 
+-- the first line of a part, with its number
+abbrev pub first_line_of : Part → ℕ × List ℕ
+first_line_of (line n this) = (n, this)
+first_line_of (block n first body last) = (n, first)
+first_line_of (endless n first) = (n, first)
+
 -- whether a line begins a block: its first word is `program` or `script`
 unfoldable pub begins_block : List ℕ → Bool
 begins_block this = first_is (codes "program") (texts_of this) || first_is (codes "script") (texts_of this)

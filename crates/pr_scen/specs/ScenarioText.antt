@@ -11,7 +11,7 @@ use Rattle.pr_scen.specs.Scripts.{first_script}
 use Rattle.pr_scen.specs.TextEncoding.{Piece, outside, program, script, IsPiece}
 use Rattle.pr_scen.specs.declared.items.Item.TheVariants as item
 use Rattle.pr_scen.specs.declared.plans.Plan.{Plan}
-use Rattle.pr_scen.specs.declared.plans.Plan.TheVariants.{Script, Truss, Tool}
+use Rattle.pr_scen.specs.declared.plans.Plan.TheVariants.{Script, Truss, Tool, Gcore, Probe}
 use Rattle.pr_scen.specs.declared.script_lines.ScriptLine.{ScriptLine}
 use Rattle.pr_scen.specs.declared.script_lines.ScriptLine.TheVariants as line
 
@@ -35,6 +35,8 @@ abbrev pub plan_piece : Plan → Piece
 plan_piece (Script s) = script s.lines
 plan_piece (Truss options) = outside (item.Truss options)
 plan_piece (Tool kind pid) = outside (item.Tool kind pid)
+plan_piece (Gcore pid) = outside (item.Gcore pid)
+plan_piece (Probe pid) = outside (item.Probe pid)
 
 -- one turn of an actor
 abbrev pub turn_piece : Actor → Piece
@@ -65,8 +67,7 @@ SpawnsOneOf names _ = Unit {0}
 -- a script before its first line, which spawns programs of these names
 unfoldable pub IsFirstPlan : List (List ℕ) → Plan → Type 0
 IsFirstPlan names (Script s) = (s ≡ first_script s.lines) × AllByRecursion (SpawnsOneOf names) s.lines
-IsFirstPlan names (Truss options) = ⊥
-IsFirstPlan names (Tool kind pid) = ⊥
+IsFirstPlan names _ = ⊥
 
 -- A scenario can be written with these programs: they are its own, under names of their own; its controllers are scripts;
 -- and each line of its text can be read.

@@ -8,7 +8,7 @@ use Rattle.pr_model.specs.declared.events.Actor.{Actor}
 use Rattle.pr_num.specs.Limits.{turn_limit, program_limit, file_limit, file_size_limit, spawn_limit, all_mappings_limit, controller_limit, list_line_limit, schedule_limit}
 use Rattle.pr_scen.specs.Scripts.{ScriptState}
 use Rattle.pr_scen.specs.declared.plans.Plan.{Plan}
-use Rattle.pr_scen.specs.declared.plans.Plan.TheVariants.{Script, Truss, Tool}
+use Rattle.pr_scen.specs.declared.plans.Plan.TheVariants.{Script, Probe}
 pub use Rattle.pr_scen.specs.declared.script_lines.ScriptLine.{ScriptLine}
 use Rattle.pr_scen.specs.declared.script_lines.ScriptLine.TheVariants as line
 
@@ -25,8 +25,7 @@ pub record Scenario : Type 0 where
 -- the script of a controller that is one
 abbrev pub script_in : Plan → List ScriptState
 script_in (Script s) = s ∷ []
-script_in (Truss options) = []
-script_in (Tool kind pid) = []
+script_in _ = []
 
 -- the scripts of a scenario, in the order of its controllers
 abbrev pub scripts_of : Scenario → List ScriptState
@@ -38,11 +37,19 @@ abbrev pub is_list : ScriptLine → Bool
 is_list line.List = true
 is_list _ = false
 
+-- the process of a controller that asks for descriptors by an agent
+abbrev pub probe_in : Plan → List ℕ
+probe_in (Probe pid) = pid ∷ []
+probe_in _ = []
+
+-- the processes of a scenario that are asked so, in the order of its controllers
+abbrev pub probes_of : Scenario → List ℕ
+probes_of s = flat_map probe_in s.controllers
+
 -- how many `list` lines a controller has
 abbrev pub lists_in : Plan → ℕ
 lists_in (Script s) = count_by is_list s.lines
-lists_in (Truss options) = 0
-lists_in (Tool kind pid) = 0
+lists_in _ = 0
 
 -- What holds of every scenario that was read: it keeps each limit, its files have names of their own, and what is spawned
 -- is one of its programs.

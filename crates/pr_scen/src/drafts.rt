@@ -211,6 +211,8 @@ impl Draft {
             Item::Spawn(name) => self.add_spawn(name),
             Item::Truss(options) => self.add_truss(options),
             Item::Tool(kind, pid) => self.add_controller(Plan::Tool(kind, pid)),
+            Item::Gcore(pid) => self.add_controller(Plan::Gcore(pid)),
+            Item::Probe(pid) => self.add_controller(Plan::Probe(pid)),
             Item::Schedule(turns) => self.add_schedule(turns.as_slice()),
         }
     }

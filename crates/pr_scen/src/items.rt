@@ -4,7 +4,7 @@ ghost use Rattle.pr_num.specs.Limits.{line_limit};
 ghost use Rattle.pr_line.specs.Reading.{has_bad_option};
 ghost use Rattle.pr_text.specs.Reads.{Gives};
 ghost use Rattle.pr_text.specs.Words.{texts_of};
-ghost use Rattle.pr_scen.specs.Items.{turns_of, file_of, program_of, spawn_of, script_of, truss_of, tool_line_of, schedule_of, item_with, item_of};
+ghost use Rattle.pr_scen.specs.Items.{turns_of, file_of, program_of, spawn_of, script_of, truss_of, process_tool_line, tool_line_of, schedule_of, item_with, item_of};
 
 use crate::ScenKind;
 use crate::schedules::{Turns, all_turns_of};
@@ -32,7 +32,12 @@ pub enum Item {
     /// A script block begins.
     Script,
     Truss(Options),
+    /// A tool of proc(1) or pmap(1).
     Tool(ToolKind, u32),
+    /// gcore(1) of a process.
+    Gcore(u32),
+    /// pfiles of a process by an agent.
+    Probe(u32),
     Schedule(Table<Turns>),
 }
 
@@ -156,8 +161,22 @@ fn process_tool(word: &[u8], id: &[u8]) -> Result<Item, ScenKind>
 {
     name_of(word).ok_or(ScenKind::BadOperand)?;
     let pid = id_of(id).ok_or(ScenKind::BadOperand)?;
+    process_tool_line(word, pid)
+}
+
+/// A tool of a process, by its name.
+#[tactic(auto, unfolding(crate::specs::Items::process_tool_line))]
+fn process_tool_line(word: &[u8], pid: u32) -> Result<Item, ScenKind>
+    ensures { result ≡ process_tool_line word.now pid }
+{
     if word == b"ptree".as_slice() {
         return Err(ScenKind::BadOperand);
+    }
+    if word == b"gcore".as_slice() {
+        return Ok(Item::Gcore(pid));
+    }
+    if word == b"apfiles".as_slice() {
+        return Ok(Item::Probe(pid));
     }
     let kind = process_tool_of_name(word).ok_or(ScenKind::UnknownName)?;
     Ok(Item::Tool(kind, pid))

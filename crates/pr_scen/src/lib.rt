@@ -13,6 +13,7 @@ mod message_lists;
 mod message_words;
 mod name_indexes;
 mod plans;
+mod program_texts;
 mod reading;
 mod refusals;
 mod scenarios;
@@ -28,6 +29,7 @@ pub use laws::{
     texts_are_read_as_they_are_encoded, what_encodes_a_scenario_is_read,
 };
 pub use plans::Plan;
+pub use program_texts::read_programs;
 pub use reading::read_scenario;
 pub use refusals::{ScenFault, ScenKind, ScenRefusal};
 pub use scenarios::Scenario;

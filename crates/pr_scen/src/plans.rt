@@ -9,4 +9,8 @@ pub enum Plan {
     Truss(Options),
     /// A tool of a process; `ptree` goes with process 0.
     Tool(ToolKind, u32),
+    /// gcore(1) of a process.
+    Gcore(u32),
+    /// pfiles of a process by an agent.
+    Probe(u32),
 }

@@ -51,7 +51,7 @@ impl Draft {
 
     /// Adds the part that a line of this number begins, where these lines stand below it, and answers how many lines it
     /// has.
-    fn take_part(
+    pub(crate) fn take_part(
         &mut self,
         alloc: Global,
         number: u32,
@@ -70,7 +70,7 @@ impl Draft {
 }
 
 /// The lines from a place on.
-fn lines_from<'a, 'b>(lines: &'a [&'b [u8]], place: usize) -> &'a [&'b [u8]]
+pub(crate) fn lines_from<'a, 'b>(lines: &'a [&'b [u8]], place: usize) -> &'a [&'b [u8]]
     requires { place ≤ length lines.now }
     ensures { result.now ≡ drop place lines.now }
 {

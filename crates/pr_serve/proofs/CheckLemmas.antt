@@ -16,8 +16,8 @@ use Rattle.pr_serve.specs.Histories.{RanOutEarly, no_run}
 use Rattle.pr_serve.specs.Inputs.{taken_of}
 use Rattle.pr_serve.specs.Rows.{Ends, GivesOne, IsJudged, IsThe, OneRanOut, RanOutAfter, RanOutReading, Reads}
 use Rattle.pr_serve.specs.Statuses.{IsWhole}
-use Rattle.pr_serve.specs.declared.checks.Wrong.{Wrong}
-use Rattle.pr_serve.specs.declared.checks.Wrong.TheVariants as wrong
+use Rattle.pr_serve.specs.declared.wrongs.Wrong.{Wrong}
+use Rattle.pr_serve.specs.declared.wrongs.Wrong.TheVariants as wrong
 use Rattle.pr_serve.specs.declared.outcomes.Status.{Status}
 use Rattle.pr_serve.specs.declared.outcomes.Status.TheVariants.{ReadFailed, WriteFailed, OutOfMemory}
 
@@ -40,6 +40,7 @@ read-nothing : (r : Result (Scenario × List Entry) Wrong) → (judgement_of r).
 unfolding judgement_of refused_for refused_at
 read-nothing (Err (wrong.Scenario fault)) = refl
 read-nothing (Err (wrong.History line)) = refl
+read-nothing (Err (wrong.Core line)) = refl
 read-nothing (Ok read) = judged-nothing (length read.1) (first_illegal_of read.0 read.1)
 
 check-nothing : (input : Option (List ℕ)) → (check_of input).history ≡ []

@@ -1,17 +1,18 @@
 -- How many threads words ask for.
 use Rattle.std.proofs.Common.{◌≡◌, ◌≤◌, ◌<◌, ◌+◌, ◌&&◌, ℕ, zero, suc, Bool, true, false, List, [], ◌∷◌, Option, Some, None, All, cond, refl, arith}
-use Rattle.std.specs.Prelude.{codes, decimal}
+use Rattle.std.specs.Prelude.{codes, decimal, find}
 use Rattle.std.proofs.lemmas.List.Elements.{All-cons, All-nil, All-weaker}
 use Rattle.std.specs.List.{range_with_len}
 use Rattle.std.specs.Option.{option_map_or}
 use Rattle.std.specs.Str.{bytes_eq}
+use Rattle.pr_model.specs.declared.tools.ToolKind.{ToolKind}
 use Rattle.pr_num.specs.Limits.{child_limit, worker_limit}
 use Rattle.pr_num.proofs.SearchLemmas.{All-find}
-use Rattle.pr_serve.specs.Commands.{HasWorkers, generation, number_up_to, of_four_words, of_one_word, of_three_words, of_two_words, shared_run, work_of}
+use Rattle.pr_serve.specs.Commands.{HasWorkers, core_shown, core_tool_of_name, generation, number_up_to, of_four_words, of_one_word, of_three_words, of_two_words, shared_run, work_of}
 use Rattle.pr_serve.specs.declared.commands.Showing.{Showing}
 use Rattle.pr_serve.specs.declared.commands.Showing.TheVariants.{Whole, Quiet}
 use Rattle.pr_serve.specs.declared.commands.Work.{Work}
-use Rattle.pr_serve.specs.declared.commands.Work.TheVariants.{Checks, Explains, Generates, Runs, Shares, Strips}
+use Rattle.pr_serve.specs.declared.commands.Work.TheVariants.{Checks, Explains, Generates, Runs, Shares, ShowsCore, Strips}
 
 range-all : (from len : ℕ) → All (λ n. (from ≤ n) × (n < from + len)) (range_with_len from len)
 range-all from zero = All-nil (λ n. (from ≤ n) × (n < from + zero))
@@ -40,6 +41,14 @@ of_generation word = by (number_up_to child_limit word)
     by None = tt
     by (Some n) = tt
 
+of_core : (tool : List ℕ) → HasWorkers (core_shown tool)
+unfolding core_shown
+of_core tool = by (core_tool_of_name tool)
+  where
+    by : (o : Option ToolKind) → HasWorkers (option_map_or ShowsCore o Explains)
+    by None = tt
+    by (Some kind) = tt
+
 -- either of two
 of_both : (b : Bool) (x y : Work) → HasWorkers x → HasWorkers y → HasWorkers (cond b x y)
 of_both true x y h k = h
@@ -55,7 +64,8 @@ two-words : (a b : List ℕ) → HasWorkers (of_two_words a b)
 unfolding of_two_words
 two-words a b =
     of_both (bytes_eq a (codes "run") && bytes_eq b (codes "-q")) (Runs Quiet) _ tt
-    (of_both (bytes_eq a (codes "gen")) (generation b) Explains (of_generation b) tt)
+    (of_both (bytes_eq a (codes "gen")) (generation b) _ (of_generation b)
+    (of_both (bytes_eq a (codes "core")) (core_shown b) Explains (of_core b) tt))
 
 three-words : (a b c : List ℕ) → HasWorkers (of_three_words a b c)
 unfolding of_three_words

@@ -1,5 +1,6 @@
 pub mod CheckLemmas
 pub mod CommandLemmas
+pub mod CoreLemmas
 pub mod EarlyLemmas
 pub mod GivingLemmas
 pub mod InputLemmas

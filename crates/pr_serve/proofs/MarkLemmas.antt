@@ -1,8 +1,8 @@
--- Where the line between a scenario and a history is found.
+-- Where the line between the parts of an input is found.
 use Rattle.std.proofs.Common.{◌≡◌, ◌<◌, ◌≤◌, ◌+◌, ℕ, Bool, true, false, cond, Option, Some, None, IfSome, List, find, length, min, suc, sym, subst, arith, zero}
 use Rattle.std.specs.List.{range_with_len}
-use Rattle.pr_num.specs.Limits.{scenario_limit}
-use Rattle.pr_serve.specs.Checks.{is_mark_at, mark_place}
+use Rattle.pr_serve.specs.Marks.{is_mark_at, mark_place}
+use Rattle.pr_serve.specs.declared.marks.Mark.{Mark}
 
 -- what holds of a number holds of it where less is asked
 weaker : (o : Option ℕ) (a b : ℕ) → a ≤ b → IfSome o (λ place. place < a) → IfSome o (λ place. place < b)
@@ -18,11 +18,11 @@ find-within p a (suc n) = by (p a) (find-within p (a + 1) n)
     by false rest = weaker (find p (range_with_len (a + 1) n)) (a + 1 + n) (a + suc n) (omega arith) rest
 
 -- It stands within the text.
-pub mark-within : (text : List ℕ) → IfSome (mark_place text) (λ place. place < length text)
+pub mark-within : (m : Mark) (limit : ℕ) (text : List ℕ) → IfSome (mark_place m limit text) (λ place. place < length text)
 unfolding mark_place
-mark-within text =
-    weaker (mark_place text) (0 + min (length text) (scenario_limit + 1)) (length text) (omega arith) (find-within (is_mark_at text) 0 (min (length text) (scenario_limit + 1)))
+mark-within m limit text =
+    weaker (mark_place m limit text) (0 + min (length text) (limit + 1)) (length text) (omega arith) (find-within (is_mark_at m text) 0 (min (length text) (limit + 1)))
 
 -- the same of what is found there
-pub found-within : (text : List ℕ) (o : Option ℕ) → o ≡ mark_place text → IfSome o (λ place. place < length text)
-found-within text o is = subst (λ (x : Option ℕ). IfSome x (λ place. place < length text)) (sym is) (mark-within text)
+pub found-within : (m : Mark) (limit : ℕ) (text : List ℕ) (o : Option ℕ) → o ≡ mark_place m limit text → IfSome o (λ place. place < length text)
+found-within m limit text o is = subst (λ (x : Option ℕ). IfSome x (λ place. place < length text)) (sym is) (mark-within m limit text)

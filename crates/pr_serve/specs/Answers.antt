@@ -1,7 +1,13 @@
 use Rattle.std.specs.Prelude.{◌≡◌, ◌≤◌, ℕ, true, false, List, [], ◌++◌, Option, Some, None, Result, Ok, Err, codes, decimal, length}
+use Rattle.pr_core.specs.CoreBytes.{core_bytes}
+use Rattle.pr_core.specs.CoreRanges.{IsCore}
+use Rattle.pr_core.specs.CoreTools.{tool_over_core}
+use Rattle.pr_core.specs.Cores.{CoreState}
 use Rattle.pr_judge.specs.Judgements.{first_illegal}
 use Rattle.pr_model.specs.UntracedSteps.{untraced_steps, untraced_trace}
 use Rattle.pr_model.specs.declared.events.Entry.{Entry}
+use Rattle.pr_model.specs.declared.tools.ToolKind.{ToolKind}
+use Rattle.pr_num.specs.Programs.{Program}
 use Rattle.pr_output.specs.Output.{plain_run_text, refusal_text, run_text}
 use Rattle.pr_plain.specs.Generated.{generated_text}
 use Rattle.pr_run_laws.specs.ScenarioRuns.{first_state_of, first_world, run_of}
@@ -15,12 +21,13 @@ use Rattle.pr_world.specs.declared.ends.End.{End}
 use Rattle.pr_world.specs.declared.ends.End.TheVariants as end
 use Rattle.pr_output.specs.declared.reports.Report.{Report}
 use Rattle.pr_serve.specs.Checks.{checked_of_input}
+use Rattle.pr_serve.specs.CoreInputs.{ReadCore, core_of_input}
 use Rattle.pr_serve.specs.Inputs.{scenario_of_input}
 use Rattle.pr_serve.specs.Reports.{reports_of}
 use Rattle.pr_serve.specs.Statuses.{number}
 use Rattle.pr_serve.specs.Usage.{usage_line}
-use Rattle.pr_serve.specs.declared.checks.Wrong.{Wrong}
-use Rattle.pr_serve.specs.declared.checks.Wrong.TheVariants as wrong
+use Rattle.pr_serve.specs.declared.wrongs.Wrong.{Wrong}
+use Rattle.pr_serve.specs.declared.wrongs.Wrong.TheVariants as wrong
 use Rattle.pr_serve.specs.declared.commands.Showing.{Showing}
 use Rattle.pr_serve.specs.declared.commands.Showing.TheVariants.{Whole, Quiet}
 use Rattle.pr_serve.specs.declared.outcomes.Status.{Status}
@@ -49,6 +56,9 @@ kind_name kind.NoEnd = codes "NoEnd"
 
 abbrev pub bad_history : List ℕ
 bad_history = codes "BadHistory"
+
+abbrev pub bad_core : List ℕ
+bad_core = codes "BadCore"
 
 -- the input is refused, at a line for a reason
 unfoldable pub refused_at : ℕ → List ℕ → Answer
@@ -138,6 +148,7 @@ judged entries (Some place) = said NotLegal (codes "entry ") place (codes ": not
 unfoldable pub refused_for : Wrong → Answer
 refused_for (wrong.Scenario fault) = refused_at fault.line (kind_name fault.kind)
 refused_for (wrong.History line) = refused_at line bad_history
+refused_for (wrong.Core line) = refused_at line bad_core
 
 unfoldable pub judgement_of : Result (Scenario × List Entry) Wrong → Answer
 judgement_of (Err w) = refused_for w
@@ -146,6 +157,28 @@ judgement_of (Ok read) = judged (length read.1) (first_illegal_of read.0 read.1)
 -- the answer to an input; none: it had more bytes than it may have
 unfoldable pub check_of : Option (List ℕ) → Answer
 check_of input = judgement_of (checked_of_input input)
+
+-- ---- the command `core`
+
+-- a text is written, and the work is done
+abbrev pub told : List ℕ → Answer
+told text = record { status = Done; history = []; text = text }
+
+-- What is written of the core with these bytes: the text of a tool over it, with the labels of these programs. No other
+-- core has its bytes.
+pub record ShowsCore (kind : ToolKind) (programs : List Program) (bytes : List ℕ) (answer : Answer) : Type 0 where
+  pub core : CoreState
+  pub is_core : IsCore core
+  pub spelled : core_bytes core ≡ bytes
+  pub is : answer ≡ told (tool_over_core kind core programs)
+
+abbrev pub MayShowRead : ToolKind → Result ReadCore Wrong → Answer → Type 0
+MayShowRead kind (Err w) answer = answer ≡ refused_for w
+MayShowRead kind (Ok read) answer = ShowsCore kind read.0 read.1 answer
+
+-- whether this may be answered to an input; none: it had more bytes than it may have
+abbrev pub MayShowCore : ToolKind → Option (List ℕ) → Answer → Type 0
+MayShowCore kind input answer = MayShowRead kind (core_of_input input) answer
 
 -- ---- the command `gen`
 

@@ -2,17 +2,20 @@ use Rattle.std.specs.Prelude.{◌≤◌, ℕ, ◌&&◌, List, [], ◌∷◌, Opt
 use Rattle.std.specs.List.{range_with_len}
 use Rattle.std.specs.Option.{option_map_or}
 use Rattle.std.specs.Str.{bytes_eq}
+use Rattle.pr_model.specs.ToolNames.{is_tool_named}
+use Rattle.pr_model.specs.declared.tools.ToolKind.{ToolKind}
+use Rattle.pr_model.specs.declared.tools.ToolKind.TheVariants.{Pfiles, Pflags, Pmap, Psig, Pstack}
 use Rattle.pr_num.specs.Limits.{child_limit, worker_limit}
 use Rattle.pr_serve.specs.declared.commands.Showing.{Showing}
 use Rattle.pr_serve.specs.declared.commands.Showing.TheVariants.{Whole, Quiet}
 use Rattle.pr_serve.specs.declared.commands.Work.{Work}
-use Rattle.pr_serve.specs.declared.commands.Work.TheVariants.{Checks, Explains, Generates, Runs, Shares, Strips}
+use Rattle.pr_serve.specs.declared.commands.Work.TheVariants.{Checks, Explains, Generates, Runs, Shares, ShowsCore, Strips}
 
 -- What the words after the program's name ask for: the run of a scenario on one thread or on several, of which the
 -- history is written, or not; the run of a scenario on one thread, of which is written what the machine without
--- controllers makes of its history; the judging of a history; the writing of a scenario for so many children. The
--- shapes are run, run -q, run -j N, run -q -j N, run -j N -q, check, plain and gen N; words of no other shape ask for
--- anything, and get the usage line.
+-- controllers makes of its history; the judging of a history; the writing of a scenario for so many children; the text of
+-- a tool over a core. The shapes are run, run -q, run -j N, run -q -j N, run -j N -q, check, plain, gen N and core TOOL;
+-- words of no other shape ask for anything, and get the usage line.
 
 -- The number from 1 on, of so many, that a word writes in decimal. No numeral has a leading zero or a sign.
 unfoldable pub number_up_to : ℕ → List ℕ → Option ℕ
@@ -26,6 +29,18 @@ shared_run showing workers = option_map_or (Shares showing) (number_up_to worker
 unfoldable pub generation : List ℕ → Work
 generation children = option_map_or Generates (number_up_to child_limit children) Explains
 
+-- the tools that show cores
+abbrev pub core_tools : List ToolKind
+core_tools = Pflags ∷ Psig ∷ Pstack ∷ Pmap ∷ Pfiles ∷ []
+
+-- the tool of this name among them
+unfoldable pub core_tool_of_name : List ℕ → Option ToolKind
+core_tool_of_name tool = find (is_tool_named tool) core_tools
+
+-- the tool of this name over a core
+unfoldable pub core_shown : List ℕ → Work
+core_shown tool = option_map_or ShowsCore (core_tool_of_name tool) Explains
+
 unfoldable pub of_one_word : List ℕ → Work
 of_one_word a =
     if bytes_eq a (codes "run") then Runs Whole
@@ -37,7 +52,8 @@ unfoldable pub of_two_words : List ℕ → List ℕ → Work
 of_two_words a b =
     if bytes_eq a (codes "run") && bytes_eq b (codes "-q") then Runs Quiet
     else (if bytes_eq a (codes "gen") then generation b
-    else Explains)
+    else (if bytes_eq a (codes "core") then core_shown b
+    else Explains))
 
 unfoldable pub of_three_words : List ℕ → List ℕ → List ℕ → Work
 of_three_words a b c =

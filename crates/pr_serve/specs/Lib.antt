@@ -1,11 +1,13 @@
 pub mod Answers
 pub mod Checks
 pub mod Commands
+pub mod CoreInputs
 pub mod Ends
 pub mod Giving
 pub mod Histories
 pub mod Inputs
 pub mod Made
+pub mod Marks
 pub mod Reports
 pub mod Rows
 pub mod Statuses

@@ -6,7 +6,7 @@ use Rattle.pr_output.specs.declared.reports.Printer.{Printer}
 use Rattle.pr_output.specs.declared.reports.Printer.TheVariants as printer
 use Rattle.pr_output.specs.declared.reports.Report.{Report}
 use Rattle.pr_world.specs.Controllers.{printed}
-use Rattle.pr_world.specs.ControllerStates.{ControllerState, Script, Truss, Tool}
+use Rattle.pr_world.specs.ControllerStates.{ControllerState, Script, Truss, Tool, Gcore, Probe}
 use Rattle.pr_world.specs.Worlds.{WorldState}
 
 -- who prints, if it is no script
@@ -14,6 +14,8 @@ unfoldable pub printer_of : ControllerState → Option Printer
 printer_of (Script s) = None
 printer_of (Truss t) = Some printer.Truss
 printer_of (Tool t) = Some (printer.Tool t.kind)
+printer_of (Gcore g) = Some printer.Gcore
+printer_of (Probe p) = Some printer.Probe
 
 -- what a controller of a number prints, if it is one that prints
 abbrev pub report_by : List Program → ℕ → ControllerState → Option Printer → List Report

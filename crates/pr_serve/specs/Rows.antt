@@ -3,12 +3,14 @@ use Rattle.pr_io.specs.Faults.{Rose}
 use Rattle.pr_io.specs.Reading.{Came, CameWithin}
 use Rattle.pr_judge.specs.Judgements.{Judges}
 use Rattle.pr_model.specs.declared.events.Entry.{Entry}
+use Rattle.pr_model.specs.declared.tools.ToolKind.{ToolKind}
 use Rattle.pr_num.specs.Limits.{checked_limit, scenario_limit}
 use Rattle.pr_run_laws.specs.Prefixes.{IsPrefix}
 use Rattle.pr_run_laws.specs.ScenarioRuns.{first_state_of, run_of}
 use Rattle.pr_scen.specs.Scenarios.{Scenario}
-use Rattle.pr_serve.specs.Answers.{Answer, MayAnswer, RunText, ShowsEnd, answer_to, check_of, explained, generated, judged, plain_shown, run_shown}
+use Rattle.pr_serve.specs.Answers.{Answer, MayAnswer, MayShowCore, RunText, ShowsEnd, answer_to, check_of, explained, generated, judged, plain_shown, run_shown}
 use Rattle.pr_serve.specs.Checks.{checked_of_input}
+use Rattle.pr_serve.specs.CoreInputs.{core_limit}
 use Rattle.pr_serve.specs.Ends.{EndsAs}
 use Rattle.pr_serve.specs.Giving.{IsGiven, IsCutShort, RanOutLate, Responds}
 use Rattle.pr_serve.specs.Histories.{IsLedTo, Making, RanOutEarly, by_threads, in_rounds, no_run}
@@ -16,7 +18,7 @@ use Rattle.pr_serve.specs.Inputs.{Took, scenario_of_input, taken_of}
 use Rattle.pr_serve.specs.Statuses.{IsWhole, number}
 use Rattle.pr_serve.specs.declared.commands.Showing.{Showing}
 use Rattle.pr_serve.specs.declared.commands.Work.{Work}
-use Rattle.pr_serve.specs.declared.commands.Work.TheVariants.{Checks, Explains, Generates, Runs, Shares, Strips}
+use Rattle.pr_serve.specs.declared.commands.Work.TheVariants.{Checks, Explains, Generates, Runs, Shares, ShowsCore, Strips}
 use Rattle.pr_serve.specs.declared.outcomes.Status.{Status}
 use Rattle.pr_serve.specs.declared.outcomes.Status.TheVariants.{ReadFailed, WriteFailed, OutOfMemory}
 
@@ -24,11 +26,13 @@ use Rattle.pr_serve.specs.declared.outcomes.Status.TheVariants.{ReadFailed, Writ
 
 -- A command says the same whatever the input is: it reads nothing and takes no memory. Or it reads an input, up to a
 -- limit, and answers it; where it makes a run, that is left as far as it was made where memory ran out. Or it reads a
--- scenario and makes its run on several threads: what they may answer is then not one answer.
+-- scenario and makes its run on several threads: what they may answer is then not one answer. Or it reads programs and a
+-- core, and a tool shows the core.
 pub data Row : Type 0 where
   says : Answer → Row
   reads : ℕ → (Option (List ℕ) → Answer) → Making → Row
   shares : Showing → Row
+  shows_core : ToolKind → Row
 
 unfoldable pub row_of : Work → Row
 row_of Explains = says explained
@@ -37,12 +41,14 @@ row_of (Runs showing) = reads scenario_limit (answer_to (run_shown showing)) in_
 row_of (Shares showing workers) = shares showing
 row_of Strips = reads scenario_limit (answer_to plain_shown) in_rounds
 row_of Checks = reads checked_limit check_of no_run
+row_of (ShowsCore kind) = shows_core kind
 
 -- how a command of a row makes a run
 abbrev pub making_in : Row → Making
 making_in (says answer) = no_run
 making_in (reads limit answer making) = making
 making_in (shares showing) = by_threads
+making_in (shows_core kind) = no_run
 
 abbrev pub making_of : Work → Making
 making_of work = making_in (row_of work)
@@ -52,6 +58,7 @@ abbrev pub is_unread : Row → Bool
 is_unread (says answer) = true
 is_unread (reads limit answer making) = false
 is_unread (shares showing) = false
+is_unread (shows_core kind) = false
 
 abbrev pub reads_nothing : Work → Bool
 reads_nothing work = is_unread (row_of work)
@@ -150,6 +157,7 @@ abbrev pub EndsBy : Row → Ends → Ends → Status → List Entry → Type 0
 EndsBy (says answer) old new status history = Says answer old new status history
 EndsBy (reads limit answer making) old new status history = Reads limit (IsThe answer) making old new status history
 EndsBy (shares showing) old new status history = Reads scenario_limit (MayAnswer showing) by_threads old new status history
+EndsBy (shows_core kind) old new status history = Reads core_limit (MayShowCore kind) no_run old new status history
 
 -- The history of a call is that of a world to which the first one of a scenario was led, and the status says how that
 -- ended.

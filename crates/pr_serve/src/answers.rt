@@ -11,7 +11,7 @@ use pr_output::Cut;
 use pr_plain::generated_pieces;
 use std::alloc::Global;
 
-const USAGE: &[u8] = b"usage: proclab run [-q] [-j N] | check | plain | gen N\n";
+const USAGE: &[u8] = b"usage: proclab run [-q] [-j N] | check | plain | gen N | core TOOL\n";
 
 /// The status where a text of this status was written, or was not.
 #[tactic(auto, unfolding(crate::specs::Giving::status_after))]

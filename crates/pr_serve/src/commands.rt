@@ -1,7 +1,9 @@
 ghost use Rattle.std.specs.Prelude.{◌≡◌, ◌<◌, ◌-◌, ◌^◌, map, string_bytes};
-ghost use Rattle.pr_serve.specs.Commands.{work_of, number_up_to, shared_run, generation, of_one_word, of_two_words, of_three_words, of_four_words};
+ghost use Rattle.pr_model.specs.ToolNames.{is_tool_named};
+ghost use Rattle.pr_serve.specs.Commands.{work_of, number_up_to, shared_run, generation, core_shown, core_tool_of_name, of_one_word, of_two_words, of_three_words, of_four_words};
 
 use itoa::Buffer;
+use pr_model::{ToolKind, tool_name};
 use pr_num::limits::{CHILD_LIMIT, WORKER_LIMIT};
 
 /// Whether the command `run` writes the history of its run.
@@ -27,6 +29,8 @@ pub enum Work {
     Checks,
     /// A scenario is written in which so many children are forked, 1 to 64.
     Generates { children: u32 },
+    /// A tool shows the core of the input, with the labels of the programs above it.
+    ShowsCore { kind: ToolKind },
 }
 
 /// What words ask for.
@@ -71,6 +75,7 @@ fn of_two_words(first: &str, second: &str) -> Work
             showing: Showing::Quiet,
         },
         ("gen", children) => generation(children),
+        ("core", tool) => core_shown(tool),
         _ => Work::Explains,
     }
 }
@@ -112,6 +117,42 @@ fn generation(children: &str) -> Work
 {
     match number_up_to(CHILD_LIMIT, children) {
         Some(children) => Work::Generates { children },
+        None => Work::Explains,
+    }
+}
+
+/// The tools that show cores.
+const CORE_TOOLS: [ToolKind; 5] = [
+    ToolKind::Pflags,
+    ToolKind::Psig,
+    ToolKind::Pstack,
+    ToolKind::Pmap,
+    ToolKind::Pfiles,
+];
+
+fn is_tool_named(word: &str, tool: ToolKind) -> bool
+    ensures { result ≡ is_tool_named word.now tool }
+{
+    word.as_bytes() == tool_name(tool).as_bytes()
+}
+
+/// The tool of this name among those that show cores.
+#[tactic(auto, unfolding(crate::specs::Commands::core_tool_of_name))]
+fn core_tool_of_name(word: &str) -> Option<ToolKind>
+    ensures { result ≡ core_tool_of_name word.now }
+{
+    CORE_TOOLS
+        .iter()
+        .copied()
+        .find(|tool| is_tool_named(word, *tool))
+}
+
+#[tactic(auto, unfolding(crate::specs::Commands::core_shown))]
+fn core_shown(tool: &str) -> Work
+    ensures { result ≡ core_shown tool.now }
+{
+    match core_tool_of_name(tool) {
+        Some(kind) => Work::ShowsCore { kind },
         None => Work::Explains,
     }
 }

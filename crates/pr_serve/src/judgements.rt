@@ -9,9 +9,10 @@ ghost use Rattle.pr_serve.specs.Histories.{RanOutEarly, no_run};
 ghost use Rattle.pr_serve.specs.Statuses.{IsWhole};
 
 use crate::answers::{status_after, write_pieces};
-use crate::checks::{Checked, Unchecked, Wrong, checked_of_input};
+use crate::checks::{Checked, checked_of_input};
 use crate::outcomes::{Ending, Status, out_of_memory, without_history};
 use crate::responses::{refuse_at, refuse_input};
+use crate::wrongs::{Misread, Wrong};
 use itoa::Buffer;
 use pr_io::Sink;
 use pr_judge::legal;
@@ -22,6 +23,8 @@ use pr_scen::Scenario;
 use std::alloc::Global;
 
 const BAD_HISTORY: &[u8] = b"BadHistory";
+
+const BAD_CORE: &[u8] = b"BadCore";
 
 /// The first entry of a history that is not legal, where the machine begins as a scenario says; none where all are.
 #[tactic(auto, unfolding(pr_api::specs::Views::kernel_of), using(crate::proofs::RunLemmas::runs))]
@@ -109,13 +112,14 @@ fn judge<K: Sink>(alloc: Global, checked: Checked, sink: &mut K) -> Ending
 
 /// Answers an input of which a line is refused.
 #[tactic(auto, unfolding(crate::specs::Answers::refused_for))]
-fn refuse_wrong<K: Sink>(alloc: Global, wrong: Wrong, sink: &mut K) -> Ending
+pub fn refuse_wrong<K: Sink>(alloc: Global, wrong: Wrong, sink: &mut K) -> Ending
     ensures { Responds (refused_for wrong) ⊥ result.status result.history.entries
         (K.written sink.old) (K.written sink.new) (K.faults sink.old) (K.faults sink.new) }
 {
     match wrong {
         Wrong::Scenario(fault) => refuse_at(alloc, fault, sink),
         Wrong::History(line) => refuse_input(alloc, line, BAD_HISTORY, sink),
+        Wrong::Core(line) => refuse_input(alloc, line, BAD_CORE, sink),
     }
 }
 
@@ -129,7 +133,7 @@ pub fn judge_input<K: Sink>(alloc: Global, input: Option<Bytes>, sink: &mut K) -
 {
     match checked_of_input(alloc, input) {
         Ok(checked) => judge(alloc, checked, sink),
-        Err(Unchecked::Wrong(wrong)) => refuse_wrong(alloc, wrong, sink),
-        Err(Unchecked::NoMemory) => without_history(alloc, Status::OutOfMemory),
+        Err(Misread::Wrong(wrong)) => refuse_wrong(alloc, wrong, sink),
+        Err(Misread::NoMemory) => without_history(alloc, Status::OutOfMemory),
     }
 }

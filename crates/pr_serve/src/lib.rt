@@ -4,8 +4,11 @@
 mod answers;
 mod checks;
 mod commands;
+mod core_inputs;
+mod cores;
 mod inputs;
 mod judgements;
+mod marks;
 mod outcomes;
 mod reports;
 mod responses;
@@ -14,6 +17,7 @@ mod runs;
 mod serving;
 mod sharing;
 mod showings;
+mod wrongs;
 
 pub use outcomes::{Outcome, Status, number};
 pub use serving::serve;

@@ -21,6 +21,8 @@ fn printer_of(controller: &Controller) -> Option<Printer>
         Controller::Script(_) => None,
         Controller::Truss(_) => Some(Printer::Truss),
         Controller::Tool(tool) => Some(Printer::Tool(tool.kind())),
+        Controller::Gcore(_) => Some(Printer::Gcore),
+        Controller::Probe(_) => Some(Printer::Probe),
     }
 }
 

@@ -1,13 +1,16 @@
 //! Commands from a source to a sink.
 ghost use Rattle.std.specs.Prelude.{◌≡◌, ◌≤◌, [], true};
 ghost use Rattle.pr_num.specs.Limits.{checked_limit, scenario_limit, worker_limit};
-ghost use Rattle.pr_serve.specs.Answers.{MayAnswer, answer_to, check_of};
+ghost use Rattle.pr_serve.specs.Answers.{MayAnswer, MayShowCore, answer_to, check_of};
 ghost use Rattle.pr_serve.specs.Commands.{HasWorkers};
+ghost use Rattle.pr_serve.specs.CoreInputs.{core_limit};
 ghost use Rattle.pr_serve.specs.Histories.{HistoryIsKept, by_threads, in_rounds, no_run};
 ghost use Rattle.pr_serve.specs.Rows.{DoesWork, EndsBy, IsThe, Reads, ends_of, making_of, reads_nothing, row_of};
 
 use crate::answers::{explain, generate};
 use crate::commands::{Showing, Work};
+use crate::core_inputs::CORE_LIMIT;
+use crate::cores::show_core;
 use crate::inputs::{Unread, take_input};
 use crate::judgements::judge_input;
 use crate::outcomes::{Ending, Status, without_history};
@@ -15,6 +18,7 @@ use crate::responses::respond;
 use crate::sharing::share;
 use crate::showings::{Shows, Stripped};
 use pr_io::{Gate, Sink, Source};
+use pr_model::ToolKind;
 use pr_num::limits::{CHECKED_LIMIT, SCENARIO_LIMIT};
 use std::alloc::Global;
 use std::sync::Wait;
@@ -88,6 +92,24 @@ fn check<S: Source, K: Sink>(alloc: Global, source: &mut S, sink: &mut K) -> End
     }
 }
 
+/// Reads programs and a core, and writes the text of a tool over the core, or why the input is refused.
+fn show_over_core<S: Source, K: Sink>(
+    alloc: Global,
+    kind: ToolKind,
+    source: &mut S,
+    sink: &mut K,
+) -> Ending
+    ensures { Reads core_limit (MayShowCore kind) no_run
+        (ends_of S.left S.faults K.written K.faults source.old sink.old)
+        (ends_of S.left S.faults K.written K.faults source.new sink.new)
+        result.status result.history.entries }
+{
+    match take_input(alloc, source, CORE_LIMIT) {
+        Ok(input) => show_core(alloc, kind, input, sink),
+        Err(unread) => without_input(alloc, unread),
+    }
+}
+
 /// Does a piece of work: how it ends is said by its row. Only a run on several threads waits, for these.
 #[tactic(auto, unfolding(crate::specs::Rows::row_of))]
 pub fn carry_out<R: Threads + Wait + Sync, S: Source, K: Sink, G: Gate + Sync>(
@@ -119,5 +141,6 @@ pub fn carry_out<R: Threads + Wait + Sync, S: Source, K: Sink, G: Gate + Sync>(
         }
         Work::Strips => run(alloc, &Stripped, source, sink),
         Work::Checks => check(alloc, source, sink),
+        Work::ShowsCore { kind } => show_over_core(alloc, kind, source, sink),
     }
 }

@@ -9,10 +9,12 @@ ghost use Rattle.pr_serve.specs.Made.{IsBroughtSoFar, IsWorldsWay, kern_view};
 ghost use Rattle.pr_serve.specs.Reports.{reports_of};
 
 use crate::reports::reports_of;
+use pr_core::Gcore;
 use pr_kern::Kern;
 use pr_model::History;
 use pr_num::NoMemory;
 use pr_output::Report;
+use pr_probe::Probe;
 use pr_run::run_one;
 use pr_scen::{Plan, Scenario};
 use pr_tools::Tool;
@@ -29,6 +31,8 @@ fn controller_of(alloc: Global, plan: Plan) -> Result<Controller, NoMemory>
         Plan::Script(script) => Controller::Script(script),
         Plan::Truss(options) => Controller::Truss(Truss::new(alloc, options)?),
         Plan::Tool(kind, pid) => Controller::Tool(Tool::new(alloc, kind, pid)?),
+        Plan::Gcore(pid) => Controller::Gcore(Gcore::new(alloc, pid)?),
+        Plan::Probe(pid) => Controller::Probe(Probe::new(alloc, pid)?),
     })
 }
 

@@ -17,11 +17,11 @@ use std::thread::Threads;
 ///
 /// `run`, `run -q` and `plain` make the run of a scenario on one thread; `run -j N`, with or without `-q`, makes it on
 /// several, waits for them, and ends as a run does in which the actors moved in some order; `check` says whether a
-/// history is legal; `gen N` writes a scenario, reads nothing and takes no memory. Status 0, 3 and
-/// 4 of a run: it was made and written; no actor could move and all controllers had finished, or the history had all
-/// its entries, or no actor could move and a controller had not finished. Status 0 and 8 of `check`: all entries are
-/// legal, or one is not. Status 2: the input was refused. Status 5: a read failed. Status 6: a write failed. Status 7:
-/// memory ran out. All other words get the usage line and status 1, or 6 where a write failed; nothing is read then,
+/// history is legal; `core TOOL` writes what a tool shows of a core; `gen N` writes a scenario, reads nothing and takes no
+/// memory. Status 0, 3 and 4 of a run: it was made and written; no actor could move and all controllers had finished, or
+/// the history had all its entries, or no actor could move and a controller had not finished. Status 0 and 8 of `check`:
+/// all entries are legal, or one is not. Status 0 of `core`: the text was written. Status 2: the input was refused. Status
+/// 5: a read failed. Status 6: a write failed. Status 7: memory ran out. All other words get the usage line and status 1, or 6 where a write failed; nothing is read then,
 /// and no memory taken.
 pub fn serve<R: Threads + Wait + Sync, S: Source, K: Sink, G: Gate + Sync>(
     rt: &R,
@@ -32,7 +32,8 @@ pub fn serve<R: Threads + Wait + Sync, S: Source, K: Sink, G: Gate + Sync>(
     gate: &G,
 ) -> Outcome
     // What was read and written, the status and the history are those of the row of the command. An input that is a
-    // scenario is run, and the status says how that ended; one that is a scenario and a history is judged.
+    // scenario is run, and the status says how that ended; one that is a scenario and a history is judged; of one that is
+    // programs and a core the text of the tool over that core is written.
     ensures ends { EndsWith (work_of (map string_bytes words.now))
         (ends_of S.left S.faults K.written K.faults source.old sink.old)
         (ends_of S.left S.faults K.written K.faults source.new sink.new)
@@ -42,8 +43,8 @@ pub fn serve<R: Threads + Wait + Sync, S: Source, K: Sink, G: Gate + Sync>(
     ensures unread { reads_nothing (work_of (map string_bytes words.now)) ≡ true → source.new ≡ source.old }
 
     // However the call ends, there is no history, or it is that of a run. Then it is legal and follows the protocol;
-    // where it is passive, or no controller is a script, tracing is transparent in it; each truss has shown of each
-    // process exactly the selected events that came while it had hold of it, as `ShowsHeld` says, on the
+    // where it is passive, or no controller is a script or asks by an agent, tracing is transparent in it; each truss has
+    // shown of each process exactly the selected events that came while it had hold of it, as `ShowsHeld` says, on the
     // conditions of `ShowsItsEvents`, and all else that `IsTrussKept` says is so of it; the memory in a line is that of
     // the state in which truss read it; and each tool that has finished, and was not refused, prints what stands in one
     // state.

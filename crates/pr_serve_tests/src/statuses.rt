@@ -17,7 +17,7 @@ const JUDGED: &str =
 
 const MISJUDGED: &str = "%history\nhistory 2\n0 clock 1\n1 clock 3\n";
 
-const USAGE: &str = "usage: proclab run [-q] [-j N] | check | plain | gen N\n";
+const USAGE: &str = "usage: proclab run [-q] [-j N] | check | plain | gen N | core TOOL\n";
 
 // A run keeps its history, whether that is written or not; other calls have none.
 #[test]
@@ -73,6 +73,15 @@ fn each_status_comes_with_its_text_and_its_history(rt: HostRuntime) -> Result<()
             "not legal\n",
             "",
         ),
+        (
+            ["core", "pmap"].as_slice(),
+            "%core\n",
+            2,
+            "line 2: ",
+            "BadCore\n",
+            "",
+        ),
+        (["core", "ptree"].as_slice(), "%core\n", 1, USAGE, "", ""),
         (["frob"].as_slice(), ALONE, 1, USAGE, "", ""),
     ] {
         let mut source = source(alloc, input.as_bytes(), &[])?;

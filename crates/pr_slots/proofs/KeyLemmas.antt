@@ -2,8 +2,8 @@
 use Rattle.std.proofs.Common.{◌≡◌, ◌≢◌, ◌+◌, ◌<◌, ◌≤◌, ℕ, zero, suc, false, cond, ◌⊎◌, List, [], ◌∷◌, ◌++◌, length, replicate, get_or, set, Option, None, Some, IsSome, OnSome, is_some, is_none, refl, sym, ap, ◌∙◌, arith, inl, inr}
 use Rattle.std.specs.List.{count_by, position, position_from}
 use Rattle.std.proofs.lemmas.Bool.{cases_eq, cases_lt, false≢true}
-use Rattle.std.proofs.lemmas.List.{length-set, length-map, length-replicate, get_or-set_same, get_or-set_other, get_or_past, set-get_or, replicate-append-replicate}
-use Rattle.std.proofs.lemmas.List.Sums.{count_by-le-length, sum_by-set}
+use Rattle.std.proofs.lemmas.List.{length-append, length-set, length-map, length-replicate, get_or-set_same, get_or-set_other, get_or_past, set-get_or, replicate-append-replicate}
+use Rattle.std.proofs.lemmas.List.Sums.{count_by-le-length, sum_by-append, sum_by-set}
 use Rattle.std.proofs.lemmas.Iterator.Adapters.{position_from-zero}
 use Rattle.std.proofs.lemmas.Option.{same_Some, none-some}
 use Rattle.slab.specs.Slab.{Slab, get, slab_len, with_value, Updates}
@@ -282,3 +282,63 @@ pub replicate-push : (n : ℕ) → replicate {A = Option ℕ} n None ++ None ∷
 replicate-push n = replicate-append-replicate n 1 None
 
 pub ruleset more_none = (replicate-push)
+
+-- ---- one more number
+
+-- it has no key
+get_or-wider : (keys : List (Option ℕ)) (m : ℕ) → get_or (keys ++ None ∷ []) m None ≡ get_or keys m None
+get_or-wider [] zero = refl
+get_or-wider [] (suc m) = refl
+get_or-wider (key ∷ keys) zero = refl
+get_or-wider (key ∷ keys) (suc m) = get_or-wider keys m
+
+count-wider : (keys : List (Option ℕ)) → count_by is_some (keys ++ None ∷ []) ≡ count_by is_some keys
+count-wider keys =
+    let all : count_by is_some (keys ++ None ∷ []) ≡ count_by is_some keys + 0 = sum_by-append (λ k. cond (is_some k) 1 0) keys (None ∷ []) in
+    omega (arith, all)
+
+length-wider : (keys : List (Option ℕ)) → length (keys ++ None ∷ []) ≡ length keys + 1
+length-wider keys = length-append keys (None ∷ [])
+
+places_of-wider : {T : Type 0} → (slab : Slab T) → (keys : List (Option ℕ)) → places_of slab (keys ++ None ∷ []) ≡ places_of slab keys ++ None ∷ []
+places_of-wider slab [] = refl
+places_of-wider slab (key ∷ keys) = ap (λ ps. thing_of slab key ∷ ps) (places_of-wider slab keys)
+
+-- the slab has the same things and perhaps more room
+module _ {T : Type 0} (old new : Slab T) (keys : List (Option ℕ)) (keyed : IsKeyed old keys)
+    (same : new ≡ record old { capacity = new.capacity }) where
+  same_slots : new.slots ≡ old.slots
+  same_slots = ap (λ s. s.slots) same
+
+  same_get : (k : ℕ) → get new k ≡ get old k
+  same_get k = ap (λ slots. get_or slots k None) same_slots
+
+  pub same_len : slab_len new ≡ slab_len old
+  same_len = ap (count_by is_some) same_slots
+
+  pub reserved_places : places_of new keys ≡ places_of old keys
+  reserved_places = places_of-same old new keys (λ m k is. same_get k)
+
+  pub reserved_keyed : old.capacity ≤ new.capacity → IsKeyed new keys
+  reserved_keyed more = record {
+    room = omega (arith, keyed.room, more);
+    counted = same_len ∙ keyed.counted;
+    there = λ m k is. ap is_some (same_get k) ∙ keyed.there m k is;
+    apart = keyed.apart;
+  }
+
+  pub widened_places : (places : List (Option T)) → places_of old keys ≡ places → places_of new (keys ++ None ∷ []) ≡ places ++ None ∷ []
+  widened_places places seen =
+      places_of-wider new keys ∙ ap (λ ps. ps ++ None ∷ []) (reserved_places ∙ seen)
+
+  pub widened_keyed : length keys + 1 ≤ new.capacity → IsKeyed new (keys ++ None ∷ [])
+  widened_keyed room = record {
+    room = omega (arith, room, length-wider keys);
+    counted = same_len ∙ keyed.counted ∙ sym (count-wider keys);
+    there = λ m k is. ap is_some (same_get k) ∙ keyed.there m k (sym (get_or-wider keys m) ∙ is);
+    apart = λ m n k here there. keyed.apart m n k (sym (get_or-wider keys m) ∙ here) (sym (get_or-wider keys n) ∙ there);
+  }
+
+-- the slab has no more things than there are numbers
+pub few_things : {T : Type 0} → (slab : Slab T) → (keys : List (Option ℕ)) → IsKeyed slab keys → slab_len slab ≤ length keys
+few_things slab keys keyed = omega (arith, keyed.counted, count_by-le-length is_some keys)

@@ -1,2 +1,4 @@
+pub mod ByIdLending
 pub mod Keys
 pub mod Lending
+pub mod Walks

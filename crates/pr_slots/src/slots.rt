@@ -1,4 +1,4 @@
-ghost use Rattle.std.specs.Prelude.{◌≡◌, ◌<◌, ℕ, length, replicate, is_none, position, None, Some, IsSome, IfOk, IfSome, slice_set, slice_index_or};
+ghost use Rattle.std.specs.Prelude.{◌≡◌, ◌<◌, ◌++◌, [], ◌∷◌, ℕ, length, replicate, is_none, position, None, Some, IsSome, IfOk, IfSome, OnOk, OnErr, slice_set, slice_index_or};
 ghost use Rattle.std.specs.Option.{option_copied, option_copied_mut};
 ghost use Rattle.std.specs.Borrow.{sem};
 
@@ -9,8 +9,8 @@ use std::marker::Model;
 
 /// Things by number, seen by contracts as the list of the places for them: place 0 first, a free one `None`.
 ///
-/// Room for all places is there from the beginning, so nothing but `new` takes memory. A thing stands where the slab
-/// put it for as long as it is there: no other one moves when a place is filled or freed.
+/// Room for all places is there, so that nothing but a constructor and `add_place` takes memory. No other thing moves when a
+/// place is filled or freed.
 #[derive(Drop)]
 pub struct Slots<T> {
     things: Slab<T>,
@@ -40,6 +40,17 @@ impl<T> Slots<T> {
     {
         let things = Slab::with_capacity(alloc, places)?;
         let keys = no_keys(alloc, places)?;
+        Ok(Slots { things, keys })
+    }
+
+    /// No place, and room for so many places and things: until there are as many, none takes memory.
+    pub fn with_room(alloc: Global, room: usize) -> Result<Slots<T>, NoMemory>
+    where
+        T: Drop,
+        ensures { IfOk result (λ slots. slots ≡ []) }
+    {
+        let things = Slab::with_capacity(alloc, room)?;
+        let keys = Vec::with_capacity(alloc, room)?;
         Ok(Slots { things, keys })
     }
 
@@ -75,6 +86,19 @@ impl<T> Slots<T> {
     {
         let key = key_of(&self.keys, number).unwrap();
         self.things.get_mut(key).unwrap()
+    }
+
+    /// One more place behind the last, which is free. Where memory runs out, the places stay as they are.
+    pub fn add_place(&mut self) -> Result<(), NoMemory>
+    where
+        T: Drop,
+        ensures ok { OnOk result (self.new ≡ self.old ++ None ∷ []) }
+        ensures err { OnErr result (self.new ≡ self.old) }
+    {
+        let more = self.keys.len() + 1 - self.things.len();
+        self.things.reserve(more)?;
+        self.keys.push(None)?;
+        Ok(())
     }
 
     /// Puts a thing at a number whose place is free. Takes no memory.

@@ -17,7 +17,7 @@ use Rattle.pr_tools.specs.Tools.{ToolState, fed, first_tool, has_ended, next_cal
 use Rattle.pr_tools.specs.declared.steps.Step.{Step}
 use Rattle.pr_tools.specs.declared.steps.Step.TheVariants as step
 use Rattle.pr_world.specs.Controllers.{after_reply, next_call}
-use Rattle.pr_world.specs.ControllerStates.{ControllerState, Script, Truss, Tool}
+use Rattle.pr_world.specs.ControllerStates.{ControllerState, Tool}
 use Rattle.pr_world.specs.Protocol.{Follows, controllers_at}
 use Rattle.pr_tool_laws.proofs.ProtocolLemmas.{KeptByCalls, KeptByOthers, protocol-keeps}
 use Rattle.pr_tool_laws.proofs.EndedLemmas.{IsAwaited, first-awaited, pwait-keeps}
@@ -37,9 +37,8 @@ use Rattle.pr_tool_laws.specs.ToolTexts.{reads_once}
 -- ---- what a tool keeps
 
 abbrev OfTool : (ToolState → Type 0) → ControllerState → Type 0
-OfTool Q (Script s) = ⊥
-OfTool Q (Truss t) = ⊥
 OfTool Q (Tool t) = Q t
+OfTool Q _ = ⊥
 
 module _ (n k : ℕ) (first : TracedState) (Q : List Entry → ToolState → Type 0)
     (by_others : (h : List Entry) (t : ToolState) (actor : Actor) (it : Act) → IsLegalEntry n (state_after first h)
@@ -52,15 +51,13 @@ module _ (n k : ℕ) (first : TracedState) (Q : List Entry → ToolState → Typ
 
   others-core : KeptByOthers n k first P
   unfolding P
-  others-core h (Script s) actor it legal other q = absurd q
-  others-core h (Truss t) actor it legal other q = absurd q
   others-core h (Tool t) actor it legal other q = by_others h t actor it legal other q
+  others-core h _ actor it legal other q = absurd q
 
   calls-core : KeptByCalls n k first P
   unfolding P next_call after_reply
-  calls-core h (Script s) c a next given q = absurd q
-  calls-core h (Truss t) c a next given q = absurd q
   calls-core h (Tool t) c a next given q = by_calls h t c a next given q
+  calls-core h _ c a next given q = absurd q
 
   tool-keeps : (controllers : List ControllerState) (h : List Entry) (t u : ToolState) → IsLegal n first h
       → Follows controllers first h → slice_get controllers k ≡ Some (Tool t)

@@ -4,7 +4,7 @@ use Rattle.std.proofs.lemmas.Bool.{cases_eq}
 use Rattle.std.proofs.lemmas.List.{append_assoc, append-nil}
 use Rattle.std.proofs.lemmas.Option.{none-some}
 use Rattle.pr_api.specs.Entries.{call_entry}
-use Rattle.pr_file.proofs.PlaceLemmas.{slice_get-set_other, slice_get-set_same}
+use Rattle.pr_file_laws.proofs.PlaceLemmas.{slice_get-set_other, slice_get-set_same}
 use Rattle.pr_model.proofs.HistoryLemmas.{state_after-push}
 use Rattle.pr_model.specs.Calls.{Answer, answer_to}
 use Rattle.pr_model.specs.Legal.{IsLegal, IsLegalEntry, after, state_after}

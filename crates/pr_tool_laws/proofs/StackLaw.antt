@@ -13,7 +13,7 @@ use Rattle.pr_reached.specs.ByteHistories.{HasBytes}
 use Rattle.pr_reached.specs.InRange.{IsInRange}
 use Rattle.pr_tools.specs.Tools.{ToolState, fed, first_tool, has_ended, printed}
 use Rattle.pr_world.specs.Controllers.{after_reply, next_call}
-use Rattle.pr_world.specs.ControllerStates.{ControllerState, Script, Truss, Tool}
+use Rattle.pr_world.specs.ControllerStates.{ControllerState, Tool}
 use Rattle.pr_world.specs.Protocol.{Follows, controllers_at}
 use Rattle.pr_tool_laws.proofs.ProtocolLemmas.{KeptByCalls, KeptByOthers, protocol-keeps}
 use Rattle.pr_tool_laws.proofs.StackCalls.{called-stage}
@@ -31,25 +31,21 @@ entry-lawful n s e lawful legal = history-state n s (e ∷ []) lawful (legal, tt
 module _ (n k pid : ℕ) (first : TracedState) where
   -- pstack at its stage, in a lawful state
   IsStackKept : List Entry → ControllerState → Type 0
-  IsStackKept h (Script s) = ⊥
-  IsStackKept h (Truss t) = ⊥
   IsStackKept h (Tool t) = IsLawful (state_after first h) × StackStage n k pid first h (state_after first h) t
+  IsStackKept h _ = ⊥
 
   others-keep : KeptByOthers n k first IsStackKept
   unfolding IsStackKept
-  others-keep h (Script s) actor it legal other kept = absurd kept
-  others-keep h (Truss t) actor it legal other kept = absurd kept
   others-keep h (Tool t) actor it legal other kept =
       let e : Entry = record { actor = actor; act = it } in
       let same : after (state_after first h) e ≡ state_after first (h ++ e ∷ []) = sym (state_after-push first h e) in
       let lawful = entry-lawful n (state_after first h) e kept.0 legal in
       let stage = others-stage n k pid first h (state_after first h) kept.0 actor it legal other t kept.1 in
       subst (λ (s : TracedState). IsLawful s × StackStage n k pid first (h ++ e ∷ []) s t) same (lawful, stage)
+  others-keep h _ actor it legal other kept = absurd kept
 
   calls-keep : KeptByCalls n k first IsStackKept
   unfolding IsStackKept next_call after_reply
-  calls-keep h (Script s) c a next given kept = absurd kept
-  calls-keep h (Truss t) c a next given kept = absurd kept
   calls-keep h (Tool t) c a next given kept =
       let same : a.state ≡ state_after first (h ++ call_entry k c a.reply ∷ []) =
       sym (state-called first h k c a given) in
@@ -57,6 +53,7 @@ module _ (n k pid : ℕ) (first : TracedState) where
       let lawful = call-state (state_after first h) kept.0 k c a given in
       subst (λ (s : TracedState). IsLawful s × StackStage n k pid first (h ++ call_entry k c a.reply ∷ []) s
       (fed t a.reply)) same (lawful, stage)
+  calls-keep h _ c a next given kept = absurd kept
 
 -- In the end it shows them, unless it was refused.
 pub shows-one-stack : (controllers : List ControllerState) (n k pid : ℕ) (s : TracedState) (h : List Entry)

@@ -28,7 +28,7 @@ use Rattle.pr_model.specs.declared.handles.Held.{Held}
 use Rattle.pr_truss_laws.proofs.FrameLemmas.{ByKill, Passes, end-passes, generated-passes, made-passes, other-passes, passed-alone, same-passes, was-made}
 use Rattle.pr_truss_laws.proofs.OpensLemmas.{handle-controller}
 use Rattle.pr_truss_laws.proofs.ReleaseLemmas.{none-left}
-use Rattle.pr_file.proofs.PlaceLemmas.{slice_get-set_other}
+use Rattle.pr_file_laws.proofs.PlaceLemmas.{slice_get-set_other}
 
 -- What a controller does to a process that it does not write to: SIGKILL ends it, or signals pend for it and no more.
 -- Where one controller has a process open exclusively, no other one writes to it.

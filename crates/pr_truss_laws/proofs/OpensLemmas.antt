@@ -18,7 +18,7 @@ use Rattle.pr_model.specs.declared.calls.Reply.{Reply}
 use Rattle.pr_model.specs.declared.calls.Reply.TheVariants as reply
 use Rattle.pr_model.specs.declared.handles.Held.{Held}
 use Rattle.pr_num.specs.declared.errnos.Errno.{Errno}
-use Rattle.pr_file.proofs.PlaceLemmas.{slice_get-set_other, slice_get-set_same}
+use Rattle.pr_file_laws.proofs.PlaceLemmas.{slice_get-set_other, slice_get-set_same}
 
 -- What a call does to the open handles.
 

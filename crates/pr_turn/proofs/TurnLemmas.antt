@@ -98,6 +98,13 @@ module _ (s : TracedSystem) (pid id : ℕ) where
 
 pub ruleset turn_laws = (can_move-live, can_move-stands, is-next, may_take-phase)
 
+-- a process that came back as it was
+pub put-same : (s : TracedSystem) (pid : ℕ) (p q : TracedProcess) → under pid s.processes ≡ Some p → q ≡ p
+    → record s { processes = put_under pid q s.processes } ≡ s
+put-same s pid p q there same =
+    ap (λ ps. record s { processes = ps })
+    (ap (λ r. put_under pid r s.processes) same ∙ put_under-same pid p s.processes there)
+
 -- ---- the transition
 
 module _ (s : TracedSystem) (pid : ℕ) (p : TracedProcess) (id : ℕ) (l : TracedLwp) where

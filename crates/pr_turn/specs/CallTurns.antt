@@ -1,4 +1,4 @@
-use Rattle.std.specs.Prelude.{◌≡◌, ℕ, Bool, false, Option, Some, None}
+use Rattle.std.specs.Prelude.{◌≡◌, ℕ, Bool, true, false, Option, Some, None}
 use Rattle.pr_call.specs.Effects.{takes_memory}
 use Rattle.pr_call.specs.Requests.{request_in}
 use Rattle.pr_call.specs.declared.requests.Performed.{Performed}
@@ -16,6 +16,8 @@ use Rattle.pr_model.specs.declared.stops.Point.TheVariants.{Exit}
 use Rattle.pr_num.specs.declared.syscalls.Sysno.{Sysno}
 use Rattle.pr_turn.specs.Making.{at_point, quiet}
 use Rattle.pr_turn.specs.declared.making.Made.{Made}
+use Rattle.pr_turn.specs.declared.next.Next.{Next}
+use Rattle.pr_turn.specs.declared.next.Next.TheVariants.{Executed}
 use Rattle.pr_turn.specs.declared.next.NextTurn.{NextTurn}
 use Rattle.pr_turn.specs.declared.next.NextTurn.TheVariants.{Row as ThisRow, Performs}
 
@@ -46,16 +48,20 @@ Asks clock pid id l (Performs woken call args since) =
 
 -- ---- memory
 
--- whether the turn of an lwp may take memory: only some calls do
+-- whether the turn of an lwp may take memory: an instruction may, which may store bytes, and some calls
 abbrev pub phase_takes : Phase → Bool
-phase_takes User = false
+phase_takes User = true
 phase_takes (Entered call) = takes_memory call
 phase_takes (Asleep call args since) = takes_memory call
 phase_takes (Exiting call args result) = false
 phase_takes (Faulted f address) = false
 
+abbrev pub row_takes : Next → Bool
+row_takes Executed = true
+row_takes _ = false
+
 abbrev pub turn_takes : NextTurn → Bool
-turn_takes (ThisRow next) = false
+turn_takes (ThisRow next) = row_takes next
 turn_takes (Performs woken call args since) = takes_memory call
 
 abbrev pub lwp_takes : Option TracedLwp → Bool

@@ -1,11 +1,12 @@
 //! What a row of the turn table makes of its process, and what it did.
-ghost use Rattle.std.specs.Prelude.{◌≡◌, true, false, None, Some, IsSome};
+ghost use Rattle.std.specs.Prelude.{◌≡◌, true, false, None, Some, IfOk, IsOk, IsSome, OnErr, OnOk};
 ghost use Rattle.std.specs.Option.{ForSome};
 ghost use Rattle.pr_num.specs.ById.{change_under, under};
 ghost use Rattle.pr_model.specs.Points.{meets};
 ghost use Rattle.pr_model.specs.State.{lwp_of};
 ghost use Rattle.pr_lwp.specs.Plain.{space_after};
 ghost use Rattle.pr_model.specs.InstructionEffects.{instruction_effect};
+ghost use Rattle.pr_turn.specs.CallTurns.{row_takes};
 ghost use Rattle.pr_turn.specs.Making.{effect_of, ends, executed_by, made_by, made_of, moved_by, of_row, process_after};
 ghost use Rattle.pr_turn.specs.NextRows.{fits, is_own_row, row_of};
 ghost use Rattle.pr_model.specs.Machines.{traced};
@@ -17,7 +18,7 @@ use crate::next::{Next, finished};
 use pr_lwp::Effect;
 use pr_mem::Space;
 use pr_model::{Current, Did, How, Point};
-use pr_num::{ById, Flt, Info, Sig};
+use pr_num::{ById, Flt, Info, NoMemory, Sig};
 use pr_proc::{Lwp, Proc};
 use pr_stop::meets;
 use pr_watch::Areas;
@@ -111,16 +112,23 @@ fn move_under(lwps: &mut ById<Lwp>, id: u32, next: Next) -> Made
     made
 }
 
-/// Runs the instruction at pc of the lwp of an id, and answers what it did.
+/// Runs the instruction at pc of the lwp of an id, and answers what it did. Where memory runs out nothing is changed.
 #[tactic(auto, using(pr_num::proofs::ByIdLaws::by_id_laws, std::proofs::lemmas::Option::same_Some))]
-fn execute_under(lwps: &mut ById<Lwp>, id: u32, space: &mut Space, areas: &Areas) -> Made
+fn execute_under(
+    lwps: &mut ById<Lwp>,
+    id: u32,
+    space: &mut Space,
+    areas: &Areas,
+) -> Result<Made, NoMemory>
     requires { IsSome (under id lwps.old) }
-    ensures lwps { ForSome (under id lwps.old) (λ l. lwps.new ≡ change_under id (executed_by (instruction_effect space.old areas.now l.regs)) lwps.old) }
-    ensures space { ForSome (under id lwps.old) (λ l. space.new ≡ space_after (instruction_effect space.old areas.now l.regs) space.old) }
-    ensures made { ForSome (under id lwps.old) (λ l. result ≡ made_by (effect_of l (instruction_effect space.old areas.now l.regs))) }
+    ensures lwps { OnOk result (ForSome (under id lwps.old) (λ l. lwps.new ≡ change_under id (executed_by (instruction_effect space.old areas.now l.regs)) lwps.old)) }
+    ensures space { OnOk result (ForSome (under id lwps.old) (λ l. space.new ≡ space_after (instruction_effect space.old areas.now l.regs) space.old)) }
+    ensures made { IfOk result (λ made. ForSome (under id lwps.old) (λ l. made ≡ made_by (effect_of l (instruction_effect space.old areas.now l.regs)))) }
+    ensures kept_lwps { OnErr result (lwps.new ≡ lwps.old) }
+    ensures kept_space { OnErr result (space.new ≡ space.old) }
 {
-    let effect = execute_lwp(lwps.get_mut(id), space, areas);
-    made_by(effect)
+    let effect = execute_lwp(lwps.get_mut(id), space, areas)?;
+    Ok(made_by(effect))
 }
 
 /// The lwp of an id takes a signal that pended for its process.
@@ -162,14 +170,17 @@ fn stop_by_job(process: &mut Proc, id: u32, signal: Sig)
     drop_current_under(&mut process.lwps, id);
 }
 
-/// What a row makes of a process, and what it did; a row that ends its process makes nothing of it.
+/// What a row makes of a process, and what it did; a row that ends its process makes nothing of it. Only an instruction
+/// takes memory; where that runs out nothing is changed.
 #[tactic(auto, using(crate::proofs::MakeLemmas::making))]
-pub fn make(process: &mut Proc, id: u32, next: Next) -> Made
+pub fn make(process: &mut Proc, id: u32, next: Next) -> Result<Made, NoMemory>
     requires found { IsSome (lwp_of process.old id) }
     requires lives { ends next ≡ false }
     requires fits { ForSome (lwp_of process.old id) (λ l. fits l next ≡ true) }
-    ensures process { ForSome (lwp_of process.old id) (λ l. process.new ≡ process_after id (row_of process.old l next).transition process.old) }
-    ensures made { ForSome (lwp_of process.old id) (λ l. result ≡ of_row (row_of process.old l next)) }
+    ensures process { OnOk result (ForSome (lwp_of process.old id) (λ l. process.new ≡ process_after id (row_of process.old l next).transition process.old)) }
+    ensures made { IfOk result (λ made. ForSome (lwp_of process.old id) (λ l. made ≡ of_row (row_of process.old l next))) }
+    ensures sure { row_takes next ≡ false → IsOk result }
+    ensures err { OnErr result (process.new ≡ process.old) }
 {
     match next {
         Next::Executed => execute_under(
@@ -180,27 +191,29 @@ pub fn make(process: &mut Proc, id: u32, next: Next) -> Made
         ),
         Next::TookShared(signal) => {
             take_shared(process, id, signal);
-            at_point(Did::Took(signal), Point::Signal(signal))
+            Ok(at_point(Did::Took(signal), Point::Signal(signal)))
         }
         Next::JobStopped(signal) => {
             stop_by_job(process, id, signal);
-            quiet(Did::Acted(signal, How::JobStop))
+            Ok(quiet(Did::Acted(signal, How::JobStop)))
         }
-        _ => move_under(&mut process.lwps, id, next),
+        _ => Ok(move_under(&mut process.lwps, id, next)),
     }
 }
 
 /// The same, and whether the process traces what the row met.
 #[tactic(auto, using(crate::proofs::MakeLemmas::controls))]
-pub fn make_and_ask(process: &mut Proc, id: u32, next: Next) -> (Made, bool)
+pub fn make_and_ask(process: &mut Proc, id: u32, next: Next) -> Result<(Made, bool), NoMemory>
     requires found { IsSome (lwp_of process.old id) }
     requires lives { ends next ≡ false }
     requires fits { ForSome (lwp_of process.old id) (λ l. fits l next ≡ true) }
-    ensures process { ForSome (lwp_of process.old id) (λ l. process.new ≡ process_after id (row_of process.old l next).transition process.old) }
-    ensures made { ForSome (lwp_of process.old id) (λ l. result.0 ≡ of_row (row_of process.old l next)) }
-    ensures stop { ForSome (lwp_of process.old id) (λ l. result.1 ≡ meets process.old.control (row_of process.old l next).point) }
+    ensures process { OnOk result (ForSome (lwp_of process.old id) (λ l. process.new ≡ process_after id (row_of process.old l next).transition process.old)) }
+    ensures made { IfOk result (λ made. ForSome (lwp_of process.old id) (λ l. made.0 ≡ of_row (row_of process.old l next))) }
+    ensures stop { IfOk result (λ made. ForSome (lwp_of process.old id) (λ l. made.1 ≡ meets process.old.control (row_of process.old l next).point)) }
+    ensures sure { row_takes next ≡ false → IsOk result }
+    ensures err { OnErr result (process.new ≡ process.old) }
 {
-    let made = make(process, id, next);
+    let made = make(process, id, next)?;
     let stop = meets(&process.control, made.point);
-    (made, stop)
+    Ok((made, stop))
 }

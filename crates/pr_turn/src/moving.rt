@@ -1,5 +1,5 @@
 //! What a row of the turn table makes of its lwp.
-ghost use Rattle.std.specs.Prelude.{◌≡◌, ◌<◌, false, true, length};
+ghost use Rattle.std.specs.Prelude.{◌≡◌, ◌<◌, false, true, length, IfOk, OnErr, OnOk};
 ghost use Rattle.pr_num.specs.Limits.{frame_limit};
 ghost use Rattle.pr_lwp.specs.Plain.{outcome_of, space_after};
 ghost use Rattle.pr_model.specs.InstructionEffects.{instruction_effect};
@@ -14,7 +14,7 @@ use crate::next::Next;
 use pr_lwp::{Effect, step};
 use pr_mem::Space;
 use pr_model::{Current, Frame, PC, Phase, Res, Stop};
-use pr_num::{Flt, Info, Sig, Sysno};
+use pr_num::{Flt, Info, NoMemory, Sig, Sysno};
 use pr_proc::Lwp;
 use pr_watch::Areas;
 
@@ -201,18 +201,17 @@ fn finish(lwp: &mut Lwp, effect: Effect)
     }
 }
 
-/// Runs the instruction at pc, and brings the lwp to the system call or the fault to which it came.
+/// Runs the instruction at pc, and brings the lwp to the system call or the fault to which it came. Where memory runs
+/// out for what it stores, nothing is changed.
 #[tactic(auto, using(crate::proofs::MoveLemmas::executed_laws))]
-pub fn execute_lwp(lwp: &mut Lwp, space: &mut Space, areas: &Areas) -> Effect
-    ensures lwp { lwp.new ≡ executed_by (instruction_effect space.old areas.now lwp.old.regs) lwp.old }
-    ensures space { space.new ≡ space_after (instruction_effect space.old areas.now lwp.old.regs) space.old }
-    ensures effect { result ≡ effect_of lwp.old (instruction_effect space.old areas.now lwp.old.regs) }
+pub fn execute_lwp(lwp: &mut Lwp, space: &mut Space, areas: &Areas) -> Result<Effect, NoMemory>
+    ensures lwp { OnOk result (lwp.new ≡ executed_by (instruction_effect space.old areas.now lwp.old.regs) lwp.old) }
+    ensures space { OnOk result (space.new ≡ space_after (instruction_effect space.old areas.now lwp.old.regs) space.old) }
+    ensures effect { IfOk result (λ effect. effect ≡ effect_of lwp.old (instruction_effect space.old areas.now lwp.old.regs)) }
+    ensures kept_lwp { OnErr result (lwp.new ≡ lwp.old) }
+    ensures kept_space { OnErr result (space.new ≡ space.old) }
 {
-    match step(lwp, space, areas) {
-        Ok(effect) => {
-            finish(lwp, effect);
-            effect
-        }
-        Err(_) => unreachable!(),
-    }
+    let effect = step(lwp, space, areas)?;
+    finish(lwp, effect);
+    Ok(effect)
 }

@@ -6,7 +6,7 @@ ghost use Rattle.pr_model.specs.LwpTurns.{is_held_back};
 ghost use Rattle.pr_model.specs.Rows.{Row, acted_row, call_row, caught_row, finished, handler_row, interrupted_row, row_for, row_in, signal_row_or, taken_or};
 ghost use Rattle.pr_model.specs.Signals.{has_takeable, own_takeable, shared_takeable};
 ghost use Rattle.pr_model.specs.State.{TracedLwp, TracedProcess, TracedSystem};
-ghost use Rattle.pr_turn.specs.CallTurns.{Asks, phase_takes, turn_takes};
+ghost use Rattle.pr_turn.specs.CallTurns.{Asks, phase_takes, row_takes, turn_takes};
 ghost use Rattle.pr_turn.specs.NextRows.{unposted_fault, fits, row_of, row_of_turn, row_or, turn_fits};
 
 use pr_model::{Current, Did, Frames, How, Phase, Res};
@@ -107,6 +107,7 @@ pub fn finished(woken: bool, call: Sysno, outcome: Res) -> Did
 fn interrupted(woken: bool, call: Sysno, args: [u64; 6]) -> Next
     ensures row { (p : TracedProcess) (l : TracedLwp) → row_of p l result ≡ interrupted_row woken call args }
     ensures fits { (l : TracedLwp) → fits l result ≡ true }
+    ensures sure { row_takes result ≡ false }
 {
     Next::Gave {
         woken,
@@ -142,6 +143,7 @@ fn at_call(lwp: &Lwp, woken: bool, call: Sysno, args: [u64; 6], since: u64) -> N
 fn handled(lwp: &Lwp, current: Current, handler: u64) -> Next
     ensures row { (p : TracedProcess) → row_of p lwp.now result ≡ handler_row lwp.now current handler }
     ensures fits { fits lwp.now result ≡ true }
+    ensures sure { row_takes result ≡ false }
 {
     if lwp.frames.len() < Frames::MAX {
         return Next::Caught { current, handler };
@@ -157,6 +159,7 @@ fn handled(lwp: &Lwp, current: Current, handler: u64) -> Next
 fn caught(lwp: &Lwp, current: Current, handler: u64) -> Next
     ensures row { (p : TracedProcess) → row_of p lwp.now result ≡ caught_row lwp.now current handler lwp.now.phase }
     ensures fits { fits lwp.now result ≡ true }
+    ensures sure { row_takes result ≡ false }
 {
     match lwp.phase {
         Phase::Entered(call) => interrupted(false, call, arguments_of(&lwp.regs)),
@@ -172,6 +175,7 @@ fn caught(lwp: &Lwp, current: Current, handler: u64) -> Next
 fn acted(process: &Proc, lwp: &Lwp, current: Current) -> Next
     ensures row { row_of process.now lwp.now result ≡ acted_row process.now lwp.now current }
     ensures fits { fits lwp.now result ≡ true }
+    ensures sure { row_takes result ≡ false }
 {
     let signal = current.signal;
     match action(signal, disposition_of(&process.dispositions, signal)) {
@@ -192,6 +196,7 @@ fn acted(process: &Proc, lwp: &Lwp, current: Current) -> Next
 fn taken(process: &Proc, lwp: &Lwp) -> Option<Next>
     ensures row { (s : TracedSystem) (pid id : ℕ) (otherwise : Row) → row_or process.now lwp.now result otherwise ≡ taken_or s pid process.now id lwp.now (own_takeable lwp.now) (shared_takeable process.now lwp.now) otherwise }
     ensures fits { IfSome result (λ next. fits lwp.now next ≡ true) }
+    ensures sure { IfSome result (λ next. row_takes next ≡ false) }
 {
     if let Some(signal) = lwp.pending.set().minus(lwp.held).first() {
         return Some(Next::TookOwn(signal));
@@ -206,6 +211,7 @@ fn taken_or(process: &Proc, lwp: &Lwp, otherwise: Next) -> Next
     requires { fits lwp.now otherwise ≡ true }
     ensures row { (s : TracedSystem) (pid id : ℕ) → row_of process.now lwp.now result ≡ taken_or s pid process.now id lwp.now (own_takeable lwp.now) (shared_takeable process.now lwp.now) (row_of process.now lwp.now otherwise) }
     ensures fits { fits lwp.now result ≡ true }
+    ensures sure { row_takes otherwise ≡ false → row_takes result ≡ false }
 {
     match taken(process, lwp) {
         Some(next) => next,
@@ -238,6 +244,7 @@ fn in_program(process: &Proc, lwp: &Lwp) -> Next
 fn leaving(process: &Proc, lwp: &Lwp, call: Sysno) -> Next
     ensures row { (s : TracedSystem) (pid id : ℕ) → row_of process.now lwp.now result ≡ taken_or s pid process.now id lwp.now (own_takeable lwp.now) (shared_takeable process.now lwp.now) (row_of process.now lwp.now (Next.Returned call)) }
     ensures fits { fits lwp.now result ≡ true }
+    ensures sure { row_takes result ≡ false }
 {
     taken_or(process, lwp, Next::Returned(call))
 }

@@ -6,7 +6,7 @@ ghost use Rattle.pr_model.specs.Points.{after_meeting, stopped_at, with_stop_at}
 ghost use Rattle.pr_model.specs.Lawful.{IsLawfulSystem};
 ghost use Rattle.pr_model.specs.State.{with_process};
 ghost use Rattle.pr_proc.specs.Counts.{AllUsedAtMost, UsedAtMost};
-ghost use Rattle.pr_turn.specs.CallTurns.{may_take_memory, turn_takes};
+ghost use Rattle.pr_turn.specs.CallTurns.{may_take_memory, row_takes, turn_takes};
 ghost use Rattle.pr_turn.specs.Making.{ends};
 ghost use Rattle.pr_turn.specs.Turns.{IsNext, TurnMakes};
 
@@ -160,26 +160,32 @@ fn next_of(sys: &Sys, pid: u32, id: u32) -> NextTurn
     next_row(sys.clock, process, lwp)
 }
 
-/// What a row that does not end its process makes of the system.
+/// What a row that does not end its process makes of the system. Where memory runs out it stays as it is.
 #[tactic(auto, using(crate::proofs::TurnLemmas::making_laws, crate::proofs::TurnLemmas::next_laws))]
-fn make_in(sys: &mut Sys, pid: u32, id: u32, next: Next) -> (Made, bool)
+fn make_in(sys: &mut Sys, pid: u32, id: u32, next: Next) -> Result<(Made, bool), NoMemory>
     requires next { IsNext sys.old pid id (NextTurn.Row next) }
     requires lives { ends next ≡ false }
-    ensures { TurnMakes sys.old sys.new pid id result.0 result.1 }
+    ensures ok { IfOk result (λ made. TurnMakes sys.old sys.new pid id made.0 made.1) }
+    ensures sure { row_takes next ≡ false → IsOk result }
+    ensures err { OnErr result (sys.new ≡ sys.old) }
 {
-    make_and_ask(sys.processes.get_mut(pid), id, next)
+    let made = make_and_ask(sys.processes.get_mut(pid), id, next)?;
+    Ok(made)
 }
 
-/// What a row makes of the system, and what it did.
+/// What a row makes of the system, and what it did. Only an instruction takes memory; where that runs out the system
+/// stays as it is.
 #[tactic(auto, using(crate::proofs::TurnLemmas::making_laws, crate::proofs::TurnLemmas::next_laws))]
-fn make_row(sys: &mut Sys, pid: u32, id: u32, next: Next) -> (Made, bool)
+fn make_row(sys: &mut Sys, pid: u32, id: u32, next: Next) -> Result<(Made, bool), NoMemory>
     requires next { IsNext sys.old pid id (NextTurn.Row next) }
-    ensures { TurnMakes sys.old sys.new pid id result.0 result.1 }
+    ensures ok { IfOk result (λ made. TurnMakes sys.old sys.new pid id made.0 made.1) }
+    ensures sure { row_takes next ≡ false → IsOk result }
+    ensures err { OnErr result (sys.new ≡ sys.old) }
 {
     match next {
         Next::Ends { did, status } => {
             end(sys, pid, status);
-            (quiet(did), false)
+            Ok((quiet(did), false))
         }
         _ => make_in(sys, pid, id, next),
     }
@@ -200,7 +206,7 @@ fn make_turn(
     ensures err { OnErr result (sys.new ≡ sys.old) }
 {
     match next {
-        NextTurn::Row(row) => Ok(make_row(sys, pid, id, row)),
+        NextTurn::Row(row) => make_row(sys, pid, id, row),
         NextTurn::Performs {
             woken,
             call,
@@ -241,7 +247,7 @@ fn meet_under(sys: &mut Sys, pid: u32, id: u32, point: Option<Point>)
 }
 
 /// One turn of an lwp: it makes the first row of the turn table that fits. Where memory runs out, the system stays as
-/// it is; only turns that perform some calls take memory.
+/// it is; only turns that run an instruction, which may store bytes, and those that perform some calls take memory.
 #[tactic(auto, using(crate::proofs::TurnLemmas::making_laws))]
 pub fn turn(alloc: Global, sys: &mut Sys, pid: u32, lwp: u32) -> Result<Turned, NoMemory>
     requires lawful { IsLawfulSystem sys.old }

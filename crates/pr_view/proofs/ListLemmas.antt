@@ -6,6 +6,8 @@ use Rattle.pr_num.proofs.ListLemmas.{drop-at}
 use Rattle.pr_model.specs.Records.{list_entries, statuses_of_lwps}
 use Rattle.pr_model.specs.State.{TracedLwp, TracedProcess}
 use Rattle.pr_model.specs.Statuses.{lwpstatus_of}
+use Rattle.pr_slots.proofs.WalkLaws.{rest-all}
+use Rattle.pr_slots.specs.Walks.{rest_from}
 use Rattle.pr_rec.specs.declared.entries.ListEntry.{ListEntry}
 use Rattle.pr_rec.specs.declared.lwps.LwpStatus.{LwpStatus}
 use Rattle.pr_view.specs.Lists.{listed}
@@ -34,15 +36,19 @@ listed-before : (es : List (ℕ × TracedProcess)) (pid : ℕ) (p : TracedProces
 unfolding listed
 listed-before es pid p = elim (cases_Bool (eqb pid 0)) [ inl zeroth ↦ rw zeroth refl | inr other ↦ rw other refl ]
 
-pub entries-on : (es : List (ℕ × TracedProcess)) (i pid : ℕ) (p : TracedProcess) (out more all : List ListEntry) → slice_get es i ≡ Some (pid, p) → more ≡ out ++ listed pid p → out ++ list_entries (drop i es) ≡ all → more ++ list_entries (drop (i + 1) es) ≡ all
-entries-on es i pid p out more all at added so_far =
-    ap (λ xs. xs ++ list_entries (drop (i + 1) es)) added
-    ∙ append_assoc out (listed pid p) (list_entries (drop (i + 1) es))
-    ∙ sym (ap (λ xs. out ++ xs) (ap list_entries (drop-at es i (pid, p) at) ∙ listed-before (drop (i + 1) es) pid p))
+pub entries-start : (es : List (ℕ × TracedProcess)) (out : List ListEntry) → out ≡ [] → out ++ list_entries (rest_from 0 es) ≡ list_entries es
+entries-start es out empty =
+    ap (λ xs. xs ++ list_entries (rest_from 0 es)) empty ∙ ap list_entries (rest-all es)
+
+pub entries-on : (es ds : List (ℕ × TracedProcess)) (pid : ℕ) (p : TracedProcess) (out more all : List ListEntry) → es ≡ (pid, p) ∷ ds → more ≡ out ++ listed pid p → out ++ list_entries es ≡ all → more ++ list_entries ds ≡ all
+entries-on es ds pid p out more all at added so_far =
+    ap (λ xs. xs ++ list_entries ds) added
+    ∙ append_assoc out (listed pid p) (list_entries ds)
+    ∙ sym (ap (λ xs. out ++ xs) (ap list_entries at ∙ listed-before ds pid p))
     ∙ so_far
 
-pub entries-end : (es : List (ℕ × TracedProcess)) (i : ℕ) (out all : List ListEntry) → length es ≤ i → out ++ list_entries (drop i es) ≡ all → out ≡ all
-entries-end es i out all past so_far =
-    sym (append-nil out) ∙ sym (ap (λ ds. out ++ list_entries ds) (drop_all i es past)) ∙ so_far
+pub entries-end : (es : List (ℕ × TracedProcess)) (out all : List ListEntry) → es ≡ [] → out ++ list_entries es ≡ all → out ≡ all
+entries-end es out all none so_far =
+    sym (append-nil out) ∙ sym (ap (λ ds. out ++ list_entries ds) none) ∙ so_far
 
 pub ruleset list_laws = (statuses-end, entries-end)

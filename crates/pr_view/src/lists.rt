@@ -9,7 +9,8 @@ ghost use Rattle.pr_rec.specs.RecordBytes.{list_bytes, lstatus_bytes, map_bytes,
 ghost use Rattle.pr_rec.specs.RecordWords.{list_entry_words_of, lwpstatus_words_of, map_entry_words_of, watch_entry_words_of};
 
 use crate::statuses::lwpstatus_of;
-use pr_num::{Area, Bytes, Mapping, MappingKind, Name, NoMemory};
+use pr_mem::Mapping;
+use pr_num::{Area, Bytes, MappingKind, Name, NoMemory};
 use pr_proc::{Proc, Sys, seen};
 use pr_rec::{
     ListEntry, LwpStatus, MapEntry, WatchEntry, name_field, write_list, write_lstatus, write_map,
@@ -55,11 +56,11 @@ fn map_entry_of(program: &Name, mapping: &Mapping) -> MapEntry
     ensures { result ≡ map_entry_of program.now mapping.now }
 {
     MapEntry {
-        at: mapping.at,
-        size: mapping.bytes.as_slice().len() as u64,
-        prot: mapping.prot,
-        kind: mapping.kind,
-        name: mapping_name(program, mapping.kind),
+        at: mapping.at(),
+        size: mapping.size(),
+        prot: mapping.prot(),
+        kind: mapping.kind(),
+        name: mapping_name(program, mapping.kind()),
     }
 }
 
@@ -145,9 +146,10 @@ fn list_of(alloc: Global, sys: &Sys) -> Result<Vec<ListEntry>, NoMemory>
     ensures { IfOk result (λ processes. processes.items ≡ list_of sys.now) }
 {
     let mut entries = Vec::new(alloc);
-    for place in 0..sys.processes.len() {
-        let (pid, process) = sys.processes.at(place);
+    let mut low = 0;
+    while let Some((pid, process)) = sys.processes.next_from(low) {
         add_process(&mut entries, pid, process)?;
+        low = pid as u64 + 1;
     }
     Ok(entries)
 }

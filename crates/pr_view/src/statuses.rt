@@ -7,11 +7,11 @@ ghost use Rattle.pr_model.specs.Statuses.{call_in, disposition_in, errno_in, err
 ghost use Rattle.pr_num.specs.Spaces.{heap_size, is_heap};
 ghost use Rattle.pr_rec.specs.Fields.{flag_if};
 
-use pr_mem::Space;
+use pr_mem::{Mapping, Space};
 use pr_model::{Current, Phase, Res, Shown, Stop};
 use pr_num::layout::HEAP_BASE;
 use pr_num::limits::SIGNAL_COUNT;
-use pr_num::{AGENT, Errno, Flt, Info, Mapping, MappingKind, Sig, StopReason, Sysno};
+use pr_num::{AGENT, Errno, Flt, Info, MappingKind, Sig, StopReason, Sysno};
 use pr_proc::{Lwp, Proc, Sys, arguments_in, disposition_of, has_agent, seen};
 use pr_rec::{Disposition, LwpFlags, LwpMarks, LwpStatus, Status, What, flags_of_process};
 use pr_stop::{representative, representative_lwp, shown};
@@ -233,8 +233,8 @@ fn representative_status(process: &Proc) -> LwpStatus
 fn heap_part(mapping: &Mapping) -> u64
     ensures { result ≡ (if is_heap mapping.now.kind then length mapping.now.bytes else 0) }
 {
-    match mapping.kind {
-        MappingKind::Heap => mapping.bytes.as_slice().len() as u64,
+    match mapping.kind() {
+        MappingKind::Heap => mapping.size(),
         _ => 0,
     }
 }

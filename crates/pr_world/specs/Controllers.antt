@@ -2,15 +2,19 @@ use Rattle.std.specs.Prelude.{◌&&◌, ◌||◌, ℕ, Bool, false, List, [], Op
 use Rattle.std.specs.List.{list_any}
 use Rattle.pr_num.specs.Limits.{clock_limit}
 use Rattle.pr_num.specs.Programs.{Program}
+use Rattle.pr_core.specs.CoreText as gcore_text
+use Rattle.pr_core.specs.Gcores as gcore
 use Rattle.pr_model.specs.declared.calls.Call.{Call}
 use Rattle.pr_model.specs.declared.calls.Call.TheVariants as call
 use Rattle.pr_model.specs.declared.calls.Reply.{Reply}
+use Rattle.pr_probe.specs.ProbeText as probe_text
+use Rattle.pr_probe.specs.Probes as probe
 use Rattle.pr_scen.specs.Scripts as script
 use Rattle.pr_tools.specs.Tools as tool
 use Rattle.pr_truss.specs.NextCalls as truss_calls
 use Rattle.pr_truss.specs.Feeding as truss_replies
 use Rattle.pr_truss.specs.Printing as truss_text
-use Rattle.pr_world.specs.ControllerStates.{ControllerState, Script, Truss, Tool}
+use Rattle.pr_world.specs.ControllerStates.{ControllerState, Script, Truss, Tool, Gcore, Probe}
 
 -- The controllers of a world. Each is a core that knows the machine by replies alone: it says which call it makes next,
 -- and is fed the reply.
@@ -20,18 +24,24 @@ unfoldable pub next_call : ControllerState → Option Call
 next_call (Script s) = script.next_call_of s
 next_call (Truss t) = truss_calls.next_call_of t
 next_call (Tool t) = tool.next_call_of t
+next_call (Gcore g) = gcore.next_call_of g
+next_call (Probe p) = probe.next_call_of p
 
 -- a core that was fed the reply to its call
 unfoldable pub after_reply : ControllerState → Reply → ControllerState
 after_reply (Script s) r = Script (script.fed s r)
 after_reply (Truss t) r = Truss (truss_replies.fed t r)
 after_reply (Tool t) r = Tool (tool.fed t r)
+after_reply (Gcore g) r = Gcore (gcore.fed g r)
+after_reply (Probe p) r = Probe (probe.fed p r)
 
 -- what a core prints at the end of a run, where the machine has these programs; a script prints nothing
 unfoldable pub printed : ControllerState → List Program → List ℕ
 printed (Script s) programs = []
 printed (Truss t) programs = truss_text.printed t
 printed (Tool t) programs = tool.printed t programs
+printed (Gcore g) programs = gcore_text.printed g
+printed (Probe p) programs = probe_text.printed p
 
 unfoldable pub has_finished : ControllerState → Bool
 has_finished c = is_none (next_call c)

@@ -3,8 +3,10 @@ ghost use Rattle.pr_world.specs.Controllers.{after_reply, next_call, printed};
 ghost use Rattle.pr_world.specs.ControllerStates.{state_of, IsReady};
 
 use pr_asm::Program;
+use pr_core::Gcore;
 use pr_model::{Call, Reply};
 use pr_num::{Bytes, NoMemory};
+use pr_probe::Probe;
 use pr_scen::Script;
 use pr_tools::Tool;
 use pr_truss::Truss;
@@ -19,6 +21,10 @@ pub enum Controller {
     Truss(Truss),
     /// A tool of proc(1) or pmap(1).
     Tool(Tool),
+    /// gcore(1).
+    Gcore(Gcore),
+    /// pfiles by an agent.
+    Probe(Probe),
 }
 
 impl Controller {
@@ -31,6 +37,8 @@ impl Controller {
             Controller::Script(script) => script.next_call(alloc),
             Controller::Truss(truss) => truss.next_call(alloc),
             Controller::Tool(tool) => tool.next_call(alloc),
+            Controller::Gcore(gcore) => gcore.next_call(alloc),
+            Controller::Probe(probe) => probe.next_call(alloc),
         }
     }
 
@@ -44,6 +52,8 @@ impl Controller {
             Controller::Script(script) => script.prepare(),
             Controller::Truss(truss) => truss.prepare(),
             Controller::Tool(tool) => tool.prepare(),
+            Controller::Gcore(gcore) => gcore.prepare(),
+            Controller::Probe(probe) => probe.prepare(),
         }
     }
 
@@ -57,6 +67,8 @@ impl Controller {
             Controller::Script(script) => script.feed(reply),
             Controller::Truss(truss) => truss.feed(reply),
             Controller::Tool(tool) => tool.feed(reply),
+            Controller::Gcore(gcore) => gcore.feed(reply),
+            Controller::Probe(probe) => probe.feed(reply),
         }
     }
 
@@ -69,6 +81,8 @@ impl Controller {
             Controller::Script(script) => script.print(alloc, programs),
             Controller::Truss(truss) => truss.print(alloc, programs),
             Controller::Tool(tool) => tool.print(alloc, programs),
+            Controller::Gcore(gcore) => gcore.print(alloc),
+            Controller::Probe(probe) => probe.print(alloc),
         }
     }
 }

@@ -2,7 +2,7 @@ use Rattle.std.proofs.Common.{◌≡◌, ◌≢◌, ◌==◌, ◌&&◌, ◌<◌,
 use Rattle.std.proofs.lemmas.Bool.{cases_Bool, cases_eq, eq-eqb, eqb-false, eqb-true, false≢true}
 use Rattle.std.proofs.lemmas.Option.{none-some, same_Some}
 use Rattle.std.specs.List.{slice_get, slice_set}
-use Rattle.pr_file.proofs.PlaceLemmas.{slice_get-set_other}
+use Rattle.pr_file_laws.proofs.PlaceLemmas.{slice_get-set_other}
 use Rattle.pr_lawful.proofs.EndLemmas.{found-live}
 use Rattle.pr_lawful.proofs.HandleLemmas.{any-at, handle-at}
 use Rattle.pr_num.proofs.ByIdLaws.{All-under}

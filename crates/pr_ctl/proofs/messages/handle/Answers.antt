@@ -65,6 +65,3 @@ returns-in-Svaddr-clause-ok c = row c.args.sys.now c.args.pid c.args.lwp _ _ c.a
 
 pub returns-in-Watch-clause-ok : goal.returns-in-Watch-clause-ok
 returns-in-Watch-clause-ok c = row c.args.sys.now c.args.pid c.args.lwp _ _ c.args.tail.now c.args.length c.watch.new.sys c.watch.result c.in-Watch.is (c.watch.ensures c.args.lwp c.args.tail.now)
-
-pub returns-in-Write-clause-ok : goal.returns-in-Write-clause-ok
-returns-in-Write-clause-ok c = row c.args.sys.now c.args.pid c.args.lwp _ _ c.args.tail.now c.args.length c.write.new.sys c.write.result c.in-Write.is (c.write.ensures c.args.lwp _)

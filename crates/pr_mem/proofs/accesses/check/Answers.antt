@@ -1,6 +1,6 @@
-use Rattle.std.proofs.Common.{length, refl, sym, arith}
+use Rattle.std.proofs.Common.{refl, sym, arith}
 use Rattle.std.proofs.lemmas.Result.{err_from_is_err_and}
-use Rattle.pr_mem.proofs.PlaceLemmas.{IsUnderWay-start, IsUnderWay-more}
+use Rattle.pr_mem.proofs.PlaceLemmas.{IsUnderWay-start}
 use Rattle.pr_mem.proofs.RunLemmas.{IsChecked-start, IsChecked-more, IsChecked-fails}
 use Rattle.pr_mem.proofs.accesses.check.Goals as goal
 
@@ -21,5 +21,5 @@ returns-in_err-run-clause-answer c =
 pub loop-done-preserved : goal.loop-done-preserved
 loop-done-preserved c = record {
   bytes = IsChecked-more c.args.need c.args.mappings.now c.args.at c.args.len c.loop-done.done _ c.in_ok-run.run'.now c.loop-done.invariant.bytes refl c.in_ok-run.ensures.ok;
-  next = IsUnderWay-more c.args.mappings.now c.args.at c.args.len c.loop-done.done _ (length c.in_ok-run.run'.now) c.loop-done.place refl c.loop-done-test.true c.in_ok-run.ensures.next;
+  next = record { place = λ near. c.next_place-place.ensures (omega arith) };
 }

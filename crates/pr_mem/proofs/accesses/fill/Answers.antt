@@ -1,6 +1,6 @@
 use Rattle.std.proofs.Common.{length, refl, sym, arith}
 use Rattle.std.proofs.lemmas.Result.{err_from_is_err_and}
-use Rattle.pr_mem.proofs.PlaceLemmas.{IsUnderWay-start, IsUnderWay-more}
+use Rattle.pr_mem.proofs.PlaceLemmas.{IsUnderWay-start}
 use Rattle.pr_mem.proofs.RunLemmas.{IsFilled-start, IsFilled-more, IsFilled-checked, IsChecked-fails}
 use Rattle.pr_mem.proofs.accesses.fill.Goals as goal
 
@@ -22,5 +22,5 @@ returns-in_err-run-clause-answer c =
 pub loop-done-preserved : goal.loop-done-preserved
 loop-done-preserved c = record {
   bytes = IsFilled-more c.args.need c.args.mappings.now c.args.at c.loop-done.out c.loop-done.done _ c.in_ok-run.run'.now c.copy_from_slice.new.self _ c.loop-done.invariant.bytes refl c.in_ok-run.ensures.ok (omega arith) c.copy_from_slice.ensures.after;
-  next = IsUnderWay-more c.args.mappings.now c.args.at (length c.args.out.now) c.loop-done.done _ (length c.in_ok-run.run'.now) c.loop-done.place (omega arith) (omega arith) c.in_ok-run.ensures.next;
+  next = record { place = λ near. c.next_place-place.ensures (omega arith) };
 }

@@ -1,8 +1,8 @@
-use Rattle.std.proofs.Common.{◌∙◌, length, refl, sym, arith}
+use Rattle.std.proofs.Common.{◌∙◌, refl, sym, arith}
 use Rattle.std.proofs.lemmas.Result.{err_from_is_err_and}
 use Rattle.pr_num.proofs.TableLemmas.{position-within}
 use Rattle.pr_parts.proofs.ByAddressLemmas.{place-none, place-some}
-use Rattle.pr_mem.proofs.PlaceLemmas.{IsUnderWay-start, IsUnderWay-more}
+use Rattle.pr_mem.proofs.PlaceLemmas.{IsUnderWay-start}
 use Rattle.pr_mem.proofs.TextLemmas.{IsOpen-start, IsOpen-more, IsOpen-found, IsOpen-fails, IsOpen-end}
 use Rattle.pr_mem.proofs.texts.length_at.Goals as goal
 use Rattle.pr_num.specs.Padding.{is_zero}
@@ -32,7 +32,7 @@ loop-done-preserved c =
     let run = c.in_ok-run.run'.now in
     record {
       text = IsOpen-more c.args.mappings.now c.args.at c.args.most c.loop-done.done _ run c.loop-done.invariant.text refl c.in_ok-run.ensures.ok (sym (place-none is_zero run (sym c.zero_in.ensures ∙ c.in_default.is)));
-      next = IsUnderWay-more c.args.mappings.now c.args.at c.args.most c.loop-done.done _ (length run) c.loop-done.place refl c.loop-done-test.true c.in_ok-run.ensures.next;
+      next = record { place = λ near. c.next_place-place.ensures (omega arith) };
     }
 
 pub returns : goal.returns

@@ -1,5 +1,6 @@
-use Rattle.std.proofs.Common.{arith}
+use Rattle.std.proofs.Common.{ap, arith}
 use Rattle.pr_num.proofs.TableLemmas.{map_step}
+use Rattle.pr_num.specs.declared.mappings.Mapping.{Mapping}
 use Rattle.pr_parts.specs.AddressSpaces.{with_written}
 use Rattle.pr_mem.proofs.WriteLemmas.{is_written-all, is_written-reached, is_written-start}
 use Rattle.pr_mem.proofs.writes.write_each.Goals as goal
@@ -9,11 +10,12 @@ loop-place-init c = is_written-start c.args.at c.args.bytes.now c.args.mappings.
 
 pub loop-place-preserved : goal.loop-place-preserved
 loop-place-preserved c =
-    rw c.write_over.ensures (map_step (with_written c.args.at c.args.bytes.now) c.args.mappings.now c.loop-place.mappings c.loop-place.place _ (omega arith) c.loop-place.invariant)
+    rw c.in_ok-write.ensures.ok (map_step (with_written c.args.at c.args.bytes.now) c.args.mappings.now c.loop-place.mappings c.loop-place.place _ (omega arith) c.loop-place.invariant)
 
-pub returns-else-mappings-place : goal.returns-else-mappings-place
-returns-else-mappings-place c =
-    is_written-reached c.args.at c.args.bytes.now c.args.mappings.now c.loop-place.mappings c.loop-place.place _ c.requires.space c.loop-place.invariant (omega arith) c.if-mappings-place.false
+pub returns-else-at-end : goal.returns-else-at-end
+returns-else-at-end c =
+    let same = ap (λ (n : Mapping). n.at) c.index-mappings-place.is in
+    is_written-reached c.args.at c.args.bytes.now c.args.mappings.now c.loop-place.mappings c.loop-place.place c.index-mappings-place.result c.requires.space c.loop-place.invariant (omega arith) (omega (arith, same))
 
 pub returns-after-loop-place : goal.returns-after-loop-place
 returns-after-loop-place c =

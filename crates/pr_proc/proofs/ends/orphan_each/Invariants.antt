@@ -1,9 +1,11 @@
-use Rattle.std.proofs.Common.{◌≡◌, ◌++◌, take, drop, length}
-use Rattle.pr_num.specs.ById.{map_each}
+use Rattle.std.proofs.Common.{◌≡◌, ◌-◌, ◌^◌}
 use Rattle.pr_model.specs.Lives.{orphaned}
+use Rattle.pr_slots.specs.Walks.{map_below}
 use Rattle.pr_proc.proofs.ends.orphan_each.Given as goal
 
 -- the processes so far are changed, and the others are as they were
-abbrev pub invariant-loop-place : goal.invariant-loop-place
-invariant-loop-place l =
-    (l.processes ≡ map_each (orphaned l.parent) (take l.place l.fn.processes) ++ drop l.place l.fn.processes) × (length l.processes ≡ length l.fn.processes)
+abbrev pub invariant-loop-id : goal.invariant-loop-id
+invariant-loop-id l = l.processes ≡ map_below l.low (orphaned l.parent) l.fn.processes
+
+abbrev pub decreases-loop-id : goal.decreases-loop-id
+decreases-loop-id l = 2 ^ 32 - l.low

@@ -6,6 +6,7 @@ use Rattle.pr_serve.specs.declared.commands.Showing.{Showing}
 use Rattle.pr_serve.specs.declared.commands.Work.{Work}
 use Rattle.pr_serve.specs.declared.commands.Work.TheVariants.{Shares}
 use Rattle.pr_serve.proofs.CheckLemmas.{judges-history, leaves-nothing}
+use Rattle.pr_serve.proofs.CoreLemmas.{core-leaves-nothing}
 use Rattle.pr_serve.proofs.RunEndLemmas.{history-kept, runs-scenario}
 use Rattle.pr_serve.proofs.SharedLemmas.{shared-kept, shares-scenario}
 use Rattle.pr_serve.proofs.running.carry_out.Goals as goal
@@ -62,6 +63,14 @@ returns-in-Checks-clause-does_work g c = rw c.in-Checks.is (judges-history _ _ _
 pub returns-in-Checks-clause-kept : goal.returns-in-Checks-clause-kept
 unfolding row_of
 returns-in-Checks-clause-kept g c = rw c.in-Checks.is (leaves-nothing _ _ _ _ c.check.ensures)
+
+pub returns-in-ShowsCore-clause-ends : goal.returns-in-ShowsCore-clause-ends
+unfolding row_of
+returns-in-ShowsCore-clause-ends g c = rw c.in-ShowsCore.is c.show_over_core.ensures
+
+pub returns-in-ShowsCore-clause-kept : goal.returns-in-ShowsCore-clause-kept
+unfolding row_of
+returns-in-ShowsCore-clause-kept g c = rw c.in-ShowsCore.is (core-leaves-nothing _ _ _ _ _ c.show_over_core.ensures)
 
 pub returns-in-Explains-clause-kept : goal.returns-in-Explains-clause-kept
 unfolding row_of

@@ -1,4 +1,4 @@
-use Rattle.pr_file.proofs.TableLemmas.{IsFileTable-with_file}
+use Rattle.pr_file_laws.proofs.TableLemmas.{IsFileTable-with_file}
 use Rattle.pr_file.proofs.files.Files.add.Goals as goal
 
 pub invariant_of-self-2 : goal.invariant_of-self-2

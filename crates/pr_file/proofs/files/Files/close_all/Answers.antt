@@ -1,4 +1,4 @@
-use Rattle.pr_file.proofs.UserLemmas.{IsFileTable-all_closed}
+use Rattle.pr_file_laws.proofs.UserLemmas.{IsFileTable-all_closed}
 use Rattle.pr_file.proofs.files.Files.close_all.Goals as goal
 
 pub invariant_of-self : goal.invariant_of-self

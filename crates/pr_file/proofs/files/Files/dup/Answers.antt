@@ -1,4 +1,4 @@
-use Rattle.pr_file.proofs.TableLemmas.{IsFileTable-user_added}
+use Rattle.pr_file_laws.proofs.TableLemmas.{IsFileTable-user_added}
 use Rattle.pr_file.proofs.files.Files.dup.Goals as goal
 
 pub invariant_of-self : goal.invariant_of-self

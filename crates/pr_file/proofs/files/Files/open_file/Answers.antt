@@ -1,4 +1,4 @@
-use Rattle.pr_file.proofs.TableLemmas.{IsFileTable-opened}
+use Rattle.pr_file_laws.proofs.TableLemmas.{IsFileTable-opened}
 use Rattle.pr_file.proofs.files.Files.open_file.Goals as goal
 
 pub invariant_of-self-2 : goal.invariant_of-self-2

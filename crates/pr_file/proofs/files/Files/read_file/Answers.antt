@@ -1,5 +1,5 @@
 use Rattle.std.proofs.Common.{length, ap, arith}
-use Rattle.pr_file.proofs.TableLemmas.{IsFileTable-moved, length-contents, read_within}
+use Rattle.pr_file_laws.proofs.TableLemmas.{IsFileTable-moved, length-contents, read_within}
 use Rattle.pr_file.proofs.files.Files.read_file.Goals as goal
 
 pub invariant_of-self : goal.invariant_of-self

@@ -1,5 +1,5 @@
 use Rattle.std.proofs.Common.{length, ap, arith}
-use Rattle.pr_file.proofs.TableLemmas.{IsFileTable-extended}
+use Rattle.pr_file_laws.proofs.TableLemmas.{IsFileTable-extended}
 use Rattle.pr_file.proofs.files.Files.write_pipe.Goals as goal
 
 pub invariant_of-self-2 : goal.invariant_of-self-2

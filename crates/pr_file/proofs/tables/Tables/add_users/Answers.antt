@@ -1,6 +1,6 @@
 use Rattle.std.proofs.Common.{◌<◌, length, arith}
 use Rattle.std.proofs.lemmas.Grind.{common_steps}
-use Rattle.pr_file.proofs.UserLemmas.{sharing, HasRoom-taken, HasRoom-free}
+use Rattle.pr_file_laws.proofs.UserLemmas.{sharing, HasRoom-taken, HasRoom-free}
 use Rattle.pr_file.proofs.tables.Tables.add_users.Goals as goal
 use Rattle.pr_file.proofs.tables.Tables.add_users.Goals.{in-Some, in_default}
 

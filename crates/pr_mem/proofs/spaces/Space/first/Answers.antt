@@ -3,7 +3,7 @@ use Rattle.std.specs.List.{All}
 use Rattle.pr_num.specs.Spaces.{IsSpace, mapped_size}
 use Rattle.pr_parts.specs.AddressSpaces.{LeavesHeapPlace}
 use Rattle.pr_parts.proofs.FirstLemmas.{IsSpace-first, mapped_size-first}
-use Rattle.pr_mem.proofs.HeapPlaceLemmas.{LeavesHeapPlace-first}
+use Rattle.pr_parts.proofs.HeapPlaceLemmas.{LeavesHeapPlace-first}
 use Rattle.pr_mem.proofs.spaces.Space.first.Goals as goal
 
 pub invariant_of-result : goal.invariant_of-result

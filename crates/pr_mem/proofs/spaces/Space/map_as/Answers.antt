@@ -2,7 +2,7 @@ use Rattle.std.proofs.Common.{◌∙◌, ap, sym, subst}
 use Rattle.std.specs.List.{All}
 use Rattle.pr_num.specs.declared.mappings.Mapping.{Mapping}
 use Rattle.pr_parts.specs.AddressSpaces.{LeavesHeapPlace, with_mapping}
-use Rattle.pr_mem.proofs.HeapPlaceLemmas.{LeavesHeapPlace-with_mapping}
+use Rattle.pr_parts.proofs.HeapPlaceLemmas.{LeavesHeapPlace-with_mapping}
 use Rattle.pr_mem.proofs.spaces.Space.map_as.Goals as goal
 
 pub returns-clause-heap_place : goal.returns-clause-heap_place

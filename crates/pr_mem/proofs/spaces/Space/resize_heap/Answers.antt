@@ -1,4 +1,4 @@
-use Rattle.std.proofs.Common.{◌≡◌, ◌≤◌, ◌<◌, ◌∙◌, Some, ap, sym, subst, length, arith}
+use Rattle.std.proofs.Common.{◌≡◌, ◌≤◌, ◌<◌, ◌∙◌, Some, ap, sym, subst, arith}
 use Rattle.std.specs.List.{All, position}
 use Rattle.std.proofs.lemmas.Bool.{leb-true}
 use Rattle.pr_num.proofs.TableLemmas.{change_first-place}
@@ -27,7 +27,7 @@ invariant_of-self-2 c =
     let made = with_heap-resized size items m found some in
     let room : mapped_size (change_first is_break_heap (resized size) items) ≤ mapping_limit = omega (arith, leb-true _ _ c.requires.room, ap mapped_size made, ap (λ s. mapped_size (with_heap size s)) c.self.view_is) in
     let now = c.in_ok-resize_at.ensures.ok m here ∙ change_first-place is_break_heap (resized size) items c.args.place m at here in
-    (subst IsSpace (sym now) (IsSpace-resized size items c.self.invariant.0 leaves some c.requires.within room), omega (arith, ap mapped_size now, size_found items m found, mapped_size-resized size items m found, ap length c.as_slice.ensures, c.self.invariant.1))
+    (subst IsSpace (sym now) (IsSpace-resized size items c.self.invariant.0 leaves some c.requires.within room), omega (arith, ap mapped_size now, size_found items m found, mapped_size-resized size items m found, c.self.invariant.1))
 
 pub returns-clause-ok : goal.returns-clause-ok
 returns-clause-ok c =

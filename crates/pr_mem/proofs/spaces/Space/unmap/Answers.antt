@@ -2,7 +2,7 @@ use Rattle.std.proofs.Common.{◌∙◌, ap, sym, subst, refl}
 use Rattle.std.specs.List.{All, position}
 use Rattle.pr_parts.specs.AddressSpaces.{LeavesHeapPlace, is_range}
 use Rattle.pr_parts.proofs.SpaceLemmas.{has-position, remove-without_range}
-use Rattle.pr_mem.proofs.HeapPlaceLemmas.{LeavesHeapPlace-without_range}
+use Rattle.pr_parts.proofs.HeapPlaceLemmas.{LeavesHeapPlace-without_range}
 use Rattle.pr_mem.proofs.spaces.Space.unmap.Goals as goal
 
 pub returns-clause-answer : goal.returns-clause-answer

@@ -1,0 +1,11 @@
+pub mod CloseLemmas
+pub mod CodeLemmas
+pub mod EndLemmas
+pub mod FedLemmas
+pub mod LineLemmas
+pub mod OrderLemmas
+pub mod PlaceLemmas
+pub mod RegionLemmas
+pub mod StackLemmas
+pub mod StatusLemmas
+pub mod UndoLemmas

@@ -1,0 +1,20 @@
+use Rattle.std.proofs.Common.{refl, sym, ap, ◌∙◌}
+use Rattle.pr_num.specs.ById.{put_under, under}
+use Rattle.pr_proc.proofs.TotalLemmas.{total-changed}
+use Rattle.pr_proc.proofs.processes.Processes.get_mut.Goals as goal
+
+pub get_mut-requires : goal.get_mut-requires
+get_mut-requires c = rw c.self.view_is c.requires
+
+pub invariant_of-self-lent : goal.invariant_of-self-lent
+invariant_of-self-lent c =
+    λ w. total-changed c.all_but-self-inside.result c.args.id w c.self.inside.table c.all_but-self-inside.ensures
+
+pub returns : goal.returns
+returns c = (
+  (refl, λ w. ap (put_under c.args.id w) c.self.view_is),
+  record {
+    writes_back = tt;
+    value = ap (under c.args.id) (sym c.self.view_is) ∙ c.get_mut.ensures.value;
+  },
+)

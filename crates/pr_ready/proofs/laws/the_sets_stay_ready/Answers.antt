@@ -1,0 +1,5 @@
+use Rattle.pr_ready.proofs.AroundLemmas.{call-ready, tick-ready, turn-ready}
+use Rattle.pr_ready.proofs.laws.the_sets_stay_ready.Goals as goal
+
+pub returns : goal.returns
+returns c = record { turns = turn-ready; calls = call-ready; ticks = tick-ready }

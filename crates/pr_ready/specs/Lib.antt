@@ -1,0 +1,6 @@
+pub mod Ready
+pub mod Around
+pub mod Walks
+pub mod Steps
+pub mod Queues
+pub mod Following

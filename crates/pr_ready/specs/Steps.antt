@@ -1,0 +1,18 @@
+use Rattle.std.specs.Prelude.{◌≡◌, ◌<◌, ℕ, Bool, true, false}
+use Rattle.pr_num.specs.Limits.{process_limit}
+use Rattle.pr_model.specs.State.{TracedSystem, live_process}
+use Rattle.pr_pids.specs.Members.{has_pid}
+use Rattle.pr_ready.specs.Ready.{Covers, ReadySets, some_answer_of}
+
+-- How the sets follow a step: those that it touches are looked at, and so are those that may have waited for files or for
+-- the clock, where these may differ; nobody else leaves a set.
+pub record Follows (touches : ℕ → Bool) (files clock : Bool) (answer : ℕ × ℕ → Bool) (u : TracedSystem)
+    (old new : ReadySets) : Type 0 where
+  pub touched : (pid : ℕ) → touches pid ≡ true → pid < process_limit → Covers answer u new pid
+  pub movable : (pid : ℕ) → touches pid ≡ false → has_pid old.movable pid ≡ true → has_pid new.movable pid ≡ true
+  pub at_pipes : (pid : ℕ) → touches pid ≡ false → has_pid old.at_pipes pid ≡ true → has_pid new.at_pipes pid ≡ true
+  pub dozing : (pid : ℕ) → touches pid ≡ false → has_pid old.dozing pid ≡ true → has_pid new.dozing pid ≡ true
+  pub by_files : files ≡ true → (pid : ℕ) → touches pid ≡ false → has_pid old.at_pipes pid ≡ true
+      → some_answer_of answer pid (live_process u pid) ≡ true → has_pid new.movable pid ≡ true
+  pub by_clock : clock ≡ true → (pid : ℕ) → touches pid ≡ false → has_pid old.dozing pid ≡ true
+      → some_answer_of answer pid (live_process u pid) ≡ true → has_pid new.movable pid ≡ true

@@ -1,0 +1,9 @@
+pub mod ChildLemmas
+pub mod LeftLemmas
+pub mod EndLemmas
+pub mod MoveLemmas
+pub mod ReachLemmas
+pub mod ChangeLemmas
+pub mod TurnLemmas
+pub mod CallLemmas
+pub mod StepLemmas
