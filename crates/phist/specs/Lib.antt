@@ -1,3 +1,4 @@
 pub mod Answers
+pub mod Sources
 pub mod Telling
 pub mod Words

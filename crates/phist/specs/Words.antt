@@ -136,9 +136,9 @@ asked_for c ws = work_with (with_words (begun c) ws)
 abbrev pub joined : List (List ℕ) → List ℕ
 joined ws = flat_map spaced_text ws
 
--- No words: the whole history is told. `bytes` and words: the bytes that they spell. `lanes`, `svg` and options: a chart
--- of the history or of a part of it. Options alone: a part of it, or all of it with all fields. Other words ask for
--- nothing.
+-- No words: the whole history is told. `bytes` and words: the bytes that they spell. `lanes`, `svg` and options: a
+-- chart of the history or of a part of it. Options alone: a part of it, or all of it with all fields. Other words ask
+-- for nothing.
 unfoldable pub work_of : List (List ℕ) → Work
 work_of [] = Tells
 work_of (w ∷ ws) =

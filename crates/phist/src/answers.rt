@@ -3,15 +3,19 @@ ghost use Rattle.std.specs.Prelude.{◌≡◌, ◌≢◌, ◌≤◌, Err, ◌+�
 ghost use Rattle.pr_num.specs.Limits.{checked_limit};
 ghost use Rattle.pr_output.specs.Output.{refusal_text};
 ghost use Rattle.pr_plain.specs.EntryReading.{history_of};
-ghost use Rattle.phist.specs.Answers.{IsAnswerStatus, answer_of, answer_to, drawn_or, in_words, refused_at, spelled, spelled_or, told, told_text};
+ghost use Rattle.phist.specs.Answers.{IsAnswerStatus, answer_alone, answer_at, answer_of, answer_to, answer_to_text, begins_history, drawn_or, in_words, refused_at, spelled, spelled_or, told, told_text};
 
 use crate::inputs::Unread;
+use crate::sources::names_of;
 use crate::statuses::Status;
 use crate::words::Work;
-use pr_hist::{Text, bytes_of_line, chart_of, selected_text, text_of};
+use pr_hist::{Names, Text, bytes_of_line, chart_of, selected_text, text_of};
+use pr_input::{Mark, kind_name, lines_above};
 use pr_model::History;
+use pr_num::limits::SCENARIO_LIMIT;
 use pr_num::{Bytes, NoMemory};
 use pr_plain::{HistRefusal, read_history};
+use pr_scen::{ScenRefusal, read_scenario};
 use std::alloc::Global;
 
 /// A status, and what is written.
@@ -47,14 +51,14 @@ fn refuse(alloc: Global, line: u32, kind: &[u8]) -> Result<Answer, NoMemory>
     })
 }
 
-/// What is told of a history.
+/// What is told of a history, before which this is known.
 #[tactic(auto, unfolding(crate::specs::Answers::told_text))]
-fn told_text(alloc: Global, work: &Work, history: &History) -> Result<Bytes, NoMemory>
-    ensures { IfOk result (λ text. text ≡ told_text work.now history.now.entries) }
+fn told_text(alloc: Global, work: &Work, names: Names, history: &History) -> Result<Bytes, NoMemory>
+    ensures { IfOk result (λ text. text ≡ told_text work.now names history.now.entries) }
 {
     match work {
-        Work::Tells => text_of(alloc, history),
-        Work::Selects(selection) => selected_text(alloc, *selection, history),
+        Work::Tells => text_of(alloc, names, history),
+        Work::Selects(selection) => selected_text(alloc, *selection, names, history),
         Work::Draws(_, _) | Work::Spells(_) | Work::Explains => Ok(Bytes::new(alloc)),
     }
 }
@@ -83,46 +87,116 @@ fn drawn_or(alloc: Global, text: Option<Bytes>) -> Result<Answer, NoMemory>
 
 /// The history in words.
 #[tactic(auto, unfolding(crate::specs::Answers::in_words))]
-fn tell_in_words(alloc: Global, work: &Work, history: &History) -> Result<Answer, NoMemory>
-    ensures answer { IfOk result (λ a. record { status = a.status; text = a.text } ≡ in_words work.now history.now.entries) }
+fn tell_in_words(
+    alloc: Global,
+    work: &Work,
+    names: Names,
+    history: &History,
+) -> Result<Answer, NoMemory>
+    ensures answer { IfOk result (λ a.
+        record { status = a.status; text = a.text } ≡ in_words work.now names history.now.entries) }
     ensures status { IfOk result (λ a. IsAnswerStatus a.status) }
 {
-    let text = told_text(alloc, work, history)?;
+    let text = told_text(alloc, work, names, history)?;
     Ok(Answer {
         status: Status::Done,
         text,
     })
 }
 
-/// What is answered to a history.
+/// What is answered to a history, before which this is known.
 #[tactic(auto, unfolding(crate::specs::Answers::told))]
-fn tell(alloc: Global, work: &Work, history: &History) -> Result<Answer, NoMemory>
-    ensures answer { IfOk result (λ a. record { status = a.status; text = a.text } ≡ told work.now history.now.entries) }
+fn tell(alloc: Global, work: &Work, names: Names, history: &History) -> Result<Answer, NoMemory>
+    ensures answer { IfOk result (λ a.
+        record { status = a.status; text = a.text } ≡ told work.now names history.now.entries) }
     ensures status { IfOk result (λ a. IsAnswerStatus a.status) }
 {
     match work {
         Work::Draws(chart, selection) => {
-            let text = chart_of(alloc, *chart, *selection, history)?;
+            let text = chart_of(alloc, *chart, *selection, names, history)?;
             drawn_or(alloc, text)
         }
         Work::Tells | Work::Selects(_) | Work::Spells(_) | Work::Explains => {
-            tell_in_words(alloc, work, history)
+            tell_in_words(alloc, work, names, history)
         }
     }
 }
 
-/// The answer to a text.
+/// The answer to the text of a history, before which this is known. Its lines count from `first_line`.
+fn answer_of(
+    alloc: Global,
+    work: &Work,
+    names: Names,
+    text: &[u8],
+    first_line: u32,
+) -> Result<Answer, Unread>
+    requires { first_line + length text.now < 2 ^ 32 }
+    ensures memory { result ≢ Err Unread.Failed }
+    ensures status { IfOk result (λ a. IsAnswerStatus a.status) }
+    ensures answer { IfOk result (λ a.
+        record { status = a.status; text = a.text } ≡ answer_of work.now names (history_of first_line text.now)) }
+{
+    match read_history(alloc, text, first_line) {
+        Ok(history) => Ok(tell(alloc, work, names, &history)?),
+        Err(HistRefusal::Line(line)) => Ok(refuse(alloc, line, b"BadHistory")?),
+        Err(HistRefusal::NoMemory) => Err(Unread::NoMemory),
+    }
+}
+
+/// The answer to a history that stands alone.
+fn answer_alone(alloc: Global, work: &Work, text: &[u8]) -> Result<Answer, Unread>
+    requires { length text.now ≤ checked_limit }
+    ensures memory { result ≢ Err Unread.Failed }
+    ensures status { IfOk result (λ a. IsAnswerStatus a.status) }
+    ensures answer { IfOk result (λ a. record { status = a.status; text = a.text } ≡ answer_alone work.now text.now) }
+{
+    answer_of(alloc, work, Names::new(alloc), text, 1)
+}
+
+/// The answer to a scenario, the line `%history` at this place, and a history.
+#[tactic(auto, unfolding(crate::specs::Answers::answer_at))]
+fn answer_at(alloc: Global, work: &Work, text: &[u8], place: usize) -> Result<Answer, Unread>
+    requires within { place ≤ length text.now }
+    requires few { length text.now ≤ checked_limit }
+    ensures memory { result ≢ Err Unread.Failed }
+    ensures status { IfOk result (λ a. IsAnswerStatus a.status) }
+    ensures answer { IfOk result (λ a.
+        record { status = a.status; text = a.text } ≡ answer_at work.now text.now place) }
+{
+    let above = &text[..place];
+    match read_scenario(alloc, above) {
+        Ok(scenario) => {
+            let names = names_of(alloc, scenario, above)?;
+            let below = Mark::History.below(text, place);
+            answer_of(alloc, work, names, below, lines_above(text, place) + 2)
+        }
+        Err(ScenRefusal::Fault(fault)) => Ok(refuse(alloc, fault.line, kind_name(fault.kind))?),
+        Err(ScenRefusal::NoMemory) => Err(Unread::NoMemory),
+    }
+}
+
+/// Whether a text begins as a history does.
+#[tactic(auto, unfolding(crate::specs::Answers::begins_history))]
+fn begins_history(text: &[u8]) -> bool
+    ensures { result ≡ begins_history text.now }
+{
+    text.starts_with(b"history ")
+}
+
+/// The answer to a text: to a history, or to a scenario and a history.
+#[tactic(auto, unfolding(crate::specs::Answers::answer_to_text))]
 fn answer_to_text(alloc: Global, work: &Work, text: &[u8]) -> Result<Answer, Unread>
     requires { length text.now ≤ checked_limit }
     ensures memory { result ≢ Err Unread.Failed }
     ensures status { IfOk result (λ a. IsAnswerStatus a.status) }
-    ensures answer { IfOk result (λ a.
-        record { status = a.status; text = a.text } ≡ answer_of work.now (history_of 1 text.now)) }
+    ensures answer { IfOk result (λ a. record { status = a.status; text = a.text } ≡ answer_to_text work.now text.now) }
 {
-    match read_history(alloc, text, 1) {
-        Ok(history) => Ok(tell(alloc, work, &history)?),
-        Err(HistRefusal::Line(line)) => Ok(refuse(alloc, line, b"BadHistory")?),
-        Err(HistRefusal::NoMemory) => Err(Unread::NoMemory),
+    if begins_history(text) {
+        return answer_alone(alloc, work, text);
+    }
+    match Mark::History.place(SCENARIO_LIMIT, text) {
+        Some(place) => answer_at(alloc, work, text, place),
+        None => answer_alone(alloc, work, text),
     }
 }
 

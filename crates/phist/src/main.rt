@@ -3,6 +3,7 @@
 
 mod answers;
 mod inputs;
+mod sources;
 mod statuses;
 mod telling;
 mod words;

@@ -87,8 +87,8 @@ fn spell<S: Source, K: Sink>(alloc: Global, line: &[u8], source: &mut S, sink: &
 /// or writes how the program is called.
 ///
 /// Status 0: it was told, a block for each entry, in their order. Status 1: the words ask for nothing. Status 2: the
-/// first line that is wrong was named, there were too many entries for a picture, or the line spells no bytes. Status 5,
-/// 6 and 7: a read or a write failed, or memory ran out.
+/// first line that is wrong was named, there were too many entries for a picture, or the line spells no bytes.
+/// Status 5, 6 and 7: a read or a write failed, or memory ran out.
 pub fn serve<S: Source, K: Sink>(alloc: Global, work: &Work, source: &mut S, sink: &mut K) -> Status
     ensures { EndsAs work.now (ends_of S.left S.faults K.written K.faults source.old sink.old)
         (ends_of S.left S.faults K.written K.faults source.new sink.new) result }

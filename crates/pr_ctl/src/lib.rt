@@ -20,7 +20,7 @@ mod watching;
 
 pub use agents::{AgentNo, add_agent};
 pub use handles::{is_control, is_of_lwp, own};
-pub use messages::control;
+pub use messages::{control, first_message, tail};
 pub use process_runs::{run, run_refused};
 pub use running::is_asleep;
 pub use targets::{target, target_stopped};

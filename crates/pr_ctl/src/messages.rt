@@ -45,7 +45,7 @@ pub fn first_message(bytes: &[u8]) -> Result<(Message, usize), MsgFault>
 
 /// The bytes that stand after the operands of the message with which bytes begin.
 #[tactic(auto, unfolding(pr_num::specs::Messages::unpadded_length, pr_num::specs::Messages::operand_count, pr_num::specs::Messages::tail_length))]
-fn tail(bytes: &[u8], message: Message) -> &[u8]
+pub fn tail(bytes: &[u8], message: Message) -> &[u8]
     requires { unpadded_length message ≤ length bytes.now }
     ensures { result.now ≡ tail_of message bytes.now }
 {

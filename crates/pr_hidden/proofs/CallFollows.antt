@@ -1,5 +1,5 @@
 use Rattle.std.proofs.Common.{◌≡◌, ◌≢◌, ◌&&◌, ◌||◌, ◌≤◌, ◌+◌, ℕ, Bool, true, false, eqb, not, is_none, is_some, leb, Option, Some, None, Result, Ok, Err, List, [], ◌∷◌, cond, refl, sym, subst, ◌∙◌, ap, inl, inr, arith}
-use Rattle.std.proofs.lemmas.Bool.{cases_Bool}
+use Rattle.std.proofs.lemmas.Bool.{cases_Bool, eqb-true}
 use Rattle.std.proofs.lemmas.Option.{same_Some}
 use Rattle.std.specs.Option.{option_and_then}
 use Rattle.pr_num.specs.Infos.{killed_by}
@@ -54,7 +54,8 @@ use Rattle.pr_erasure.proofs.CallLemmas.{released-hidden}
 use Rattle.pr_erasure.proofs.OutsideLemmas.{kill-follows, spawn-follows}
 use Rattle.pr_hidden.specs.Covers.{Cover, Covers, no_cover, seen, uncovered, uncovered_lwp, uncovered_process, with_cover}
 use Rattle.pr_hidden.specs.Following.{MayEnd}
-use Rattle.pr_hidden.specs.Hiders.{Hiders, covers_called, covers_closed, covers_controlled, covers_sent, covers_targeted, hides, is_ctl}
+use Rattle.pr_hidden.specs.Hiders.{Hiders, covers_called, covers_closed, covers_controlled, covers_sent, covers_targeted, finished, hides, is_ctl}
+use Rattle.pr_hidden.specs.Hiding.{with_own_agent}
 use Rattle.pr_hidden.specs.Tidiness.{AreSound, IsClear, IsTidyCall, IsTidyClose, IsTidyControl, IsTidyMessage, IsTidySent, IsTidyTargeted, MayKill, is_hider_act, is_hider_message, is_hider_write}
 use Rattle.pr_hidden.proofs.BareCovers.{seen-by-bare}
 use Rattle.pr_hidden.proofs.CallCovers.{life-uncovered, room-uncovered}
@@ -261,30 +262,33 @@ module _ (who : Hiders) (covers : Covers) (s : TracedState) (k : ℕ) (lawful : 
   -- a hider that closes "ctl" has finished
   finished-same : (h : Held)
       → ((p : TracedProcess) → live_process s.system h.pid ≡ Some p → IsClear (covers h.pid) p)
-      → uncovered (with_cover h.pid no_cover covers) s.system ≡ uncovered covers s.system
+      → uncovered (with_cover h.pid (finished (covers h.pid)) covers) s.system ≡ uncovered covers s.system
   finished-same h clear =
-      covers-alike covers s.system h.pid no_cover lawful.rising (λ p found. by p found p.ended refl)
+      covers-alike covers s.system h.pid (finished (covers h.pid)) lawful.rising (λ p found. by p found p.ended refl)
     where
       by : (p : TracedProcess) → process_of s.system h.pid ≡ Some p → (o : Option ℕ) → p.ended ≡ o
-          → uncovered_process no_cover p ≡ uncovered_process (covers h.pid) p
-      by p found None is = clear-same (covers h.pid) p (clear p (found-live s.system h.pid p found is))
+          → uncovered_process (finished (covers h.pid)) p ≡ uncovered_process (covers h.pid) p
+      by p found None is =
+          let none = clear p (found-live s.system h.pid p found is) in
+          ap (λ own. uncovered_process (with_own_agent own no_cover) p) none.no_agent
+          ∙ clear-same (covers h.pid) p none
       by p found (Some status) is =
           let of : IsLawfulProcess (h.pid, p) = process-lawful s.system h.pid p lawful found in
           let zombie = of.empty_zombie in
-          zombie-same no_cover (covers h.pid) p (zombie.no_memory status is) (zombie.no_lwps status is)
+          zombie-same (finished (covers h.pid)) (covers h.pid) p (zombie.no_memory status is) (zombie.no_lwps status is)
 
-  finished-order : (pid : ℕ) → AreInOrder (with_cover pid no_cover covers) s.system
+  finished-order : (pid : ℕ) → AreInOrder (with_cover pid (finished (covers pid)) covers) s.system
   finished-order pid = record {
-    sound = each-cover (λ (c : Cover). AreSound c.patches) pid no_cover covers none-sound order.sound;
-    fresh = λ n later. fresh-is n later ∙ order.fresh n later;
+    sound = each-cover (λ (c : Cover). AreSound c.patches) pid (finished (covers pid)) covers none-sound order.sound;
+    fresh = fresh-is;
   }
     where
-      fresh-is : (n : ℕ) → s.system.made ≤ n → with_cover pid no_cover covers n ≡ covers n
-      fresh-is n later =
-          elim (eqb n pid) as (λ b. cond b no_cover (covers n) ≡ covers n) [
-            | true ↦ sym (order.fresh n later)
-            | false ↦ refl
-          ]
+      fresh-is : (n : ℕ) → s.system.made ≤ n → with_cover pid (finished (covers pid)) covers n ≡ no_cover
+      fresh-is n later = by (eqb n pid) refl
+        where
+          by : (b : Bool) → eqb n pid ≡ b → cond b (finished (covers pid)) (covers n) ≡ no_cover
+          by true same = ap finished (ap covers (sym (eqb-true n pid same)) ∙ order.fresh n later)
+          by false other = order.fresh n later
 
   close-follows : (handle : ℕ) → ((h : Held) → handle_of s.opens k handle ≡ Some h → IsTidyClose who k covers s.system (Some h))
       → Goes (call.Close handle) (close_held s handle (handle_of s.opens k handle))
@@ -299,8 +303,8 @@ module _ (who : Hiders) (covers : Covers) (s : TracedState) (k : ℕ) (lawful : 
           let e = close-edit s handle h in
           let all = hides who k && is_ctl h.file in
           subst (λ o. CallFollows covers (covers_closed who k o covers) s.system t []) (sym is)
-          (choice (λ (n : Covers). CallFollows covers n s.system t []) all (with_cover h.pid no_cover covers) covers
-          (λ it. closed-follows (with_cover h.pid no_cover covers) h.pid t (finished-same h (tidy h is it))
+          (choice (λ (n : Covers). CallFollows covers n s.system t []) all (with_cover h.pid (finished (covers h.pid)) covers) covers
+          (λ it. closed-follows (with_cover h.pid (finished (covers h.pid)) covers) h.pid t (finished-same h (tidy h is it))
           (finished-order h.pid) e)
           (λ other. closed-follows covers h.pid t refl order e))
 

@@ -204,6 +204,14 @@ history-trace who covers s m (e ∷ h) =
     ∙ sym (flat_map-append traced_step (hidden_steps_of who covers s m e)
     (hidden_steps_from who new (after s e) (remembered m e) h))
 
+-- the trace of what is not hidden, tidy or not
+pub hidden-traced : (who : Hiders) (s : TracedState) (h : List Entry)
+    → hidden_trace who s h ≡ flat_map traced_step (hidden_steps who s h)
+unfolding hidden_steps hidden_trace
+hidden-traced who s h = history-trace who no_covers s nothing_yet h
+
+pub ruleset traced = (hidden-traced)
+
 -- ---- nothing is seen of those who hide
 
 pub hidden-later : (n : ℕ) (who : Hiders) (s : TracedState) (h : List Entry) → IsLawful s → IsUntouched s.system

@@ -144,10 +144,14 @@ abbrev pub covers_controlled : Hiders → ℕ → TracedSystem → Option Held �
 covers_controlled who k s None bytes covers = covers
 covers_controlled who k s (Some h) bytes covers = covers_targeted who k h (target_of s h) bytes covers
 
--- A hider that closes "ctl" has finished: nothing of its process is hidden from then on.
+-- A hider that closes "ctl" has finished: no patch of its process and no fault is hidden from then on. A probe's agent
+-- that stands there still is hidden until it ends.
+abbrev pub finished : Cover → Cover
+finished c = with_own_agent c.agent no_cover
+
 abbrev pub covers_closed : Hiders → ℕ → Option Held → Covers → Covers
 covers_closed who k None covers = covers
-covers_closed who k (Some h) covers = if hides who k && is_ctl h.file then with_cover h.pid no_cover covers else covers
+covers_closed who k (Some h) covers = if hides who k && is_ctl h.file then with_cover h.pid (finished (covers h.pid)) covers else covers
 
 unfoldable pub covers_called : Hiders → Covers → TracedState → ℕ → calls.Call → Reply → Covers
 covers_called who covers s k (call.Ctl handle bytes) (reply.Used used) =

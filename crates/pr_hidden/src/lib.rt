@@ -16,7 +16,7 @@ pub use hidden::{
     an_own_agent_is_hidden, clearing_an_own_fault_is_hidden, patching_is_hidden,
     what_controllers_set_is_hidden,
 };
-pub use history::breakpoints_and_agents_are_hidden;
+pub use history::{breakpoints_and_agents_are_hidden, what_is_traced_is_among_the_steps};
 pub use nobody::where_nobody_hides_all_is_seen;
 pub use patches::{
     bytes_written_where_a_patch_is_noted_are_hidden, stores_into_patches_are_hidden,

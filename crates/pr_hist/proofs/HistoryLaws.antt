@@ -8,7 +8,8 @@ use Rattle.pr_model.specs.declared.calls.Mode.{Mode}
 use Rattle.pr_model.specs.declared.events.Entry.{Entry}
 use Rattle.pr_hist.specs.Entries.{blocks, text_of, words_of}
 use Rattle.pr_hist.specs.Laws.{NamesClosed, NamesOpened, names_behind}
-use Rattle.pr_hist.specs.Names.{Names, closed, named, names_after, names_beyond, opened}
+use Rattle.pr_hist.specs.Names.{Handles, Names, closed, named, names_after, opened}
+use Rattle.pr_hist.specs.News.{names_beyond}
 
 -- the blocks of one entry more
 blocks-end : (n : ℕ) (names : Names) (es : List Entry) (e : Entry)
@@ -17,24 +18,24 @@ unfolding blocks names_behind
 blocks-end n names [] e =
     append-nil (words_of false n names e) ∙ ap (λ k. words_of false k names e) {x = n} {y = n + 0} (omega arith)
 blocks-end n names (d ∷ es) e =
-    ap (λ t. words_of false n names d ++ t) (blocks-end (n + 1) (names_beyond names d.act) es e)
-    ∙ sym (append_assoc (words_of false n names d) (blocks (n + 1) (names_beyond names d.act) es)
-    (words_of false (n + 1 + length es) (names_behind (names_beyond names d.act) es) e))
-    ∙ ap (λ k. words_of false n names d ++ blocks (n + 1) (names_beyond names d.act) es
-    ++ words_of false k (names_behind (names_beyond names d.act) es) e)
+    ap (λ t. words_of false n names d ++ t) (blocks-end (n + 1) (names_beyond names d) es e)
+    ∙ sym (append_assoc (words_of false n names d) (blocks (n + 1) (names_beyond names d) es)
+    (words_of false (n + 1 + length es) (names_behind (names_beyond names d) es) e))
+    ∙ ap (λ k. words_of false n names d ++ blocks (n + 1) (names_beyond names d) es
+    ++ words_of false k (names_behind (names_beyond names d) es) e)
     {x = n + 1 + length es} {y = n + length (d ∷ es)} (omega arith)
 
-pub text_of-none : text_of [] ≡ []
+pub text_of-none : (names : Names) → text_of names [] ≡ []
 unfolding blocks
-text_of-none = refl
+text_of-none names = refl
 
-pub text_of-end : (es : List Entry) (e : Entry)
-    → text_of (es ++ e ∷ []) ≡ text_of es ++ words_of false (length es) (names_behind [] es) e
-text_of-end es e =
-    blocks-end 0 [] es e ∙ ap (λ k. text_of es ++ words_of false k (names_behind [] es) e)
+pub text_of-end : (names : Names) (es : List Entry) (e : Entry)
+    → text_of names (es ++ e ∷ []) ≡ text_of names es ++ words_of false (length es) (names_behind names es) e
+text_of-end names es e =
+    blocks-end 0 names es e ∙ ap (λ k. text_of names es ++ words_of false k (names_behind names es) e)
     {x = 0 + length es} {y = length es} (omega arith)
 
-pub opens-named : (names : Names) (pid lwp : ℕ) (file : File) (mode : Mode) (h : ℕ)
+pub opens-named : (names : Handles) (pid lwp : ℕ) (file : File) (mode : Mode) (h : ℕ)
     → NamesOpened names pid lwp file mode h
 unfolding names_after opened named
 opens-named names pid lwp file mode h = record {
@@ -45,7 +46,7 @@ opens-named names pid lwp file mode h = record {
       ∙ under-without_id_other h other apart names;
 }
 
-pub closes-named : (names : Names) (h : ℕ) → IsRising names → NamesClosed names h
+pub closes-named : (names : Handles) (h : ℕ) → IsRising names → NamesClosed names h
 unfolding names_after closed
 closes-named names h rising = record {
   its_own = under-without_id 0 h names rising;

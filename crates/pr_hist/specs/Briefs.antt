@@ -1,5 +1,5 @@
 -- Entries in a few words, for the cell of a chart.
-use Rattle.std.specs.Prelude.{ℕ, Bool, true, false, List, [], ◌++◌, codes}
+use Rattle.std.specs.Prelude.{ℕ, Bool, true, false, None, List, [], ◌++◌, codes}
 use Rattle.pr_model.specs.declared.calls.Call.{Call}
 use Rattle.pr_model.specs.declared.calls.Call.TheVariants as call
 use Rattle.pr_model.specs.declared.calls.Reply.{Reply}
@@ -19,10 +19,10 @@ unfoldable pub refused : Reply → List ℕ
 refused (reply.Fail e) = errno_name e ++ codes ": "
 refused _ = []
 
--- what a controller asks: of a write its messages, of a read the file
+-- what a controller asks: of a write its messages, of a read the file; a cell has no room for places in programs
 unfoldable pub asking : Names → Call → List ℕ
-asking names (call.Ctl h bytes) = messages_text bytes
-asking names (call.CtlWait h until bytes) = codes "waits: " ++ messages_text bytes
+asking names (call.Ctl h bytes) = messages_text None bytes
+asking names (call.CtlWait h until bytes) = codes "waits: " ++ messages_text None bytes
 asking names (call.Read h at len) = codes "reads " ++ handle_text names h
 asking names c = calling c ++ operands_text names c
 

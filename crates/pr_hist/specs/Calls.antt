@@ -1,12 +1,13 @@
 -- Calls of controllers and their answers in words. A line tells the call, an arrow and the answer; what was read stands
 -- on the lines below.
-use Rattle.std.specs.Prelude.{ℕ, ◌==◌, Bool, List, [], ◌++◌, codes, decimal, length, if◌then◌else◌}
+use Rattle.std.specs.Prelude.{ℕ, ◌==◌, Bool, None, List, [], ◌++◌, codes, decimal, length, if◌then◌else◌}
 use Rattle.pr_model.specs.declared.calls.Call.{Call}
 use Rattle.pr_model.specs.declared.calls.Call.TheVariants as call
 use Rattle.pr_model.specs.declared.calls.Reply.{Reply}
 use Rattle.pr_model.specs.declared.calls.Reply.TheVariants as reply
+use Rattle.pr_hist.specs.Listings.{place_text}
 use Rattle.pr_hist.specs.Messages.{messages_text, signal_text}
-use Rattle.pr_hist.specs.Names.{Names, handle_text, handles_text, known_text, layout_in}
+use Rattle.pr_hist.specs.Names.{Names, handle_text, handles_text, known_text, layout_in, listing_by, memory_by}
 use Rattle.pr_hist.specs.Records.{raw_text, record_text}
 use Rattle.pr_hist.specs.Refusals.{refusal_text}
 use Rattle.pr_hist.specs.Texts.{number_text, size_text, time_text}
@@ -32,15 +33,18 @@ until_text n = if n == 0 then [] else codes ", until " ++ time_text n
 
 -- the messages of a write
 unfoldable pub write_text : Names → ℕ → List ℕ → List ℕ
-write_text names h bytes = handle_text names h ++ (codes ": " ++ messages_text bytes)
+write_text names h bytes = handle_text names h ++ (codes ": " ++ messages_text (listing_by names h) bytes)
 
 -- the messages of a wait, and its end
 unfoldable pub wait_text : Names → ℕ → ℕ → List ℕ → List ℕ
-wait_text names h until bytes = handle_text names h ++ (until_text until ++ (codes ": " ++ messages_text bytes))
+wait_text names h until bytes =
+    handle_text names h ++ (until_text until ++ (codes ": " ++ messages_text (listing_by names h) bytes))
 
 -- the part of a file that is read
 unfoldable pub part_text : Names → ℕ → ℕ → ℕ → List ℕ
-part_text names h at len = handle_text names h ++ (codes ", " ++ (size_text len ++ (codes " at " ++ number_text at)))
+part_text names h at len =
+    handle_text names h ++ (codes ", " ++ (size_text len ++ (codes " at "
+    ++ (number_text at ++ place_text (memory_by names h) at))))
 
 -- a program, and whether its process is directed to stop
 unfoldable pub spawn_text : List ℕ → Bool → List ℕ
@@ -80,8 +84,8 @@ answering (reply.Fail e) = []
 
 -- what was read: of a file, of the list of processes, or of memory by PCREAD
 unfoldable pub read_text : Bool → Names → Call → List ℕ → List ℕ
-read_text full names (call.Read h at len) bytes = record_text full (layout_in names h) at bytes
-read_text full names call.List bytes = record_text full layout.List 0 bytes
+read_text full names (call.Read h at len) bytes = record_text full (listing_by names h) (layout_in names h) at bytes
+read_text full names call.List bytes = record_text full None layout.List 0 bytes
 read_text full names _ bytes = raw_text bytes
 
 unfoldable pub bytes_answer : Bool → Names → Call → List ℕ → List ℕ

@@ -37,7 +37,7 @@ known_aims (Some k) a = is_lwp_of k.pid a && (k.lwp == 0 || is_same (Lwp k.pid k
 
 -- whether a call sends something to an actor: a message, a signal, an interrupt
 unfoldable pub call_aims : Names → Call → Actor → Bool
-call_aims names (call.Ctl h bytes) a = known_aims (under h names) a
+call_aims names (call.Ctl h bytes) a = known_aims (under h names.handles) a
 call_aims names (call.Kill p sig) a = is_lwp_of p a
 call_aims names (call.Interrupt k) a = is_same (Controller k) a
 call_aims names _ a = false

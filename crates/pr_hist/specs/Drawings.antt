@@ -3,7 +3,8 @@ use Rattle.std.specs.Prelude.{ℕ, ◌+◌, ◌&&◌, Bool, false, Option, Some,
 use Rattle.pr_model.specs.declared.events.Entry.{Entry}
 use Rattle.pr_hist.specs.Charts.{foot_text, head_text, row_text}
 use Rattle.pr_hist.specs.Lanes.{lanes_after, lanes_of}
-use Rattle.pr_hist.specs.Names.{Names, names_beyond}
+use Rattle.pr_hist.specs.Names.{Names}
+use Rattle.pr_hist.specs.News.{names_beyond, nothing_known}
 use Rattle.pr_hist.specs.Selections.{is_told}
 use Rattle.pr_hist.specs.declared.charts.Chart.{Chart}
 use Rattle.pr_hist.specs.declared.charts.Chart.TheVariants as chart
@@ -30,27 +31,28 @@ unfoldable pub rows_text : Chart → Selection → ℕ → ℕ → Names → Lis
 rows_text c s n row names lanes [] = []
 rows_text c s n row names lanes (e ∷ es) =
     told_row c s n row names (lanes_after e lanes) e
-    ++ rows_text c s (n + 1) (row_after s n row names e) (names_beyond names e.act) (lanes_after e lanes) es
+    ++ rows_text c s (n + 1) (row_after s n row names e) (names_beyond names e) (lanes_after e lanes) es
 
 -- how many rows there are behind entries
 unfoldable pub rows_from : Selection → ℕ → ℕ → Names → List Entry → ℕ
 rows_from s n row names [] = row
-rows_from s n row names (e ∷ es) = rows_from s (n + 1) (row_after s n row names e) (names_beyond names e.act) es
+rows_from s n row names (e ∷ es) = rows_from s (n + 1) (row_after s n row names e) (names_beyond names e) es
 
+-- Which entries are told, their handles say, and not what processes run.
 abbrev pub rows_of : Selection → List Entry → ℕ
-rows_of s es = rows_from s 0 0 [] es
+rows_of s es = rows_from s 0 0 nothing_known es
 
 -- whether a chart has too many rows: a picture of more than 5,000 is none
 unfoldable pub is_too_long : Chart → ℕ → Bool
 is_too_long (chart.Lanes width) rows = false
 is_too_long chart.Picture rows = nat_lt 5000 rows
 
--- a chart with these lanes and so many rows
-unfoldable pub drawn : Chart → Selection → List Lane → ℕ → List Entry → List ℕ
-drawn c s lanes rows es =
-    head_text (sheet_of c rows lanes) lanes ++ (rows_text c s 0 0 [] lanes es ++ foot_text c)
+-- a chart with these lanes and so many rows, before which this is known
+unfoldable pub drawn : Chart → Selection → Names → List Lane → ℕ → List Entry → List ℕ
+drawn c s names lanes rows es =
+    head_text (sheet_of c rows lanes) lanes ++ (rows_text c s 0 0 names lanes es ++ foot_text c)
 
 -- the chart of a history, or of a part of it; none where it has too many rows
-unfoldable pub chart_of : Chart → Selection → List Entry → Option (List ℕ)
-chart_of c s es =
-    if is_too_long c (rows_of s es) then None else Some (drawn c s (lanes_of s.who es) (rows_of s es) es)
+unfoldable pub chart_of : Chart → Selection → Names → List Entry → Option (List ℕ)
+chart_of c s names es =
+    if is_too_long c (rows_of s es) then None else Some (drawn c s names (lanes_of s.who es) (rows_of s es) es)

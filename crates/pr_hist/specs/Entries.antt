@@ -6,7 +6,8 @@ use Rattle.pr_model.specs.declared.events.Act.TheVariants as act
 use Rattle.pr_model.specs.declared.events.Entry.{Entry}
 use Rattle.pr_plain.specs.HistoryText.{actor_text}
 use Rattle.pr_hist.specs.Calls.{call_text}
-use Rattle.pr_hist.specs.Names.{Names, names_beyond}
+use Rattle.pr_hist.specs.Names.{Names}
+use Rattle.pr_hist.specs.News.{names_beyond}
 use Rattle.pr_hist.specs.Texts.{time_text}
 use Rattle.pr_hist.specs.Turns.{turn_text}
 
@@ -29,8 +30,8 @@ words_of full n names e =
 -- the blocks of entries that count from a number
 unfoldable pub blocks : ℕ → Names → List Entry → List ℕ
 blocks n names [] = []
-blocks n names (e ∷ es) = words_of false n names e ++ blocks (n + 1) (names_beyond names e.act) es
+blocks n names (e ∷ es) = words_of false n names e ++ blocks (n + 1) (names_beyond names e) es
 
--- a history in words: no handle is open before it
-abbrev pub text_of : List Entry → List ℕ
-text_of es = blocks 0 [] es
+-- a history in words, before which this is known
+abbrev pub text_of : Names → List Entry → List ℕ
+text_of names es = blocks 0 names es

@@ -6,7 +6,7 @@ use Rattle.pr_num.specs.declared.signals.Sig.{Sig}
 use Rattle.pr_model.specs.declared.calls.File.{File}
 use Rattle.pr_model.specs.declared.calls.File.TheVariants as file
 use Rattle.pr_hist.specs.declared.fields.Kind.{Kind}
-use Rattle.pr_hist.specs.declared.fields.Kind.TheVariants.{Count, Place, Number, Address, LwpFlags, ProcessFlags, WatchFlags, Protection, Why, What, Signal, Fault, Call, Errno, Signals, Faults, Calls, Disposition, Handler, Origin, MappingKind, DescriptorKind, Access, Name, Rest}
+use Rattle.pr_hist.specs.declared.fields.Kind.TheVariants.{Count, Place, Number, Address, Code, LwpFlags, ProcessFlags, WatchFlags, Protection, Why, What, Signal, Fault, Call, Errno, Signals, Faults, Calls, Disposition, Handler, Origin, MappingKind, DescriptorKind, Access, Name, Rest}
 use Rattle.pr_hist.specs.declared.fields.Layout.{Layout}
 use Rattle.pr_hist.specs.declared.fields.Layout.TheVariants as layout
 
@@ -56,7 +56,7 @@ lwp_kind p =
     else (if p == 3 then What
     else (if p == 4 then Signal
     else (if p == 5 then Fault
-    else (if p == 6 then Address
+    else (if p == 6 then Code
     else (if p == 7 then Call
     else (if p == 8 then Number
     else (if p == 9 then Number
@@ -78,7 +78,7 @@ lwp_kind p =
     else (if p == 25 then Number
     else (if p == 26 then Address
     else (if p == 27 then Address
-    else (if p == 28 then Address
+    else (if p == 28 then Code
     else (if p == 29 then Disposition
     else (if p == 30 then Origin
     else (if p == 31 then Count

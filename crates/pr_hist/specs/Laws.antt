@@ -13,24 +13,25 @@ use Rattle.pr_model.specs.declared.events.Did.TheVariants.{Stopped, Acted}
 use Rattle.pr_model.specs.declared.events.Entry.{Entry}
 use Rattle.pr_model.specs.declared.events.How.TheVariants.{JobStop}
 use Rattle.pr_hist.specs.Lanes.{born, is_ended, is_same, is_some_same, stand_after}
-use Rattle.pr_hist.specs.Names.{Names, names_after, names_beyond}
+use Rattle.pr_hist.specs.Names.{Handles, Names, names_after}
+use Rattle.pr_hist.specs.News.{names_beyond}
 use Rattle.pr_hist.specs.declared.lanes.Stand.{Stand}
 use Rattle.pr_hist.specs.declared.lanes.Stand.TheVariants.{OnEvent, Requested, JobStopped}
 
--- the handles that are open after entries, where these were open before them
+-- what is known after entries, where this was known before them
 unfoldable pub names_behind : Names → List Entry → Names
 names_behind names [] = names
-names_behind names (e ∷ es) = names_behind (names_beyond names e.act) es
+names_behind names (e ∷ es) = names_behind (names_beyond names e) es
 
 -- an open that gave a handle names it, and leaves the names of all others
-pub record NamesOpened (names : Names) (pid lwp : ℕ) (file : File) (mode : Mode) (h : ℕ) : Type 0 where
+pub record NamesOpened (names : Handles) (pid lwp : ℕ) (file : File) (mode : Mode) (h : ℕ) : Type 0 where
   pub its_own : under h (names_after names (call.Open pid lwp file mode) (reply.Handle h))
       ≡ Some (record { pid = pid; lwp = lwp; file = file; mode = mode })
   pub others : (other : ℕ) → h ≢ other
       → under other (names_after names (call.Open pid lwp file mode) (reply.Handle h)) ≡ under other names
 
 -- a close that was done takes the name off its handle, and leaves those of all others
-pub record NamesClosed (names : Names) (h : ℕ) : Type 0 where
+pub record NamesClosed (names : Handles) (h : ℕ) : Type 0 where
   pub its_own : under h (names_after names (call.Close h) reply.Done) ≡ None
   pub others : (other : ℕ) → h ≢ other → under other (names_after names (call.Close h) reply.Done) ≡ under other names
 

@@ -7,8 +7,10 @@ pub mod Fields
 pub mod Flags
 pub mod Lanes
 pub mod Laws
+pub mod Listings
 pub mod Messages
 pub mod Names
+pub mod News
 pub mod OperandWords
 pub mod Phrases
 pub mod Pictures

@@ -10,6 +10,7 @@ use Rattle.pr_num.specs.declared.messages.Message.TheVariants.{Stop, Dstop, Wsto
 use Rattle.pr_num.specs.declared.messages.MsgFault.{MsgFault}
 use Rattle.pr_num.specs.declared.signals.Sig.{Sig}
 use Rattle.pr_text.specs.Numerals.{hex_text}
+use Rattle.pr_hist.specs.Listings.{Listing, place_text}
 use Rattle.pr_hist.specs.Phrases.{phrase}
 use Rattle.pr_hist.specs.declared.phrases.Phrase.TheVariants.{NoMessage}
 use Rattle.pr_hist.specs.Flags.{modes_text, run_flags_text, watch_flags_text}
@@ -66,12 +67,15 @@ calls_text w = set_word_text syscall_count syscall_number syscall_name syscalls 
 unfoldable pub wait_text : ℕ → List ℕ
 wait_text ms = codes " " ++ time_text ms
 
--- an address, and bytes at one
+-- an address; one at which an instruction of this program may stand; and bytes at such a one
 unfoldable pub address_text : ℕ → List ℕ
 address_text at = codes " " ++ hex_text at
 
-unfoldable pub area_text : ℕ → ℕ → List ℕ
-area_text at size = codes " " ++ (size_text size ++ (codes " at " ++ hex_text at))
+unfoldable pub code_text : Option Listing → ℕ → List ℕ
+code_text l at = address_text at ++ place_text l at
+
+unfoldable pub area_text : Option Listing → ℕ → ℕ → List ℕ
+area_text l at size = codes " " ++ (size_text size ++ (codes " at " ++ (hex_text at ++ place_text l at)))
 
 -- registers by name
 unfoldable pub register_text : List ℕ → ℕ → List ℕ
@@ -83,42 +87,42 @@ general_text regs = register_text (codes "r0") (slice_index regs 0) ++ register_
     ++ register_text (codes "r4") (slice_index regs 4) ++ register_text (codes "r5") (slice_index regs 5)
     ++ register_text (codes "r6") (slice_index regs 6) ++ register_text (codes "r7") (slice_index regs 7)
 
-unfoldable pub pointers_text : List ℕ → List ℕ
-pointers_text regs = register_text (codes "sp") (slice_index regs 8) ++ register_text (codes "fp") (slice_index regs 9)
-    ++ register_text (codes "pc") (slice_index regs 10)
+unfoldable pub pointers_text : Option Listing → List ℕ → List ℕ
+pointers_text l regs = register_text (codes "sp") (slice_index regs 8) ++ register_text (codes "fp") (slice_index regs 9)
+    ++ register_text (codes "pc") (slice_index regs 10) ++ place_text l (slice_index regs 10)
 
-unfoldable pub registers_text : List ℕ → List ℕ
-registers_text regs = general_text regs ++ pointers_text regs
+unfoldable pub registers_text : Option Listing → List ℕ → List ℕ
+registers_text l regs = general_text regs ++ pointers_text l regs
 
 -- where memory is written, and the bytes that stand behind the three words of the message
-unfoldable pub written_text : ℕ → ℕ → List ℕ → List ℕ
-written_text at len bytes = area_text at len ++ (codes ": " ++ bytes_text (take len (drop 24 bytes)))
+unfoldable pub written_text : Option Listing → ℕ → ℕ → List ℕ → List ℕ
+written_text l at len bytes = area_text l at len ++ (codes ": " ++ bytes_text (take len (drop 24 bytes)))
 
--- the operands of a message with which bytes begin, a row a message
-unfoldable pub operands_text : Message → List ℕ → List ℕ
-operands_text (Twstop ms) bytes = wait_text ms
-operands_text (Run flags) bytes = run_flags_text flags
-operands_text (Ssig signal) bytes = signal_text signal
-operands_text (Kill signal) bytes = signal_text signal
-operands_text (Unkill signal) bytes = signal_text signal
-operands_text (Shold set) bytes = signals_text set
-operands_text (Strace set) bytes = signals_text set
-operands_text (Sfault set) bytes = faults_text set
-operands_text (Sentry set) bytes = calls_text set
-operands_text (Sexit set) bytes = calls_text set
-operands_text (Set modes) bytes = modes_text modes
-operands_text (Unset modes) bytes = modes_text modes
-operands_text (Sreg regs) bytes = registers_text regs
-operands_text (Svaddr pc) bytes = address_text pc
-operands_text (Watch at size flags) bytes = area_text at size ++ watch_flags_text flags
-operands_text (Agent regs) bytes = registers_text regs
-operands_text (Read at len) bytes = area_text at len
-operands_text (Write at len) bytes = written_text at len bytes
-operands_text _ bytes = []
+-- the operands of a message with which bytes begin, to a process that runs this program, a row a message
+unfoldable pub operands_text : Option Listing → Message → List ℕ → List ℕ
+operands_text l (Twstop ms) bytes = wait_text ms
+operands_text l (Run flags) bytes = run_flags_text flags
+operands_text l (Ssig signal) bytes = signal_text signal
+operands_text l (Kill signal) bytes = signal_text signal
+operands_text l (Unkill signal) bytes = signal_text signal
+operands_text l (Shold set) bytes = signals_text set
+operands_text l (Strace set) bytes = signals_text set
+operands_text l (Sfault set) bytes = faults_text set
+operands_text l (Sentry set) bytes = calls_text set
+operands_text l (Sexit set) bytes = calls_text set
+operands_text l (Set modes) bytes = modes_text modes
+operands_text l (Unset modes) bytes = modes_text modes
+operands_text l (Sreg regs) bytes = registers_text l regs
+operands_text l (Svaddr pc) bytes = code_text l pc
+operands_text l (Watch at size flags) bytes = area_text l at size ++ watch_flags_text flags
+operands_text l (Agent regs) bytes = registers_text l regs
+operands_text l (Read at len) bytes = area_text l at len
+operands_text l (Write at len) bytes = written_text l at len bytes
+operands_text l _ bytes = []
 
 -- the message with which bytes begin
-unfoldable pub message_text : Message → List ℕ → List ℕ
-message_text m bytes = message_name m ++ operands_text m bytes
+unfoldable pub message_text : Option Listing → Message → List ℕ → List ℕ
+message_text l m bytes = message_name m ++ operands_text l m bytes
 
 -- ---- the messages of a write, one after another
 
@@ -131,29 +135,29 @@ unfoldable pub no_message_text : List ℕ → List ℕ
 no_message_text bytes = phrase NoMessage ++ bytes_text bytes
 
 -- the message with which bytes begin, or that there is none; and the bytes behind it
-abbrev pub told_first : List ℕ → Result (Message × ℕ) MsgFault → List ℕ
-told_first bytes (Err fault) = no_message_text bytes
-told_first bytes (Ok m) = message_text m.0 bytes ++ between (drop m.1 bytes)
+abbrev pub told_first : Option Listing → List ℕ → Result (Message × ℕ) MsgFault → List ℕ
+told_first l bytes (Err fault) = no_message_text bytes
+told_first l bytes (Ok m) = message_text l m.0 bytes ++ between (drop m.1 bytes)
 
 abbrev pub left_behind : List ℕ → Result (Message × ℕ) MsgFault → List ℕ
 left_behind bytes (Err fault) = []
 left_behind bytes (Ok m) = drop m.1 bytes
 
-unfoldable pub first_text : List ℕ → List ℕ
-first_text bytes = told_first bytes (first_message bytes)
+unfoldable pub first_text : Option Listing → List ℕ → List ℕ
+first_text l bytes = told_first l bytes (first_message bytes)
 
 unfoldable pub rest_of : List ℕ → List ℕ
 rest_of bytes = left_behind bytes (first_message bytes)
 
 -- The messages that bytes spell, each for itself, at most so many; what is no message ends them.
-unfoldable pub messages_in : ℕ → List ℕ → List ℕ
-messages_in zero bytes = []
-messages_in (suc most) [] = []
-messages_in (suc most) (b ∷ bs) = first_text (b ∷ bs) ++ messages_in most (rest_of (b ∷ bs))
+unfoldable pub messages_in : Option Listing → ℕ → List ℕ → List ℕ
+messages_in l zero bytes = []
+messages_in l (suc most) [] = []
+messages_in l (suc most) (b ∷ bs) = first_text l (b ∷ bs) ++ messages_in l most (rest_of (b ∷ bs))
 
--- the messages of a write: each has a byte
-abbrev pub all_messages : List ℕ → List ℕ
-all_messages bytes = messages_in (length bytes) bytes
+-- the messages of a write to a process that runs this program: each has a byte
+abbrev pub all_messages : Option Listing → List ℕ → List ℕ
+all_messages l bytes = messages_in l (length bytes) bytes
 
-unfoldable pub messages_text : List ℕ → List ℕ
-messages_text bytes = if length bytes == 0 then codes "nothing" else all_messages bytes
+unfoldable pub messages_text : Option Listing → List ℕ → List ℕ
+messages_text l bytes = if length bytes == 0 then codes "nothing" else all_messages l bytes

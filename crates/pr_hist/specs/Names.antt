@@ -1,10 +1,12 @@
--- Open handles, named by what they stand for.
-use Rattle.std.specs.Prelude.{ℕ, Option, Some, None, List, [], ◌++◌, codes, decimal}
-use Rattle.std.specs.List.{flat_map}
+-- What is known before an entry: open handles by what they stand for, and processes by what they run.
+use Rattle.std.specs.Prelude.{ℕ, Bool, true, false, Option, Some, None, List, [], ◌++◌, codes, decimal, if◌then◌else◌}
+use Rattle.std.specs.List.{flat_map, slice_get}
 use Rattle.pr_num.specs.ById.{under, inserted, without_id}
 use Rattle.pr_model.specs.FileNames.{file_name}
 use Rattle.pr_model.specs.declared.calls.Call.{Call}
 use Rattle.pr_model.specs.declared.calls.Call.TheVariants as call
+use Rattle.pr_model.specs.declared.calls.File.{File}
+use Rattle.pr_model.specs.declared.calls.File.TheVariants as file
 use Rattle.pr_model.specs.declared.calls.Mode.{Mode}
 use Rattle.pr_model.specs.declared.calls.Mode.TheVariants as mode
 use Rattle.pr_model.specs.declared.calls.Reply.{Reply}
@@ -13,13 +15,21 @@ use Rattle.pr_model.specs.declared.events.Act.{Act}
 use Rattle.pr_model.specs.declared.events.Act.TheVariants as act
 use Rattle.pr_plain.specs.HistoryText.{target_text}
 use Rattle.pr_hist.specs.Fields.{layout_of}
+use Rattle.pr_hist.specs.Listings.{Listing}
 use Rattle.pr_hist.specs.declared.fields.Layout.{Layout}
 use Rattle.pr_hist.specs.declared.fields.Layout.TheVariants as layout
 use Rattle.pr_hist.specs.declared.names.Known.{Known}
 
 -- the open handles, each with what it stands for
-abbrev pub Names : Type 0
-Names = List (ℕ × Known)
+abbrev pub Handles : Type 0
+Handles = List (ℕ × Known)
+
+-- What is known: the programs with their lines, the open handles, and for processes the place of the listing of the
+-- program that they run, counted from 0.
+pub record Names : Type 0 where
+  pub listings : List Listing
+  pub handles : Handles
+  pub running : List (ℕ × ℕ)
 
 -- for what a file is open
 unfoldable pub mode_words : Mode → List ℕ
@@ -37,7 +47,7 @@ known_or_number h None = codes "handle " ++ decimal h
 known_or_number h (Some k) = known_text k
 
 unfoldable pub handle_text : Names → ℕ → List ℕ
-handle_text names h = known_or_number h (under h names)
+handle_text names h = known_or_number h (under h names.handles)
 
 -- handles of a list
 unfoldable pub listed_text : Names → ℕ → List ℕ
@@ -52,32 +62,63 @@ layout_by None = layout.Raw
 layout_by (Some k) = layout_of k.file
 
 unfoldable pub layout_in : Names → ℕ → Layout
-layout_in names h = layout_by (under h names)
+layout_in names h = layout_by (under h names.handles)
+
+-- ---- what processes run
+
+-- the listing of the program that a process runs, where that is known
+abbrev pub listing_at : List Listing → Option ℕ → Option Listing
+listing_at listings None = None
+listing_at listings (Some place) = slice_get listings place
+
+unfoldable pub listing_of : Names → ℕ → Option Listing
+listing_of names pid = listing_at names.listings (under pid names.running)
+
+-- whether a file is the memory of its process
+unfoldable pub is_memory : File → Bool
+is_memory file.Mem = true
+is_memory _ = false
+
+-- that of the process whose file is open by a handle
+abbrev pub listing_for : Names → Option Known → Option Listing
+listing_for names None = None
+listing_for names (Some k) = listing_of names k.pid
+
+unfoldable pub listing_by : Names → ℕ → Option Listing
+listing_by names h = listing_for names (under h names.handles)
+
+-- the same where the file is its memory: only there a place in a file is an address
+abbrev pub memory_for : Names → Option Known → Option Listing
+memory_for names None = None
+memory_for names (Some k) = if is_memory k.file then listing_of names k.pid else None
+
+unfoldable pub memory_by : Names → ℕ → Option Listing
+memory_by names h = memory_for names (under h names.handles)
 
 -- ---- how names come and go
 
--- a handle with what it stands for now
-unfoldable pub named : ℕ → Known → Names → Names
+-- a handle with what it stands for now, or a process with what it runs
+unfoldable pub named : {X : Type 0} → ℕ → X → List (ℕ × X) → List (ℕ × X)
 named h k names = inserted h k (without_id h names)
 
 -- an open that gave a handle
-unfoldable pub opened : Known → Reply → Names → Names
+unfoldable pub opened : Known → Reply → Handles → Handles
 opened k (reply.Handle h) names = named h k names
 opened k _ names = names
 
 -- a close that was done
-unfoldable pub closed : ℕ → Reply → Names → Names
+unfoldable pub closed : ℕ → Reply → Handles → Handles
 closed h reply.Done names = without_id h names
 closed h _ names = names
 
 -- the names after a call and its reply
-unfoldable pub names_after : Names → Call → Reply → Names
+unfoldable pub names_after : Handles → Call → Reply → Handles
 names_after names (call.Open pid lwp file mode) r =
     opened (record { pid = pid; lwp = lwp; file = file; mode = mode }) r names
 names_after names (call.Close h) r = closed h r names
 names_after names _ r = names
 
--- and after an entry
-unfoldable pub names_beyond : Names → Act → Names
-names_beyond names (act.Call c r) = names_after names c r
-names_beyond names _ = names
+-- the handles after what was done
+unfoldable pub handles_after : Handles → Act → Handles
+handles_after names (act.Call c r) = names_after names c r
+handles_after names _ = names

@@ -13,7 +13,8 @@ use Rattle.pr_model.specs.declared.events.Actor.{Actor}
 use Rattle.pr_model.specs.declared.events.Actor.TheVariants as actor
 use Rattle.pr_model.specs.declared.events.Entry.{Entry}
 use Rattle.pr_hist.specs.Entries.{words_of}
-use Rattle.pr_hist.specs.Names.{Names, names_beyond}
+use Rattle.pr_hist.specs.Names.{Names}
+use Rattle.pr_hist.specs.News.{names_beyond}
 use Rattle.pr_hist.specs.declared.names.Known.{Known}
 use Rattle.pr_hist.specs.declared.selections.Selection.{Selection}
 use Rattle.pr_hist.specs.declared.selections.Who.{Who}
@@ -25,7 +26,7 @@ is_known_of p None = false
 is_known_of p (Some k) = k.pid == p
 
 unfoldable pub stands_for : ℕ → Names → ℕ → Bool
-stands_for p names h = is_known_of p (under h names)
+stands_for p names h = is_known_of p (under h names.handles)
 
 -- whether a process was made that has this id
 unfoldable pub made : ℕ → Reply → Bool
@@ -90,8 +91,8 @@ selected s n names e = if is_told s n names e then words_of s.full n names e els
 -- the blocks of those entries that are told, which count from a number
 unfoldable pub selected_blocks : Selection → ℕ → Names → List Entry → List ℕ
 selected_blocks s n names [] = []
-selected_blocks s n names (e ∷ es) = selected s n names e ++ selected_blocks s (n + 1) (names_beyond names e.act) es
+selected_blocks s n names (e ∷ es) = selected s n names e ++ selected_blocks s (n + 1) (names_beyond names e) es
 
--- a part of a history in words
-abbrev pub selected_text : Selection → List Entry → List ℕ
-selected_text s es = selected_blocks s 0 [] es
+-- a part of a history in words, before which this is known
+abbrev pub selected_text : Selection → Names → List Entry → List ℕ
+selected_text s names es = selected_blocks s 0 names es

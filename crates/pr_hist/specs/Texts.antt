@@ -1,7 +1,8 @@
 -- Numbers and bytes in words.
 use Rattle.std.specs.Prelude.{ℕ, ◌==◌, List, [], ◌∷◌, ◌++◌, codes, decimal, length, take, nat_lt, false, if◌then◌else◌}
-use Rattle.std.specs.List.{flat_map}
+use Rattle.std.specs.List.{before_first, flat_map}
 use Rattle.pr_num.specs.Limits.{shown_limit}
+use Rattle.pr_num.specs.Padding.{is_zero}
 use Rattle.pr_text.specs.HexWords.{digits_of_bytes}
 use Rattle.pr_text.specs.Numerals.{hex_text}
 use Rattle.pr_text.specs.Quotes.{quoted_text}
@@ -29,6 +30,10 @@ plus_as_blank b = if b == 43 then 32 ∷ [] else b ∷ []
 
 unfoldable pub spaced_text : List ℕ → List ℕ
 spaced_text word = codes " " ++ flat_map plus_as_blank word
+
+-- a name in its 32 bytes: those up to the first zero
+unfoldable pub name_in : List ℕ → List ℕ
+name_in bytes = before_first is_zero (take 32 bytes)
 
 -- bytes in hex and as text
 unfoldable pub bytes_text : List ℕ → List ℕ

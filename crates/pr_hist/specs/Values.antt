@@ -1,9 +1,7 @@
 -- What a word of a record says, by its kind, with a blank before it.
-use Rattle.std.specs.Prelude.{ℕ, ◌==◌, ◌||◌, not, Bool, true, false, Option, Some, None, List, [], ◌++◌, codes, decimal, take, if◌then◌else◌}
-use Rattle.std.specs.List.{before_first}
+use Rattle.std.specs.Prelude.{ℕ, ◌==◌, ◌||◌, not, Bool, true, false, Option, Some, None, List, [], ◌++◌, codes, decimal, if◌then◌else◌}
 use Rattle.pr_num.specs.Errnos.{errno_name, errno_of_number}
 use Rattle.pr_num.specs.Faults.{fault_name, fault_of_number}
-use Rattle.pr_num.specs.Padding.{is_zero}
 use Rattle.pr_num.specs.StopReasons.{stop_reasons, reason_name}
 use Rattle.pr_num.specs.Syscalls.{syscall_name, syscall_of_number}
 use Rattle.pr_num.specs.Tables.{entry_at}
@@ -14,10 +12,11 @@ use Rattle.pr_num.specs.declared.stop_reasons.StopReason.TheVariants.{Requested,
 use Rattle.pr_num.specs.declared.syscalls.Sysno.{Sysno}
 use Rattle.pr_text.specs.Quotes.{quoted_text}
 use Rattle.pr_hist.specs.Flags.{lwp_flags_text, process_flags_text, protection_text, watch_flags_text}
-use Rattle.pr_hist.specs.Messages.{address_text, calls_text, faults_text, signal_text, signals_text}
-use Rattle.pr_hist.specs.Texts.{number_text}
+use Rattle.pr_hist.specs.Listings.{Listing}
+use Rattle.pr_hist.specs.Messages.{address_text, calls_text, code_text, faults_text, signal_text, signals_text}
+use Rattle.pr_hist.specs.Texts.{name_in, number_text}
 use Rattle.pr_hist.specs.declared.fields.Kind.{Kind}
-use Rattle.pr_hist.specs.declared.fields.Kind.TheVariants.{Count, Place, Number, Address, LwpFlags, ProcessFlags, WatchFlags, Protection, Why, What, Signal, Fault, Call, Errno as AnErrno, Signals, Faults, Calls, Disposition, Handler, Origin, MappingKind, DescriptorKind, Access, Name, Rest}
+use Rattle.pr_hist.specs.declared.fields.Kind.TheVariants.{Count, Place, Number, Address, Code, LwpFlags, ProcessFlags, WatchFlags, Protection, Why, What, Signal, Fault, Call, Errno as AnErrno, Signals, Faults, Calls, Disposition, Handler, Origin, MappingKind, DescriptorKind, Access, Name, Rest}
 
 -- numbers
 unfoldable pub count_text : ℕ → List ℕ
@@ -76,8 +75,8 @@ what_text why w = what_by (entry_at stop_reasons why) w
 unfoldable pub disposition_text : ℕ → List ℕ
 disposition_text w = if w == 1 then codes " ignored" else (if w == 2 then codes " caught" else plain_text w)
 
-unfoldable pub handler_text : ℕ → List ℕ
-handler_text w = if w == 1 then codes " ignored" else address_text w
+unfoldable pub handler_text : Option Listing → ℕ → List ℕ
+handler_text l w = if w == 1 then codes " ignored" else code_text l w
 
 -- where a signal came from
 unfoldable pub origin_text : ℕ → List ℕ
@@ -103,35 +102,37 @@ access_text w =
 
 -- a name: its bytes up to the first zero
 unfoldable pub name_text : List ℕ → List ℕ
-name_text bytes = codes " " ++ quoted_text (before_first is_zero (take 32 bytes)) false
+name_text bytes = codes " " ++ quoted_text (name_in bytes) false
 
--- A word, a row a kind. Before it stands the word `before`; `bytes` are its own and those behind it.
-unfoldable pub value_text : Kind → ℕ → ℕ → List ℕ → List ℕ
-value_text Count before w bytes = count_text w
-value_text Place before w bytes = count_text w
-value_text Number before w bytes = plain_text w
-value_text Address before w bytes = address_text w
-value_text LwpFlags before w bytes = lwp_flags_text w
-value_text ProcessFlags before w bytes = process_flags_text w
-value_text WatchFlags before w bytes = watch_flags_text w
-value_text Protection before w bytes = protection_text w
-value_text Why before w bytes = why_text w
-value_text What before w bytes = what_text before w
-value_text Signal before w bytes = signal_text w
-value_text Fault before w bytes = fault_text w
-value_text Call before w bytes = call_text w
-value_text AnErrno before w bytes = errno_text w
-value_text Signals before w bytes = signals_text w
-value_text Faults before w bytes = faults_text w
-value_text Calls before w bytes = calls_text w
-value_text Disposition before w bytes = disposition_text w
-value_text Handler before w bytes = handler_text w
-value_text Origin before w bytes = origin_text w
-value_text MappingKind before w bytes = mapping_text w
-value_text DescriptorKind before w bytes = descriptor_text w
-value_text Access before w bytes = access_text w
-value_text Name before w bytes = name_text bytes
-value_text Rest before w bytes = []
+-- A word of a record of a process that runs this program, a row a kind. Before it stands the word `before`; `bytes` are
+-- its own and those behind it.
+unfoldable pub value_text : Option Listing → Kind → ℕ → ℕ → List ℕ → List ℕ
+value_text l Count before w bytes = count_text w
+value_text l Place before w bytes = count_text w
+value_text l Number before w bytes = plain_text w
+value_text l Address before w bytes = address_text w
+value_text l Code before w bytes = code_text l w
+value_text l LwpFlags before w bytes = lwp_flags_text w
+value_text l ProcessFlags before w bytes = process_flags_text w
+value_text l WatchFlags before w bytes = watch_flags_text w
+value_text l Protection before w bytes = protection_text w
+value_text l Why before w bytes = why_text w
+value_text l What before w bytes = what_text before w
+value_text l Signal before w bytes = signal_text w
+value_text l Fault before w bytes = fault_text w
+value_text l Call before w bytes = call_text w
+value_text l AnErrno before w bytes = errno_text w
+value_text l Signals before w bytes = signals_text w
+value_text l Faults before w bytes = faults_text w
+value_text l Calls before w bytes = calls_text w
+value_text l Disposition before w bytes = disposition_text w
+value_text l Handler before w bytes = handler_text l w
+value_text l Origin before w bytes = origin_text w
+value_text l MappingKind before w bytes = mapping_text w
+value_text l DescriptorKind before w bytes = descriptor_text w
+value_text l Access before w bytes = access_text w
+value_text l Name before w bytes = name_text bytes
+value_text l Rest before w bytes = []
 
 -- whether a word says something: most do where they are not 0
 unfoldable pub says_something : Kind → ℕ → Bool

@@ -1,5 +1,5 @@
 //! Entries in a few words, for the cell of a chart.
-ghost use Rattle.std.specs.Prelude.{◌≡◌, ◌++◌, codes, OnOk};
+ghost use Rattle.std.specs.Prelude.{◌≡◌, ◌++◌, codes, None, OnOk};
 ghost use Rattle.pr_hist.specs.Briefs.{asking, brief_call, brief_text, brief_turn, refused};
 ghost use Rattle.pr_hist.specs.Calls.{calling, operands_text};
 ghost use Rattle.pr_hist.specs.Messages.{messages_text};
@@ -8,11 +8,11 @@ ghost use Rattle.pr_hist.specs.Names.{handle_text};
 use crate::calls::{calling, write_operands};
 use crate::entries::write_tick;
 use crate::messages::write_messages;
-use crate::names::{Known, write_handle};
+use crate::names::{Names, write_handle};
 use crate::texts::Text;
 use crate::turns::{doing, object, write_outcome};
 use pr_model::{Act, Call, Reply, Turned};
-use pr_num::{ById, NoMemory};
+use pr_num::NoMemory;
 
 /// That a call was refused, and how.
 #[tactic(auto, unfolding(crate::specs::Briefs::refused))]
@@ -35,20 +35,20 @@ fn write_refused(text: &mut Text, reply: &Reply) -> Result<(), NoMemory>
 }
 
 fn write_waiting(text: &mut Text, bytes: &[u8]) -> Result<(), NoMemory>
-    ensures { OnOk result (text.new ≡ text.old ++ (codes "waits: " ++ messages_text bytes.now)) }
+    ensures { OnOk result (text.new ≡ text.old ++ (codes "waits: " ++ messages_text None bytes.now)) }
 {
     text.text(b"waits: ")?;
-    write_messages(text, bytes)
+    write_messages(text, None, bytes)
 }
 
-fn write_reading(text: &mut Text, names: &ById<Known>, handle: u32) -> Result<(), NoMemory>
+fn write_reading(text: &mut Text, names: &Names, handle: u32) -> Result<(), NoMemory>
     ensures { OnOk result (text.new ≡ text.old ++ (codes "reads " ++ handle_text names.now handle)) }
 {
     text.text(b"reads ")?;
     write_handle(text, names, handle)
 }
 
-fn write_whole(text: &mut Text, names: &ById<Known>, call: &Call) -> Result<(), NoMemory>
+fn write_whole(text: &mut Text, names: &Names, call: &Call) -> Result<(), NoMemory>
     ensures { OnOk result (text.new ≡ text.old ++ (calling call.now ++ operands_text names.now call.now)) }
 {
     text.text(calling(call))?;
@@ -57,11 +57,11 @@ fn write_whole(text: &mut Text, names: &ById<Known>, call: &Call) -> Result<(), 
 
 /// What a controller asks: of a write its messages, of a read the file.
 #[tactic(auto, unfolding(crate::specs::Briefs::asking))]
-fn write_asking(text: &mut Text, names: &ById<Known>, call: &Call) -> Result<(), NoMemory>
+fn write_asking(text: &mut Text, names: &Names, call: &Call) -> Result<(), NoMemory>
     ensures { OnOk result (text.new ≡ text.old ++ asking names.now call.now) }
 {
     match call {
-        Call::Ctl { bytes, .. } => write_messages(text, bytes.as_slice()),
+        Call::Ctl { bytes, .. } => write_messages(text, None, bytes.as_slice()),
         Call::CtlWait { bytes, .. } => write_waiting(text, bytes.as_slice()),
         Call::Read { handle, .. } => write_reading(text, names, *handle),
         Call::Open { .. }
@@ -78,7 +78,7 @@ fn write_asking(text: &mut Text, names: &ById<Known>, call: &Call) -> Result<(),
 #[tactic(auto, unfolding(crate::specs::Briefs::brief_call))]
 fn write_brief_call(
     text: &mut Text,
-    names: &ById<Known>,
+    names: &Names,
     call: &Call,
     reply: &Reply,
 ) -> Result<(), NoMemory>
@@ -100,7 +100,7 @@ fn write_brief_turn(text: &mut Text, turned: Turned) -> Result<(), NoMemory>
 
 /// What was done, in a few words.
 #[tactic(auto, unfolding(crate::specs::Briefs::brief_text))]
-pub fn write_brief(text: &mut Text, names: &ById<Known>, act: &Act) -> Result<(), NoMemory>
+pub fn write_brief(text: &mut Text, names: &Names, act: &Act) -> Result<(), NoMemory>
     ensures { OnOk result (text.new ≡ text.old ++ brief_text names.now act.now) }
 {
     match act {

@@ -3,10 +3,10 @@ ghost use Rattle.std.specs.Prelude.{◌≡◌, ◌++◌, OnOk};
 ghost use Rattle.pr_hist.specs.Calls.{calling, kill_text, operands_text, part_text, spawn_text, until_text, wait_text, write_text};
 
 use crate::messages::{write_messages, write_signal};
-use crate::names::{Known, write_handle, write_handles, write_known};
+use crate::names::{Known, Names, write_handle, write_handles, write_known};
 use crate::texts::Text;
 use pr_model::{Call, File, Mode};
-use pr_num::{ById, Name, NoMemory};
+use pr_num::{Name, NoMemory};
 
 /// What a controller does in a call.
 #[tactic(auto, unfolding(crate::specs::Calls::calling))]
@@ -42,24 +42,19 @@ pub fn write_until(text: &mut Text, n: u64) -> Result<(), NoMemory>
 
 /// The messages of a write.
 #[tactic(auto, unfolding(crate::specs::Calls::write_text))]
-fn write_write(
-    text: &mut Text,
-    names: &ById<Known>,
-    handle: u32,
-    bytes: &[u8],
-) -> Result<(), NoMemory>
+fn write_write(text: &mut Text, names: &Names, handle: u32, bytes: &[u8]) -> Result<(), NoMemory>
     ensures { OnOk result (text.new ≡ text.old ++ write_text names.now handle bytes.now) }
 {
     write_handle(text, names, handle)?;
     text.text(b": ")?;
-    write_messages(text, bytes)
+    write_messages(text, names.listing_by(handle), bytes)
 }
 
 /// The messages of a wait, and its end.
 #[tactic(auto, unfolding(crate::specs::Calls::wait_text))]
 fn write_wait(
     text: &mut Text,
-    names: &ById<Known>,
+    names: &Names,
     handle: u32,
     until: u64,
     bytes: &[u8],
@@ -69,14 +64,14 @@ fn write_wait(
     write_handle(text, names, handle)?;
     write_until(text, until)?;
     text.text(b": ")?;
-    write_messages(text, bytes)
+    write_messages(text, names.listing_by(handle), bytes)
 }
 
 /// The part of a file that is read.
 #[tactic(auto, unfolding(crate::specs::Calls::part_text))]
 fn write_part(
     text: &mut Text,
-    names: &ById<Known>,
+    names: &Names,
     handle: u32,
     at: u64,
     len: u64,
@@ -87,7 +82,8 @@ fn write_part(
     text.text(b", ")?;
     text.size(len)?;
     text.text(b" at ")?;
-    text.number(at)
+    text.number(at)?;
+    text.place(names.memory_by(handle), at)
 }
 
 /// A program, and whether its process is directed to stop.
@@ -112,7 +108,7 @@ fn write_kill(text: &mut Text, pid: u32, sig: u64) -> Result<(), NoMemory>
 #[tactic(auto, unfolding(crate::specs::Calls::operands_text))]
 fn write_open(
     text: &mut Text,
-    names: &ById<Known>,
+    names: &Names,
     pid: u32,
     lwp: u32,
     file: File,
@@ -134,7 +130,7 @@ fn write_open(
 
 /// With what a call is made.
 #[tactic(auto, unfolding(crate::specs::Calls::operands_text))]
-pub fn write_operands(text: &mut Text, names: &ById<Known>, call: &Call) -> Result<(), NoMemory>
+pub fn write_operands(text: &mut Text, names: &Names, call: &Call) -> Result<(), NoMemory>
     ensures { OnOk result (text.new ≡ text.old ++ operands_text names.now call.now) }
 {
     match call {

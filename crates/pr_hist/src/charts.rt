@@ -6,14 +6,14 @@ ghost use Rattle.pr_hist.specs.Charts.{act_aims, call_aims, cell, cell_width, ce
 use crate::briefs::write_brief;
 use crate::entries::{words_of, write_actor};
 use crate::lanes::{Lane, Stand, is_born, is_lane_of, is_lwp_of, is_same};
-use crate::names::Known;
+use crate::names::{Known, Names};
 use crate::pictures::{
     write_picture_cell, write_picture_foot, write_picture_head, write_picture_name,
     write_picture_row,
 };
 use crate::texts::{Text, front};
 use pr_model::{Act, Actor, Call, Entry, Reply};
-use pr_num::{ById, NoMemory};
+use pr_num::NoMemory;
 use std::alloc::Global;
 
 /// The kinds of charts.
@@ -59,7 +59,7 @@ fn known_aims(known: Option<Known>, actor: Actor) -> bool
 
 /// Whether a call sends something to an actor: a message, a signal, an interrupt.
 #[tactic(auto, unfolding(crate::specs::Charts::call_aims))]
-fn call_aims(names: &ById<Known>, call: &Call, actor: Actor) -> bool
+fn call_aims(names: &Names, call: &Call, actor: Actor) -> bool
     ensures { result ≡ call_aims names.now call.now actor }
 {
     match call {
@@ -94,7 +94,7 @@ fn is_refusal(reply: &Reply) -> bool
 }
 
 #[tactic(auto, unfolding(crate::specs::Charts::act_aims))]
-fn act_aims(names: &ById<Known>, act: &Act, actor: Actor) -> bool
+fn act_aims(names: &Names, act: &Act, actor: Actor) -> bool
     ensures { result ≡ act_aims names.now act.now actor }
 {
     match act {
@@ -122,14 +122,14 @@ fn is_absent(stand: Stand) -> bool
 
 /// Whether an entry comes to a lane: it made its lwp, or sent it something.
 #[tactic(auto, unfolding(crate::specs::Charts::is_target))]
-fn is_target(names: &ById<Known>, entry: &Entry, lane: &Lane) -> bool
+fn is_target(names: &Names, entry: &Entry, lane: &Lane) -> bool
     ensures { result ≡ is_target names.now entry.now lane.now }
 {
     !is_absent(lane.stand)
         && (is_born(entry, lane.actor) || act_aims(names, &entry.act, lane.actor))
 }
 
-fn is_first_target(names: &ById<Known>, entry: &Entry, lanes: &[Lane]) -> bool
+fn is_first_target(names: &Names, entry: &Entry, lanes: &[Lane]) -> bool
     ensures { result ≡ is_first_target names.now entry.now lanes.now }
 {
     match lanes {
@@ -138,7 +138,7 @@ fn is_first_target(names: &ById<Known>, entry: &Entry, lanes: &[Lane]) -> bool
     }
 }
 
-fn has_target(names: &ById<Known>, entry: &Entry, lanes: &[Lane]) -> bool
+fn has_target(names: &Names, entry: &Entry, lanes: &[Lane]) -> bool
     ensures { result ≡ list_any (is_target names.now entry.now) lanes.now }
 {
     lanes.iter().any(|lane| is_target(names, entry, lane))
@@ -146,7 +146,7 @@ fn has_target(names: &ById<Known>, entry: &Entry, lanes: &[Lane]) -> bool
 
 /// What a cell has besides how its lane stands.
 #[tactic(auto, unfolding(crate::specs::Charts::marks_of))]
-fn marks_of(names: &ById<Known>, entry: &Entry, passed: bool, lane: &Lane, rest: &[Lane]) -> Marks
+fn marks_of(names: &Names, entry: &Entry, passed: bool, lane: &Lane, rest: &[Lane]) -> Marks
     ensures { result ≡ marks_of names.now entry.now passed lane.now rest.now }
 {
     let acts = is_lane_of(entry.actor, lane);
@@ -291,7 +291,7 @@ fn write_first_cell(
     alloc: Global,
     text: &mut Text,
     sheet: Sheet,
-    names: &ById<Known>,
+    names: &Names,
     entry: &Entry,
     label: &[u8],
     passed: bool,
@@ -333,7 +333,7 @@ fn write_cells(
     alloc: Global,
     text: &mut Text,
     sheet: Sheet,
-    names: &ById<Known>,
+    names: &Names,
     entry: &Entry,
     label: &[u8],
     lanes: &[Lane],
@@ -442,7 +442,7 @@ pub fn write_row(
     sheet: Sheet,
     full: bool,
     number: usize,
-    names: &ById<Known>,
+    names: &Names,
     lanes: &[Lane],
     entry: &Entry,
 ) -> Result<(), NoMemory>

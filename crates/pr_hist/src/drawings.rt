@@ -4,11 +4,11 @@ ghost use Rattle.pr_hist.specs.Drawings.{chart_of, drawn, is_too_long, row_after
 
 use crate::charts::{Chart, Sheet, write_foot, write_head, write_row};
 use crate::lanes::{Lane, lanes_of, move_lanes};
-use crate::names::{Known, note};
+use crate::names::{Names, note};
 use crate::selections::{Selection, is_told};
 use crate::texts::Text;
 use pr_model::{Entry, History};
-use pr_num::{ById, Bytes, NoMemory};
+use pr_num::{Bytes, NoMemory};
 use std::alloc::Global;
 
 fn sheet_of(chart: Chart, row: u64, lanes: &[Lane]) -> Sheet
@@ -23,13 +23,7 @@ fn sheet_of(chart: Chart, row: u64, lanes: &[Lane]) -> Sheet
 
 /// How many rows there are with an entry, where it is told.
 #[tactic(auto, unfolding(crate::specs::Drawings::row_after))]
-fn row_after(
-    selection: Selection,
-    number: usize,
-    row: u64,
-    names: &ById<Known>,
-    entry: &Entry,
-) -> u64
+fn row_after(selection: Selection, number: usize, row: u64, names: &Names, entry: &Entry) -> u64
     requires { row + 1 < 2 ^ 64 }
     ensures value { result ≡ row_after selection number row names.now entry.now }
     ensures range { result ≤ row + 1 }
@@ -50,7 +44,7 @@ fn write_told(
     selection: Selection,
     number: usize,
     row: u64,
-    names: &ById<Known>,
+    names: &Names,
     lanes: &[Lane],
     entry: &Entry,
 ) -> Result<(), NoMemory>
@@ -79,19 +73,20 @@ fn write_rows(
     text: &mut Text,
     chart: Chart,
     selection: Selection,
+    names: Names,
     lanes: &mut [Lane],
     history: &History,
 ) -> Result<(), NoMemory>
-    ensures { OnOk result (text.new ≡ text.old ++ rows_text chart selection 0 0 [] lanes.old history.now.entries) }
+    ensures { OnOk result (text.new ≡ text.old ++ rows_text chart selection 0 0 names lanes.old history.now.entries) }
 {
-    let mut names: ById<Known> = ById::new(alloc);
+    let mut names = names;
     let mut row = 0;
     for at in 0..history.len() {
         let entry = history.get(at).unwrap();
         move_lanes(lanes, entry);
         write_told(alloc, text, chart, selection, at, row, &names, lanes, entry)?;
         row = row_after(selection, at, row, &names, entry);
-        note(&mut names, &entry.act)?;
+        note(&mut names, entry)?;
     }
     Ok(())
 }
@@ -100,12 +95,12 @@ fn write_rows(
 fn rows_of(alloc: Global, selection: Selection, history: &History) -> Result<u64, NoMemory>
     ensures { IfOk result (λ rows. rows ≡ rows_of selection history.now.entries) }
 {
-    let mut names: ById<Known> = ById::new(alloc);
+    let mut names = Names::new(alloc);
     let mut row = 0;
     for at in 0..history.len() {
         let entry = history.get(at).unwrap();
         row = row_after(selection, at, row, &names, entry);
-        note(&mut names, &entry.act)?;
+        note(&mut names, entry)?;
     }
     Ok(row)
 }
@@ -121,27 +116,28 @@ fn is_too_long(chart: Chart, rows: u64) -> bool
     }
 }
 
-/// A chart with these lanes and so many rows.
+/// A chart with these lanes and so many rows, before which this is known.
 #[tactic(auto, unfolding(crate::specs::Drawings::drawn))]
 fn drawn(
     alloc: Global,
     chart: Chart,
     selection: Selection,
+    names: Names,
     lanes: &mut [Lane],
     rows: u64,
     history: &History,
 ) -> Result<Bytes, NoMemory>
-    ensures { IfOk result (λ text. text ≡ drawn chart selection lanes.old rows history.now.entries) }
+    ensures { IfOk result (λ text. text ≡ drawn chart selection names lanes.old rows history.now.entries) }
 {
     let mut text = Text::new(alloc)?;
     write_head(alloc, &mut text, sheet_of(chart, rows, lanes), lanes)?;
-    write_rows(alloc, &mut text, chart, selection, lanes, history)?;
+    write_rows(alloc, &mut text, chart, selection, names, lanes, history)?;
     write_foot(&mut text, chart)?;
     Ok(text.into_bytes())
 }
 
-/// The chart of a history, or of a part of it: a row for each entry that is told, in their order. `None` where it has
-/// too many rows: a picture of more than 5,000.
+/// The chart of a history, or of a part of it, before which this is known: a row for each entry that is told, in their
+/// order. `None` where it has too many rows: a picture of more than 5,000.
 ///
 /// Goes over the history five times, and in each row over the lanes; the whole text is in memory.
 #[tactic(auto, unfolding(crate::specs::Drawings::chart_of))]
@@ -149,15 +145,16 @@ pub fn chart_of(
     alloc: Global,
     chart: Chart,
     selection: Selection,
+    names: Names,
     history: &History,
 ) -> Result<Option<Bytes>, NoMemory>
-    ensures { IfOk result (λ text. text ≡ chart_of chart selection history.now.entries) }
+    ensures { IfOk result (λ text. text ≡ chart_of chart selection names history.now.entries) }
 {
     let rows = rows_of(alloc, selection, history)?;
     if is_too_long(chart, rows) {
         return Ok(None);
     }
     let mut lanes = lanes_of(alloc, selection.who, history)?;
-    let text = drawn(alloc, chart, selection, &mut lanes, rows, history)?;
+    let text = drawn(alloc, chart, selection, names, &mut lanes, rows, history)?;
     Ok(Some(text))
 }

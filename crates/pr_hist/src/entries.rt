@@ -3,12 +3,12 @@ ghost use Rattle.std.specs.Prelude.{◌≡◌, ◌++◌, OnOk};
 ghost use Rattle.pr_plain.specs.HistoryText.{actor_text};
 ghost use Rattle.pr_hist.specs.Entries.{act_text, tick_text, words_of};
 
-use crate::names::Known;
+use crate::names::Names;
 use crate::replies::write_call;
 use crate::texts::Text;
 use crate::turns::write_turn;
 use pr_model::{Act, Actor, Entry};
-use pr_num::{ById, NoMemory};
+use pr_num::NoMemory;
 
 /// Who acted.
 #[tactic(auto, unfolding(pr_plain::specs::HistoryText::actor_text, pr_text::specs::LwpWords::lwp_text))]
@@ -39,7 +39,7 @@ pub fn write_tick(text: &mut Text, n: u64) -> Result<(), NoMemory>
 
 /// What was done.
 #[tactic(auto, unfolding(crate::specs::Entries::act_text))]
-fn write_act(text: &mut Text, full: bool, names: &ById<Known>, act: &Act) -> Result<(), NoMemory>
+fn write_act(text: &mut Text, full: bool, names: &Names, act: &Act) -> Result<(), NoMemory>
     ensures { OnOk result (text.new ≡ text.old ++ act_text full names.now act.now) }
 {
     match act {
@@ -57,7 +57,7 @@ fn write_act(text: &mut Text, full: bool, names: &ById<Known>, act: &Act) -> Res
 pub fn words_of(
     text: &mut Text,
     full: bool,
-    names: &ById<Known>,
+    names: &Names,
     number: usize,
     entry: &Entry,
 ) -> Result<(), NoMemory>

@@ -16,6 +16,8 @@ pub enum Kind {
     Number,
     /// An address.
     Address,
+    /// An address at which an instruction may stand.
+    Code,
     /// Flags of an lwp.
     LwpFlags,
     /// Flags of a process.
@@ -133,7 +135,7 @@ fn lwp_kind(place: u64) -> Kind
         3 => Kind::What,
         4 => Kind::Signal,
         5 => Kind::Fault,
-        6 => Kind::Address,
+        6 => Kind::Code,
         7 => Kind::Call,
         8 => Kind::Number,
         9 => Kind::Number,
@@ -155,7 +157,7 @@ fn lwp_kind(place: u64) -> Kind
         25 => Kind::Number,
         26 => Kind::Address,
         27 => Kind::Address,
-        28 => Kind::Address,
+        28 => Kind::Code,
         29 => Kind::Disposition,
         30 => Kind::Origin,
         31 => Kind::Count,

@@ -95,7 +95,7 @@ fn lwp_in(pid: u32, lwp: Option<u32>) -> Option<Actor>
 
 /// The lwp that a turn of an lwp of a process made.
 #[tactic(auto, unfolding(crate::specs::Lanes::made_by))]
-fn made_by(pid: u32, did: Did) -> Option<Actor>
+pub fn made_by(pid: u32, did: Did) -> Option<Actor>
     ensures { result ≡ made_by pid did }
 {
     match did {

@@ -7,23 +7,23 @@ ghost use Rattle.pr_model.specs.declared.events.Actor.{Actor as AnyActor};
 ghost use Rattle.pr_model.specs.declared.events.Entry.{Entry as AnyEntry};
 ghost use Rattle.pr_hist.specs.Entries.{text_of, words_of};
 ghost use Rattle.pr_hist.specs.Laws.{NamesClosed, NamesOpened, StoodSince, names_behind, stand_behind, stands};
-ghost use Rattle.pr_hist.specs.Names.{Names};
+ghost use Rattle.pr_hist.specs.Names.{Handles, Names};
 ghost use Rattle.pr_hist.specs.declared.lanes.Stand.{Stand as AnyStand};
 
 /// A history of one entry more has one block more, at its end: so there is a block for each entry, in their order. The
-/// block is that of the entry's number, and of the handles that are open before it.
+/// block is that of the entry's number, and of what is known before it.
 #[tactic(auto, using(crate::proofs::HistoryLaws::growing_text))]
 pub fn a_text_grows_by_a_block()
-    ensures none { text_of [] ≡ [] }
-    ensures longer { (es : List AnyEntry) (e : AnyEntry)
-        → text_of (es ++ e ∷ []) ≡ text_of es ++ words_of false (length es) (names_behind [] es) e }
+    ensures none { (names : Names) → text_of names [] ≡ [] }
+    ensures longer { (names : Names) (es : List AnyEntry) (e : AnyEntry)
+        → text_of names (es ++ e ∷ []) ≡ text_of names es ++ words_of false (length es) (names_behind names es) e }
 {}
 
 /// A handle is named from the open that gave it to the close that was done, whatever happens to others.
 pub fn handles_are_named_while_open()
-    ensures opened { (names : Names) (pid lwp : ℕ) (file : AnyFile) (mode : AnyMode) (h : ℕ)
+    ensures opened { (names : Handles) (pid lwp : ℕ) (file : AnyFile) (mode : AnyMode) (h : ℕ)
         → NamesOpened names pid lwp file mode h }
-    ensures closed { (names : Names) (h : ℕ) → IsRising names → NamesClosed names h }
+    ensures closed { (names : Handles) (h : ℕ) → IsRising names → NamesClosed names h }
 {}
 
 /// A lane that shows nothing still at first shows that its lwp stands still exactly where one of the entries is a stop

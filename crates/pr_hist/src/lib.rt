@@ -11,8 +11,10 @@ mod flags;
 mod histories;
 mod lanes;
 mod laws;
+mod listings;
 mod messages;
 mod names;
+mod news;
 mod operand_words;
 mod phrases;
 mod pictures;
@@ -33,7 +35,8 @@ pub use histories::{selected_text, text_of};
 pub use laws::{
     a_lane_stands_still_since_a_stop, a_text_grows_by_a_block, handles_are_named_while_open,
 };
-pub use names::Known;
+pub use listings::Listing;
+pub use names::{Known, Names};
 pub use selections::{Selection, Who};
 pub use spellings::bytes_of_line;
 pub use texts::Text;

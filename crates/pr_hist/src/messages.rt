@@ -1,8 +1,10 @@
 //! Control messages by name (proc(4), "Control messages").
 ghost use Rattle.std.specs.Prelude.{◌≡◌, ◌++◌, IfOk, OnOk, drop, slice_index};
-ghost use Rattle.pr_hist.specs.Messages.{address_text, all_messages, area_text, between, calls_text, faults_text, first_text, general_text, message_name, message_text, messages_text, no_message_text, operands_text, pointers_text, register_text, registers_text, rest_of, signal_text, signals_text, wait_text, written_text};
+ghost use Rattle.std.specs.Option.{option_copied};
+ghost use Rattle.pr_hist.specs.Messages.{address_text, all_messages, area_text, between, calls_text, code_text, faults_text, first_text, general_text, message_name, message_text, messages_text, no_message_text, operands_text, pointers_text, register_text, registers_text, rest_of, signal_text, signals_text, wait_text, written_text};
 
 use crate::flags::{modes, run_flags, watch_flags};
+use crate::listings::Listing;
 use crate::phrases::Phrase;
 use crate::sets::set_word;
 use crate::texts::{Text, behind, front};
@@ -94,15 +96,25 @@ pub fn write_address(text: &mut Text, at: u64) -> Result<(), NoMemory>
     text.hex(at)
 }
 
+/// An address at which an instruction of this program may stand.
+#[tactic(auto, unfolding(crate::specs::Messages::code_text))]
+pub fn write_code(text: &mut Text, source: Option<&Listing>, at: u64) -> Result<(), NoMemory>
+    ensures { OnOk result (text.new ≡ text.old ++ code_text (option_copied source.entry) at) }
+{
+    write_address(text, at)?;
+    text.place(source, at)
+}
+
 /// Bytes at an address.
 #[tactic(auto, unfolding(crate::specs::Messages::area_text))]
-fn write_area(text: &mut Text, at: u64, size: u64) -> Result<(), NoMemory>
-    ensures { OnOk result (text.new ≡ text.old ++ area_text at size) }
+fn write_area(text: &mut Text, source: Option<&Listing>, at: u64, size: u64) -> Result<(), NoMemory>
+    ensures { OnOk result (text.new ≡ text.old ++ area_text (option_copied source.entry) at size) }
 {
     text.text(b" ")?;
     text.size(size)?;
     text.text(b" at ")?;
-    text.hex(at)
+    text.hex(at)?;
+    text.place(source, at)
 }
 
 /// A register by name.
@@ -131,28 +143,43 @@ fn write_general(text: &mut Text, regs: &[u64; 11]) -> Result<(), NoMemory>
 }
 
 #[tactic(auto, unfolding(crate::specs::Messages::pointers_text))]
-fn write_pointers(text: &mut Text, regs: &[u64; 11]) -> Result<(), NoMemory>
-    ensures { OnOk result (text.new ≡ text.old ++ pointers_text regs.now) }
+fn write_pointers(
+    text: &mut Text,
+    source: Option<&Listing>,
+    regs: &[u64; 11],
+) -> Result<(), NoMemory>
+    ensures { OnOk result (text.new ≡ text.old ++ pointers_text (option_copied source.entry) regs.now) }
 {
     write_register(text, b"sp", regs[8])?;
     write_register(text, b"fp", regs[9])?;
-    write_register(text, b"pc", regs[10])
+    write_register(text, b"pc", regs[10])?;
+    text.place(source, regs[10])
 }
 
 #[tactic(auto, unfolding(crate::specs::Messages::registers_text))]
-fn write_registers(text: &mut Text, regs: &[u64; 11]) -> Result<(), NoMemory>
-    ensures { OnOk result (text.new ≡ text.old ++ registers_text regs.now) }
+fn write_registers(
+    text: &mut Text,
+    source: Option<&Listing>,
+    regs: &[u64; 11],
+) -> Result<(), NoMemory>
+    ensures { OnOk result (text.new ≡ text.old ++ registers_text (option_copied source.entry) regs.now) }
 {
     write_general(text, regs)?;
-    write_pointers(text, regs)
+    write_pointers(text, source, regs)
 }
 
 /// Where memory is written, and the bytes that stand behind the three words of the message.
 #[tactic(auto, unfolding(crate::specs::Messages::written_text))]
-fn write_written(text: &mut Text, at: u64, len: u64, bytes: &[u8]) -> Result<(), NoMemory>
-    ensures { OnOk result (text.new ≡ text.old ++ written_text at len bytes.now) }
+fn write_written(
+    text: &mut Text,
+    source: Option<&Listing>,
+    at: u64,
+    len: u64,
+    bytes: &[u8],
+) -> Result<(), NoMemory>
+    ensures { OnOk result (text.new ≡ text.old ++ written_text (option_copied source.entry) at len bytes.now) }
 {
-    write_area(text, at, len)?;
+    write_area(text, source, at, len)?;
     text.text(b": ")?;
     text.bytes(front(behind(bytes, 24), len as usize))
 }
@@ -160,21 +187,28 @@ fn write_written(text: &mut Text, at: u64, len: u64, bytes: &[u8]) -> Result<(),
 #[tactic(auto, unfolding(crate::specs::Messages::operands_text))]
 fn write_watch(
     text: &mut Text,
+    source: Option<&Listing>,
     at: u64,
     size: u64,
     flags: u64,
     bytes: &[u8],
 ) -> Result<(), NoMemory>
-    ensures { OnOk result (text.new ≡ text.old ++ operands_text (Message.Watch at size flags) bytes.now) }
+    ensures { OnOk result (text.new ≡ text.old
+        ++ operands_text (option_copied source.entry) (Message.Watch at size flags) bytes.now) }
 {
-    write_area(text, at, size)?;
+    write_area(text, source, at, size)?;
     watch_flags(text, flags)
 }
 
-/// The operands of a message with which bytes begin.
+/// The operands of a message with which bytes begin, to a process that runs this program.
 #[tactic(auto, unfolding(crate::specs::Messages::operands_text))]
-fn write_operands(text: &mut Text, message: &Message, bytes: &[u8]) -> Result<(), NoMemory>
-    ensures { OnOk result (text.new ≡ text.old ++ operands_text message.now bytes.now) }
+fn write_operands(
+    text: &mut Text,
+    source: Option<&Listing>,
+    message: &Message,
+    bytes: &[u8],
+) -> Result<(), NoMemory>
+    ensures { OnOk result (text.new ≡ text.old ++ operands_text (option_copied source.entry) message.now bytes.now) }
 {
     match *message {
         Message::Stop | Message::Dstop | Message::Wstop | Message::Csig | Message::Cfault => Ok(()),
@@ -190,22 +224,27 @@ fn write_operands(text: &mut Text, message: &Message, bytes: &[u8]) -> Result<()
         Message::Sexit { calls } => write_calls(text, calls),
         Message::Set { modes: word } => modes(text, word),
         Message::Unset { modes: word } => modes(text, word),
-        Message::Sreg { regs } => write_registers(text, &regs),
-        Message::Svaddr { pc } => write_address(text, pc),
-        Message::Watch { at, size, flags } => write_watch(text, at, size, flags, bytes),
-        Message::Agent { regs } => write_registers(text, &regs),
-        Message::Read { at, len } => write_area(text, at, len),
-        Message::Write { at, len } => write_written(text, at, len, bytes),
+        Message::Sreg { regs } => write_registers(text, source, &regs),
+        Message::Svaddr { pc } => write_code(text, source, pc),
+        Message::Watch { at, size, flags } => write_watch(text, source, at, size, flags, bytes),
+        Message::Agent { regs } => write_registers(text, source, &regs),
+        Message::Read { at, len } => write_area(text, source, at, len),
+        Message::Write { at, len } => write_written(text, source, at, len, bytes),
     }
 }
 
 /// The message with which bytes begin.
 #[tactic(auto, unfolding(crate::specs::Messages::message_text))]
-fn write_message(text: &mut Text, message: &Message, bytes: &[u8]) -> Result<(), NoMemory>
-    ensures { OnOk result (text.new ≡ text.old ++ message_text message.now bytes.now) }
+fn write_message(
+    text: &mut Text,
+    source: Option<&Listing>,
+    message: &Message,
+    bytes: &[u8],
+) -> Result<(), NoMemory>
+    ensures { OnOk result (text.new ≡ text.old ++ message_text (option_copied source.entry) message.now bytes.now) }
 {
     text.text(message_name(message))?;
-    write_operands(text, message, bytes)
+    write_operands(text, source, message, bytes)
 }
 
 /// What stands between two messages, where there is a next one.
@@ -231,8 +270,12 @@ fn write_no_message(text: &mut Text, bytes: &[u8]) -> Result<(), NoMemory>
 
 /// The message with which bytes begin, or that there is none. Answers the bytes behind it.
 #[tactic(auto, unfolding(crate::specs::Messages::first_text, crate::specs::Messages::rest_of))]
-fn write_first<'a>(text: &mut Text, bytes: &'a [u8]) -> Result<&'a [u8], NoMemory>
-    ensures told { OnOk result (text.new ≡ text.old ++ first_text bytes.now) }
+fn write_first<'a>(
+    text: &mut Text,
+    source: Option<&Listing>,
+    bytes: &'a [u8],
+) -> Result<&'a [u8], NoMemory>
+    ensures told { OnOk result (text.new ≡ text.old ++ first_text (option_copied source.entry) bytes.now) }
     ensures rest { IfOk result (λ rest. rest.now ≡ rest_of bytes.now) }
 {
     match decode_one(bytes) {
@@ -242,7 +285,7 @@ fn write_first<'a>(text: &mut Text, bytes: &'a [u8]) -> Result<&'a [u8], NoMemor
         }
         Ok((message, n)) => {
             let rest = behind(bytes, n);
-            write_message(text, &message, bytes)?;
+            write_message(text, source, &message, bytes)?;
             write_between(text, rest)?;
             Ok(rest)
         }
@@ -250,8 +293,12 @@ fn write_first<'a>(text: &mut Text, bytes: &'a [u8]) -> Result<&'a [u8], NoMemor
 }
 
 /// The messages of a write, each for itself.
-fn write_all_messages(text: &mut Text, bytes: &[u8]) -> Result<(), NoMemory>
-    ensures { OnOk result (text.new ≡ text.old ++ all_messages bytes.now) }
+fn write_all_messages(
+    text: &mut Text,
+    source: Option<&Listing>,
+    bytes: &[u8],
+) -> Result<(), NoMemory>
+    ensures { OnOk result (text.new ≡ text.old ++ all_messages (option_copied source.entry) bytes.now) }
 {
     let mut rest = bytes;
     let mut most = bytes.len();
@@ -259,20 +306,24 @@ fn write_all_messages(text: &mut Text, bytes: &[u8]) -> Result<(), NoMemory>
         if rest.len() == 0 {
             return Ok(());
         }
-        rest = write_first(text, rest)?;
+        rest = write_first(text, source, rest)?;
         most -= 1;
     }
     Ok(())
 }
 
-/// The messages of a write, or that there is nothing.
+/// The messages of a write to a process that runs this program, or that there is nothing.
 #[tactic(auto, unfolding(crate::specs::Messages::messages_text))]
-pub fn write_messages(text: &mut Text, bytes: &[u8]) -> Result<(), NoMemory>
-    ensures { OnOk result (text.new ≡ text.old ++ messages_text bytes.now) }
+pub fn write_messages(
+    text: &mut Text,
+    source: Option<&Listing>,
+    bytes: &[u8],
+) -> Result<(), NoMemory>
+    ensures { OnOk result (text.new ≡ text.old ++ messages_text (option_copied source.entry) bytes.now) }
 {
     if bytes.len() == 0 {
         text.text(b"nothing")
     } else {
-        write_all_messages(text, bytes)
+        write_all_messages(text, source, bytes)
     }
 }

@@ -1,9 +1,11 @@
 //! What was read of a file: a record field by field, or bytes.
 ghost use Rattle.std.specs.Prelude.{◌≡◌, ◌++◌, ◌+◌, ◌*◌, ◌≤◌, ◌<◌, ◌^◌, drop, length, OnOk};
+ghost use Rattle.std.specs.Option.{option_copied};
 ghost use Rattle.pr_num.specs.Messages.{nth_word};
 ghost use Rattle.pr_hist.specs.Records.{field_text, has_fields, is_raw, line_start, raw_text, record_text, word_before, word_text, words_text};
 
 use crate::fields::{Kind, Layout, field_kind, field_name, starts_record};
+use crate::listings::Listing;
 use crate::texts::{Text, behind};
 use crate::values::{is_shown, write_value};
 use pr_codec::{WORD, word};
@@ -23,18 +25,20 @@ fn nth_word(bytes: &[u8], place: usize) -> u64
 fn write_field(
     text: &mut Text,
     full: bool,
+    source: Option<&Listing>,
     name: &[u8],
     kind: Kind,
     before: u64,
     w: u64,
     bytes: &[u8],
 ) -> Result<(), NoMemory>
-    ensures { OnOk result (text.new ≡ text.old ++ field_text full name.now kind before w bytes.now) }
+    ensures { OnOk result (text.new ≡ text.old
+        ++ field_text full (option_copied source.entry) name.now kind before w bytes.now) }
 {
     if is_shown(full, kind, w) {
         text.text(b" ")?;
         text.text(name)?;
-        write_value(text, kind, before, w, bytes)?;
+        write_value(text, source, kind, before, w, bytes)?;
         text.text(b";")
     } else {
         Ok(())
@@ -63,6 +67,7 @@ fn word_before(bytes: &[u8], i: usize) -> u64
 fn write_word(
     text: &mut Text,
     full: bool,
+    source: Option<&Listing>,
     layout: Layout,
     from: u64,
     bytes: &[u8],
@@ -70,13 +75,14 @@ fn write_word(
 ) -> Result<(), NoMemory>
     requires within { 8 * i + 8 ≤ length bytes.now }
     requires place { from + i < 2 ^ 62 }
-    ensures { OnOk result (text.new ≡ text.old ++ word_text full layout from bytes.now i) }
+    ensures { OnOk result (text.new ≡ text.old ++ word_text full (option_copied source.entry) layout from bytes.now i) }
 {
     let place = from + i as u64;
     write_line_start(text, i == 0 || starts_record(layout, place))?;
     write_field(
         text,
         full,
+        source,
         field_name(layout, place),
         field_kind(layout, place),
         word_before(bytes, i),
@@ -89,6 +95,7 @@ fn write_word(
 fn write_words(
     text: &mut Text,
     full: bool,
+    source: Option<&Listing>,
     layout: Layout,
     from: u64,
     bytes: &[u8],
@@ -96,10 +103,11 @@ fn write_words(
 ) -> Result<(), NoMemory>
     requires within { 8 * count ≤ length bytes.now }
     requires place { from + count < 2 ^ 62 }
-    ensures { OnOk result (text.new ≡ text.old ++ words_text full layout from bytes.now count) }
+    ensures { OnOk result (text.new ≡ text.old
+        ++ words_text full (option_copied source.entry) layout from bytes.now count) }
 {
     for i in 0..count {
-        write_word(text, full, layout, from, bytes, i)?;
+        write_word(text, full, source, layout, from, bytes, i)?;
     }
     Ok(())
 }
@@ -142,19 +150,20 @@ fn has_fields(layout: Layout, at: u64, bytes: &[u8]) -> bool
     !is_raw(layout) && (at % 8 == 0 && bytes.len() % 8 == 0)
 }
 
-/// What was read of a file from a byte on.
+/// What was read of a file from a byte on, of a process that runs this program.
 #[tactic(auto, unfolding(crate::specs::Records::record_text))]
 pub fn write_record(
     text: &mut Text,
     full: bool,
+    source: Option<&Listing>,
     layout: Layout,
     at: u64,
     bytes: &[u8],
 ) -> Result<(), NoMemory>
-    ensures { OnOk result (text.new ≡ text.old ++ record_text full layout at bytes.now) }
+    ensures { OnOk result (text.new ≡ text.old ++ record_text full (option_copied source.entry) layout at bytes.now) }
 {
     if has_fields(layout, at, bytes) {
-        write_words(text, full, layout, at / 8, bytes, bytes.len() / 8)
+        write_words(text, full, source, layout, at / 8, bytes, bytes.len() / 8)
     } else {
         write_raw(text, bytes)
     }

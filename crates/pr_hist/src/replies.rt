@@ -4,12 +4,12 @@ ghost use Rattle.pr_hist.specs.Calls.{answer_text, answering, bytes_answer, call
 
 use crate::calls::{calling, write_operands, write_until};
 use crate::fields::Layout;
-use crate::names::{Known, layout_in, write_handle};
+use crate::names::{Names, layout_in, write_handle};
 use crate::records::{write_raw, write_record};
 use crate::refusals::write_refusal;
 use crate::texts::Text;
 use pr_model::{Call, Reply};
-use pr_num::{ById, NoMemory};
+use pr_num::NoMemory;
 
 /// What the kernel answered.
 #[tactic(auto, unfolding(crate::specs::Calls::answering))]
@@ -33,7 +33,7 @@ fn answering(reply: &Reply) -> &'static [u8]
 fn write_read(
     text: &mut Text,
     full: bool,
-    names: &ById<Known>,
+    names: &Names,
     call: &Call,
     bytes: &[u8],
 ) -> Result<(), NoMemory>
@@ -43,11 +43,12 @@ fn write_read(
         Call::Read { handle, at, .. } => write_record(
             text,
             full,
+            names.listing_by(*handle),
             layout_in(names, *handle),
             *at,
             bytes,
         ),
-        Call::List => write_record(text, full, Layout::List, 0, bytes),
+        Call::List => write_record(text, full, None, Layout::List, 0, bytes),
         Call::Open { .. }
         | Call::Close { .. }
         | Call::Ctl { .. }
@@ -64,7 +65,7 @@ fn write_read(
 fn write_bytes(
     text: &mut Text,
     full: bool,
-    names: &ById<Known>,
+    names: &Names,
     call: &Call,
     bytes: &[u8],
 ) -> Result<(), NoMemory>
@@ -79,7 +80,7 @@ fn write_bytes(
 fn write_answer(
     text: &mut Text,
     full: bool,
-    names: &ById<Known>,
+    names: &Names,
     call: &Call,
     reply: &Reply,
 ) -> Result<(), NoMemory>
@@ -102,7 +103,7 @@ fn write_answer(
 pub fn write_call(
     text: &mut Text,
     full: bool,
-    names: &ById<Known>,
+    names: &Names,
     call: &Call,
     reply: &Reply,
 ) -> Result<(), NoMemory>

@@ -4,10 +4,10 @@ ghost use Rattle.std.specs.List.{list_any};
 ghost use Rattle.pr_hist.specs.Selections.{is_about, is_call_about, is_of, is_of_any, is_of_controller, is_of_lwp, is_of_process, is_told, made, selected, stands_for};
 
 use crate::entries::words_of;
-use crate::names::Known;
+use crate::names::Names;
 use crate::texts::Text;
 use pr_model::{Act, Actor, Call, Entry, Reply};
-use pr_num::{ById, NoMemory};
+use pr_num::NoMemory;
 
 /// Whose entries are told.
 #[derive(Clone, Copy, Debug, PartialEq, Eq)]
@@ -35,7 +35,7 @@ pub struct Selection {
 
 /// Whether a handle stands for a file of a process or of its lwps.
 #[tactic(auto, unfolding(crate::specs::Selections::stands_for))]
-fn stands_for(pid: u32, names: &ById<Known>, handle: u32) -> bool
+fn stands_for(pid: u32, names: &Names, handle: u32) -> bool
     ensures { result ≡ stands_for pid names.now handle }
 {
     match names.get(handle) {
@@ -45,7 +45,7 @@ fn stands_for(pid: u32, names: &ById<Known>, handle: u32) -> bool
 }
 
 /// Whether one of these handles does.
-fn one_stands_for(pid: u32, names: &ById<Known>, handles: &[u32]) -> bool
+fn one_stands_for(pid: u32, names: &Names, handles: &[u32]) -> bool
     ensures { result ≡ list_any (stands_for pid names.now) handles.now }
 {
     handles.iter().any(|handle| stands_for(pid, names, *handle))
@@ -70,7 +70,7 @@ fn made(pid: u32, reply: &Reply) -> bool
 
 /// Whether a call is about a process.
 #[tactic(auto, unfolding(crate::specs::Selections::is_call_about))]
-fn is_call_about(about: u32, names: &ById<Known>, call: &Call, reply: &Reply) -> bool
+fn is_call_about(about: u32, names: &Names, call: &Call, reply: &Reply) -> bool
     ensures { result ≡ is_call_about about names.now call.now reply.now }
 {
     match call {
@@ -89,7 +89,7 @@ fn is_call_about(about: u32, names: &ById<Known>, call: &Call, reply: &Reply) ->
 }
 
 #[tactic(auto, unfolding(crate::specs::Selections::is_about))]
-fn is_about(pid: u32, names: &ById<Known>, act: &Act) -> bool
+fn is_about(pid: u32, names: &Names, act: &Act) -> bool
     ensures { result ≡ is_about pid names.now act.now }
 {
     match act {
@@ -122,7 +122,7 @@ fn is_of_lwp(pid: u32, lwp: u32, actor: Actor) -> bool
 }
 
 #[tactic(auto, unfolding(crate::specs::Selections::is_of_process))]
-fn is_of_process(pid: u32, names: &ById<Known>, entry: &Entry) -> bool
+fn is_of_process(pid: u32, names: &Names, entry: &Entry) -> bool
     ensures { result ≡ is_of_process pid names.now entry.now }
 {
     match entry.actor {
@@ -132,7 +132,7 @@ fn is_of_process(pid: u32, names: &ById<Known>, entry: &Entry) -> bool
     }
 }
 
-fn is_of(who: Who, names: &ById<Known>, entry: &Entry) -> bool
+fn is_of(who: Who, names: &Names, entry: &Entry) -> bool
     ensures { result ≡ is_of who names.now entry.now }
 {
     match who {
@@ -142,7 +142,7 @@ fn is_of(who: Who, names: &ById<Known>, entry: &Entry) -> bool
     }
 }
 
-fn is_of_any(who: Option<Who>, names: &ById<Known>, entry: &Entry) -> bool
+fn is_of_any(who: Option<Who>, names: &Names, entry: &Entry) -> bool
     ensures { result ≡ is_of_any who names.now entry.now }
 {
     match who {
@@ -153,7 +153,7 @@ fn is_of_any(who: Option<Who>, names: &ById<Known>, entry: &Entry) -> bool
 
 /// Whether an entry is told.
 #[tactic(auto, unfolding(crate::specs::Selections::is_told))]
-pub fn is_told(selection: Selection, number: usize, names: &ById<Known>, entry: &Entry) -> bool
+pub fn is_told(selection: Selection, number: usize, names: &Names, entry: &Entry) -> bool
     ensures { result ≡ is_told selection number names.now entry.now }
 {
     selection.from <= number as u64
@@ -165,7 +165,7 @@ pub fn is_told(selection: Selection, number: usize, names: &ById<Known>, entry: 
 pub fn write_selected(
     text: &mut Text,
     selection: Selection,
-    names: &ById<Known>,
+    names: &Names,
     number: usize,
     entry: &Entry,
 ) -> Result<(), NoMemory>

@@ -1,14 +1,15 @@
 //! A text that is being written.
 ghost use Rattle.std.specs.Prelude.{◌≡◌, ◌++◌, [], false, decimal, drop, take, IfOk, OnOk};
-ghost use Rattle.std.specs.List.{flat_map};
+ghost use Rattle.std.specs.List.{before_first, flat_map};
 ghost use Rattle.pr_num.specs.Limits.{shown_limit};
+ghost use Rattle.pr_num.specs.Padding.{is_zero};
 ghost use Rattle.pr_text.specs.HexWords.{byte_digits, digits_of_bytes};
 ghost use Rattle.pr_text.specs.Numerals.{hex_text};
 ghost use Rattle.pr_text.specs.Quotes.{quoted_text};
-ghost use Rattle.pr_hist.specs.Texts.{bytes_text, digits_text, number_text, plus_as_blank, size_text, spaced_text, time_text};
+ghost use Rattle.pr_hist.specs.Texts.{bytes_text, digits_text, name_in, number_text, plus_as_blank, size_text, spaced_text, time_text};
 
 use pr_num::limits::SHOWN_LIMIT;
-use pr_num::{Bytes, NoMemory};
+use pr_num::{Bytes, NoMemory, zero_in};
 use pr_text::{Line, hex_digit, numbers_are_their_digits, quoted_text_tells_its_bytes};
 use std::alloc::Global;
 use std::marker::Model;
@@ -46,6 +47,24 @@ pub fn front(bytes: &[u8], most: usize) -> &[u8]
     } else {
         bytes
     }
+}
+
+/// The bytes up to the first zero.
+fn before_zero(bytes: &[u8]) -> &[u8]
+    ensures { result.now ≡ before_first is_zero bytes.now }
+{
+    match zero_in(bytes) {
+        Some(place) => &bytes[..place],
+        None => bytes,
+    }
+}
+
+/// A name in its 32 bytes.
+#[tactic(auto, unfolding(crate::specs::Texts::name_in))]
+pub fn name_in(bytes: &[u8]) -> &[u8]
+    ensures { result.now ≡ name_in bytes.now }
+{
+    before_zero(front(bytes, 32))
 }
 
 /// The first bytes, as many as a quoted text shows.

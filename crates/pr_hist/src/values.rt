@@ -1,14 +1,16 @@
 //! What a word of a record says.
 ghost use Rattle.std.specs.Prelude.{◌≡◌, ◌++◌, OnOk};
-ghost use Rattle.std.specs.List.{before_first};
-ghost use Rattle.pr_num.specs.Padding.{is_zero};
+ghost use Rattle.std.specs.Option.{option_copied};
 ghost use Rattle.pr_hist.specs.Values.{access_text, call_text, count_text, descriptor_text, disposition_text, errno_text, fault_text, handler_text, is_shown, mapping_text, name_text, origin_text, plain_text, says_something, value_text, what_for, what_text, why_text};
 
 use crate::fields::Kind;
 use crate::flags::{lwp_flags, process_flags, protection, watch_flags};
-use crate::messages::{write_address, write_calls, write_faults, write_signal, write_signals};
-use crate::texts::{Text, front};
-use pr_num::{Errno, Flt, NoMemory, StopReason, Sysno, zero_in};
+use crate::listings::Listing;
+use crate::messages::{
+    write_address, write_calls, write_code, write_faults, write_signal, write_signals,
+};
+use crate::texts::{Text, name_in};
+use pr_num::{Errno, Flt, NoMemory, StopReason, Sysno};
 
 #[tactic(auto, unfolding(crate::specs::Values::count_text))]
 fn write_count(text: &mut Text, w: u64) -> Result<(), NoMemory>
@@ -113,12 +115,12 @@ fn write_disposition(text: &mut Text, w: u64) -> Result<(), NoMemory>
 }
 
 #[tactic(auto, unfolding(crate::specs::Values::handler_text))]
-fn write_handler(text: &mut Text, w: u64) -> Result<(), NoMemory>
-    ensures { OnOk result (text.new ≡ text.old ++ handler_text w) }
+fn write_handler(text: &mut Text, source: Option<&Listing>, w: u64) -> Result<(), NoMemory>
+    ensures { OnOk result (text.new ≡ text.old ++ handler_text (option_copied source.entry) w) }
 {
     match w {
         1 => text.text(b" ignored"),
-        _ => write_address(text, w),
+        _ => write_code(text, source, w),
     }
 }
 
@@ -174,39 +176,32 @@ fn write_access(text: &mut Text, w: u64) -> Result<(), NoMemory>
     }
 }
 
-/// The bytes up to the first zero.
-fn before_zero(bytes: &[u8]) -> &[u8]
-    ensures { result.now ≡ before_first is_zero bytes.now }
-{
-    match zero_in(bytes) {
-        Some(place) => &bytes[..place],
-        None => bytes,
-    }
-}
-
 #[tactic(auto, unfolding(crate::specs::Values::name_text))]
 fn write_name(text: &mut Text, bytes: &[u8]) -> Result<(), NoMemory>
     ensures { OnOk result (text.new ≡ text.old ++ name_text bytes.now) }
 {
     text.text(b" ")?;
-    text.quoted(before_zero(front(bytes, 32)))
+    text.quoted(name_in(bytes))
 }
 
-/// A word, by its kind. Before it stands the word `before`; `bytes` are its own and those behind it.
+/// A word of a record of a process that runs this program, by its kind. Before it stands the word `before`; `bytes` are
+/// its own and those behind it.
 #[tactic(auto, unfolding(crate::specs::Values::value_text))]
 pub fn write_value(
     text: &mut Text,
+    source: Option<&Listing>,
     kind: Kind,
     before: u64,
     w: u64,
     bytes: &[u8],
 ) -> Result<(), NoMemory>
-    ensures { OnOk result (text.new ≡ text.old ++ value_text kind before w bytes.now) }
+    ensures { OnOk result (text.new ≡ text.old ++ value_text (option_copied source.entry) kind before w bytes.now) }
 {
     match kind {
         Kind::Count | Kind::Place => write_count(text, w),
         Kind::Number => write_plain(text, w),
         Kind::Address => write_address(text, w),
+        Kind::Code => write_code(text, source, w),
         Kind::LwpFlags => lwp_flags(text, w),
         Kind::ProcessFlags => process_flags(text, w),
         Kind::WatchFlags => watch_flags(text, w),
@@ -221,7 +216,7 @@ pub fn write_value(
         Kind::Faults => write_faults(text, w),
         Kind::Calls => write_calls(text, w),
         Kind::Disposition => write_disposition(text, w),
-        Kind::Handler => write_handler(text, w),
+        Kind::Handler => write_handler(text, source, w),
         Kind::Origin => write_origin(text, w),
         Kind::MappingKind => write_mapping(text, w),
         Kind::DescriptorKind => write_descriptor(text, w),
@@ -242,6 +237,7 @@ fn says_something(kind: Kind, w: u64) -> bool
         Kind::Count
         | Kind::Number
         | Kind::Address
+        | Kind::Code
         | Kind::LwpFlags
         | Kind::ProcessFlags
         | Kind::WatchFlags
@@ -276,6 +272,7 @@ pub fn is_shown(full: bool, kind: Kind, w: u64) -> bool
         | Kind::Count
         | Kind::Number
         | Kind::Address
+        | Kind::Code
         | Kind::LwpFlags
         | Kind::ProcessFlags
         | Kind::WatchFlags

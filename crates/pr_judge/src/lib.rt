@@ -7,3 +7,4 @@ mod replies;
 mod turns;
 
 pub use judging::legal;
+pub use plays::play;

@@ -134,7 +134,7 @@ fn play_clock<Q: Kernel>(kernel: &mut Q, controllers: u32, act: &Act) -> bool
 }
 
 /// Makes the step of an entry, and says whether that was to be made and gave what the entry says.
-pub(crate) fn play<Q: Kernel>(
+pub fn play<Q: Kernel>(
     alloc: Global,
     kernel: &mut Q,
     controllers: u32,

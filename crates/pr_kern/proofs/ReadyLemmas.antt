@@ -12,7 +12,7 @@ use Rattle.pr_ready.proofs.AroundLemmas.{call-ready, turn-ready}
 use Rattle.pr_ready.specs.Around.{is_around}
 use Rattle.pr_ready.specs.Following.{around_call, around_lwp}
 use Rattle.pr_ready.specs.Queues.{AreReady, is_movable}
-use Rattle.pr_ready.specs.Ready.{CoversMoves, CoversDozing, ReadySets, some_answer, some_dozing}
+use Rattle.pr_ready.specs.Ready.{CoversMoves, CoversDozing, IsDue, ReadySets, some_answer, some_dozing}
 use Rattle.pr_ready.specs.Steps.{Follows}
 use Rattle.pr_ready.specs.declared.around.Around.{Around}
 use Rattle.pr_ready_laws.specs.Reach.{changes_files, reach_of, reaches_around}
@@ -30,13 +30,15 @@ small s pid p h live =
 pub all-ready : (s : TracedSystem) (r : ReadySets) → IsLawfulSystem s
     → ((pid : ℕ) → pid < s.made → pid < process_limit → has_pid r.movable pid ≡ true)
     → ((pid : ℕ) → pid < s.made → pid < process_limit → has_pid r.at_pipes pid ≡ true)
-    → ((pid : ℕ) → pid < s.made → pid < process_limit → has_pid r.dozing pid ≡ true) → AreReady s r
-all-ready s r h movable at_pipes dozing = record {
+    → ((pid : ℕ) → pid < s.made → pid < process_limit → has_pid r.dozing pid ≡ true)
+    → ((pid moment : ℕ) → IsDue r.moments pid moment) → AreReady s r
+all-ready s r h movable at_pipes dozing moments = record {
   covers = record {
     each = λ pid is below. record {
       moves = λ p live said. movable pid (small s pid p h live).0 below;
       waits = λ p live said. at_pipes pid (small s pid p h live).0 below;
       dozes = λ p live said. dozing pid (small s pid p h live).0 below;
+      wakes = λ p moment live said. moments pid moment;
     };
   };
 }

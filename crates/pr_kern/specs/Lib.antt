@@ -1,3 +1,4 @@
+pub mod Faults
 pub mod Kernels
 pub mod Memory
 pub mod Openings

@@ -3,6 +3,7 @@ ghost use Rattle.std.specs.Option.{option_copied};
 ghost use Rattle.pr_model.specs.Calls.{answer_to};
 ghost use Rattle.pr_model.specs.FirstState.{first_state, size_at_start};
 ghost use Rattle.pr_model.specs.Lawful.{IsLawful};
+ghost use Rattle.pr_kern.specs.Faults.{fault_pc};
 ghost use Rattle.pr_kern.specs.Kernels.{after_call, after_tick, after_turn, last_reply_of, some_sleeper, takes_no_memory};
 ghost use Rattle.pr_model.specs.LwpTurns.{can_move};
 ghost use Rattle.pr_kern.specs.Orders.{next_of};
@@ -13,6 +14,7 @@ ghost use Rattle.pr_turn.specs.CallTurns.{may_take_memory};
 
 use crate::Machine;
 use crate::calls::{answer, ready};
+use crate::faults::fault_pc;
 use crate::following::{around_call, call_changes_files};
 use crate::starts::{first_machine, keep_limits};
 use crate::turns::{CanMove, next_movable};
@@ -198,6 +200,21 @@ impl Kern {
         ensures { result ≡ some_sleeper self.now.state.system }
     {
         some_sleeper(&self.state.system, &self.ready.dozing)
+    }
+
+    /// The pc of a live lwp that incurred a fault whose signal is not posted yet; `None` exactly for any other. Takes no
+    /// memory.
+    pub fn fault_pc(&self, pid: u32, lwp: u32) -> Option<u64>
+        ensures { result ≡ fault_pc self.now.state.system pid lwp }
+    {
+        fault_pc(&self.state.system, pid, lwp)
+    }
+
+    /// The state that the machine is in.
+    pub fn machine(&self) -> &Machine
+        ensures { result.now ≡ self.now.state }
+    {
+        &self.state
     }
 
     /// How many entries the history has.

@@ -4,6 +4,7 @@
 mod as_kernel;
 mod calls;
 mod closes;
+mod faults;
 mod following;
 mod interrupts;
 mod kernels;

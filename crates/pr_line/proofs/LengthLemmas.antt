@@ -6,6 +6,7 @@ use Rattle.std.specs.Fmt.{decimal}
 use Rattle.std.specs.List.{position}
 use Rattle.pr_num.specs.Errnos.{errno_number, errno_name}
 use Rattle.pr_num.specs.Faults.{fault_number, fault_name}
+use Rattle.pr_num.specs.Limits.{name_limit}
 use Rattle.pr_num.specs.Signals.{signal_number, signal_name}
 use Rattle.pr_num.specs.Syscalls.{syscall_name, syscall_args}
 use Rattle.pr_num.specs.declared.errnos.Errno.{Errno}
@@ -23,7 +24,9 @@ use Rattle.pr_rec.specs.declared.lwps.Disposition.TheVariants.{Default, Ignored,
 use Rattle.pr_text.specs.Quotes.{quoted_text}
 use Rattle.pr_text.proofs.TextLemmas.{length-decimal, length-hex_text, length-quoted_text}
 use Rattle.pr_line.specs.ArgumentTexts.{Came, text_before, text_argument, bytes_argument, buffer_argument, argument_text, separator, arguments_text}
+use Rattle.pr_line.specs.FunctionLines.{called_text, function_text, three_text}
 use Rattle.pr_line.specs.EventLines.{prefix, call_text, result_text, disposition_text, signal_text, fault_text}
+use Rattle.pr_line.specs.declared.options.Options.{Options}
 use Rattle.pr_num.specs.Padding.{is_zero}
 
 -- ---- the tables
@@ -188,5 +191,32 @@ length-prefix true false pid id pid_fits id_fits = simp length-append (omega (ar
 length-prefix false true pid id pid_fits id_fits = simp length-append (omega (arith, length-decimal id id_fits))
 length-prefix true true pid id pid_fits id_fits =
     simp length-append (omega (arith, length-decimal pid pid_fits, length-decimal id id_fits))
+
+-- ---- calls of functions
+
+pub length-three_text : (values : List ℕ) → AreWords values → length (three_text values) ≤ 60
+unfolding three_text
+length-three_text values fit =
+    let first = length-hex_text (get_or values 0 0) (fit 0) in
+    let second = length-hex_text (get_or values 1 0) (fit 1) in
+    let third = length-hex_text (get_or values 2 0) (fit 2) in
+    simp length-append (omega (arith, first, second, third))
+
+pub length-called_text : (name values : List ℕ) → length name ≤ name_limit → AreWords values
+    → length (called_text name values) ≤ 100
+unfolding called_text
+length-called_text name values few fit =
+    let shown = length-three_text values fit in
+    simp length-append (omega (arith, few, shown))
+
+pub length-function_text : (o : Options) (pid id : ℕ) (name values : List ℕ)
+    → length (prefix o.follow o.lwps pid id) ≤ 50 → length name ≤ name_limit → AreWords values
+    → length (function_text o pid id name values) ≤ 200
+unfolding function_text
+length-function_text o pid id name values before few fit =
+    let called = length-called_text name values few fit in
+    simp length-append (omega (arith, before, called))
+
+pub ruleset hex_lengths = (length-hex_text)
 
 pub ruleset lengths = (length-decimal, length-result_errno, length-signal_text, length-fault_text, length-prefix)

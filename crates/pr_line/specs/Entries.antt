@@ -1,10 +1,10 @@
 -- Lists of the entries of a table: of signals, of faults, of system calls.
-use Rattle.std.specs.Prelude.{◌==◌, ◌-◌, ◌^◌, ℕ, Option, None, Some, List, [], ◌∷◌, codes, length, option_map, option_and_then, if◌then◌else◌}
+use Rattle.std.specs.Prelude.{◌==◌, ℕ, Option, None, Some, List, [], ◌∷◌, codes, option_map, option_and_then, if◌then◌else◌}
 use Rattle.std.specs.Str.{bytes_eq}
-use Rattle.pr_num.specs.Faults.{faults, fault_number, fault_of_name, fault_of_number}
+use Rattle.pr_num.specs.Faults.{fault_number, fault_of_name, fault_of_number}
 use Rattle.pr_num.specs.Sets.{with_number, minus_word}
-use Rattle.pr_num.specs.Signals.{signals, signal_number, signal_of_name, signal_of_number}
-use Rattle.pr_num.specs.Syscalls.{syscalls, syscall_number, syscall_of_name, syscall_of_number}
+use Rattle.pr_num.specs.Signals.{signal_number, signal_of_name, signal_of_number}
+use Rattle.pr_num.specs.Syscalls.{syscall_number, syscall_of_name, syscall_of_number}
 use Rattle.pr_text.specs.Lists.{parts_of}
 use Rattle.pr_text.specs.NumberWords.{number_of}
 

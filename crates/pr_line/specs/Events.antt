@@ -1,5 +1,5 @@
 -- What an lwp stands on: the event that it is stopped for, as its status tells it (proc(4), "lwpstatus").
-use Rattle.std.specs.Prelude.{◌==◌, ℕ, Option, Some, None, List, slice_index, Result, Ok, Err, option_map, option_and_then, if◌then◌else◌}
+use Rattle.std.specs.Prelude.{◌==◌, ℕ, Option, Some, None, Result, Ok, Err, option_map, option_and_then, if◌then◌else◌}
 use Rattle.pr_line.specs.declared.events.Event.{Event}
 use Rattle.pr_line.specs.declared.events.Event.TheVariants.{Entered, Left, Received, Incurred}
 use Rattle.pr_num.specs.Faults.{fault_of_number}

@@ -2,6 +2,9 @@ pub mod ArgumentTexts
 pub mod Entries
 pub mod EventLines
 pub mod Events
+pub mod FunctionLines
+pub mod FunctionNames
+pub mod Functions
 pub mod Options
 pub mod Pids
 pub mod Reading

@@ -1,9 +1,10 @@
 -- The options that words of truss(1) stand for, and the first word at fault.
 use Rattle.std.specs.Prelude.{◌==◌, ◌-◌, ◌&&◌, ℕ, Bool, true, false, List, length, is_none, is_some, is_err, Result, Ok, Err, if◌then◌else◌}
-use Rattle.pr_line.specs.Options.{start, word_taken}
+use Rattle.pr_line.specs.Options.{start, word_taken, follows_or_counts}
 use Rattle.pr_line.specs.declared.faults.WordFault.{WordFault}
 use Rattle.pr_line.specs.declared.faults.WordFault.TheVariants.{BadOption}
 use Rattle.pr_line.specs.declared.options.Options.{Options}
+use Rattle.pr_line.specs.declared.reading.Asked.{Asked}
 use Rattle.pr_line.specs.declared.reading.Draft.{Draft}
 use Rattle.pr_text.specs.Steps.{◌>>=◌, folded}
 
@@ -21,16 +22,22 @@ unfoldable pub is_whole : Draft → Bool
 is_whole d = is_none d.pending && names_one d.options
 
 -- So many words were read. Where they are not whole, the last of them is at fault; number 0 where there is none.
-unfoldable pub whole_options : ℕ → Draft → Result Options WordFault
-whole_options count d = if is_whole d then Ok d.options else Err (BadOption (count - 1))
+unfoldable pub all_asked : ℕ → Draft → Result Asked WordFault
+all_asked count d =
+    if is_whole d then Ok (record { options = d.options; functions = d.functions }) else Err (BadOption (count - 1))
 
-unfoldable pub options_in : Bool → List (List ℕ) → Result Options WordFault
-options_in lenient words = words_taken lenient 0 start words >>= whole_options (length words)
+unfoldable pub asked_in : Bool → List (List ℕ) → Result Asked WordFault
+asked_in lenient words =
+    words_taken lenient 0 (start (follows_or_counts false words)) words >>= all_asked (length words)
 
--- the options that words stand for, or the first word at fault
-abbrev pub options_of : List (List ℕ) → Result Options WordFault
-options_of words = options_in false words
+-- what words ask for, or the first word at fault
+abbrev pub asked_of : List (List ℕ) → Result Asked WordFault
+asked_of words = asked_in false words
+
+-- the options that words stand for, which have no functions yet, or the first word at fault
+unfoldable pub options_of : List (List ℕ) → Result Options WordFault
+options_of words = asked_of words >>= λ asked. Ok asked.options
 
 -- whether a word is a bad option, also where an earlier one is a list with a bad name
 unfoldable pub has_bad_option : List (List ℕ) → Bool
-has_bad_option words = is_err (options_in true words)
+has_bad_option words = is_err (asked_in true words)

@@ -43,7 +43,13 @@ fn entry(
 
 /// What stands before an event.
 #[tactic(auto, unfolding(crate::specs::EventLines::prefix), using(crate::proofs::LengthLemmas::lengths))]
-fn prefix(line: &mut Line, follow: bool, lwps: bool, pid: u32, id: u32) -> Result<(), TooLong>
+pub(crate) fn prefix(
+    line: &mut Line,
+    follow: bool,
+    lwps: bool,
+    pid: u32,
+    id: u32,
+) -> Result<(), TooLong>
     ensures ok { OnOk result (line.new ≡ line.old ++ prefix follow lwps pid id) }
     ensures too_long { IsErr result ↔ (line_limit < length line.old + length (prefix follow lwps pid id)) }
     ensures short { length (prefix follow lwps pid id) ≤ 50 }

@@ -1,3 +1,4 @@
+use crate::Functions;
 use pr_num::{FltSet, Handles, Name, SigSet, SysSet};
 
 /// What truss(1) is asked for.
@@ -19,4 +20,6 @@ pub struct Options {
     pub pids: Handles,
     /// The program to run, where no process is named.
     pub program: Option<Name>,
+    /// The functions whose calls are shown (`-u`).
+    pub functions: Functions,
 }

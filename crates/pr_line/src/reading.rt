@@ -1,15 +1,16 @@
 //! The words of truss(1).
 ghost use Rattle.std.specs.Prelude.{◌≡◌, ◌<◌, ◌^◌, false, length, IfOk, if◌then◌else◌};
-ghost use Rattle.pr_line.specs.Options.{start, with_list, with_pids, with_program, list_taken, option_taken, word_taken};
-ghost use Rattle.pr_line.specs.Reading.{is_whole, whole_options, options_in, options_of, has_bad_option};
+ghost use Rattle.pr_line.specs.Options.{start, with_list, with_pids, with_program, list_taken, option_taken, word_taken, takes_list, follows_or_counts};
+ghost use Rattle.pr_line.specs.Reading.{is_whole, all_asked, asked_in, asked_of, options_of, has_bad_option};
 ghost use Rattle.pr_line.specs.Reads.{Reads};
 ghost use Rattle.pr_text.specs.Names.{name_of};
 ghost use Rattle.pr_text.specs.Reads.{Gives};
 
 use crate::entries::list_of;
 use crate::faults::WordFault;
+use crate::function_names::{FunctionNames, function_names_of};
 use crate::pids::pids_of;
-use crate::{OptFault, Options};
+use crate::{Functions, OptFault, Options};
 use pr_num::{Bytes, Flt, FltSet, Handles, NoMemory, Sig, SigSet, SysSet, Sysno};
 use pr_text::{Refused, name_of};
 use std::alloc::Global;
@@ -21,19 +22,34 @@ pub enum ListOption {
     Signals,
     Faults,
     Processes,
+    Functions,
 }
 
-/// The options so far, and the option whose list comes next, if one does.
+/// What words of truss(1) ask for.
+#[derive(Drop)]
+pub struct Asked {
+    /// The options, which have no functions yet: those stand in the text of a program, which the words only name.
+    pub options: Options,
+    /// The functions of the last `-u`, if there is one.
+    pub functions: Option<FunctionNames>,
+}
+
+/// What the words so far ask for.
 #[derive(Drop)]
 pub struct Draft {
     pub options: Options,
+    /// The functions of the last `-u` so far, if there is one.
+    pub functions: Option<FunctionNames>,
+    /// The option whose list comes next, if one does.
     pub pending: Option<ListOption>,
+    /// Whether `-f` or `-c` stands among all words, so that no `-u` may.
+    pub mixed: bool,
 }
 
 impl Draft {
     /// Nothing asked: all calls, signals and faults, of no process yet.
-    fn new(alloc: Global) -> Draft
-        ensures { result ≡ start }
+    fn new(alloc: Global, mixed: bool) -> Draft
+        ensures { result ≡ start mixed }
     {
         Draft {
             options: Options {
@@ -45,8 +61,11 @@ impl Draft {
                 faults: FltSet::all(),
                 pids: Handles::from_vec(Vec::new(alloc)),
                 program: None,
+                functions: Functions::new(alloc),
             },
+            functions: None,
             pending: None,
+            mixed,
         }
     }
 
@@ -67,6 +86,7 @@ impl Draft {
             ListOption::Signals => self.take_signals(alloc, lenient, number, word),
             ListOption::Faults => self.take_faults(alloc, lenient, number, word),
             ListOption::Processes => self.take_pids(alloc, number, word),
+            ListOption::Functions => self.take_functions(alloc, number, word),
         }
     }
 
@@ -141,6 +161,23 @@ impl Draft {
         Ok(())
     }
 
+    #[tactic(auto, unfolding(crate::specs::Options::list_taken))]
+    fn take_functions(
+        &mut self,
+        alloc: Global,
+        number: u32,
+        word: &[u8],
+    ) -> Result<(), Refused<WordFault>>
+        ensures { Gives (λ _. self.new) result (list_taken false number self.old word.now ListOption.Functions) }
+    {
+        match function_names_of(alloc, word)? {
+            Some(names) => self.functions = Some(names),
+            None => return Err(Refused::Kind(WordFault::BadOption { word: number })),
+        }
+        self.pending = None;
+        Ok(())
+    }
+
     /// Takes an option or the program's name.
     #[tactic(auto, unfolding(crate::specs::Options::option_taken))]
     fn take_option(&mut self, number: u32, word: &[u8]) -> Result<(), Refused<WordFault>>
@@ -162,6 +199,11 @@ impl Draft {
             self.pending = Some(ListOption::Faults);
         } else if word == b"-p".as_slice() {
             self.pending = Some(ListOption::Processes);
+        } else if word == b"-u".as_slice() {
+            if self.mixed {
+                return Err(Refused::Kind(WordFault::BadOption { word: number }));
+            }
+            self.pending = Some(ListOption::Functions);
         } else {
             return self.take_program(number, word);
         }
@@ -217,14 +259,17 @@ impl Draft {
         }
     }
 
-    /// The options, of which so many words were read.
-    #[tactic(auto, unfolding(crate::specs::Reading::whole_options))]
-    fn finish(self, count: usize) -> Result<Options, Refused<WordFault>>
+    /// What is asked for, of which so many words were read.
+    #[tactic(auto, unfolding(crate::specs::Reading::all_asked))]
+    fn finish(self, count: usize) -> Result<Asked, Refused<WordFault>>
         requires { count < 2 ^ 32 }
-        ensures { Gives (λ o. o) result (whole_options count self) }
+        ensures { Gives (λ asked. asked) result (all_asked count self) }
     {
         if self.is_whole() {
-            Ok(self.options)
+            Ok(Asked {
+                options: self.options,
+                functions: self.functions,
+            })
         } else {
             Err(Refused::Kind(WordFault::BadOption {
                 word: count.saturating_sub(1) as u32,
@@ -244,38 +289,71 @@ fn pass_over(lenient: bool, number: u32) -> Result<(), WordFault>
     }
 }
 
-/// The options that words stand for, or the first word at fault; where bad names are passed over, the first bad option.
-#[tactic(auto, unfolding(crate::specs::Reading::options_in))]
-fn read_in(alloc: Global, lenient: bool, words: &[Bytes]) -> Result<Options, Refused<WordFault>>
-    requires { length words.now < 2 ^ 32 }
-    ensures { Gives (λ o. o) result (options_in lenient words.now) }
+/// Whether the word after an option is its list.
+#[tactic(auto, unfolding(crate::specs::Options::takes_list))]
+fn takes_list(word: &[u8]) -> bool
+    ensures { result ≡ takes_list word.now }
 {
-    let mut draft = Draft::new(alloc);
+    word == b"-t".as_slice()
+        || word == b"-s".as_slice()
+        || word == b"-m".as_slice()
+        || word == b"-p".as_slice()
+        || word == b"-u".as_slice()
+}
+
+/// Whether `-f` or `-c` is an option among words, whatever the lists between them hold.
+#[tactic(auto, unfolding(crate::specs::Options::follows_or_counts))]
+fn follows_or_counts(words: &[Bytes]) -> bool
+    ensures { result ≡ follows_or_counts false words.now }
+{
+    let mut is_list = false;
+    for word in words {
+        let word = word.as_slice();
+        if is_list {
+            is_list = false;
+        } else if word == b"-f".as_slice() || word == b"-c".as_slice() {
+            return true;
+        } else {
+            is_list = takes_list(word);
+        }
+    }
+    false
+}
+
+/// What words ask for, or the first word at fault; where bad names are passed over, the first bad option.
+#[tactic(auto, unfolding(crate::specs::Reading::asked_in))]
+fn read_in(alloc: Global, lenient: bool, words: &[Bytes]) -> Result<Asked, Refused<WordFault>>
+    requires { length words.now < 2 ^ 32 }
+    ensures { Gives (λ asked. asked) result (asked_in lenient words.now) }
+{
+    let mut draft = Draft::new(alloc, follows_or_counts(words));
     for (i, word) in words.iter().enumerate() {
         draft.take(alloc, lenient, i as u32, word.as_slice())?;
     }
     draft.finish(words.len())
 }
 
-/// The options that the words after `truss` stand for (truss(1)), or the first word at fault; out of memory apart.
+/// What the words after `truss` ask for (truss(1)), or the first word at fault; out of memory apart.
 ///
 /// Takes time linear in the words.
-pub fn read_words(alloc: Global, words: &[Bytes]) -> Result<Options, Refused<WordFault>>
+pub fn read_words(alloc: Global, words: &[Bytes]) -> Result<Asked, Refused<WordFault>>
     requires { length words.now < 2 ^ 32 }
-    ensures { Gives (λ o. o) result (options_of words.now) }
+    ensures { Gives (λ asked. asked) result (asked_of words.now) }
 {
     read_in(alloc, false, words)
 }
 
-/// The options that the words after `truss` stand for (truss(1)), or the first word at fault.
+/// The options that the words after `truss` stand for (truss(1)), or the first word at fault. The options have no
+/// functions: of the word after `-u` only the form is judged here.
 ///
 /// Takes time linear in the words.
+#[tactic(auto, unfolding(crate::specs::Reading::options_of))]
 pub fn read_options(alloc: Global, words: &[Bytes]) -> Result<Options, OptFault>
     requires { length words.now < 2 ^ 32 }
     ensures { Reads result (options_of words.now) }
 {
     match read_words(alloc, words) {
-        Ok(options) => Ok(options),
+        Ok(asked) => Ok(asked.options),
         Err(Refused::Kind(WordFault::BadOption { word })) => Err(OptFault::BadOption { word }),
         Err(Refused::Kind(WordFault::BadName { word })) => Err(OptFault::BadName { word }),
         Err(Refused::NoMemory(error)) => Err(OptFault::from(error)),

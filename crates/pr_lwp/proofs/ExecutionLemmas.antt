@@ -9,7 +9,7 @@ use Rattle.pr_num.specs.declared.mappings.BadByte.TheVariants.{Hole, NotAllowed}
 use Rattle.pr_num.specs.declared.faults.Flt.TheVariants.{Watch}
 use Rattle.pr_parts.specs.AddressSpaces.{with_bytes}
 use Rattle.pr_model.specs.InstructionEffects.{faults, Load, Store, load_effect, store_effect, loaded, access_fault, is_stack_load, unless_watched, trapped_after, hit_before, hit_after}
-use Rattle.pr_lwp.specs.Plain.{loaded_from, outcome_of, space_after, with_store}
+use Rattle.pr_lwp.specs.Plain.{loaded_from, outcome_of, space_after, stores_bytes, with_store}
 
 -- Loads and stores, by whether their bytes can be had.
 
@@ -111,4 +111,10 @@ store-outcome exec_hit data_hit regs store = trapped-outcome exec_hit data_hit r
 pub store-space : (exec_hit data_hit : Option ℕ) (regs : List ℕ) (store : Store) (space : Space) → space_after (trapped_after exec_hit data_hit regs (Some store)) space ≡ with_bytes store.at store.bytes space
 store-space exec_hit data_hit regs store space = trapped-space exec_hit data_hit regs (Some store) space
 
-pub ruleset storing = (good-is_ok, store-fails, store-watched, store-free, store-outcome, store-space, fault-space)
+-- an access that takes effect stores the bytes, whether an area traps after it or not
+pub store-stores : (exec_hit data_hit : Option ℕ) (regs : List ℕ) (store : Store) → stores_bytes (trapped_after exec_hit data_hit regs (Some store)) ≡ true
+store-stores (Some at) data_hit regs store = refl
+store-stores None (Some at) regs store = refl
+store-stores None None regs store = refl
+
+pub ruleset storing = (good-is_ok, store-fails, store-watched, store-free, store-outcome, store-space, store-stores, fault-space)

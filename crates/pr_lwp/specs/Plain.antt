@@ -1,4 +1,4 @@
-use Rattle.std.specs.Prelude.{ℕ, List, [], ◌∷◌, ◌++◌, Option, Some, None, Result, Ok, Err}
+use Rattle.std.specs.Prelude.{ℕ, Bool, false, List, [], ◌∷◌, ◌++◌, Option, Some, None, Result, Ok, Err, is_some}
 use Rattle.pr_num.specs.Spaces.{Space}
 use Rattle.pr_num.specs.Words.{word_bytes}
 use Rattle.pr_num.specs.declared.mappings.BadByte.{BadByte}
@@ -65,3 +65,10 @@ space_after (runs regs store) space = with_store store space
 space_after (calls call regs) space = space
 space_after (faults f address) space = space
 space_after (runs_into_watch address regs store) space = with_store store space
+
+-- whether an instruction stores bytes in memory
+abbrev pub stores_bytes : InstructionEffect → Bool
+stores_bytes (runs regs store) = is_some store
+stores_bytes (calls call regs) = false
+stores_bytes (faults f address) = false
+stores_bytes (runs_into_watch address regs store) = is_some store

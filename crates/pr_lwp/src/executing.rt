@@ -1,13 +1,13 @@
 //! What the instruction at pc does. It is tried in this order: its fetch, areas watched for execution, its decoding, its
 //! own faults, areas watched for the data that it reads or writes, and its effect.
-ghost use Rattle.std.specs.Prelude.{◌≡◌, length, None, Some, IfOk, OnOk, OnErr};
+ghost use Rattle.std.specs.Prelude.{◌≡◌, true, length, None, Some, IfOk, OnOk, OnErr};
 ghost use Rattle.pr_num.specs.Control.{prot_read, watch_exec, watch_write};
 ghost use Rattle.pr_num.specs.Instructions.{instruction_in};
 ghost use Rattle.pr_num.specs.Spaces.{bytes_for};
 ghost use Rattle.pr_parts.specs.WatchedAreas.{hit_in};
 ghost use Rattle.pr_model.specs.Registers.{pc_of};
 ghost use Rattle.pr_model.specs.InstructionEffects.{access_fault, executed, hit_after, hit_before, instruction_effect, load_effect, of_instruction, store_effect, trapped_after, unless_exec_watched, unless_watched};
-ghost use Rattle.pr_lwp.specs.Plain.{decoded_of, load_of, loaded_from, outcome_of, size_of, space_after, store_of, stored_bytes};
+ghost use Rattle.pr_lwp.specs.Plain.{decoded_of, load_of, loaded_from, outcome_of, size_of, space_after, store_of, stored_bytes, stores_bytes};
 
 use crate::accesses::{bad_store, fetch, load, make_store};
 use crate::decoding::{Decoded, Load, Store, Stored, decode};
@@ -180,6 +180,7 @@ fn store_effect(
 ) -> Result<Outcome, NoMemory>
     ensures outcome { IfOk result (λ outcome. outcome ≡ outcome_of (store_effect space.old areas.now exec_hit stack regs (store_of store))) }
     ensures space { OnOk result (space.new ≡ space_after (store_effect space.old areas.now exec_hit stack regs (store_of store)) space.old) }
+    ensures memory { OnErr result (stores_bytes (store_effect space.old areas.now exec_hit stack regs (store_of store)) ≡ true) }
     ensures err { OnErr result (space.new ≡ space.old) }
 {
     if let Some(bad) = bad_store(space, store) {
@@ -206,6 +207,7 @@ fn executed(
 ) -> Result<Outcome, NoMemory>
     ensures outcome { IfOk result (λ outcome. outcome ≡ outcome_of (executed space.old areas.now exec_hit regs.now (decoded_of decoded))) }
     ensures space { OnOk result (space.new ≡ space_after (executed space.old areas.now exec_hit regs.now (decoded_of decoded)) space.old) }
+    ensures memory { OnErr result (stores_bytes (executed space.old areas.now exec_hit regs.now (decoded_of decoded)) ≡ true) }
     ensures err { OnErr result (space.new ≡ space.old) }
 {
     match decoded {
@@ -229,6 +231,7 @@ fn of_instruction(
 ) -> Result<Outcome, NoMemory>
     ensures outcome { IfOk result (λ outcome. outcome ≡ outcome_of (of_instruction space.old areas.now exec_hit regs.now instruction)) }
     ensures space { OnOk result (space.new ≡ space_after (of_instruction space.old areas.now exec_hit regs.now instruction) space.old) }
+    ensures memory { OnErr result (stores_bytes (of_instruction space.old areas.now exec_hit regs.now instruction) ≡ true) }
     ensures err { OnErr result (space.new ≡ space.old) }
 {
     match instruction {
@@ -249,6 +252,7 @@ fn unless_watched(
 ) -> Result<Outcome, NoMemory>
     ensures outcome { IfOk result (λ outcome. outcome ≡ outcome_of (unless_exec_watched space.old areas.now (hit_in watch_exec areas.now (pc_of regs.now) 16) regs.now bytes.now)) }
     ensures space { OnOk result (space.new ≡ space_after (unless_exec_watched space.old areas.now (hit_in watch_exec areas.now (pc_of regs.now) 16) regs.now bytes.now) space.old) }
+    ensures memory { OnErr result (stores_bytes (unless_exec_watched space.old areas.now (hit_in watch_exec areas.now (pc_of regs.now) 16) regs.now bytes.now) ≡ true) }
     ensures err { OnErr result (space.new ≡ space.old) }
 {
     let hit = areas.hit(regs[PC], Instruction::SIZE as u64, WATCH_EXEC);
@@ -261,11 +265,12 @@ fn unless_watched(
     }
 }
 
-/// What the instruction at pc does. Where memory runs out for what it stores, the space stays as it is.
+/// What the instruction at pc does. Memory runs out only for what it stores; the space then stays as it is.
 #[tactic(auto, unfolding(pr_model::specs::InstructionEffects::instruction_effect))]
 pub fn execute(regs: &[u64; 11], space: &mut Space, areas: &Areas) -> Result<Outcome, NoMemory>
     ensures outcome { IfOk result (λ outcome. outcome ≡ outcome_of (instruction_effect space.old areas.now regs.now)) }
     ensures space { OnOk result (space.new ≡ space_after (instruction_effect space.old areas.now regs.now) space.old) }
+    ensures memory { OnErr result (stores_bytes (instruction_effect space.old areas.now regs.now) ≡ true) }
     ensures err { OnErr result (space.new ≡ space.old) }
 {
     match fetch(space, regs[PC]) {

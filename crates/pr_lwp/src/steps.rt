@@ -1,6 +1,6 @@
-ghost use Rattle.std.specs.Prelude.{◌≡◌, IfOk, OnErr, OnOk};
+ghost use Rattle.std.specs.Prelude.{◌≡◌, true, IfOk, OnErr, OnOk};
 ghost use Rattle.pr_model.specs.InstructionEffects.{instruction_effect};
-ghost use Rattle.pr_lwp.specs.Plain.{outcome_of, space_after};
+ghost use Rattle.pr_lwp.specs.Plain.{outcome_of, space_after, stores_bytes};
 ghost use Rattle.pr_lwp.specs.Steps.{ran, stepped};
 
 use crate::executing::{Outcome, execute};
@@ -59,6 +59,7 @@ fn finish<P>(lwp: &mut Lwp<P>, outcome: Outcome) -> Effect
 pub fn step<P>(lwp: &mut Lwp<P>, space: &mut Space, areas: &Areas) -> Result<Effect, NoMemory>
     ensures lwp { IfOk result (λ effect. (record { lwp = lwp.new; effect = effect }) ≡ stepped (outcome_of (instruction_effect space.old areas.now lwp.old.regs)) lwp.old) }
     ensures space { OnOk result (space.new ≡ space_after (instruction_effect space.old areas.now lwp.old.regs) space.old) }
+    ensures memory { OnErr result (stores_bytes (instruction_effect space.old areas.now lwp.old.regs) ≡ true) }
     ensures kept_lwp { OnErr result (lwp.new ≡ lwp.old) }
     ensures kept_space { OnErr result (space.new ≡ space.old) }
 {

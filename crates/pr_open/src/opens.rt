@@ -77,6 +77,20 @@ impl Opens {
         Ok(h)
     }
 
+    /// How many places there are for handles: their numbers are below it.
+    pub fn places(&self) -> usize
+        ensures { result ≡ length self.now }
+    {
+        self.held.places()
+    }
+
+    /// The handle of a number, whoever has it open: `None` where the number is free.
+    pub fn at(&self, number: usize) -> Option<Held>
+        ensures { result ≡ slice_index_or self.now number None }
+    {
+        self.held.get(number).copied()
+    }
+
     /// Closes the handle of a number, which is free then: `BadHandle` exactly where it is not open or not this
     /// controller's, and then nothing changes.
     pub fn close(&mut self, controller: u32, handle: u32) -> Result<Held, OpenNo>

@@ -1,2 +1,4 @@
 pub mod BitLemmas
 pub mod WalkLemmas
+pub mod BlockLemmas
+pub mod MarkLemmas

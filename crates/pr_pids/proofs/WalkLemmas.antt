@@ -1,11 +1,11 @@
-use Rattle.std.proofs.Common.{◌≡◌, ◌≢◌, ℕ, ◌+◌, ◌*◌, ◌/◌, ◌%◌, ◌<◌, ◌≤◌, Bool, false, true, eqb, List, length, refl, sym, ◌∙◌, ap, arith, inl, inr}
+use Rattle.std.proofs.Common.{◌≡◌, ℕ, ◌+◌, ◌*◌, ◌/◌, ◌%◌, ◌<◌, ◌≤◌, false, true, eqb, List, Option, Some, None, length, ◌∙◌, ap, arith, inl, inr}
 use Rattle.std.specs.Int.{bit_at}
-use Rattle.std.specs.Prelude.{slice_index}
+use Rattle.std.specs.Prelude.{slice_index, IfNone, IfSome}
 use Rattle.std.proofs.Math.ListN.{get_or-eq_default}
-use Rattle.std.proofs.Math.Nat.{div-add-mod, mod-lt}
+use Rattle.std.proofs.Math.Nat.{div-add-mod}
 use Rattle.std.proofs.lemmas.Bool.{cases_lt}
 use Rattle.std.proofs.lemmas.Nat.Bits.{bit_at-zero}
-use Rattle.pr_pids.specs.Members.{HasNoneFrom, IsNextFrom, has_pid}
+use Rattle.pr_pids.specs.Members.{HasNoneFrom, IsNextFrom, IsSummed, has_pid}
 use Rattle.pr_pids.proofs.BitLemmas.{bit-within}
 
 -- What a walk over the words of a set finds.
@@ -101,14 +101,73 @@ low-each at from other begins past there =
 pub low-behind : (at from : ℕ) → at ≡ from / 64 → from ≤ at * 64 + from % 64
 low-behind at from begins = let one = div-add-mod from 64 in omega arith
 
-pub word-behind : (at from : ℕ) → from / 64 ≤ at → at ≢ from / 64 → from ≤ at * 64 + 0
-word-behind at from past apart =
-    let one = div-add-mod from 64 in
-    let less = bit-within from in
-    omega arith
-
 pub word-inside : (pid : ℕ) → pid < 4096 → pid / 64 < 64
 word-inside pid small =
     let one = div-add-mod pid 64 in
     let less = bit-within pid in
     omega arith
+
+-- ---- words that are passed over
+
+word-of-other : (at word other : ℕ) → at * 64 ≤ other → other < word * 64 → (at ≤ other / 64) × (other / 64 < word)
+word-of-other at word other above below =
+    let parts = div-add-mod other 64 in
+    let less = bit-within other in (
+      omega arith,
+      omega arith,
+    )
+
+pub passed : (words : List ℕ) (some from at word : ℕ) → IsSummed some words → word ≤ 64 → IsEmpty words from (at * 64)
+    → ((i : ℕ) → at ≤ i → i < word → bit_at some i ≡ 0) → IsEmpty words from (word * 64)
+unfolding has_pid
+passed words some from at word h within empty zero other past under =
+    elim (cases_lt other (at * 64)) [
+      | inl before ↦ empty other past before
+      | inr above ↦ here (word-of-other at word other (omega arith) under)
+    ]
+  where
+    here : (at ≤ other / 64) × (other / 64 < word) → eqb (bit_at (slice_index words (other / 64)) (other % 64)) 1 ≡ false
+    here place =
+        let low = place.0 in
+        let high = place.1 in
+        ap (λ n. eqb (bit_at n (other % 64)) 1) (h.summed (other / 64) (omega arith) (zero (other / 64) low high))
+        ∙ ap (λ n. eqb n 1) (bit_at-zero (other % 64))
+
+-- ---- a walk that goes on at the next word
+
+module _ (words : List ℕ) (from at : ℕ) (empty : IsEmpty words from (at * 64)) (past : from ≤ at * 64) where
+  pub next-behind : (pid : ℕ) → IsNextFrom words (at * 64) pid → IsNextFrom words from pid
+  next-behind pid next = record {
+    member = next.member;
+    behind = let behind = next.behind in omega arith;
+    least = λ other low under. by other low under;
+  }
+    where
+      by : (other : ℕ) → from ≤ other → other < pid → has_pid words other ≡ false
+      by other low under =
+          elim (cases_lt other (at * 64)) [
+            | inl before ↦ empty other low before
+            | inr above ↦ next.least other (omega arith) under
+          ]
+
+  pub none-behind_word : HasNoneFrom words (at * 64) → HasNoneFrom words from
+  none-behind_word none = record { none = λ other low. by other low }
+    where
+      by : (other : ℕ) → from ≤ other → has_pid words other ≡ false
+      by other low =
+          elim (cases_lt other (at * 64)) [
+            | inl before ↦ empty other low before
+            | inr above ↦ none.none other (omega arith)
+          ]
+
+  pub if-next-behind : (o : Option ℕ) → IfSome o (λ pid. IsNextFrom words (at * 64) pid) → IfSome o (λ pid. IsNextFrom words from pid)
+  if-next-behind None next = tt
+  if-next-behind (Some pid) next = next-behind pid next
+
+  pub if-none-behind : (o : Option ℕ) → IfNone o (HasNoneFrom words (at * 64)) → IfNone o (HasNoneFrom words from)
+  if-none-behind None none = none-behind_word none
+  if-none-behind (Some pid) none = tt
+
+-- before the word of an id there is none
+pub none-before : (words : List ℕ) (from : ℕ) → IsEmpty words from (from / 64 * 64)
+none-before words from other past under = let parts = div-add-mod from 64 in absurd (let wrong : ⊥ = omega arith in wrong)

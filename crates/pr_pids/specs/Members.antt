@@ -16,3 +16,7 @@ pub record IsNextFrom (words : List ℕ) (from pid : ℕ) : Type 0 where
 -- a set has no id from one on
 pub record HasNoneFrom (words : List ℕ) (from : ℕ) : Type 0 where
   pub none : (other : ℕ) → from ≤ other → has_pid words other ≡ false
+
+-- each bit of a word that is 0 tells a word of a set that has no id
+pub record IsSummed (some : ℕ) (words : List ℕ) : Type 0 where
+  pub summed : (i : ℕ) → i < 64 → bit_at some i ≡ 0 → slice_index words i ≡ 0

@@ -1,8 +1,9 @@
-ghost use Rattle.std.specs.Prelude.{◌≡◌, ◌==◌, ◌||◌, ◌&&◌, ◌≤◌, ◌<◌, ◌+◌, ◌*◌, ◌/◌, ◌%◌, ℕ, not, replicate, IfSome, IfNone};
+ghost use Rattle.std.specs.Prelude.{◌≡◌, ◌≢◌, ◌==◌, ◌||◌, ◌&&◌, ◌<◌, ◌*◌, ℕ, List, not, replicate, slice_index, IfSome, IfNone};
 ghost use Rattle.std.specs.Int.{bit_at};
 ghost use Rattle.pr_num.specs.Limits.{process_limit};
-ghost use Rattle.pr_pids.specs.Members.{HasNoneFrom, IsNextFrom, has_pid};
+ghost use Rattle.pr_pids.specs.Members.{HasNoneFrom, IsNextFrom, IsSummed, has_pid};
 
+use crate::bits::first_bit;
 use std::marker::Model;
 
 /// How many words hold a bit for each process id.
@@ -12,6 +13,8 @@ const WORDS: u32 = 64;
 #[derive(Drop)]
 pub struct ProcessSet {
     words: [u64; 64],
+    /// A bit for each word: it is 1 where the word has an id, so that a walk passes over the other words at once.
+    some: u64,
 }
 
 impl Model for ProcessSet {
@@ -19,33 +22,43 @@ impl Model for ProcessSet {
 
     ghost Value = { List ℕ };
 
+    ghost use Rattle.pr_pids.specs.Members.{IsSummed};
+
     ghost view = { λ set. set.words };
+
+    ghost invariant = { λ set. IsSummed set.some set.words };
 }
 
-/// The lowest bit of a word that is 1, from one on.
-fn first_bit(word: u64, low: u32) -> Option<u32>
-    requires { low < 64 }
-    ensures member { IfSome result (λ bit. bit_at word bit ≡ 1) }
-    ensures behind { IfSome result (λ bit. low ≤ bit) }
-    ensures within { IfSome result (λ bit. bit < 64) }
-    ensures least { IfSome result (λ bit. (i : ℕ) → low ≤ i → i < bit → bit_at word i ≡ 0) }
-    ensures none { IfNone result ((i : ℕ) → low ≤ i → i < 64 → bit_at word i ≡ 0) }
+/// The bits that tell which words have an id, where this is the word at a place now.
+fn mark(some: u64, at: u32, word: u64) -> u64
+    requires { at < 64 }
+    ensures { (words : List ℕ) → slice_index words at ≡ word → ((i : ℕ) → i < 64 → i ≢ at → bit_at some i ≡ 0 → slice_index words i ≡ 0) → IsSummed result words }
 {
-    let rest = word >> low;
-    if rest == 0 {
-        return None;
+    if word == 0 {
+        some & !(1 << at)
+    } else {
+        some | 1 << at
     }
-    Some(low + rest.trailing_zeros())
 }
 
-/// The bit of a word, by its place, at which the ids from one on begin.
-fn low_bit(at: u32, from: u32) -> u32
-    requires { from / 64 ≤ at }
-    ensures within { result < 64 }
-    ensures behind { from ≤ at * 64 + result }
-    ensures each { (other : ℕ) → from ≤ other → other / 64 ≡ at → result ≤ other % 64 }
+/// The least id from the beginning of a word on, where each bit of `some` that is 0 tells a word without an id.
+fn next_from_word(words: &[u64; 64], some: u64, from: u32) -> Option<u32>
+    requires { IsSummed some words.now }
+    ensures next { IfSome result (λ pid. IsNextFrom words.now (from * 64) pid) }
+    ensures within { IfSome result (λ pid. pid < process_limit) }
+    ensures none { IfNone result (HasNoneFrom words.now (from * 64)) }
 {
-    if at == from / 64 { from % 64 } else { 0 }
+    let mut at = from;
+    while at < WORDS {
+        let Some(word) = first_bit(some, at) else {
+            return None;
+        };
+        if let Some(bit) = first_bit(words[word as usize], 0) {
+            return Some(word * 64 + bit);
+        }
+        at = word + 1;
+    }
+    None
 }
 
 impl ProcessSet {
@@ -53,7 +66,10 @@ impl ProcessSet {
     pub fn empty() -> ProcessSet
         ensures { result ≡ replicate 64 0 }
     {
-        ProcessSet { words: [0; 64] }
+        ProcessSet {
+            words: [0; 64],
+            some: 0,
+        }
     }
 
     /// Puts an id into the set.
@@ -62,6 +78,7 @@ impl ProcessSet {
         ensures { (other : ℕ) → has_pid self.new other ≡ (has_pid self.old other || (other == pid)) }
     {
         self.words[(pid / 64) as usize] |= 1 << (pid % 64);
+        self.some = mark(self.some, pid / 64, self.words[(pid / 64) as usize]);
     }
 
     /// Takes an id out of the set.
@@ -70,6 +87,7 @@ impl ProcessSet {
         ensures { (other : ℕ) → has_pid self.new other ≡ (has_pid self.old other && not (other == pid)) }
     {
         self.words[(pid / 64) as usize] &= !(1 << (pid % 64));
+        self.some = mark(self.some, pid / 64, self.words[(pid / 64) as usize]);
     }
 
     /// The least id of the set from one on. Words without an id are skipped.
@@ -78,11 +96,13 @@ impl ProcessSet {
         ensures within { IfSome result (λ pid. pid < process_limit) }
         ensures none { IfNone result (HasNoneFrom self.now from) }
     {
-        for at in from / 64..WORDS {
-            if let Some(bit) = first_bit(self.words[at as usize], low_bit(at, from)) {
-                return Some(at * 64 + bit);
-            }
+        let words = &self.words;
+        if from / 64 >= WORDS {
+            return None;
         }
-        None
+        match first_bit(words[(from / 64) as usize], from % 64) {
+            Some(bit) => Some(from / 64 * 64 + bit),
+            None => next_from_word(words, self.some, from / 64 + 1),
+        }
     }
 }

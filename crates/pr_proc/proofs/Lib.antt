@@ -6,6 +6,7 @@ pub mod ForkLemmas
 pub mod IdLemmas
 pub mod LifeLemmas
 pub mod LoanLemmas
+pub mod MarkLemmas
 pub mod OrderLemmas
 pub mod ProgramLemmas
 pub mod SendingLemmas

@@ -2,6 +2,8 @@ pub mod Counts
 pub mod Families
 pub mod FirstFiles
 pub mod Forks
+pub mod Keeping
+pub mod Marks
 pub mod Orders
 pub mod ProcessesLending
 pub mod Refusals

@@ -67,28 +67,25 @@ fn orphan(process: &mut Proc, parent: u32)
     }
 }
 
-/// The same of the process of an id; one that is no child of it is not touched.
+/// The same of the process of an id.
 #[tactic(auto, using(pr_num::proofs::ByIdLaws::by_id_laws))]
 fn orphan_under(processes: &mut Processes, id: u32, parent: u32)
     requires { IsSome (under id processes.old) }
     ensures { processes.new ≡ change_under id (orphaned parent) processes.old }
 {
-    let process = processes.get(id).unwrap();
-    if process.parent == parent {
-        orphan(processes.get_mut(id), parent);
-    }
+    orphan(processes.get_mut(id), parent);
 }
 
-/// The same of every process.
+/// The same of every process. Looks at none but those in the blocks of ids in which its children stand.
 fn orphan_each(processes: &mut Processes, parent: u32)
     ensures { processes.new ≡ map_each (orphaned parent) processes.old }
 {
-    processes.ids_rise();
     let mut low = 0;
-    while let Some((id, _)) = processes.next_from(low) {
+    while let Some((id, _)) = processes.next_child(parent, low) {
         orphan_under(processes, id, parent);
         low = id as u64 + 1;
     }
+    processes.ids_rise();
 }
 
 /// Tells a process that a child of it ended.

@@ -39,7 +39,7 @@ fn asked_after<Q: Question>(question: &Q, after: Option<(u32, u32)>, x: (u32, u3
 
 /// The first of these lwps of a process that comes after another one and about which the answer is yes.
 #[tactic(auto, using(crate::proofs::OrderLemmas::order_laws))]
-fn first_among<Q: Question>(
+pub fn first_among<Q: Question>(
     question: &Q,
     after: Option<(u32, u32)>,
     pid: u32,

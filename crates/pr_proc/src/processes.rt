@@ -6,11 +6,14 @@ ghost use Rattle.pr_num.specs.ById.{IsRising, under, inserted, without_id, first
 ghost use Rattle.pr_num.specs.Limits.{mapping_limit};
 ghost use Rattle.pr_model.specs.Readers.{sizes_of};
 ghost use Rattle.pr_slots.specs.Walks.{rest_from};
+ghost use Rattle.pr_proc.specs.Marks.{HasNoChild, HasNoChildFrom};
 ghost use Rattle.pr_proc.specs.Totals.{AreSmall, IsTotal, size_under};
 
+use crate::marks::{clear, next_child, settle};
 use crate::{Proc, size_of};
 use pr_num::NoMemory;
 use pr_num::limits::PROCESS_LIMIT;
+use pr_pids::BlockSets;
 use pr_slots::SlabById;
 use std::alloc::Global;
 use std::marker::Model;
@@ -19,26 +22,29 @@ use std::marker::Model;
 /// and its process, by rising id.
 ///
 /// A process stands where the slab put it until it is reaped. How many bytes all processes have mapped is known at any
-/// time: no call goes over them to add their sizes up.
+/// time: no call goes over them to add their sizes up. Nor does one go over them to find the children of a process: it is
+/// known in which blocks of 64 ids these may stand.
 #[derive(Drop)]
 pub struct Processes {
     table: SlabById<Proc>,
     /// How many bytes all processes have mapped but that of the id `out`.
     others: u64,
-    /// The id of the process that was lent, made or reaped last, which may have any size.
+    /// The id of the process that was lent, made or reaped last, which may have any size and any parent.
     out: u32,
+    /// For each process the blocks in which its children stand, but for that of the id `out`.
+    children: BlockSets,
 }
 
 impl Model for Processes {
     ghost use Rattle.std.specs.Prelude.{List, ℕ};
     ghost use Rattle.pr_model.specs.State.{TracedProcess};
-    ghost use Rattle.pr_proc.specs.Totals.{IsTotal};
+    ghost use Rattle.pr_proc.specs.Keeping.{IsKept};
 
     ghost Value = { List (ℕ × TracedProcess) };
 
     ghost view = { λ all. all.table };
 
-    ghost invariant = { λ all. IsTotal all.others all.out all.table };
+    ghost invariant = { λ all. IsKept all.others all.out all.children all.table };
 }
 
 /// How many bytes the process of an id has mapped; 0 where there is none.
@@ -81,10 +87,12 @@ impl Processes {
         ensures { IfOk result (λ processes. processes ≡ []) }
     {
         let table = SlabById::new(alloc, PROCESS_LIMIT as u32)?;
+        let children = BlockSets::empty(alloc)?;
         Ok(Processes {
             table,
             others: 0,
             out: 0,
+            children,
         })
     }
 
@@ -128,6 +136,18 @@ impl Processes {
         self.table.next_from(low)
     }
 
+    /// The first child of a process at or behind an id, with its id. Looks at no process but those of the blocks in
+    /// which there may be a child.
+    pub fn next_child(&self, parent: u32, low: u64) -> Option<(u32, &Proc)>
+        ensures found { IfSome result (λ next. under next.0 self.now ≡ Some next.1.now) }
+        ensures child { IfSome result (λ next. next.1.now.parent ≡ parent) }
+        ensures behind { IfSome result (λ next. low ≤ next.0) }
+        ensures least { IfSome result (λ next. HasNoChild parent low next.0 self.now) }
+        ensures none { IfNone result (HasNoChildFrom parent low self.now) }
+    {
+        next_child(&self.table, &self.children, self.out, parent, low)
+    }
+
     /// How many bytes all processes have mapped. Takes as long however many there are.
     pub fn mapped(&self) -> u64
         ensures { result ≡ sizes_of self.now }
@@ -141,6 +161,7 @@ impl Processes {
         ensures* writes_back { sem 𝓛 (lends_under self.entry id result) }
         ensures value { under id self.old ≡ Some result.now }
     {
+        settle(&self.table, &mut self.children, self.out);
         self.others = all_but(&self.table, self.others, self.out, id);
         self.out = id;
         self.table.get_mut(id)
@@ -164,6 +185,7 @@ impl Processes {
         ensures ok { OnOk result (self.new ≡ inserted id process self.old) }
         ensures err { OnErr result (self.new ≡ self.old) }
     {
+        settle(&self.table, &mut self.children, self.out);
         let before = whole(&self.table, self.others, self.out);
         self.table.insert(id, process)?;
         self.others = before;
@@ -177,8 +199,12 @@ impl Processes {
         ensures value { under id self.old ≡ Some result }
         ensures rest { self.new ≡ without_id id self.old }
     {
+        settle(&self.table, &mut self.children, self.out);
         self.others = all_but(&self.table, self.others, self.out, id);
         self.out = id;
-        self.table.remove(id)
+        self.table.ids_rise();
+        let process = self.table.remove(id);
+        clear(&self.table, &mut self.children, process.parent, id);
+        process
     }
 }

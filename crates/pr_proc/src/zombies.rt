@@ -6,20 +6,17 @@ ghost use Rattle.pr_proc.specs.Families.{children_told};
 
 use crate::{Children, Processes, Sys};
 
-#[tactic(auto, using(crate::proofs::FamilyLemmas::family_laws))]
 fn children_among(parent: u32, processes: &Processes) -> Children
     ensures { children_told result ≡ children_among parent processes.now }
 {
+    processes.ids_rise();
     let mut low = 0;
     let mut any = false;
-    while let Some((id, process)) = processes.next_from(low) {
-        low = id as u64 + 1;
-        if process.parent != parent {
-            continue;
-        }
-        if let Some(status) = process.ended {
+    while let Some((id, child)) = processes.next_child(parent, low) {
+        if let Some(status) = child.ended {
             return Children::Zombie(id, status);
         }
+        low = id as u64 + 1;
         any = true;
     }
     if any {
@@ -29,7 +26,8 @@ fn children_among(parent: u32, processes: &Processes) -> Children
     }
 }
 
-/// What there is of the children of a process. Goes over all processes; takes no memory.
+/// What there is of the children of a process. Looks at none but those in the blocks of ids in which its children stand;
+/// takes no memory.
 #[tactic(auto, unfolding(pr_model::specs::Readers::children_of))]
 pub fn children(sys: &Sys, pid: u32) -> Children
     ensures { children_told result ≡ children_of sys.now pid }

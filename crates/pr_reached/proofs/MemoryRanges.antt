@@ -334,7 +334,7 @@ one-bytes op a immediate is_op = fields-bytes op (register_number a) 0 immediate
 plain-bytes : (op : ℕ) (immediate : ℕ) → IsByte op → All IsByte (op ∷ 0 ∷ 0 ∷ 0 ∷ 0 ∷ 0 ∷ 0 ∷ 0 ∷ word_bytes immediate)
 plain-bytes op immediate is_op = fields-bytes op 0 0 immediate is_op (omega arith) (omega arith)
 
-instruction-bytes : (x : Instruction) → All IsByte (instruction_bytes x)
+pub instruction-bytes : (x : Instruction) → All IsByte (instruction_bytes x)
 unfolding fields_of
 instruction-bytes i.Bpt = plain-bytes 1 0 (omega arith)
 instruction-bytes i.Nop = plain-bytes 2 0 (omega arith)

@@ -5,3 +5,5 @@ pub mod StepLemmas
 pub mod QueueLemmas
 pub mod AroundLemmas
 pub mod AskingLemmas
+pub mod TickLemmas
+pub mod LookLemmas

@@ -1,10 +1,10 @@
-use Rattle.std.proofs.Common.{◌≡◌, ◌≢◌, ◌⊎◌, ◌||◌, ◌<◌, ℕ, Bool, true, false, Option, Some, None, List, [], ◌∷◌, cond, eqb, refl, sym, subst, ◌∙◌, ap, inl, inr}
+use Rattle.std.proofs.Common.{◌≡◌, ◌≢◌, ◌⊎◌, ◌||◌, ◌<◌, ◌≤◌, ℕ, Bool, true, false, Some, None, List, [], ◌∷◌, eqb, refl, sym, subst, ◌∙◌, ap, arith, inl, inr}
 use Rattle.std.specs.List.{list_any}
-use Rattle.std.proofs.lemmas.Bool.{cases_Bool, cases_eq, eqb-true, false≢true}
+use Rattle.std.specs.Prelude.{nat_le, nat_lt}
+use Rattle.std.proofs.lemmas.Bool.{and_from, and_parts, cases_Bool, cases_eq, eqb-true, false≢true, leb-true, lt-ltb, ltb-true}
 use Rattle.std.proofs.lemmas.Option.{same_Some}
 use Rattle.pr_num.specs.ById.{under}
 use Rattle.pr_num.specs.Limits.{process_limit}
-use Rattle.pr_num.specs.declared.syscalls.Sysno.{Sysno}
 use Rattle.pr_num.specs.declared.syscalls.Sysno.TheVariants.{Read, Write, Sleep}
 use Rattle.pr_model.specs.FirstState.{system_process}
 use Rattle.pr_model.specs.Lawful.{IsLawfulSystem}
@@ -16,9 +16,9 @@ use Rattle.pr_model.specs.declared.lwps.Phase.TheVariants.{Asleep}
 use Rattle.pr_lawful.proofs.EndLemmas.{found-live}
 use Rattle.pr_pids.specs.Members.{has_pid}
 use Rattle.pr_ready.specs.Queues.{AreReady, is_movable}
-use Rattle.pr_ready.specs.Ready.{Covers, CoversEach, ReadySets, every, is_asked, is_at_pipe, is_dozing, some_answer, some_answer_of, some_at_pipe, some_dozing}
+use Rattle.pr_ready.specs.Ready.{Covers, CoversEach, IsDue, ReadySets, every, is_asked, is_at_pipe, is_dozing, is_woken, some_answer, some_answer_of}
 use Rattle.pr_ready.specs.Steps.{Follows}
-use Rattle.pr_ready_laws.specs.Left.{HasLwp, IsLeft, dozes, sleeps_at_pipe, waits}
+use Rattle.pr_ready_laws.specs.Left.{HasLwp, IsLeft, comes_between, moment_of, sleeps_at_pipe, waits, wakes_between}
 use Rattle.pr_ready_laws.proofs.MoveLemmas.{moves-before}
 use Rattle.pr_ready_laws.proofs.StepLemmas.{mover}
 
@@ -60,12 +60,54 @@ asked-one answer pid (e ∷ es) said =
 
 -- ---- who waits
 
-waits-for : (files clock : Bool) (ph : Phase) → waits files clock ph ≡ true
-    → ((files ≡ true) × (sleeps_at_pipe ph ≡ true)) ⊎ ((clock ≡ true) × (dozes ph ≡ true))
-waits-for files clock (Asleep Read args since) is = inl (is, refl)
-waits-for files clock (Asleep Write args since) is = inl (is, refl)
-waits-for files clock (Asleep Sleep args since) is = inr (is, refl)
-waits-for files clock _ is = absurd (false≢true is)
+waits-for : (files : Bool) (from to : ℕ) (ph : Phase) → waits files from to ph ≡ true
+    → ((files ≡ true) × (sleeps_at_pipe ph ≡ true)) ⊎ (wakes_between from to ph ≡ true)
+waits-for files from to (Asleep Read args since) is = inl (is, refl)
+waits-for files from to (Asleep Write args since) is = inl (is, refl)
+waits-for files from to (Asleep Sleep args since) is = inr is
+waits-for files from to _ is = absurd (false≢true is)
+
+-- no moment lies between one and itself
+still-comes : (at moment : ℕ) → comes_between at at moment ≡ true → ⊥
+still-comes at moment is =
+    let parts = and_parts (nat_lt at moment) (nat_le moment at) is in
+    let behind = ltb-true at moment parts.0 in
+    let before = leb-true moment at parts.1 in
+    omega arith
+
+still-wakes : (at : ℕ) (ph : Phase) → wakes_between at at ph ≡ true → ⊥
+still-wakes at (Asleep Sleep args since) is = still-comes at (moment_of args since) is
+still-wakes at _ is = false≢true is
+
+-- who wakes between two moments also wakes between an earlier one and the second
+earlier-comes : (from on to moment : ℕ) → from ≤ on → comes_between on to moment ≡ true
+    → comes_between from to moment ≡ true
+earlier-comes from on to moment less is =
+    let parts = and_parts (nat_lt on moment) (nat_le moment to) is in
+    let behind = ltb-true on moment parts.0 in
+    and_from _ _ (lt-ltb from moment (omega arith)) parts.1
+
+earlier-wakes : (from on to : ℕ) (ph : Phase) → from ≤ on → wakes_between on to ph ≡ true
+    → wakes_between from to ph ≡ true
+earlier-wakes from on to (Asleep Sleep args since) less is = earlier-comes from on to (moment_of args since) less is
+earlier-wakes from on to _ less is = is
+
+earlier-woken : (from on to : ℕ) (es : List (ℕ × TracedLwp)) → from ≤ on → list_any (is_woken on to) es ≡ true
+    → list_any (is_woken from to) es ≡ true
+earlier-woken from on to [] less is = is
+earlier-woken from on to (e ∷ es) less is =
+    by (cases_Bool (wakes_between on to e.1.phase)) (λ rest. earlier-woken from on to es less rest)
+  where
+    or-second : (b c : Bool) → c ≡ true → (b || c) ≡ true
+    or-second true c said = refl
+    or-second false c said = said
+
+    by : (wakes_between on to e.1.phase ≡ true) ⊎ (wakes_between on to e.1.phase ≡ false)
+        → (list_any (is_woken on to) es ≡ true → list_any (is_woken from to) es ≡ true)
+        → list_any (is_woken from to) (e ∷ es) ≡ true
+    by (inl wakes) rest = rw (earlier-wakes from on to e.1.phase less wakes) refl
+    by (inr sleeps) rest =
+        or-second (wakes_between from to e.1.phase) _ (rest (rw sleeps at is))
 
 module _ (touches : ℕ → Bool) (files clock : Bool) (s u : TracedSystem) (old new : ReadySets)
     (follows : Follows touches files clock (is_movable u) u old new) (before : CoversEach every (is_movable s) s old)
@@ -99,9 +141,10 @@ module _ (touches : ℕ → Bool) (files clock : Bool) (s u : TracedSystem) (old
       → sleeps_at_pipe l.phase ≡ true → has_pid old.at_pipes pid ≡ true
   pipes-before p id l live there sleeps = was.waits p live (any-under is_at_pipe id l p.lwps there sleeps)
 
-  dozing-before : (p : TracedProcess) (id : ℕ) (l : TracedLwp) → live_process s pid ≡ Some p → lwp_of p id ≡ Some l
-      → dozes l.phase ≡ true → has_pid old.dozing pid ≡ true
-  dozing-before p id l live there sleeps = was.dozes p live (any-under is_dozing id l p.lwps there sleeps)
+  due-before : (p : TracedProcess) (id : ℕ) (l : TracedLwp) → live_process s pid ≡ Some p → lwp_of p id ≡ Some l
+      → wakes_between s.clock u.clock l.phase ≡ true → IsDue old.moments pid u.clock
+  due-before p id l live there wakes =
+      was.wakes p u.clock live (any-under (is_woken s.clock u.clock) id l p.lwps there wakes)
 
   moves-later : (q : TracedProcess) → live_process u pid ≡ Some q → some_answer (is_movable u) pid q ≡ true
       → has_pid new.movable pid ≡ true
@@ -118,18 +161,24 @@ module _ (touches : ℕ → Bool) (files clock : Bool) (s u : TracedSystem) (old
           (was.moves it.process it.live
           (any-under (is_asked (is_movable s) pid) id it.lwp it.process.lwps it.there can))
 
-      waited : (id : ℕ) → (it : HasLwp (waits files clock) s pid id)
-          → ((files ≡ true) × (sleeps_at_pipe it.lwp.phase ≡ true)) ⊎ ((clock ≡ true) × (dozes it.lwp.phase ≡ true))
+      woken : (b : Bool) → clock ≡ b → (ph : Phase) → wakes_between s.clock u.clock ph ≡ true
+          → IsDue old.moments pid u.clock → has_pid new.movable pid ≡ true
+      woken true may ph wakes due = follows.by_clock may pid spared small due now
+      woken false stands ph wakes due =
+          absurd (still-wakes s.clock ph (subst (λ n. wakes_between s.clock n ph ≡ true) (left.same_clock stands) wakes))
+
+      waited : (id : ℕ) → (it : HasLwp (waits files s.clock u.clock) s pid id)
+          → ((files ≡ true) × (sleeps_at_pipe it.lwp.phase ≡ true)) ⊎ (wakes_between s.clock u.clock it.lwp.phase ≡ true)
           → has_pid new.movable pid ≡ true
       waited id it (inl (may, sleeps)) =
           follows.by_files may pid spared (pipes-before it.process id it.lwp it.live it.there sleeps) now
-      waited id it (inr (may, sleeps)) =
-          follows.by_clock may pid spared (dozing-before it.process id it.lwp it.live it.there sleeps) now
+      waited id it (inr wakes) =
+          woken clock refl it.lwp.phase wakes (due-before it.process id it.lwp it.live it.there wakes)
 
-      by : (id : ℕ) → (can_move s pid id ≡ true) ⊎ HasLwp (waits files clock) s pid id
+      by : (id : ℕ) → (can_move s pid id ≡ true) ⊎ HasLwp (waits files s.clock u.clock) s pid id
           → has_pid new.movable pid ≡ true
       by id (inl can) = could id can (mover s pid id can)
-      by id (inr it) = waited id it (waits-for files clock it.lwp.phase it.kind)
+      by id (inr it) = waited id it (waits-for files s.clock u.clock it.lwp.phase it.kind)
 
   pub covers-later : Covers (is_movable u) u new pid
   covers-later = record {
@@ -144,6 +193,13 @@ module _ (touches : ℕ → Bool) (files clock : Bool) (s u : TracedSystem) (old
         follows.dozing pid spared
         (was.dozes it.process it.live
         (subst (λ (es : List (ℕ × TracedLwp)). list_any is_dozing es ≡ true) it.same said));
+    wakes = λ q moment live said.
+        let it = lived q live in
+        follows.moments pid moment spared small
+        (was.wakes it.process moment it.live
+        (earlier-woken s.clock u.clock moment it.process.lwps left.goes_on
+        (subst (λ (es : List (ℕ × TracedLwp)). list_any (is_woken u.clock moment) es ≡ true) it.same said)))
+        (rw live said);
   }
 
 -- where a step leaves each process that it does not touch
@@ -172,6 +228,7 @@ first-covers u r answer h = record {
   moves = λ p live said. absurd (false≢true (sym (none p live (is_asked answer 0)) ∙ said));
   waits = λ p live said. absurd (false≢true (sym (none p live is_at_pipe) ∙ said));
   dozes = λ p live said. absurd (false≢true (sym (none p live is_dozing) ∙ said));
+  wakes = λ p moment live said. absurd (false≢true (sym (none p live (is_woken u.clock moment)) ∙ said));
 }
   where
     none : (p : TracedProcess) → live_process u 0 ≡ Some p → (test : ℕ × TracedLwp → Bool)

@@ -4,3 +4,4 @@ pub mod Walks
 pub mod Steps
 pub mod Queues
 pub mod Following
+pub mod Moments

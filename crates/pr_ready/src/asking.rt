@@ -1,44 +1,15 @@
 //! Which lwp comes next about which the answer to a question is yes, where only those of a set are asked.
-ghost use Rattle.std.specs.Prelude.{◌≡◌, find};
+ghost use Rattle.std.specs.Prelude.{◌≡◌};
 ghost use Rattle.std.specs.Option.{option_copied};
 ghost use Rattle.pr_model.specs.Lawful.{IsLawfulSystem};
-ghost use Rattle.pr_model.specs.Order.{pairs_of};
-ghost use Rattle.pr_proc.specs.Orders.{asked_after, next_asked};
+ghost use Rattle.pr_proc.specs.Orders.{next_asked};
 ghost use Rattle.pr_ready.specs.Ready.{CoversMoves};
 ghost use Rattle.pr_ready.specs.Walks.{first_of, first_pid};
 
-use pr_model::is_after;
-use pr_num::ById;
 use pr_pids::ProcessSet;
-use pr_proc::{Lwp, Proc, Question, Sys, live};
+use pr_proc::{Proc, Question, Sys, first_among, live};
 
-#[tactic(auto, unfolding(pr_proc::specs::Orders::asked_after))]
-fn asked_after<Q: Question>(question: &Q, after: Option<(u32, u32)>, x: (u32, u32)) -> bool
-    ensures { result ≡ asked_after (Q.answer question.now) after x }
-{
-    is_after(after, x) && question.ask(x.0, x.1)
-}
-
-/// The first of these lwps of a process that comes after another one and about which the answer is yes.
-#[tactic(auto, using(pr_proc::proofs::OrderLemmas::order_laws))]
-fn first_among<Q: Question>(
-    question: &Q,
-    after: Option<(u32, u32)>,
-    pid: u32,
-    lwps: &ById<Lwp>,
-) -> Option<(u32, u32)>
-    ensures { result ≡ find (asked_after (Q.answer question.now) after) (pairs_of pid lwps.now) }
-{
-    for place in 0..lwps.len() {
-        let (id, _) = lwps.at(place);
-        if asked_after(question, after, (pid, id)) {
-            return Some((pid, id));
-        }
-    }
-    None
-}
-
-/// The same of all lwps of a live process, if it is one.
+/// The first lwp of a live process, if it is one, that comes after another one and about which the answer is yes.
 fn first_of<Q: Question>(
     question: &Q,
     after: Option<(u32, u32)>,

@@ -10,6 +10,7 @@ ghost use Rattle.pr_ready.specs.Ready.{Covers, CoversEach, Grows, GrowsBut, is_a
 ghost use Rattle.pr_ready_laws.specs.Left.{dozes, sleeps_at_pipe};
 
 use crate::around::{Around, Kin};
+use crate::moments::note_next;
 use crate::ready::{Ready, put_if, take_out};
 use pr_model::Phase;
 use pr_num::Sysno;
@@ -73,9 +74,10 @@ pub fn look<Q: Question>(ready: &mut Ready, sys: &Sys, pid: u32, question: &Q)
     put_if(&mut ready.movable, pid, some_answer(question, pid, lwps));
     put_if(&mut ready.at_pipes, pid, some_at_pipe(lwps));
     put_if(&mut ready.dozing, pid, some_dozing(lwps));
+    note_next(&mut ready.moments, sys.clock, pid, lwps);
 }
 
-/// The process of an id leaves every set.
+/// The process of an id leaves every set. The moments stay: the clock does not know whose they are.
 fn forget(ready: &mut Ready, pid: u32)
     ensures { GrowsBut pid ready.old ready.new }
 {

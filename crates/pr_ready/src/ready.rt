@@ -1,13 +1,14 @@
 ghost use Rattle.std.specs.Prelude.{◌≡◌, ◌<◌, ℕ, true};
 ghost use Rattle.pr_num.specs.Limits.{process_limit};
 ghost use Rattle.pr_pids.specs.Members.{has_pid};
-ghost use Rattle.pr_ready.specs.Ready.{HasAll, HasAllBut};
+ghost use Rattle.pr_ready.specs.Ready.{HasAll, HasAllBut, IsDue};
 
+use crate::moments::Moments;
 use pr_num::limits::PROCESS_LIMIT;
 use pr_pids::ProcessSet;
 
-/// Which processes are looked at: none that is in no set has an lwp for which it would have to be. They stand in place,
-/// and take no memory.
+/// Which processes are looked at: none that is in no set has an lwp for which it would have to be; and when those that
+/// sleep in sleep are. They stand in place, and take no memory.
 #[derive(Drop)]
 pub struct Ready {
     /// Those that may have an lwp that can have a turn.
@@ -16,6 +17,8 @@ pub struct Ready {
     pub at_pipes: ProcessSet,
     /// Those that may have an lwp asleep in sleep, until a moment of the clock.
     pub dozing: ProcessSet,
+    /// Before which moments of the clock none of them wakes.
+    pub moments: Moments,
 }
 
 /// Puts an id into a set, where that is wanted. No process has an id from 4,096 on.
@@ -54,11 +57,13 @@ impl Ready {
         ensures movable { (pid : ℕ) → pid < made → pid < process_limit → has_pid result.movable pid ≡ true }
         ensures at_pipes { (pid : ℕ) → pid < made → pid < process_limit → has_pid result.at_pipes pid ≡ true }
         ensures dozing { (pid : ℕ) → pid < made → pid < process_limit → has_pid result.dozing pid ≡ true }
+        ensures moments { (pid moment : ℕ) → IsDue result.moments pid moment }
     {
         Ready {
             movable: below(made),
             at_pipes: below(made),
             dozing: below(made),
+            moments: Moments::at_once(),
         }
     }
 }

@@ -8,6 +8,7 @@ ghost use Rattle.pr_ready_laws.specs.Reach.{changes_files, reach_of, reach_of_ca
 use crate::around::Around;
 use crate::looks::{look_around, renew};
 use crate::ready::Ready;
+use crate::ticks::wake_due;
 use crate::wakes::wake;
 use pr_model::{Did, How, Res};
 use pr_num::Sysno;
@@ -119,9 +120,9 @@ pub fn after_call<Q: Question>(
     wake_at_pipes_if(ready, sys, files, question);
 }
 
-/// After a tick of the clock: those that sleep in sleep are looked at.
+/// After a tick of the clock: those that sleep in sleep are looked at, where it has come to a moment of theirs.
 pub fn after_tick<Q: Question>(ready: &mut Ready, sys: &Sys, question: &Q)
     ensures { Follows (λ other. false) false true (Q.answer question.now) sys.now ready.old ready.new }
 {
-    wake(&mut ready.movable, &ready.dozing, sys, question);
+    wake_due(&mut ready.movable, &mut ready.moments, sys, question);
 }

@@ -1,4 +1,4 @@
-//! How those that may have waited for files or for the clock are looked at again.
+//! How those that may have waited for files are looked at again.
 ghost use Rattle.std.specs.Prelude.{◌≡◌};
 ghost use Rattle.pr_ready.specs.Ready.{HasAll, IsWoken};
 

@@ -1,4 +1,4 @@
-use Rattle.std.proofs.Common.{◌≡◌, ◌≢◌, ℕ, true, false, eqb, Option, Some, None, List, refl, sym, subst, ◌∙◌}
+use Rattle.std.proofs.Common.{◌≡◌, ◌≢◌, ℕ, true, false, eqb, Option, Some, None, List, refl, sym, subst, ◌∙◌, arith}
 use Rattle.std.proofs.lemmas.Bool.{eqb-false, or_parts}
 use Rattle.pr_num.specs.Infos.{by_controller, killed_by}
 use Rattle.pr_num.specs.Signals.{signal_number}
@@ -118,4 +118,5 @@ tick-leaves pid s = record {
   children = λ all. all;
   same_files = λ none. refl;
   same_clock = λ none. cc;
+  goes_on = omega arith;
 }

@@ -1,4 +1,4 @@
-use Rattle.std.proofs.Common.{◌≡◌, ◌≢◌, ℕ, Bool, true, false, is_none, eqb, cond, Option, Some, None, refl, sym, subst, ◌∙◌, ap}
+use Rattle.std.proofs.Common.{◌≡◌, ◌≢◌, ℕ, Bool, true, false, is_none, eqb, cond, Option, Some, None, refl, sym, subst, ◌∙◌, ap, arith}
 use Rattle.std.specs.Option.{option_map}
 use Rattle.std.proofs.lemmas.Bool.{eqb-false, or_parts, true≢false}
 use Rattle.std.proofs.lemmas.Option.{none-some, same_Some}
@@ -99,6 +99,7 @@ module _ (pid : ℕ) (files clock : Bool) (user : pid ≢ 0) (may : files ≡ tr
         ∙ all;
     same_files = λ none. absurd (true≢false (sym may ∙ none));
     same_clock = λ none. refl;
+    goes_on = omega arith;
   }
     where
       is : process_of (buried gone p status s) pid ≡ option_map (orphaned gone) (process_of s pid)

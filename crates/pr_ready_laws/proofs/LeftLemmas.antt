@@ -1,4 +1,4 @@
-use Rattle.std.proofs.Common.{◌≡◌, ◌≢◌, ℕ, Bool, true, false, cond, Option, Some, None, refl, sym, subst, ◌∙◌, ap, inl, inr}
+use Rattle.std.proofs.Common.{◌≡◌, ◌≢◌, ℕ, Bool, true, false, cond, Option, Some, None, refl, sym, subst, ◌∙◌, ap, arith, inl, inr}
 use Rattle.std.proofs.lemmas.Bool.{eqb-false, cases_eq, true≢false}
 use Rattle.std.proofs.lemmas.Option.{none-some}
 use Rattle.pr_num.specs.ById.{IsRising}
@@ -29,6 +29,7 @@ module _ (pid : ℕ) (files clock : Bool) where
     children = λ all. all;
     same_files = λ none. refl;
     same_clock = λ none. refl;
+    goes_on = omega arith;
   }
 
   pub leaves-next : (s u v : TracedSystem) → Leaves s u → Leaves u v → Leaves s v
@@ -37,6 +38,7 @@ module _ (pid : ℕ) (files clock : Bool) where
     children = λ all. two.children (one.children all);
     same_files = λ none. two.same_files none ∙ one.same_files none;
     same_clock = λ none. two.same_clock none ∙ one.same_clock none;
+    goes_on = omega (arith, one.goes_on, two.goes_on);
   }
     where
       to : (q r : TracedProcess) → q ≡ record r { parent = q.parent }
@@ -65,6 +67,7 @@ module _ (pid : ℕ) (files clock : Bool) where
     children = λ all. children-changed pid other f keeps s.processes ∙ all;
     same_files = λ none. refl;
     same_clock = λ none. refl;
+    goes_on = omega arith;
   }
 
   -- another process is changed that is no child, before or later
@@ -78,6 +81,7 @@ module _ (pid : ℕ) (files clock : Bool) where
     children = λ all. children-apart pid other f x s.processes found before later ∙ all;
     same_files = λ none. refl;
     same_clock = λ none. refl;
+    goes_on = omega arith;
   }
 
   pub leaves-other_if : (o : Option ℕ) (f : TracedProcess → TracedProcess) (s : TracedSystem) → is_id pid o ≡ false
@@ -93,6 +97,7 @@ module _ (pid : ℕ) (files clock : Bool) where
     children = λ all. all;
     same_files = λ none. absurd (true≢false (sym may ∙ none));
     same_clock = λ none. refl;
+    goes_on = omega arith;
   }
 
   -- another process is made
@@ -105,6 +110,7 @@ module _ (pid : ℕ) (files clock : Bool) where
     children = children-inserted pid s.made p live s.processes;
     same_files = λ none. refl;
     same_clock = λ none. refl;
+    goes_on = omega arith;
   }
 
   -- a zombie is reaped
@@ -116,6 +122,7 @@ module _ (pid : ℕ) (files clock : Bool) where
     children = children-reaped pid child suits.status suits.zombie suits.over s.processes suits.found;
     same_files = λ none. refl;
     same_clock = λ none. refl;
+    goes_on = omega arith;
   }
     where
       by : (q : TracedProcess) → process_of (with_reaped child s) pid ≡ Some q

@@ -1,23 +1,24 @@
-use Rattle.std.proofs.Common.{◌≡◌, ◌⊎◌, ◌||◌, ℕ, Bool, true, false, not, is_some, eqb, Option, Some, None, List, refl, sym, subst, ◌∙◌, ap, inl, inr}
-use Rattle.std.specs.Prelude.{slice_index}
-use Rattle.std.proofs.lemmas.Bool.{and_parts, and_from, false≢true}
+use Rattle.std.proofs.Common.{◌≡◌, ◌⊎◌, ◌||◌, ◌+◌, ◌<◌, ◌≤◌, ℕ, Bool, true, false, not, is_some, eqb, cond, Option, Some, None, List, [], refl, sym, subst, ◌∙◌, ap, inl, inr}
+use Rattle.std.specs.Prelude.{nat_le, nat_lt, slice_index}
+use Rattle.std.proofs.lemmas.Bool.{and_parts, and_from, cases_Bool, cases_lt, false≢true, le-leb, lt-ltb}
+use Rattle.pr_num.specs.Limits.{sleep_limit}
 use Rattle.pr_num.specs.Spaces.{Space}
 use Rattle.pr_num.specs.declared.syscalls.Sysno.{Sysno}
 use Rattle.pr_num.specs.declared.syscalls.Sysno.TheVariants.{Read, Write, Wait, Pause, Sleep}
 use Rattle.pr_num.proofs.BoolLemmas.{either}
 use Rattle.pr_model.specs.CallEffects.{call_effect}
-use Rattle.pr_model.specs.Changes.{Effect, is_over}
+use Rattle.pr_model.specs.Changes.{Effect, gives, is_over, sleeps}
 use Rattle.pr_model.specs.FileCallRows.{word_size}
 use Rattle.pr_model.specs.LwpTurns.{can_move, is_held_back, is_ready, may_go_on, may_turn, may_turn_in, may_turn_of, may_wake}
 use Rattle.pr_model.specs.MemoryCalls.{can_write}
-use Rattle.pr_model.specs.ProcessCalls.{wait_effect}
+use Rattle.pr_model.specs.ProcessCalls.{sleep_effect, wait_effect}
 use Rattle.pr_model.specs.Readers.{Children, no_child, all_live, first_zombie, children_of}
 use Rattle.pr_model.specs.Signals.{has_takeable, takeable}
 use Rattle.pr_model.specs.State.{TracedLwp, TracedProcess, TracedSystem, live_process, lwp_of, process_of}
 use Rattle.pr_model.specs.declared.lwps.Phase.{Phase}
 use Rattle.pr_model.specs.declared.lwps.Phase.TheVariants.{User, Entered, Asleep, Exiting, Faulted}
 use Rattle.pr_lawful.proofs.EndLemmas.{found-live}
-use Rattle.pr_ready_laws.specs.Left.{HasLwp, IsLeft, waits}
+use Rattle.pr_ready_laws.specs.Left.{HasLwp, IsLeft, comes_between, waits}
 
 -- An lwp of a process that a step left alone can move later only if it could before, unless it waits for what may
 -- differ.
@@ -43,6 +44,35 @@ live-wait : (space : Space) (c : Children) (at : ℕ) → c ≡ all_live → is_
 unfolding wait_effect
 live-wait space c at all = rw all refl
 
+-- ---- sleep
+
+-- a call of sleep that is over at a later moment was over before, or the clock came to its moment in between
+slept-before : (from to since time : ℕ) → is_over (sleep_effect to since time) ≡ true
+    → (is_over (sleep_effect from since time) ≡ true) ⊎ (comes_between from to (since + time) ≡ true)
+unfolding sleep_effect
+slept-before from to since time over = by (cases_Bool (nat_lt sleep_limit time))
+  where
+    later : is_over (cond (nat_le (since + time) to) (gives 0 []) sleeps) ≡ true → nat_le (since + time) to ≡ true
+    later over = elim (nat_le (since + time) to) as (λ b. is_over (cond b (gives 0 []) sleeps) ≡ true → b ≡ true) [
+      | true ↦ λ is. refl
+      | false ↦ λ is. absurd (false≢true is)
+    ] over
+
+    on : nat_lt sleep_limit time ≡ false → (since + time ≤ from) ⊎ (from < since + time)
+        → (is_over (sleep_effect from since time) ≡ true) ⊎ (comes_between from to (since + time) ≡ true)
+    on few (inl past) = inl (rw (few, le-leb (since + time) from past) refl)
+    on few (inr coming) =
+        inr (and_from _ _ (lt-ltb from (since + time) coming) (later (rw few at over)))
+
+    by : (nat_lt sleep_limit time ≡ true) ⊎ (nat_lt sleep_limit time ≡ false)
+        → (is_over (sleep_effect from since time) ≡ true) ⊎ (comes_between from to (since + time) ≡ true)
+    by (inl many) = inl (rw many refl)
+    by (inr few) = on few (swap (cases_lt from (since + time)))
+      where
+        swap : (from < since + time) ⊎ (since + time ≤ from) → (since + time ≤ from) ⊎ (from < since + time)
+        swap (inl less) = inr less
+        swap (inr more) = inl more
+
 module _ (pid : ℕ) (files clock : Bool) (s u : TracedSystem) (h : IsLeft pid files clock s u) where
   module _ (p : TracedProcess) (parent id : ℕ) (l : TracedLwp) where
     -- the process as it stands later
@@ -51,7 +81,7 @@ module _ (pid : ℕ) (files clock : Bool) (s u : TracedSystem) (h : IsLeft pid f
 
     abbrev Before : ℕ → Sysno → List ℕ → Type 0
     Before since call args =
-        (is_ready s pid p id l since call args ≡ true) ⊎ (waits files clock (Asleep call args since) ≡ true)
+        (is_ready s pid p id l since call args ≡ true) ⊎ (waits files s.clock u.clock (Asleep call args since) ≡ true)
 
     ready-before : (since : ℕ) (call : Sysno) (args : List ℕ) → is_ready u pid later id l since call args ≡ true
         → Before since call args
@@ -76,15 +106,12 @@ module _ (pid : ℕ) (files clock : Bool) (s u : TracedSystem) (h : IsLeft pid f
             (false≢true
             (sym (live-wait p.space (children_of u pid) (slice_index args 0) (h.children all)) ∙ ready))
     ready-before since Pause args ready = absurd (false≢true ready)
-    ready-before since Sleep args ready = by clock refl
-      where
-        by : (b : Bool) → clock ≡ b → Before since Sleep args
-        by true may = inr may
-        by false none = inl (rw (h.same_clock none) at ready)
+    ready-before since Sleep args ready =
+        slept-before s.clock u.clock since (slice_index args 0) ready
     ready-before since _ args ready = inl refl
 
     Waits : Type 0
-    Waits = waits files clock l.phase ≡ true
+    Waits = waits files s.clock u.clock l.phase ≡ true
 
     goes-before : (ph : Phase) → l.phase ≡ ph → may_go_on u pid later id l ph ≡ true
         → (may_go_on s pid p id l ph ≡ true) ⊎ Waits
@@ -100,7 +127,7 @@ module _ (pid : ℕ) (files clock : Bool) (s u : TracedSystem) (h : IsLeft pid f
       where
         to : Before since call args → (is_ready s pid p id l since call args ≡ true) ⊎ Waits
         to (inl ready) = inl ready
-        to (inr wait) = inr (ap (waits files clock) at ∙ wait)
+        to (inr wait) = inr (ap (waits files s.clock u.clock) at ∙ wait)
     goes-before (Exiting call args result) at goes = inl refl
     goes-before (Faulted f address) at goes = inl refl
 
@@ -116,14 +143,14 @@ module _ (pid : ℕ) (files clock : Bool) (s u : TracedSystem) (h : IsLeft pid f
         by free (inr wait) = inr wait
 
   abbrev Moves : ℕ → Type 0
-  Moves id = (can_move s pid id ≡ true) ⊎ HasLwp (waits files clock) s pid id
+  Moves id = (can_move s pid id ≡ true) ⊎ HasLwp (waits files s.clock u.clock) s pid id
 
   pub moves-before : (id : ℕ) → can_move u pid id ≡ true → Moves id
   unfolding can_move live_process Waits
   moves-before id can = by_process (live_process u pid) refl can
     where
       by_turn : (p : TracedProcess) (l : TracedLwp) → live_process s pid ≡ Some p → lwp_of p id ≡ Some l
-          → (may_turn s pid p id l ≡ true) ⊎ (waits files clock l.phase ≡ true) → Moves id
+          → (may_turn s pid p id l ≡ true) ⊎ (waits files s.clock u.clock l.phase ≡ true) → Moves id
       by_turn p l live there (inl may) = inl (rw (live, there) may)
       by_turn p l live there (inr wait) =
           inr (record { process = p; lwp = l; live = live; there = there; kind = wait })

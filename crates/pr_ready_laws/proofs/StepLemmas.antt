@@ -1,4 +1,4 @@
-use Rattle.std.proofs.Common.{◌≡◌, ◌≢◌, ◌⊎◌, ◌&&◌, ◌||◌, ℕ, Bool, true, false, eqb, Option, Some, None, refl}
+use Rattle.std.proofs.Common.{◌≡◌, ◌≢◌, ◌⊎◌, ◌+◌, ℕ, Bool, true, false, eqb, Option, Some, None, refl, subst}
 use Rattle.std.proofs.lemmas.Bool.{false≢true}
 use Rattle.pr_num.proofs.BoolLemmas.{or_false}
 use Rattle.pr_model.specs.Calls.{Answer, answer_to}
@@ -9,7 +9,7 @@ use Rattle.pr_model.specs.State.{TracedLwp, TracedProcess, TracedState, TracedSy
 use Rattle.pr_model.specs.declared.calls.Call.{Call}
 use Rattle.pr_lawful.proofs.CallLemmas.{call-state}
 use Rattle.pr_lawful.proofs.TurnLemmas.{acting as acting_in, turn-lawful}
-use Rattle.pr_ready_laws.specs.Left.{HasLwp, waits}
+use Rattle.pr_ready_laws.specs.Left.{HasLwp, IsLeft, waits}
 use Rattle.pr_ready_laws.specs.Reach.{changes_files, itself, reach_of, to_pipes}
 use Rattle.pr_ready_laws.specs.Touched.{call_changes_files, call_touches, turn_touches}
 use Rattle.pr_ready_laws.proofs.CallLemmas.{call-leaves, tick-leaves}
@@ -40,25 +40,32 @@ mover-user s pid id h can =
     let it = mover s pid id can in
     (acting_in s pid id it.process it.lwp h it.live it.there).user
 
+-- where the clock stands
+moves-still : (pid : ℕ) (files : Bool) (s u : TracedSystem) → IsLeft pid files false s u → (id : ℕ)
+    → can_move u pid id ≡ true → (can_move s pid id ≡ true) ⊎ HasLwp (waits files s.clock s.clock) s pid id
+moves-still pid files s u left id can =
+    subst (λ n. (can_move s pid id ≡ true) ⊎ HasLwp (waits files s.clock n) s pid id) (left.same_clock refl)
+    (moves-before pid files false s u left id can)
+
 module _ (s : TracedSystem) (pid acting id other : ℕ) (t : LwpTurn) (p : TracedProcess) (l : TracedLwp)
     (h : IsLawfulSystem s) where
   pub turn-lets : turn_of s acting id ≡ Some t → live_process s acting ≡ Some p → lwp_of p id ≡ Some l
       → turn_touches s acting p l (reach_of t.turned.did) pid ≡ false → can_move t.system pid other ≡ true
-      → (can_move s pid other ≡ true) ⊎ HasLwp (waits (changes_files (reach_of t.turned.did)) false) s pid other
+      → (can_move s pid other ≡ true) ⊎ HasLwp (waits (changes_files (reach_of t.turned.did)) s.clock s.clock) s pid other
   turn-lets turn live there apart can =
       let user = mover-user t.system pid other (turn-lawful s acting id t h turn) can in
-      moves-before pid (changes_files (reach_of t.turned.did)) false s t.system
-      (turn-leaves s pid acting id t p l h user turn live there apart) other can
+      let left = turn-leaves s pid acting id t p l h user turn live there apart in
+      moves-still pid (changes_files (reach_of t.turned.did)) s t.system left other can
 
 pub call-lets : (s : TracedState) (pid by id : ℕ) (c : Call) (a : Answer) → IsLawful s → answer_to s by c ≡ Some a
     → call_touches s by c pid ≡ false → can_move a.state.system pid id ≡ true
-    → (can_move s.system pid id ≡ true) ⊎ HasLwp (waits (call_changes_files c) false) s.system pid id
+    → (can_move s.system pid id ≡ true) ⊎ HasLwp (waits (call_changes_files c) s.system.clock s.system.clock) s.system pid id
 call-lets s pid by id c a h is apart can =
     let user = mover-user a.state.system pid id (call-state s h by c a is).system can in
-    moves-before pid (call_changes_files c) false s.system a.state.system (call-leaves s pid by c a user is apart) id can
+    moves-still pid (call_changes_files c) s.system a.state.system (call-leaves s pid by c a user is apart) id can
 
 pub tick-lets : (s : TracedSystem) (pid id : ℕ) → can_move (ticked s) pid id ≡ true
-    → (can_move s pid id ≡ true) ⊎ HasLwp (waits false true) s pid id
+    → (can_move s pid id ≡ true) ⊎ HasLwp (waits false s.clock (s.clock + 1)) s pid id
 tick-lets s pid id can = moves-before pid false true s (ticked s) (tick-leaves pid s) id can
 
 pub alone-touches : (s : TracedSystem) (pid other : ℕ) (p : TracedProcess) (l : TracedLwp)

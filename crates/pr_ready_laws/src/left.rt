@@ -10,11 +10,11 @@ ghost use Rattle.pr_ready_laws.specs.Left.{HasLwp, IsLeft, waits};
 ghost use Rattle.pr_ready_laws.specs.Reach.{changes_files, reach_of};
 ghost use Rattle.pr_ready_laws.specs.Touched.{call_changes_files, call_touches, turn_touches};
 
-/// An lwp of a process that was left as it was can move later only if it could before, or if it sleeps for files or for
-/// the clock, and these may differ.
+/// An lwp of a process that was left as it was can move later only if it could before, or if it sleeps for files that may
+/// differ, or until a moment to which the clock has come.
 pub fn what_is_left_moves_only_if_it_could()
     ensures { (pid id : ℕ) (files clock : Bool) (s u : TracedSystem) → IsLeft pid files clock s u → can_move u pid id ≡ true
-        → (can_move s pid id ≡ true) ⊎ HasLwp (waits files clock) s pid id }
+        → (can_move s pid id ≡ true) ⊎ HasLwp (waits files s.clock u.clock) s pid id }
 {}
 
 /// A turn of an lwp leaves each process that it does not touch.

@@ -1,5 +1,5 @@
 //! Which lwps come to move by a step.
-ghost use Rattle.std.specs.Prelude.{◌≡◌, ◌==◌, ◌⊎◌, ℕ, true, false, Some};
+ghost use Rattle.std.specs.Prelude.{◌≡◌, ◌==◌, ◌⊎◌, ◌+◌, ℕ, true, false, Some};
 ghost use Rattle.pr_model.specs.Calls.{Answer, answer_to};
 ghost use Rattle.pr_model.specs.Lawful.{IsLawful, IsLawfulSystem};
 ghost use Rattle.pr_model.specs.Legal.{ticked};
@@ -16,7 +16,7 @@ pub fn turns_let_only_few_move()
     ensures { (s : TracedSystem) (pid acting id other : ℕ) (t : LwpTurn) (p : TracedProcess) (l : TracedLwp) → IsLawfulSystem s
         → turn_of s acting id ≡ Some t → live_process s acting ≡ Some p → lwp_of p id ≡ Some l
         → turn_touches s acting p l (reach_of t.turned.did) pid ≡ false → can_move t.system pid other ≡ true
-        → (can_move s pid other ≡ true) ⊎ HasLwp (waits (changes_files (reach_of t.turned.did)) false) s pid other }
+        → (can_move s pid other ≡ true) ⊎ HasLwp (waits (changes_files (reach_of t.turned.did)) s.clock s.clock) s pid other }
 {}
 
 /// A turn that does not reach around its process, as all but those that make or end a process, run a program or send a
@@ -31,11 +31,12 @@ pub fn most_turns_touch_one_process()
 pub fn calls_let_only_few_move()
     ensures { (s : TracedState) (pid by id : ℕ) (c : Call) (a : Answer) → IsLawful s → answer_to s by c ≡ Some a
         → call_touches s by c pid ≡ false → can_move a.state.system pid id ≡ true
-        → (can_move s.system pid id ≡ true) ⊎ HasLwp (waits (call_changes_files c) false) s.system pid id }
+        → (can_move s.system pid id ≡ true) ⊎ HasLwp (waits (call_changes_files c) s.system.clock s.system.clock) s.system pid id }
 {}
 
-/// After a tick of the clock an lwp can move only if it could before, or if it sleeps in the call sleep.
+/// After a tick of the clock an lwp can move only if it could before, or if it sleeps in the call sleep until the moment
+/// that has come.
 pub fn ticks_let_only_those_that_doze_move()
     ensures { (s : TracedSystem) (pid id : ℕ) → can_move (ticked s) pid id ≡ true
-        → (can_move s pid id ≡ true) ⊎ HasLwp (waits false true) s pid id }
+        → (can_move s pid id ≡ true) ⊎ HasLwp (waits false s.clock (s.clock + 1)) s pid id }
 {}

@@ -11,3 +11,4 @@ pub mod NewbornChildren
 pub mod Reading
 pub mod Releasing
 pub mod SeenChildren
+pub mod ToldForks

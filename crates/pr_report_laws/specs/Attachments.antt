@@ -58,6 +58,13 @@ pub record ReadsFile (k pid : ℕ) (f : File) (s : TracedState) (e : Entry) : Ty
   pub of : held.pid ≡ pid
   pub file : held.file ≡ f
 
+-- A controller has a file of a process open, with this handle.
+pub record HasFile (k pid : ℕ) (f : File) (number : ℕ) (s : TracedState) : Type 0 where
+  pub held : Held
+  pub there : handle_of s.opens k number ≡ Some held
+  pub of : held.pid ≡ pid
+  pub file : held.file ≡ f
+
 -- An earlier call of truss was refused with EINTR.
 pub record WasInterrupted (k : ℕ) (h : List Entry) : Type 0 where
   pub before : List Exchange

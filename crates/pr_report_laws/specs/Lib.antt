@@ -21,5 +21,6 @@ pub mod Reported
 pub mod SeenTo
 pub mod SetModes
 pub mod Shown
+pub mod ToldForks
 pub mod Unfollowed
 pub mod Watching

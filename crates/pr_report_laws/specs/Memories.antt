@@ -61,6 +61,7 @@ abbrev pub HasItsText : ℕ → Options → TracedState → List Entry → List 
 HasItsText k o s h earlier (report.CannotStart program errno) = Unit {0}
 HasItsText k o s h earlier (report.CannotTrace pid errno) = Unit {0}
 HasItsText k o s h earlier (report.Event pid l text) = IsTextOf k o s h earlier pid l text
+HasItsText k o s h earlier (report.Called pid lwp function arguments) = Unit {0}
 
 -- Each of these reports has its text: what stands with an event was read when truss had made all reports before it and
 -- no other.

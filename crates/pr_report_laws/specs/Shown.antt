@@ -30,6 +30,7 @@ unfoldable pub event_reported : ℕ → Report → Option LwpEvent
 event_reported pid (report.CannotStart program errno) = None
 event_reported pid (report.CannotTrace of errno) = None
 event_reported pid (report.Event of l text) = if of == pid then event_told l else None
+event_reported pid (report.Called of lwp function arguments) = None
 
 -- The events that truss has reported of a process, also one whose memory is still to be read. With -c they are counted,
 -- and have no lines.

@@ -23,8 +23,9 @@ pub use attachments::{
 };
 pub use children::no_child_is_left;
 pub use follows::{
-    each_child_that_was_read_is_handled, each_child_that_was_read_while_leaving_is_set_free,
-    no_freeing_of_a_child_is_interrupted, no_opening_of_a_child_is_interrupted,
+    each_child_of_which_a_read_told_is_handled, each_child_that_was_read_is_handled,
+    each_child_that_was_read_while_leaving_is_set_free, no_freeing_of_a_child_is_interrupted,
+    no_opening_of_a_child_is_interrupted, truss_acts_on_a_child_just_where_a_read_told_of_it,
 };
 pub use grips::{the_grip_of_a_process_is_the_watch_of_it, truss_gets_hold_of_a_process_once};
 pub use holds::{

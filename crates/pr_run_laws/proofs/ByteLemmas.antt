@@ -27,10 +27,14 @@ use Rattle.pr_num.specs.declared.messages.Message.{Message}
 use Rattle.pr_num.specs.declared.messages.Message.TheVariants as message
 use Rattle.pr_model.specs.Calls.{answer_to}
 use Rattle.pr_num.specs.Instructions.{fields_of}
+use Rattle.pr_line.specs.declared.functions.Function.{Function}
+use Rattle.pr_line.specs.declared.options.Options.{Options}
 use Rattle.pr_num.specs.Layout.{stack_base, text_base}
+use Rattle.pr_num.specs.Limits.{all_faults, all_signals, instruction_size}
 use Rattle.pr_num.specs.Messages.{padding}
 use Rattle.pr_num.specs.Syscalls.{syscall_number}
 use Rattle.pr_num.specs.Words.{word_bytes}
+use Rattle.pr_num.specs.declared.instructions.Instruction.TheVariants.{Bpt}
 use Rattle.pr_probe.specs.AgentCode.{agent_registers, code_size, exit_pc, planted, stack_size}
 use Rattle.pr_probe.specs.Probes as probes
 use Rattle.pr_probe.specs.TracedSets.{agent_sets, no_sets, set_word, trace_message}
@@ -41,12 +45,13 @@ use Rattle.pr_probe.specs.declared.probe_stages.ProbeStage.TheVariants as probe
 use Rattle.pr_probe.specs.declared.traced_sets.SetKind.{SetKind}
 use Rattle.pr_probe.specs.declared.traced_sets.SetKind.TheVariants.{Exits}
 use Rattle.pr_probe.specs.declared.traced_sets.TracedSets.{TracedSets}
+use Rattle.pr_reached.proofs.MemoryRanges.{instruction-bytes}
 use Rattle.pr_reached.proofs.ReachedLemmas.{later-reached}
 use Rattle.pr_reached.specs.InRange.{IsInRange}
 use Rattle.pr_reached.specs.Reached.{IsReached}
 use Rattle.pr_reached.specs.ByteHistories.{HasBytes, IsActOfBytes, IsEntryOfBytes, IsOfBytes}
 use Rattle.pr_run_laws.proofs.ProbeByteLemmas.{GivesBytes, SavesBytes, code-given, fed-saves, stack-given}
-use Rattle.pr_run_laws.specs.ScenarioRanges.{IsCoreOfBytes, IsLineOfBytes}
+use Rattle.pr_run_laws.specs.ScenarioRanges.{HasCodeOfBytes, IsCoreOfBytes, IsLineOfBytes}
 use Rattle.pr_scen.specs.Bindings.{handle_of}
 use Rattle.pr_scen.specs.Scripts as scripts
 use Rattle.pr_scen.specs.Scripts.{ScriptState}
@@ -57,8 +62,12 @@ use Rattle.pr_tools.specs.Tools as tools
 use Rattle.pr_tools.specs.declared.steps.Step.{Step}
 use Rattle.pr_tools.specs.declared.steps.Step.TheVariants as step
 use Rattle.pr_truss.specs.Messages.{all_modes, traced_entries, traced_exits, traced_faults, traced_signals}
+use Rattle.pr_truss.specs.FunctionCalls as functions
+use Rattle.pr_truss.specs.Marks.{address_of, breakpoint, code_in, code_of, first_function, has_functions}
 use Rattle.pr_truss.specs.NextCalls as trusses
 use Rattle.pr_truss.specs.Trusses.{TrussState, traced_at}
+use Rattle.pr_truss.specs.declared.asides.Aside.{Aside}
+use Rattle.pr_truss.specs.declared.asides.Aside.TheVariants as aside
 use Rattle.pr_truss.specs.declared.processes.Traced.{Traced}
 use Rattle.pr_truss.specs.declared.stages.ChildStep.{ChildStep}
 use Rattle.pr_truss.specs.declared.stages.ChildStep.TheVariants as child
@@ -68,8 +77,9 @@ use Rattle.pr_truss.specs.declared.stages.OpeningStep.{OpeningStep}
 use Rattle.pr_truss.specs.declared.stages.OpeningStep.TheVariants as opening
 use Rattle.pr_truss.specs.declared.stages.Stage.{Stage}
 use Rattle.pr_truss.specs.declared.stages.Stage.TheVariants as stage
+use Rattle.pr_truss_laws.proofs.FunctionOptionLemmas.{fed_functions-options}
 use Rattle.pr_world.specs.Controllers.{after_reply, call_by, feed_at, next_call, with_fed}
-use Rattle.pr_world.specs.ControllerStates.{ControllerState, Script, Truss, Tool, Gcore, Probe}
+use Rattle.pr_world.specs.ControllerStates.{ControllerState, Script, Truss, FnTruss, Tool, Gcore, Probe}
 use Rattle.pr_world.specs.Protocol.{Follows, FollowsAt, controllers_after}
 
 -- What the controllers of a run write is bytes.
@@ -191,7 +201,7 @@ gcore-bytes : (s : gcores.GcoreState) → IfSome (gcores.next_call_of s) IsOfByt
 unfolding gcores.next_call_of
 gcore-bytes s = gcore-stage-bytes s s.stage
 
--- ---- a probe, a row a stage
+-- ---- bytes behind a message
 
 -- bytes behind a message are written as they are
 written-bytes : (m : Message) (bytes : List ℕ) → All IsByte bytes → All IsByte (spelling m bytes)
@@ -201,6 +211,89 @@ written-bytes m bytes all =
     All-append IsByte (words ++ bytes) zeros
     (All-append IsByte words bytes (AreBytes-words_bytes (message_code m ∷ operands m)) all)
     (All-replicate IsByte (padding (length bytes)) 0 (omega arith))
+
+-- ---- truss with calls of functions
+
+breakpoint-bytes : All IsByte breakpoint
+breakpoint-bytes = instruction-bytes Bpt
+
+code-bytes : (o : Options) (place : ℕ) → All HasCodeOfBytes o.functions → All IsByte (code_of o place)
+unfolding code_of
+code-bytes o place all = of (slice_get o.functions place) refl
+  where
+    of : (f : Option Function) → slice_get o.functions place ≡ f → All IsByte (code_in f)
+    of None found = breakpoint-bytes
+    of (Some f) found = All-at HasCodeOfBytes o.functions place f found all
+
+-- the code of an instruction over the first one of a function
+patch-bytes : (o : Options) (control place : ℕ) (code : List ℕ) → All IsByte code
+    → IsOfBytes (functions.write_code_call o control place code)
+patch-bytes o control place code all = written-bytes (message.Write (address_of o place) instruction_size) code all
+
+patches-bytes : (o : Options) (control : ℕ) (plant lift : Option ℕ) → All HasCodeOfBytes o.functions
+    → IsOfBytes (functions.patch_call o control plant lift)
+patches-bytes o control (Some place) lift all = patch-bytes o control place breakpoint breakpoint-bytes
+patches-bytes o control None (Some place) all = patch-bytes o control place (code_of o place) (code-bytes o place all)
+patches-bytes o control None None all = spelt-bytes message.Cfault
+
+-- a row a stage, of which the most are those of truss without functions
+function-stage-bytes : (s : TrussState) (g : Stage) → IfSome (functions.function_call_of s g) IsOfBytes
+unfolding functions.function_call_of
+function-stage-bytes s (stage.Opening place opening.TraceSignals) = spelt-bytes (message.Strace all_signals)
+function-stage-bytes s (stage.Opening place opening.TraceFaults) = spelt-bytes (message.Sfault all_faults)
+function-stage-bytes s (stage.Opening place opening.TraceEntries) =
+    spelt-bytes (message.Sentry (functions.with_copying (traced_entries s.options)))
+function-stage-bytes s (stage.Opening place opening.TraceExits) =
+    spelt-bytes (message.Sexit (functions.with_copying (traced_exits s.options)))
+function-stage-bytes s (stage.Opening place opening.OpenStatus) = stage-bytes s (stage.Opening place opening.OpenStatus)
+function-stage-bytes s (stage.Opening place opening.OpenLstatus) = stage-bytes s (stage.Opening place opening.OpenLstatus)
+function-stage-bytes s (stage.Opening place opening.OpenMemory) = stage-bytes s (stage.Opening place opening.OpenMemory)
+function-stage-bytes s (stage.Opening place opening.ClearModes) = stage-bytes s (stage.Opening place opening.ClearModes)
+function-stage-bytes s (stage.Opening place opening.SetRelease) = stage-bytes s (stage.Opening place opening.SetRelease)
+function-stage-bytes s (stage.Opening place opening.Stop) = stage-bytes s (stage.Opening place opening.Stop)
+function-stage-bytes s (stage.Opening place (opening.AwaitStop until)) =
+    stage-bytes s (stage.Opening place (opening.AwaitStop until))
+function-stage-bytes s (stage.Opening place opening.ReadLwps) = stage-bytes s (stage.Opening place opening.ReadLwps)
+function-stage-bytes s (stage.Opening place opening.Follow) = stage-bytes s (stage.Opening place opening.Follow)
+function-stage-bytes s (stage.Opening place opening.Start) = stage-bytes s (stage.Opening place opening.Start)
+function-stage-bytes s (stage.Running place) = spelt-bytes (message.Run (traced_at s place).marks.flags)
+function-stage-bytes s stage.Unfollowing = spelt-bytes message.Stop
+function-stage-bytes s (stage.Spawning program) = stage-bytes s (stage.Spawning program)
+function-stage-bytes s (stage.OpeningControl pid) = stage-bytes s (stage.OpeningControl pid)
+function-stage-bytes s stage.Polling = stage-bytes s stage.Polling
+function-stage-bytes s (stage.ReadingStatus place) = stage-bytes s (stage.ReadingStatus place)
+function-stage-bytes s (stage.ReadingText place lwp at len) = stage-bytes s (stage.ReadingText place lwp at len)
+function-stage-bytes s (stage.OpeningChildControl parent pid) = stage-bytes s (stage.OpeningChildControl parent pid)
+function-stage-bytes s (stage.OpeningChild parent place c) = stage-bytes s (stage.OpeningChild parent place c)
+function-stage-bytes s (stage.Closing place next) = stage-bytes s (stage.Closing place next)
+function-stage-bytes s stage.ReadingLwps = stage-bytes s stage.ReadingLwps
+function-stage-bytes s (stage.FreeingChild pid f) = stage-bytes s (stage.FreeingChild pid f)
+function-stage-bytes s stage.Finished = stage-bytes s stage.Finished
+
+-- a row for each thing that comes before the call of a stage
+aside-bytes : (s : TrussState) (it : Aside) → All HasCodeOfBytes s.options.functions
+    → IfSome (functions.call_beside s s.stage it) IsOfBytes
+unfolding functions.call_beside
+aside-bytes s aside.Nothing all = function-stage-bytes s s.stage
+aside-bytes s (aside.Reading place f) all = spelt-bytes (message.Read (address_of s.options f) instruction_size)
+aside-bytes s (aside.Planting place f) all =
+    patch-bytes s.options (traced_at s place).control f breakpoint breakpoint-bytes
+aside-bytes s (aside.Patching place plants lifts clear) all =
+    patches-bytes s.options (traced_at s place).control (first_function plants) (first_function lifts) all
+aside-bytes s (aside.AwaitingStop until) all = tt
+aside-bytes s aside.Asking all = spelt-bytes message.Wstop
+aside-bytes s (aside.AwaitingAgain until) all = tt
+
+functions-bytes : (s : TrussState) → All HasCodeOfBytes s.options.functions
+    → IfSome (functions.next_function_call_of s) IsOfBytes
+unfolding functions.next_function_call_of
+functions-bytes s all = of (has_functions s.options)
+  where
+    of : (b : Bool) → IfSome (cond b (functions.call_beside s s.stage s.aside) (trusses.next_call_of s)) IsOfBytes
+    of true = aside-bytes s s.aside all
+    of false = truss-bytes s
+
+-- ---- a probe, a row a stage
 
 planted-bytes : All IsByte planted
 unfolding planted fields_of syscall_number word_bytes
@@ -344,6 +437,7 @@ core-bytes : (c : ControllerState) → IsCoreOfBytes c → IfSome (next_call c) 
 unfolding next_call IsCoreOfBytes
 core-bytes (Script s) bytes = script-bytes s bytes
 core-bytes (Truss t) bytes = truss-bytes t
+core-bytes (FnTruss t) bytes = functions-bytes t bytes
 core-bytes (Tool t) bytes = tool-bytes t
 core-bytes (Gcore g) bytes = gcore-bytes g
 core-bytes (Probe p) bytes = probe-bytes p bytes
@@ -356,6 +450,8 @@ Gives _ r = Unit {0}
 reply-bytes : (c : ControllerState) (r : Reply) → Gives c r → IsCoreOfBytes c → IsCoreOfBytes (after_reply c r)
 unfolding after_reply IsCoreOfBytes
 reply-bytes (Script s) r gives bytes = subst (All IsLineOfBytes) (sym (fed-lines s r)) bytes
+reply-bytes (FnTruss t) r gives bytes =
+    subst (λ (o : Options). All HasCodeOfBytes o.functions) (sym (fed_functions-options t r)) bytes
 reply-bytes (Probe p) r gives bytes = fed-saves p r bytes gives.0 gives.1
 reply-bytes _ r gives bytes = tt
 

@@ -1,4 +1,4 @@
-use Rattle.std.proofs.Common.{◌≡◌, ℕ, All, Some, List, [], ◌∷◌, flat_map, length, map, refl, sym, subst, ap, ◌∙◌}
+use Rattle.std.proofs.Common.{◌≡◌, ◌==◌, ◌++◌, ℕ, Bool, true, false, not, All, Some, List, [], ◌∷◌, flat_map, length, map, refl, sym, subst, ap, ◌∙◌}
 use Rattle.std.specs.List.{slice_get}
 use Rattle.std.specs.Option.{option_map}
 use Rattle.std.proofs.lemmas.Option.{slice_get-map}
@@ -6,6 +6,7 @@ use Rattle.std.proofs.lemmas.List.Elements.{All-cons, All-nil}
 use Rattle.pr_api.specs.Views.{kernel_of}
 use Rattle.pr_erasure.proofs.HistoryLemmas.{transparent-first}
 use Rattle.pr_erasure.specs.Transparency.{IsTransparent}
+use Rattle.pr_line.specs.declared.functions.Function.{Function}
 use Rattle.pr_line.specs.declared.options.Options.{Options}
 use Rattle.pr_model.specs.FirstState.{first_state}
 use Rattle.pr_model.specs.Legal.{IsLegal}
@@ -14,26 +15,28 @@ use Rattle.pr_model.specs.declared.tools.ToolKind.{ToolKind}
 use Rattle.pr_model.specs.declared.tools.ToolKind.TheVariants.{Pstack}
 use Rattle.pr_reached.proofs.ReachedLemmas.{first-reached}
 use Rattle.pr_reached.specs.Reached.{IsReached}
-use Rattle.pr_scen.specs.Scenarios.{Scenario, probe_in, probes_of, script_in, scripts_of}
+use Rattle.pr_scen.specs.Scenarios.{Scenario, probe_in, probes_of, script_in, scripts_of, shown_functions, shown_in}
 use Rattle.pr_scen.specs.declared.plans.Plan.{Plan}
 use Rattle.pr_scen.specs.declared.plans.Plan.TheVariants as plan
-use Rattle.pr_truss.specs.Trusses.{first_truss}
+use Rattle.pr_truss.specs.Marks.{has_functions}
 use Rattle.pr_truss_laws.specs.Handles.{HasNothingOpen}
 use Rattle.pr_world.proofs.RunLemmas.{moves-led}
 use Rattle.pr_tool_laws.proofs.ProgramLemmas.{first-same}
 use Rattle.pr_tool_laws.proofs.StackLaw.{shows-one-stack}
 use Rattle.pr_tool_laws.proofs.WholeLemmas.{tool-shows}
 use Rattle.pr_tools.specs.Tools.{first_tool}
-use Rattle.pr_world.specs.ControllerStates.{Tool, Truss}
+use Rattle.pr_world.specs.ControllerStates.{Tool}
 use Rattle.pr_world.specs.Protocol.{Follows}
 use Rattle.pr_world.specs.Runs.{CameFrom, IsFresh, IsMachineRun, IsTold, LedFrom}
 use Rattle.pr_world.specs.Worlds.{WorldState}
-use Rattle.pr_run_laws.specs.ScenarioRuns.{IsKept, controller_of, controllers_of, files_of, first_state_of, first_world, history_after, world_after}
+use Rattle.pr_run_laws.specs.ScenarioRuns.{IsKept, controller_of, controllers_of, files_of, first_state_of, first_world, history_after, truss_of, world_after}
 use Rattle.pr_run_laws.specs.ScenarioRanges.{IsScenarioInRange}
+use Rattle.pr_run_laws.specs.FunctionRuns.{IsFunctionTrussKept}
 use Rattle.pr_run_laws.specs.ToolRuns.{IsToolKept}
 use Rattle.pr_run_laws.specs.Tracers.{IsTracer}
 use Rattle.pr_run_laws.specs.TrussRuns.{IsTrussKept}
 use Rattle.pr_run_laws.proofs.ByteLemmas.{follows-bytes}
+use Rattle.pr_run_laws.proofs.FunctionLemmas.{function-kept}
 use Rattle.pr_run_laws.proofs.TracerLemmas.{tracers-passive}
 use Rattle.pr_run_laws.proofs.TrussLemmas.{nothing-held, truss-kept}
 
@@ -47,26 +50,45 @@ pub first-told : (s : Scenario) → IsTold (first_world s)
 unfolding first_world kernel_of
 first-told s = record { machine = first_state_of s; is = refl }
 
--- controllers none of which is a script or asks by an agent
-controllers-tracers : (plans : List Plan) → flat_map script_in plans ≡ [] → flat_map probe_in plans ≡ [] → All IsTracer (map controller_of plans)
-unfolding controller_of IsTracer
-controllers-tracers [] none quiet = All-nil IsTracer
-controllers-tracers (plan.Script script ∷ plans) none quiet = absurd (cc)
-controllers-tracers (plan.Truss options ∷ plans) none quiet = All-cons IsTracer (controller_of (plan.Truss options)) (map
-    controller_of plans) tt (controllers-tracers plans none quiet)
-controllers-tracers (plan.Tool kind pid ∷ plans) none quiet = All-cons IsTracer (controller_of (plan.Tool kind pid)) (map
-    controller_of plans) tt (controllers-tracers plans none quiet)
-controllers-tracers (plan.Gcore pid ∷ plans) none quiet = All-cons IsTracer (controller_of (plan.Gcore pid)) (map
-    controller_of plans) tt (controllers-tracers plans none quiet)
-controllers-tracers (plan.Probe pid ∷ plans) none quiet = absurd (cc)
+-- a truss without functions
+none-both : (xs ys : List Function) → xs ++ ys ≡ [] → (xs ≡ []) × (ys ≡ [])
+none-both [] ys e = (refl, e)
+none-both (x ∷ xs) ys e = absurd (cc)
 
--- without scripts and probes a history that follows the protocol is passive, and so tracing is transparent in it
-transparent-tracers : (s : Scenario) (h : List Entry) → IsLegal (length (controllers_of s)) (first_state_of s) h →
-    Follows (controllers_of s) (first_state_of s) h → scripts_of s ≡ [] → probes_of s ≡ [] → IsTransparent (first_state_of s) h
-transparent-tracers s h legal follows none quiet =
+bare-truss : (o : Options) → o.functions ≡ [] → has_functions o ≡ false
+bare-truss o none = ap (λ (functions : List Function). not (length functions == 0)) none
+
+truss-tracer : (o : Options) → has_functions o ≡ false → IsTracer (truss_of o (has_functions o))
+unfolding IsTracer
+truss-tracer o bare = subst (λ b. IsTracer (truss_of o b)) (sym bare) tt
+
+-- controllers none of which is a script, asks by an agent or shows calls of functions
+controllers-tracers : (plans : List Plan) → flat_map script_in plans ≡ [] → flat_map probe_in plans ≡ []
+    → flat_map shown_in plans ≡ [] → All IsTracer (map controller_of plans)
+unfolding controller_of IsTracer
+controllers-tracers [] none quiet bare = All-nil IsTracer
+controllers-tracers (plan.Script script ∷ plans) none quiet bare = absurd (cc)
+controllers-tracers (plan.Truss options ∷ plans) none quiet bare =
+    let parts = none-both options.functions (flat_map shown_in plans) bare in
+    All-cons IsTracer (controller_of (plan.Truss options)) (map controller_of plans)
+    (truss-tracer options (bare-truss options parts.0)) (controllers-tracers plans none quiet parts.1)
+controllers-tracers (plan.Tool kind pid ∷ plans) none quiet bare =
+    All-cons IsTracer (controller_of (plan.Tool kind pid)) (map controller_of plans) tt
+    (controllers-tracers plans none quiet bare)
+controllers-tracers (plan.Gcore pid ∷ plans) none quiet bare =
+    All-cons IsTracer (controller_of (plan.Gcore pid)) (map controller_of plans) tt
+    (controllers-tracers plans none quiet bare)
+controllers-tracers (plan.Probe pid ∷ plans) none quiet bare = absurd (cc)
+
+-- without scripts, probes and functions a history that follows the protocol is passive, and so tracing is transparent in
+-- it
+transparent-tracers : (s : Scenario) (h : List Entry) → IsLegal (length (controllers_of s)) (first_state_of s) h
+    → Follows (controllers_of s) (first_state_of s) h → scripts_of s ≡ [] → probes_of s ≡ [] → shown_functions s ≡ []
+    → IsTransparent (first_state_of s) h
+transparent-tracers s h legal follows none quiet bare =
     let n = length (controllers_of s) in
-    let passive = tracers-passive (controllers_of s) n (first_state_of s) h (controllers-tracers s.controllers none quiet)
-    legal follows in
+    let passive = tracers-passive (controllers_of s) n (first_state_of s) h
+    (controllers-tracers s.controllers none quiet bare) legal follows in
     transparent-first n s.programs (files_of s) s.spawns h legal passive
 
 -- ---- the first state
@@ -80,19 +102,28 @@ first-held : (s : Scenario) (k : ℕ) → HasNothingOpen k (first_state_of s)
 unfolding first_state
 first-held s k = nothing-held k (first_state_of s) refl
 
-truss-first : (s : Scenario) (k : ℕ) (o : Options) → slice_get s.controllers k ≡ Some (plan.Truss o) → slice_get
-    (controllers_of s) k ≡ Some (Truss (first_truss o))
+-- the controller of a truss, which shows calls of functions or does not
+truss-plan : (s : Scenario) (k : ℕ) (o : Options) (b : Bool) → slice_get s.controllers k ≡ Some (plan.Truss o)
+    → has_functions o ≡ b → slice_get (controllers_of s) k ≡ Some (truss_of o b)
 unfolding controller_of
-truss-first s k o at = slice_get-map controller_of s.controllers k ∙ ap (option_map controller_of) at
+truss-plan s k o b at is =
+    slice_get-map controller_of s.controllers k ∙ ap (option_map controller_of) at ∙ ap (λ c. Some (truss_of o c)) is
 
 trusses-kept : (s : Scenario) (h : List Entry) → IsScenarioInRange s → IsLegal (length (controllers_of s))
     (first_state_of s) h → Follows (controllers_of s) (first_state_of s) h → (k : ℕ) (o : Options) → slice_get
-    s.controllers k ≡ Some (plan.Truss o) → IsTrussKept (controllers_of s) (first_state_of s) h k o
-trusses-kept s h range legal follows k o at =
+    s.controllers k ≡ Some (plan.Truss o) → has_functions o ≡ false
+    → IsTrussKept (controllers_of s) (first_state_of s) h k o
+trusses-kept s h range legal follows k o at bare =
     truss-kept (controllers_of s) (length (controllers_of s)) (first_state_of s) h k o (state-reached s range)
     (follows-bytes (controllers_of s) (length (controllers_of s)) (first_state_of s) h (state-reached s range) range.bytes legal
     follows)
-    (truss-first s k o at) (first-held s k) legal follows
+    (truss-plan s k o false at bare) (first-held s k) legal follows
+
+functions-kept : (s : Scenario) (h : List Entry) → Follows (controllers_of s) (first_state_of s) h → (k : ℕ)
+    (o : Options) → slice_get s.controllers k ≡ Some (plan.Truss o) → has_functions o ≡ true
+    → IsFunctionTrussKept (controllers_of s) h k o
+functions-kept s h follows k o at some =
+    function-kept (controllers_of s) (first_state_of s) h k o (truss-plan s k o true at some) follows
 
 -- ---- tools
 
@@ -144,6 +175,7 @@ led-kept s w range led =
           run.legal;
       transparent_without_scripts = transparent-tracers s led.entries run.legal run.follows;
       trusses = trusses-kept s led.entries range run.legal run.follows;
+      functions = functions-kept s led.entries run.follows;
       tools = tools-kept s led.entries range run.legal run.follows;
       programs = first-same (length (controllers_of s)) s.programs (files_of s) s.spawns led.entries range.start
           run.legal;

@@ -3,6 +3,7 @@ pub mod ByteLemmas
 pub mod GrowthLemmas
 pub mod KeptLemmas
 pub mod PassiveLemmas
+pub mod FunctionLemmas
 pub mod ProbeByteLemmas
 pub mod ProgramRanges
 pub mod ScenarioRangeLemmas

@@ -1,4 +1,4 @@
-use Rattle.std.proofs.Common.{◌≡◌, ◌==◌, ◌||◌, ◌<◌, ◌^◌, ◌∷◌, ℕ, Bool, true, false, not, Option, Some, None, List, [], IfSome, Result, Ok, Err, cond, is_some, length, option_map, take, ap, arith, refl, sym, subst, ◌∙◌}
+use Rattle.std.proofs.Common.{◌≡◌, ◌==◌, ◌||◌, ℕ, Bool, true, false, not, Option, Some, None, List, [], Result, Ok, Err, cond, is_some, take, ap, arith, refl, sym, subst, ◌∙◌}
 use Rattle.std.specs.List.{All}
 use Rattle.std.proofs.lemmas.List.Elements.{All-nil, All-take}
 use Rattle.std.proofs.lemmas.Option.{same_Some}
@@ -6,10 +6,10 @@ use Rattle.pr_lawful.proofs.EndLemmas.{found-live}
 use Rattle.pr_model.specs.Calls.{Answer, answer_to, controlled}
 use Rattle.pr_model.specs.ControlMessages.{aim_of, control_answer, control_handle, decoded_answer, held_answer, still_there, system_refusal, tail_of, target_of, targeted_answer}
 use Rattle.pr_model.specs.Handles.{handle_of, is_of_lwp}
-use Rattle.pr_model.specs.Messages.{Controlled, message_answer, read_answer, read_of, refused}
+use Rattle.pr_model.specs.Messages.{message_answer, read_answer, read_of, refused}
 use Rattle.pr_model.specs.Readers.{space_seen}
 use Rattle.pr_model.specs.Replies.{bytes_in, number_of, until_in}
-use Rattle.pr_model.specs.State.{Places, TracedProcess, TracedState, TracedSystem, live_process, lwp_of}
+use Rattle.pr_model.specs.State.{TracedProcess, TracedState, TracedSystem, live_process, lwp_of}
 use Rattle.pr_model.specs.declared.calls.Call.{Call}
 use Rattle.pr_model.specs.declared.calls.Call.TheVariants as call
 use Rattle.pr_model.specs.declared.calls.Reply.{Reply}

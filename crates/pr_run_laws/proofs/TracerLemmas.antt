@@ -14,7 +14,7 @@ use Rattle.pr_model.specs.declared.events.Actor.{Actor}
 use Rattle.pr_model.specs.declared.events.Actor.TheVariants.{Controller, Lwp, Clock}
 use Rattle.pr_model.specs.declared.events.Entry.{Entry}
 use Rattle.pr_world.specs.Controllers.{after_reply, call_by, feed_at, next_call, with_fed}
-use Rattle.pr_world.specs.ControllerStates.{ControllerState, Script, Truss, Tool, Gcore, Probe}
+use Rattle.pr_world.specs.ControllerStates.{ControllerState, Script, Truss, FnTruss, Tool, Gcore, Probe}
 use Rattle.pr_world.specs.Protocol.{Follows, FollowsAt, controllers_after}
 use Rattle.pr_run_laws.proofs.AnswerLemmas.{reply-passive}
 use Rattle.pr_run_laws.proofs.PassiveLemmas.{gcore-passive, tool-passive, truss-passive}
@@ -26,6 +26,7 @@ core-passive : (c : ControllerState) → IsTracer c → IfSome (next_call c) IsP
 unfolding next_call IsTracer
 core-passive (Script s) tracer = absurd tracer
 core-passive (Truss t) tracer = truss-passive t
+core-passive (FnTruss t) tracer = absurd tracer
 core-passive (Tool t) tracer = tool-passive t
 core-passive (Gcore g) tracer = gcore-passive g
 core-passive (Probe p) tracer = absurd tracer
@@ -34,6 +35,7 @@ core-passive (Probe p) tracer = absurd tracer
 reply-tracer : (c : ControllerState) (r : Reply) → IsTracer c → IsTracer (after_reply c r)
 unfolding after_reply IsTracer
 reply-tracer (Script s) r tracer = tracer
+reply-tracer (FnTruss t) r tracer = tracer
 reply-tracer (Probe p) r tracer = tracer
 reply-tracer _ r tracer = tt
 

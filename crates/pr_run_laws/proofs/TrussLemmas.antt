@@ -25,10 +25,8 @@ use Rattle.pr_reached.specs.Reached.{IsReached}
 use Rattle.pr_report_laws.proofs.Watching.BeginLaws.{finished-watches-none}
 use Rattle.pr_report_laws.proofs.Watching.EndLaws.{watched-let}
 use Rattle.pr_report_laws.proofs.UnopenedChildren.LeftChildren.{left-front}
-use Rattle.pr_report_laws.proofs.Files.FileLaws.{IsFileOf}
 use Rattle.pr_report_laws.proofs.FollowedChildren.FollowCalm.{never-kept, never-left}
-use Rattle.pr_report_laws.proofs.FollowedChildren.FollowLaws.{read-followed}
-use Rattle.pr_report_laws.proofs.FollowedChildren.FreedLaws.{read-freed}
+use Rattle.pr_report_laws.proofs.ToldForks.ToldReads.{child-followed, child-freed, file-has}
 use Rattle.pr_report_laws.proofs.Memory.MemoryReads.{read-texts}
 use Rattle.pr_report_laws.proofs.NewbornChildren.NewbornLaws.{left-forked, left-rests, left-silent, left-unstarted}
 use Rattle.pr_report_laws.proofs.Files.WatchHistories.{exchanges-both, makes-front}
@@ -58,7 +56,7 @@ use Rattle.pr_truss_laws.specs.Runs.{IsTrussRun}
 use Rattle.pr_world.specs.Controllers.{after_reply, call_by, next_call, with_fed}
 use Rattle.pr_world.specs.ControllerStates.{ControllerState, Truss}
 use Rattle.pr_world.specs.Protocol.{Follows, FollowsAt, controllers_after, controllers_at}
-use Rattle.pr_run_laws.specs.TrussRuns.{HandlesChildren, HasControl, HasDone, IsNewborn, IsTrussKept, Releases, WasLetGo, HasShownAll, IsLostByKill}
+use Rattle.pr_run_laws.specs.TrussRuns.{HandlesChildren, HasDone, IsNewborn, IsTrussKept, Releases, WasLetGo, HasShownAll, IsLostByKill}
 use Rattle.pr_num.specs.Limits.{handle_limit}
 use Rattle.pr_tool_laws.proofs.ProtocolLemmas.{fed-other, fed-own}
 
@@ -116,11 +114,11 @@ entry-stays controllers s h k t Clock it xs at follows rest = rest t at
 
 -- ---- a history
 
-exchanges-none : (k : ℕ) → exchanges k [] ≡ []
+pub exchanges-none : (k : ℕ) → exchanges k [] ≡ []
 unfolding exchanges
 exchanges-none k = refl
 
-exchanges-cons : (k : ℕ) (e : Entry) (h : List Entry)
+pub exchanges-cons : (k : ℕ) (e : Entry) (h : List Entry)
     → exchanges k (e ∷ h) ≡ cons_option (exchange_of k e) (exchanges k h)
 unfolding exchanges
 exchanges-cons k e h = refl
@@ -220,35 +218,27 @@ module _ (n k : ℕ) (o : Options) (first : TracedState) (h : List Entry) (run :
 
   -- ---- the children of forks
 
-  children : o.follow ≡ true → HandlesChildren k o h
+  children : o.follow ≡ true → HandlesChildren k o first h
   children follow = record {
-    follows =
-        λ before later x place child is reads. read-followed o
-        (exchanges k h) before later x place child follow run.makes is reads;
-    frees =
-        λ before later x child is reads. read-freed o (exchanges k h) before later x child follow run.makes is reads;
+    follows = λ before later e parent child is reads.
+        child-followed n k o first before later e (subst (IsTrussRun n k o first) is run) follow parent child reads;
+    frees = λ before later e parent child is reads.
+        child-freed n k o first before later e (subst (IsTrussRun n k o first) is run) follow parent child reads;
     leaves_none = λ before later child is left. never-left n k child first h before later run.legal is left;
     keeps_none =
-        λ before later child parent base reports due is kept. never-kept n k child first h before later parent base
+        λ before later child handles base reports due is kept. never-kept n k child first h before later handles base
         reports due run.legal is kept;
   }
 
   -- ---- what is released
-
-  control-of : (pid number : ℕ) (s : TracedState) → IsFileOf k s pid number Ctl WriteExcl → HasControl k pid number s
-  control-of pid number s file = record {
-    held = record { controller = k; pid = pid; lwp = 0; file = Ctl; mode = WriteExcl };
-    there = file.is;
-    of = refl;
-    control = refl;
-  }
 
   releases : Releases k o first h
   releases = record {
     set = releases-set n k o first h run;
     held = releases-held n k o first h run;
     controls = λ pid g.
-        let c = holds-control n k o first h run pid g in (c.0, control-of pid c.0 (state_after first h) c.1);
+        let c = holds-control n k o first h run pid g in
+        (c.0, file-has k pid Ctl WriteExcl c.0 (state_after first h) c.1);
   }
 
   granted : (before later : List Entry) (e : Entry) (number : ℕ) (r : Reply) (held : Held) (p : TracedProcess)

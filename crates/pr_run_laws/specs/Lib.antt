@@ -1,4 +1,5 @@
 pub mod Prefixes
+pub mod FunctionRuns
 pub mod ScenarioRanges
 pub mod ScenarioRuns
 pub mod ToolRuns

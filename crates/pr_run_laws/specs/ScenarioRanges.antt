@@ -1,12 +1,13 @@
 use Rattle.std.specs.List.{All}
 use Rattle.pr_lawful.specs.Starts.{IsStart}
+use Rattle.pr_line.specs.declared.functions.Function.{Function}
 use Rattle.pr_num.specs.Words.{IsByte}
 use Rattle.pr_reached.specs.InRange.{IsStartInRange}
 use Rattle.pr_scen.specs.Scenarios.{Scenario}
 use Rattle.pr_scen.specs.declared.script_lines.ScriptLine.{ScriptLine}
 use Rattle.pr_scen.specs.declared.script_lines.ScriptLine.TheVariants as line
 use Rattle.pr_run_laws.specs.ScenarioRuns.{controllers_of, files_of}
-use Rattle.pr_world.specs.ControllerStates.{ControllerState, Script, Probe}
+use Rattle.pr_world.specs.ControllerStates.{ControllerState, Script, FnTruss, Probe}
 
 -- What is so of each scenario that was read, beside its limits.
 
@@ -15,10 +16,15 @@ abbrev pub IsLineOfBytes : ScriptLine → Type 0
 IsLineOfBytes (line.Write name bytes) = All IsByte bytes
 IsLineOfBytes _ = Unit {0}
 
--- what a controller writes is bytes, of a probe also what it has saved to write back; of truss, the tools and gcore it
--- always is
+-- the first instruction of a function is bytes
+abbrev pub HasCodeOfBytes : Function → Type 0
+HasCodeOfBytes f = All IsByte f.code
+
+-- what a controller writes is bytes, of a probe also what it has saved to write back, of a truss that shows calls of
+-- functions their first instructions; of truss without functions, the tools and gcore it always is
 unfoldable pub IsCoreOfBytes : ControllerState → Type 0
 IsCoreOfBytes (Script s) = All IsLineOfBytes s.lines
+IsCoreOfBytes (FnTruss t) = All HasCodeOfBytes t.options.functions
 IsCoreOfBytes (Probe p) = All IsByte p.code × All IsByte p.stack
 IsCoreOfBytes _ = Unit {0}
 

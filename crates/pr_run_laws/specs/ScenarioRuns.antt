@@ -1,4 +1,4 @@
-use Rattle.std.specs.Prelude.{◌≡◌, ℕ, List, [], None, Some, length, map, slice_get}
+use Rattle.std.specs.Prelude.{◌≡◌, ℕ, Bool, true, false, List, [], None, Some, length, map, slice_get}
 use Rattle.pr_api.specs.Views.{kernel_of}
 use Rattle.pr_core.specs.Gcores.{first_gcore}
 use Rattle.pr_probe.specs.Probes.{first_probe}
@@ -11,17 +11,19 @@ use Rattle.pr_model.specs.State.{TracedState}
 use Rattle.pr_model.specs.declared.events.Entry.{Entry}
 use Rattle.pr_model.specs.declared.tools.ToolKind.{ToolKind}
 use Rattle.pr_num.specs.declared.files.StoredFile.{StoredFile}
-use Rattle.pr_scen.specs.Scenarios.{Scenario, probes_of, scripts_of}
+use Rattle.pr_scen.specs.Scenarios.{Scenario, probes_of, scripts_of, shown_functions}
 use Rattle.pr_scen.specs.declared.plans.Plan.{Plan}
 use Rattle.pr_scen.specs.declared.plans.Plan.TheVariants as plan
 use Rattle.pr_tools.specs.Tools.{first_tool}
+use Rattle.pr_truss.specs.Marks.{has_functions}
 use Rattle.pr_truss.specs.Trusses.{first_truss}
+use Rattle.pr_run_laws.specs.FunctionRuns.{IsFunctionTrussKept}
 use Rattle.pr_run_laws.specs.ToolRuns.{IsToolKept}
 use Rattle.pr_run_laws.specs.TrussRuns.{IsTrussKept}
 use Rattle.pr_world.specs.Protocol.{Follows}
 use Rattle.pr_world.specs.Runs.{after_moves}
 use Rattle.pr_world.specs.Worlds.{WorldState}
-use Rattle.pr_world.specs.ControllerStates.{ControllerState, Script, Truss, Tool, Gcore, Probe}
+use Rattle.pr_world.specs.ControllerStates.{ControllerState, Script, Truss, FnTruss, Tool, Gcore, Probe}
 
 -- The runs of a scenario.
 
@@ -33,10 +35,15 @@ files_of s = map stored_file s.files
 abbrev pub first_state_of : Scenario → TracedState
 first_state_of s = first_state s.programs (files_of s) s.spawns
 
+-- a truss before its first call, which shows calls of functions or does not
+abbrev pub truss_of : Options → Bool → ControllerState
+truss_of options true = FnTruss (first_truss options)
+truss_of options false = Truss (first_truss options)
+
 -- the controller of a plan before its first call, a row a kind
 unfoldable pub controller_of : Plan → ControllerState
 controller_of (plan.Script script) = Script script
-controller_of (plan.Truss options) = Truss (first_truss options)
+controller_of (plan.Truss options) = truss_of options (has_functions options)
 controller_of (plan.Tool kind pid) = Tool (first_tool kind pid)
 controller_of (plan.Gcore pid) = Gcore (first_gcore pid)
 controller_of (plan.Probe pid) = Probe (first_probe pid)
@@ -58,11 +65,12 @@ first_world s = record {
 
 -- What every run of a scenario keeps, in whatever order its actors move: each entry is what the machine does; the
 -- controllers make the calls that come after the replies that they got, and the clock goes on only where it is awaited;
--- and if controllers only stopped, ran and read, the programs did what they could have done without controllers. Truss,
--- the tools and gcore do no more than that: where no controller is a script, and none asks by an agent, the programs
--- always did so.
+-- and if controllers only stopped, ran and read, the programs did what they could have done without controllers. Truss
+-- without functions, the tools and gcore do no more than that: where no controller is a script, none asks by an agent, and
+-- none shows calls of functions, the programs always did so.
 --
--- Each truss has shown what was selected while it watched, on the conditions of TrussRuns; it lets a process go for a
+-- Of a truss that shows calls of functions it is said which calls it makes and what it has learnt from their replies, of
+-- which its text is a function. Each other truss has shown what was selected while it watched, on the conditions of TrussRuns; it lets a process go for a
 -- reason alone, and releases it. When it has finished, it has attached what it was given or reported its refusal,
 -- unless it was interrupted before; it has opened or set free each child of a fork that it read and is to follow, or
 -- reported its refusal; and it has nothing open. What a tool shows stood so in one state, whatever programs give its
@@ -71,9 +79,12 @@ pub record IsKept (s : Scenario) (h : List Entry) : Type 0 where
   pub legal : IsLegal (length (controllers_of s)) (first_state_of s) h
   pub follows : Follows (controllers_of s) (first_state_of s) h
   pub transparent : IsPassive h → IsTransparent (first_state_of s) h
-  pub transparent_without_scripts : scripts_of s ≡ [] → probes_of s ≡ [] → IsTransparent (first_state_of s) h
-  pub trusses : (k : ℕ) (o : Options) → slice_get s.controllers k ≡ Some (plan.Truss o)
+  pub transparent_without_scripts : scripts_of s ≡ [] → probes_of s ≡ [] → shown_functions s ≡ []
+      → IsTransparent (first_state_of s) h
+  pub trusses : (k : ℕ) (o : Options) → slice_get s.controllers k ≡ Some (plan.Truss o) → has_functions o ≡ false
       → IsTrussKept (controllers_of s) (first_state_of s) h k o
+  pub functions : (k : ℕ) (o : Options) → slice_get s.controllers k ≡ Some (plan.Truss o) → has_functions o ≡ true
+      → IsFunctionTrussKept (controllers_of s) h k o
   pub tools : (k : ℕ) (kind : ToolKind) (pid : ℕ) → slice_get s.controllers k ≡ Some (plan.Tool kind pid)
       → IsToolKept (controllers_of s) (first_state_of s) h k kind pid
   pub programs : (state_after (first_state_of s) h).system.programs ≡ s.programs

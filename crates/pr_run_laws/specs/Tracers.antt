@@ -3,13 +3,14 @@ use Rattle.pr_model.specs.Passive.{is_passive_message}
 use Rattle.pr_model.specs.declared.calls.Call.{Call}
 use Rattle.pr_model.specs.declared.calls.Call.TheVariants as call
 use Rattle.pr_num.specs.Messages.{first_message}
-use Rattle.pr_world.specs.ControllerStates.{ControllerState, Script, Probe}
+use Rattle.pr_world.specs.ControllerStates.{ControllerState, Script, FnTruss, Probe}
 
--- Controllers that trace and show: truss, the proc tools and gcore. A script may make any call, and a probe makes an agent
--- and writes memory.
+-- Controllers that trace and show: truss without functions, the proc tools and gcore. A script may make any call, a truss
+-- that shows calls of functions plants breakpoints, and a probe makes an agent and writes memory.
 
 unfoldable pub IsTracer : ControllerState → Type 0
 IsTracer (Script s) = ⊥
+IsTracer (FnTruss t) = ⊥
 IsTracer (Probe p) = ⊥
 IsTracer _ = Unit {0}
 

@@ -17,17 +17,15 @@ use Rattle.pr_model.specs.declared.events.Entry.{Entry}
 use Rattle.pr_model.specs.declared.handles.Held.{Held}
 use Rattle.pr_num.specs.Control.{rlc_mode}
 use Rattle.pr_num.specs.declared.messages.Message.TheVariants.{Set}
-use Rattle.pr_truss.specs.Feeding.{fed}
 use Rattle.pr_truss.specs.Messages.{message_call}
 use Rattle.pr_truss.specs.NextCalls.{next_call_of}
-use Rattle.pr_truss.specs.Trusses.{first_truss, traced_at}
-use Rattle.pr_truss.specs.declared.processes.Traced.{Traced}
+use Rattle.pr_truss.specs.Trusses.{first_truss}
 use Rattle.pr_truss.specs.declared.reports.Report.{Report}
 use Rattle.pr_report_laws.specs.AsChildren.{IsNeverOpenedAsChild}
 use Rattle.pr_report_laws.specs.Lineages.{IsLeftToTruss}
-use Rattle.pr_report_laws.specs.Follows.{IsFollowedUp, IsLeftChild, ReadsFork}
-use Rattle.pr_report_laws.specs.Freed.{IsInterruptedFreeing, IsSetFree, ReadsLastFork}
-use Rattle.pr_report_laws.specs.Attachments.{HasFollowed, IsLetGo}
+use Rattle.pr_report_laws.specs.Follows.{IsLeftChild}
+use Rattle.pr_report_laws.specs.Freed.{IsInterruptedFreeing}
+use Rattle.pr_report_laws.specs.Attachments.{HasFile, HasFollowed, IsLetGo}
 use Rattle.pr_laws.specs.LastCloses.{IsReleased}
 use Rattle.pr_report_laws.specs.HeldEvents.{DiedHeld, IsUnanswered, ReadsHeld, ShowsHeld}
 use Rattle.pr_report_laws.specs.HeldForks.{CaresForChildren}
@@ -38,7 +36,8 @@ use Rattle.pr_report_laws.specs.Memories.{HaveTheirTexts}
 use Rattle.pr_report_laws.specs.Newborn.{IsNoTurnOf, WasForked, WasSpawned}
 use Rattle.pr_report_laws.specs.SetModes.{HasSetRelease}
 use Rattle.pr_report_laws.specs.Shown.{selected, LwpEvent, shown}
-use Rattle.pr_truss_laws.specs.Exchanges.{Exchange, Makes, errno_in, exchange_of, exchanges, truss_after, truss_at}
+use Rattle.pr_report_laws.specs.ToldForks.{FollowsChild, FreesChild, ReadsChild, ReadsLastChild}
+use Rattle.pr_truss_laws.specs.Exchanges.{Exchange, Makes, errno_in, exchange_of, exchanges, truss_at}
 use Rattle.pr_truss_laws.specs.Given.{IsHandled, IsHandledSoFar}
 use Rattle.pr_truss_laws.specs.Handles.{HasNothingOpen}
 use Rattle.pr_truss_laws.specs.Business.{DoesItsBusiness}
@@ -103,31 +102,18 @@ pub record IsNewborn (o : Options) (pid : ℕ) (first : TracedState) (h : List E
 -- next report; and one that it reads while it leaves a process is set free, or its refusal is the next report. Of what
 -- it has not done of that yet the first call is due: when it has finished it has done all of it. No such opening is
 -- interrupted.
-pub record HandlesChildren (k : ℕ) (o : Options) (h : List Entry) : Type 0 where
-  pub follows : (before later : List Exchange) (x : Exchange) (place child : ℕ) → exchanges k h ≡ before ++ x ∷ later
-      → ReadsFork (truss_after (first_truss o) before) x.reply place child
-      → IsFollowedUp child (traced_at (truss_after (first_truss o) before) place).control
-      (fed (truss_after (first_truss o) before) x.reply).reports (truss_at k o h).reports
-      (next_call_of (truss_at k o h)) later
-  pub frees : (before later : List Exchange) (x : Exchange) (child : ℕ) → exchanges k h ≡ before ++ x ∷ later
-      → ReadsLastFork (truss_after (first_truss o) before) x.reply child
-      → IsSetFree child (traced_at (truss_after (first_truss o) before) 0)
-      (fed (truss_after (first_truss o) before) x.reply).reports (truss_at k o h).reports
-      (next_call_of (truss_at k o h)) later
+pub record HandlesChildren (k : ℕ) (o : Options) (first : TracedState) (h : List Entry) : Type 0 where
+  pub follows : (before later : List Entry) (e : Entry) (parent child : ℕ) → h ≡ before ++ e ∷ later
+      → ReadsChild k o parent child first before e → FollowsChild k o parent child first before e later
+  pub frees : (before later : List Entry) (e : Entry) (parent child : ℕ) → h ≡ before ++ e ∷ later
+      → ReadsLastChild k o parent child first before e → FreesChild k o parent child first before e later
   pub leaves_none : (before later : List Exchange) (child : ℕ) → exchanges k h ≡ before ++ later
       → IsLeftChild child later → ⊥
-  pub keeps_none : (before later : List Exchange) (child : ℕ) (parent : Traced) (base reports : List Report)
+  pub keeps_none : (before later : List Exchange) (child : ℕ) (handles : List ℕ) (base reports : List Report)
       → (due : Option Call) → exchanges k h ≡ before ++ later
-      → IsInterruptedFreeing child parent base reports due later → ⊥
+      → IsInterruptedFreeing child handles base reports due later → ⊥
 
 -- ---- what truss releases
-
--- A controller has the control file of a process open, with this handle.
-pub record HasControl (k pid number : ℕ) (s : TracedState) : Type 0 where
-  pub held : Held
-  pub there : handle_of s.opens k number ≡ Some held
-  pub of : held.pid ≡ pid
-  pub control : is_control held.file ≡ true
 
 -- What this truss leaves when it closes a control file after this history: a process of which it has set PR_RLC by that
 -- file is released, if it lives, and so is one of which it has hold. Nothing of it is traced or watched then, and no lwp
@@ -143,7 +129,7 @@ pub record Releases (k : ℕ) (o : Options) (first : TracedState) (h : List Entr
       → live_process (state_after first h).system held.pid ≡ Some p
       → answer_to (state_after first h) k (Close number) ≡ Some a
       → (q : TracedProcess) × ((live_process a.state.system held.pid ≡ Some q) × IsReleased q)
-  pub controls : (pid : ℕ) → HasHold k o pid first h → (number : ℕ) × HasControl k pid number (state_after first h)
+  pub controls : (pid : ℕ) → HasHold k o pid first h → (number : ℕ) × HasFile k pid Ctl number (state_after first h)
 
 -- ---- what it opens
 
@@ -175,7 +161,7 @@ pub record ShowsItsEvents (k : ℕ) (o : Options) (first : TracedState) (h : Lis
 -- to truss does nothing before truss has hold of it; and when truss has finished no child is left that a fork of a
 -- process made while truss had hold of that process.
 pub record FollowsItsChildren (k : ℕ) (o : Options) (first : TracedState) (h : List Entry) : Type 0 where
-  pub children : o.follow ≡ true → HandlesChildren k o h
+  pub children : o.follow ≡ true → HandlesChildren k o first h
   pub newborn : (before later : List Entry) (e : Entry) (pid : ℕ) → IsLeftToTruss k o pid first h
       → h ≡ before ++ e ∷ later → GetsHold k o pid before e → HasFollowed k pid (before ++ e ∷ [])
       → IsNewborn o pid first (before ++ e ∷ [])

@@ -231,7 +231,7 @@ read_item (item.File name bytes) h =
 read_item (item.Program name) h = some_step BadOperand (name_of name) name _ _ (name_of-name name h) refl
 read_item (item.Spawn name) h = some_step BadOperand (name_of name) name _ _ (name_of-name name h) refl
 read_item item.Script h = refl
-read_item (item.Truss options) h = absurd h
+read_item (item.Truss asked) h = absurd h
 read_item (item.Tool kind pid) h = read_tool kind pid h
 read_item (item.Gcore pid) h = read_gcore pid h
 read_item (item.Probe pid) h = read_apfiles pid h
@@ -246,7 +246,7 @@ item_tokens (item.File name bytes) h = (plain_token (codes "file") (omega arith)
 item_tokens (item.Program name) h = (plain_token (codes "program") (omega arith) refl, (name_token name h, tt))
 item_tokens (item.Spawn name) h = (plain_token (codes "spawn") (omega arith) refl, (name_token name h, tt))
 item_tokens item.Script h = (plain_token (codes "script") (omega arith) refl, tt)
-item_tokens (item.Truss options) h = absurd h
+item_tokens (item.Truss asked) h = absurd h
 item_tokens (item.Tool kind pid) h = (plain_token (codes "tool") (omega arith) refl, tool_tokens kind pid h)
 item_tokens (item.Gcore pid) h =
     (plain_token (codes "tool") (omega arith) refl, (plain_token (codes "gcore") (omega arith) refl, (id_token pid h, tt)))

@@ -11,9 +11,9 @@ use Rattle.std.proofs.lemmas.List.Sums.{sum_by_push, sum_by-cons}
 use borrow.Author.Tests.{ltb-true}
 use Rattle.pr_num.specs.Programs.{Program}
 use Rattle.pr_parts.specs.FileTables.{names_differ, has_name}
-use Rattle.pr_line.specs.Reading.{options_of, has_bad_option}
+use Rattle.pr_line.specs.Reading.{asked_of, has_bad_option}
 use Rattle.pr_line.specs.declared.faults.WordFault.{WordFault}
-use Rattle.pr_line.specs.declared.options.Options.{Options}
+use Rattle.pr_line.specs.declared.reading.Asked.{Asked}
 use Rattle.pr_text.specs.Names.{name_of}
 use Rattle.pr_text.specs.NumberWords.{number_of, id_of}
 use Rattle.pr_text.specs.QuotedWords.{quoted_bytes}
@@ -28,6 +28,7 @@ use Rattle.pr_scen.specs.Items.{turns_of, file_of, program_of, spawn_of, script_
 use Rattle.pr_num.specs.Limits.{default_turns, all_mappings_limit, controller_limit, file_limit, file_size_limit, list_line_limit, program_limit, schedule_limit, spawn_limit, turn_limit}
 use Rattle.pr_text.specs.Comments.{begins_comment}
 use Rattle.pr_scen.specs.Lines.{readable}
+use Rattle.pr_scen.specs.Functions.{functions_of}
 use Rattle.pr_scen.specs.Names.{place_of}
 use Rattle.pr_scen.specs.Parts.{Part, line, block, endless}
 use Rattle.pr_scen.specs.Reading.{draft_in, scenario_in}
@@ -62,8 +63,8 @@ not_zero n true e = tt
 not_zero zero false e = cc
 not_zero (suc n) false e = omega arith
 
-in_truss : (words : List (List ℕ)) (r : Result Options WordFault) → IfOk (truss_read words r) InRange
-in_truss words (Ok options) = tt
+in_truss : (words : List (List ℕ)) (r : Result Asked WordFault) → IfOk (truss_read words r) InRange
+in_truss words (Ok asked) = tt
 in_truss words (Err fault) = if_ok InRange (has_bad_option words) _ _ (λ _. tt) (λ _. tt)
 
 in_process_tool : (word : List ℕ) (pid : ℕ) → IfOk (process_tool_line word pid) InRange
@@ -96,7 +97,7 @@ item_in_range (first ∷ operands) =
     if_ok InRange (bytes_eq first (codes "program")) _ _ (λ _. then_ok InRange (one BadOperand operands) _ (λ word _. then_ok InRange (ok_or BadOperand (name_of word)) _ (λ name _. tt))) (λ _.
     if_ok InRange (bytes_eq first (codes "spawn")) _ _ (λ _. then_ok InRange (one BadOperand operands) _ (λ word _. then_ok InRange (ok_or BadOperand (name_of word)) _ (λ name _. tt))) (λ _.
     if_ok InRange (bytes_eq first (codes "script")) _ _ (λ _. then_ok InRange (none BadOperand operands) _ (λ u _. tt)) (λ _.
-    if_ok InRange (bytes_eq first (codes "truss")) _ _ (λ _. in_truss operands (options_of operands)) (λ _.
+    if_ok InRange (bytes_eq first (codes "truss")) _ _ (λ _. in_truss operands (asked_of operands)) (λ _.
     if_ok InRange (bytes_eq first (codes "tool")) _ _ (λ _. in_tool operands) (λ _.
     if_ok InRange (bytes_eq first (codes "schedule")) _ _ (λ _. then_ok InRange (with_turns_of [] operands) unless_none (λ turns _. in_schedule turns)) (λ _. tt)))))))))
 
@@ -220,9 +221,11 @@ unfolding with_controller
 sound_controller d plan free s =
     if_ok IsSound (nat_lt (length d.controllers) controller_limit) _ _ (λ room. let few = ltb-true _ _ room in record { turns_within = s.turns_within; files_within = s.files_within; spawned = s.spawned; few_controllers = omega (arith, length-append d.controllers (plan ∷ [])); listed = listed_more d.lists d.controllers d.lines plan free s.listed; few_turns = s.few_turns }) (λ _. tt)
 
-sound_truss : (d : Draft) (options : Options) → IsSound d → IfOk (with_truss d options) IsSound
+sound_truss : (d : Draft) (asked : Asked) → IsSound d → IfOk (with_truss d asked) IsSound
 unfolding with_truss
-sound_truss d options s = if_ok IsSound (knows_program d options.program) _ _ (λ _. sound_controller d (Truss options) refl s) (λ _. tt)
+sound_truss d asked s =
+    then_ok IsSound (ok_or UnknownName (functions_of d.program_names d.programs asked.functions)) _ (λ functions _.
+    if_ok IsSound (knows_program d asked.options.program) _ _ (λ _. sound_controller d (Truss (record asked.options { functions = functions })) refl s) (λ _. tt))
 
 -- more turns at the beginning
 length-actors : (turns : List Turns) → length (actors_of turns) ≡ turn_count turns
@@ -244,7 +247,7 @@ sound_with d (item.File name bytes) range s = sound_file d name bytes s
 sound_with d (item.Program name) range s = s
 sound_with d (item.Spawn name) range s = sound_spawn d name s
 sound_with d item.Script range s = s
-sound_with d (item.Truss options) range s = sound_truss d options s
+sound_with d (item.Truss asked) range s = sound_truss d asked s
 sound_with d (item.Tool kind pid) range s = sound_controller d (Tool kind pid) refl s
 sound_with d (item.Gcore pid) range s = sound_controller d (Gcore pid) refl s
 sound_with d (item.Probe pid) range s = sound_controller d (Probe pid) refl s

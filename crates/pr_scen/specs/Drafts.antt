@@ -2,9 +2,11 @@
 use Rattle.std.specs.Prelude.{◌+◌, ℕ, Bool, true, Some, None, Option, is_some, List, [], ◌∷◌, ◌++◌, length, option_map, slice_get, nat_lt, nat_le, unwrap_or, Result, Ok, Err, if◌then◌else◌}
 use Rattle.pr_num.specs.Programs.{Program}
 use Rattle.pr_line.specs.declared.options.Options.{Options}
+use Rattle.pr_line.specs.declared.reading.Asked.{Asked}
 use Rattle.pr_text.specs.Steps.{◌>>=◌, ok_or}
 use Rattle.pr_model.specs.FirstState.{first_size}
 use Rattle.pr_num.specs.Limits.{turn_limit, default_turns, program_limit, file_limit, file_size_limit, spawn_limit, all_mappings_limit, controller_limit, list_line_limit, schedule_limit}
+use Rattle.pr_scen.specs.Functions.{functions_of}
 use Rattle.pr_scen.specs.Names.{place_of}
 use Rattle.pr_scen.specs.Scenarios.{Scenario}
 use Rattle.pr_scen.specs.Schedules.{turn_count, actors_of}
@@ -84,9 +86,15 @@ abbrev pub knows_program : Draft → Option (List ℕ) → Bool
 knows_program d None = true
 knows_program d (Some name) = has_program d name
 
--- truss WORDS
-unfoldable pub with_truss : Draft → Options → Result Draft ScenKind
-with_truss d options = if knows_program d options.program then with_controller d (Truss options) else Err UnknownName
+-- a truss, where the program that it runs, if it runs one, is known
+abbrev pub with_options : Draft → Options → Result Draft ScenKind
+with_options d o = if knows_program d o.program then with_controller d (Truss o) else Err UnknownName
+
+-- truss WORDS, where the functions that they name are known too
+unfoldable pub with_truss : Draft → Asked → Result Draft ScenKind
+with_truss d asked = do
+  functions ← ok_or UnknownName (functions_of d.program_names d.programs asked.functions)
+  with_options d (record asked.options { functions = functions })
 
 -- schedule ACTORS, after those of the lines above
 unfoldable pub with_schedule : Draft → List Turns → Result Draft ScenKind
@@ -103,7 +111,7 @@ with_item d (item.File name bytes) = with_file d name bytes
 with_item d (item.Program name) = Ok d
 with_item d (item.Spawn name) = with_spawn d name
 with_item d item.Script = Ok d
-with_item d (item.Truss options) = with_truss d options
+with_item d (item.Truss asked) = with_truss d asked
 with_item d (item.Tool kind pid) = with_controller d (Tool kind pid)
 with_item d (item.Gcore pid) = with_controller d (Gcore pid)
 with_item d (item.Probe pid) = with_controller d (Probe pid)

@@ -2,9 +2,9 @@
 -- and then a name that is in no table.
 use Rattle.std.specs.Prelude.{◌==◌, ℕ, List, [], ◌∷◌, codes, Result, Ok, Err, if◌then◌else◌}
 use Rattle.std.specs.Str.{bytes_eq}
-use Rattle.pr_line.specs.Reading.{options_of, has_bad_option}
+use Rattle.pr_line.specs.Reading.{asked_of, has_bad_option}
 use Rattle.pr_line.specs.declared.faults.WordFault.{WordFault}
-use Rattle.pr_line.specs.declared.options.Options.{Options}
+use Rattle.pr_line.specs.declared.reading.Asked.{Asked}
 use Rattle.pr_model.specs.declared.tools.ToolKind.TheVariants.{Ptree}
 use Rattle.pr_text.specs.Names.{name_of}
 use Rattle.pr_text.specs.NumberWords.{number_of, id_of}
@@ -53,12 +53,12 @@ unfoldable pub script_of : List (List ℕ) → Result Item ScenKind
 script_of operands = none BadOperand operands >>= λ _. Ok item.Script
 
 -- truss WORDS (truss(1)); a bad option comes before a name that is in no table
-abbrev pub truss_read : List (List ℕ) → Result Options WordFault → Result Item ScenKind
-truss_read words (Ok options) = Ok (item.Truss options)
+abbrev pub truss_read : List (List ℕ) → Result Asked WordFault → Result Item ScenKind
+truss_read words (Ok asked) = Ok (item.Truss asked)
 truss_read words (Err fault) = if has_bad_option words then Err BadOperand else Err UnknownName
 
 unfoldable pub truss_of : List (List ℕ) → Result Item ScenKind
-truss_of words = truss_read words (options_of words)
+truss_of words = truss_read words (asked_of words)
 
 -- a tool of a process, by its name, a row a name; ptree has no process
 unfoldable pub process_tool_line : List ℕ → ℕ → Result Item ScenKind

@@ -4,6 +4,7 @@ pub mod Blocks
 pub mod Division
 pub mod Drafts
 pub mod Encoding
+pub mod Functions
 pub mod Items
 pub mod Lines
 pub mod MessageLists

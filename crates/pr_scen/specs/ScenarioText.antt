@@ -30,10 +30,10 @@ file_piece file = outside (item.File file.0 file.1)
 abbrev pub spawn_piece : List (List ℕ) → ℕ → Piece
 spawn_piece names place = outside (item.Spawn (get_or names place []))
 
--- a controller that is a script
+-- A controller. Of the functions of a truss only those that its words name are read, so none is given here.
 abbrev pub plan_piece : Plan → Piece
 plan_piece (Script s) = script s.lines
-plan_piece (Truss options) = outside (item.Truss options)
+plan_piece (Truss options) = outside (item.Truss (record { options = options; functions = None }))
 plan_piece (Tool kind pid) = outside (item.Tool kind pid)
 plan_piece (Gcore pid) = outside (item.Gcore pid)
 plan_piece (Probe pid) = outside (item.Probe pid)

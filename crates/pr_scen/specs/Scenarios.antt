@@ -1,6 +1,7 @@
 -- A scenario as contracts see it, and what is so of each that was read.
 use Rattle.std.specs.Prelude.{◌≡◌, ◌≤◌, ◌<◌, ℕ, Bool, true, false, List, [], ◌∷◌, length, map, count_by, sum_by, All}
 use Rattle.std.specs.List.{flat_map}
+use Rattle.pr_line.specs.declared.functions.Function.{Function}
 use Rattle.pr_num.specs.Programs.{Program}
 use Rattle.pr_parts.specs.FileTables.{names_differ}
 use Rattle.pr_model.specs.FirstState.{mapped_at_start, stored_file}
@@ -8,7 +9,7 @@ use Rattle.pr_model.specs.declared.events.Actor.{Actor}
 use Rattle.pr_num.specs.Limits.{turn_limit, program_limit, file_limit, file_size_limit, spawn_limit, all_mappings_limit, controller_limit, list_line_limit, schedule_limit}
 use Rattle.pr_scen.specs.Scripts.{ScriptState}
 use Rattle.pr_scen.specs.declared.plans.Plan.{Plan}
-use Rattle.pr_scen.specs.declared.plans.Plan.TheVariants.{Script, Probe}
+use Rattle.pr_scen.specs.declared.plans.Plan.TheVariants.{Script, Truss, Probe}
 pub use Rattle.pr_scen.specs.declared.script_lines.ScriptLine.{ScriptLine}
 use Rattle.pr_scen.specs.declared.script_lines.ScriptLine.TheVariants as line
 
@@ -45,6 +46,15 @@ probe_in _ = []
 -- the processes of a scenario that are asked so, in the order of its controllers
 abbrev pub probes_of : Scenario → List ℕ
 probes_of s = flat_map probe_in s.controllers
+
+-- the functions whose calls a controller shows
+abbrev pub shown_in : Plan → List Function
+shown_in (Truss options) = options.functions
+shown_in _ = []
+
+-- the functions whose calls the controllers of a scenario show
+abbrev pub shown_functions : Scenario → List Function
+shown_functions s = flat_map shown_in s.controllers
 
 -- how many `list` lines a controller has
 abbrev pub lists_in : Plan → ℕ

@@ -1,11 +1,14 @@
 -- Words that encode a truss line.
-use Rattle.std.specs.Prelude.{◌≡◌, ◌<◌, ◌^◌, ℕ, Bool, true, false, Option, Some, None, List, [], ◌∷◌, ◌++◌, codes, decimal, map}
+use Rattle.std.specs.Prelude.{◌≡◌, ◌<◌, ◌≤◌, ◌^◌, ℕ, Bool, true, false, Option, Some, None, List, [], ◌∷◌, ◌++◌, codes, decimal, length, map}
 use Rattle.std.specs.List.{AllByRecursion, join_with_byte}
 use Rattle.pr_num.specs.Sets.{with_number, minus_word}
 use Rattle.pr_line.specs.Entries.{signal_numbered, fault_numbered, call_numbered}
+use Rattle.pr_line.specs.Functions.{function_limit}
+use Rattle.pr_line.specs.declared.function_names.FunctionNames.{FunctionNames}
 use Rattle.pr_line.specs.declared.options.Options.{Options}
+use Rattle.pr_line.specs.declared.reading.Asked.{Asked}
 use Rattle.pr_text.specs.Names.{is_name}
-use Rattle.pr_scen.specs.Encoding.{IsId}
+use Rattle.pr_scen.specs.Encoding.{IsId, SomeNames}
 use Rattle.pr_num.specs.Limits.{all_calls, all_faults, all_signals}
 
 -- numbers joined by +
@@ -76,8 +79,22 @@ abbrev pub target_program : Target → Option (List ℕ)
 target_program (processes ids) = None
 target_program (runs name) = Some name
 
+-- the functions that are named, if some are: a program and labels of it
+unfoldable pub function_word : FunctionNames → List ℕ
+function_word f = f.program ++ 58 ∷ join_with_byte 43 f.labels
+
+unfoldable pub function_words : Option FunctionNames → List (List ℕ)
+function_words None = []
+function_words (Some f) = codes "-u" ∷ function_word f ∷ []
+
+-- functions are named neither where children are followed nor where events are counted
+unfoldable pub MayName : Bool → Bool → Option FunctionNames → Type 0
+MayName follow count None = Unit {0}
+MayName follow count (Some f) =
+    (follow ≡ false) × (count ≡ false) × (is_name f.program ≡ true) × SomeNames f.labels × (length f.labels ≤ function_limit)
+
 -- a truss line: whether children are followed, lwps are shown and events are counted; the lists of calls, signals and
--- faults; and what is traced
+-- faults; the functions; and what is traced
 pub record TrussLine : Type 0 where
   pub follow : Bool
   pub lwps : Bool
@@ -85,6 +102,7 @@ pub record TrussLine : Type 0 where
   pub calls : Listing
   pub signals : Listing
   pub faults : Listing
+  pub functions : Option FunctionNames
   pub target : Target
 
 abbrev pub flag_words : Bool → List ℕ → List (List ℕ)
@@ -94,13 +112,13 @@ flag_words false word = []
 -- the words after the flags
 unfoldable pub list_words : TrussLine → List (List ℕ)
 list_words t =
-    codes "-t" ∷ listing_word t.calls ∷ codes "-s" ∷ listing_word t.signals ∷ codes "-m" ∷ listing_word t.faults ∷ target_words t.target
+    codes "-t" ∷ listing_word t.calls ∷ codes "-s" ∷ listing_word t.signals ∷ codes "-m" ∷ listing_word t.faults ∷ (function_words t.functions ++ target_words t.target)
 
 unfoldable pub truss_words : TrussLine → List (List ℕ)
 truss_words t =
     codes "truss" ∷ (flag_words t.follow (codes "-f") ++ (flag_words t.lwps (codes "-l") ++ (flag_words t.count (codes "-c") ++ list_words t)))
 
--- what it asks for
+-- the options that it asks for, which have no functions yet
 unfoldable pub truss_options : TrussLine → Options
 truss_options t = record {
   follow = t.follow;
@@ -111,8 +129,14 @@ truss_options t = record {
   faults = listing_set all_faults t.faults;
   pids = target_ids t.target;
   program = target_program t.target;
+  functions = [];
 }
 
--- what can be encoded: lists and processes name some, and a program's name has its form
+-- what it asks for
+abbrev pub truss_asked : TrussLine → Asked
+truss_asked t = record { options = truss_options t; functions = t.functions }
+
+-- what can be encoded: lists, functions and processes name some, and names have their form
 unfoldable pub IsTrussLine : TrussLine → Type 0
-IsTrussLine t = IsListing call_numbered t.calls × IsListing signal_numbered t.signals × IsListing fault_numbered t.faults × IsTarget t.target
+IsTrussLine t =
+    IsListing call_numbered t.calls × IsListing signal_numbered t.signals × IsListing fault_numbered t.faults × IsTarget t.target × MayName t.follow t.count t.functions

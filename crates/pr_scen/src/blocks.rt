@@ -134,7 +134,7 @@ impl Draft {
         ensures { Gives (λ _. self.new) result (line_added self.old line.now) }
     {
         let item = item_in(alloc, line)?;
-        self.add_item(item)
+        self.add_item(alloc, item)
     }
 
     /// Adds a line outside blocks, or names it as refused.

@@ -1,20 +1,22 @@
 //! What was read of a scenario so far, and what one line or block more makes of it.
-ghost use Rattle.std.specs.Prelude.{◌≡◌, ◌+◌, ◌≤◌, ◌<◌, ◌++◌, ◌^◌, None, length, option_map, slice_get, IfSome, OnOk, nat_le, replicate};
+ghost use Rattle.std.specs.Prelude.{◌≡◌, ◌+◌, ◌≤◌, ◌<◌, ◌++◌, ◌^◌, None, length, option_map, slice_get, IfOk, IfSome, OnOk, nat_le, replicate};
 ghost use Rattle.pr_num.specs.Limits.{mapping_limit, program_limit, schedule_limit};
 ghost use Rattle.pr_text.specs.Reads.{Gives};
 ghost use Rattle.pr_model.specs.FirstState.{first_size};
 ghost use Rattle.pr_scen.specs.Drafts.{nothing, with_turns, with_file, with_process, with_spawn, with_controller, has_program, knows_program, with_truss, with_schedule, with_item, may_begin, with_program, with_line, call_added, script_line_added, with_script, made};
+ghost use Rattle.pr_scen.specs.Functions.{functions_of};
 ghost use Rattle.pr_scen.specs.Names.{place_of};
 ghost use Rattle.pr_scen.specs.Schedules.{turn_count, actors_of};
 
 use crate::few_names::FewNames;
+use crate::functions::functions_of;
 use crate::items::Item;
 use crate::schedules::Turns;
 use crate::script_blocks::InScript;
 use crate::script_lines::Lines;
 use crate::{Plan, ScenKind, Scenario, Script, ScriptLine};
 use pr_asm::Program;
-use pr_line::Options;
+use pr_line::{Asked, FunctionNames, Functions, Options};
 use pr_model::Actor;
 use pr_num::layout::{PAGE_SIZE, rounded};
 use pr_num::limits::{
@@ -177,14 +179,42 @@ impl Draft {
         }
     }
 
-    #[tactic(auto, unfolding(crate::specs::Drafts::with_truss))]
-    fn add_truss(&mut self, options: Options) -> Result<(), Refused<ScenKind>>
-        ensures { Gives (λ _. self.new) result (with_truss self.old options) }
+    /// The functions that a truss line names, `None` exactly where their program is not known or has not all of them.
+    #[tactic(auto, unfolding(crate::specs::Functions::functions_of))]
+    fn functions_of(
+        &self,
+        alloc: Global,
+        names: Option<FunctionNames>,
+    ) -> Result<Option<Functions>, NoMemory>
+        ensures { IfOk result (λ functions. functions ≡ functions_of self.now.program_names self.now.programs names) }
     {
+        let Some(names) = names else {
+            return Ok(Some(Functions::new(alloc)));
+        };
+        let Some(place) = self.program_names.place_of(names.program) else {
+            return Ok(None);
+        };
+        let Some(program) = self.programs.as_slice().get(place) else {
+            return Ok(None);
+        };
+        functions_of(alloc, program, names.labels.as_slice())
+    }
+
+    #[tactic(auto, unfolding(crate::specs::Drafts::with_truss))]
+    fn add_truss(&mut self, alloc: Global, asked: Asked) -> Result<(), Refused<ScenKind>>
+        ensures { Gives (λ _. self.new) result (with_truss self.old asked) }
+    {
+        let Asked { options, functions } = asked;
+        let functions = self
+            .functions_of(alloc, functions)?
+            .ok_or(ScenKind::UnknownName)?;
         if !self.knows_program(options.program) {
             return Err(Refused::Kind(ScenKind::UnknownName));
         }
-        self.add_controller(Plan::Truss(options))
+        self.add_controller(Plan::Truss(Options {
+            functions,
+            ..options
+        }))
     }
 
     #[tactic(auto, unfolding(crate::specs::Drafts::with_schedule))]
@@ -201,7 +231,7 @@ impl Draft {
 
     /// Adds a line outside blocks. Those that begin a block are read with it.
     #[tactic(auto, unfolding(crate::specs::Drafts::with_item))]
-    pub fn add_item(&mut self, item: Item) -> Result<(), Refused<ScenKind>>
+    pub fn add_item(&mut self, alloc: Global, item: Item) -> Result<(), Refused<ScenKind>>
         ensures { Gives (λ _. self.new) result (with_item self.old item) }
     {
         match item {
@@ -209,7 +239,7 @@ impl Draft {
             Item::Turns(n) => self.set_turns(n),
             Item::File(name, bytes) => self.add_file(name, bytes),
             Item::Spawn(name) => self.add_spawn(name),
-            Item::Truss(options) => self.add_truss(options),
+            Item::Truss(asked) => self.add_truss(alloc, asked),
             Item::Tool(kind, pid) => self.add_controller(Plan::Tool(kind, pid)),
             Item::Gcore(pid) => self.add_controller(Plan::Gcore(pid)),
             Item::Probe(pid) => self.add_controller(Plan::Probe(pid)),

@@ -8,7 +8,7 @@ ghost use Rattle.pr_scen.specs.Items.{turns_of, file_of, program_of, spawn_of, s
 
 use crate::ScenKind;
 use crate::schedules::{Turns, all_turns_of};
-use pr_line::{Options, has_bad_option, read_words};
+use pr_line::{Asked, has_bad_option, read_words};
 use pr_model::{ToolKind, process_tool_of_name};
 use pr_num::{Bytes, Name, NoMemory, Table};
 use pr_text::{
@@ -31,7 +31,7 @@ pub enum Item {
     Spawn(Name),
     /// A script block begins.
     Script,
-    Truss(Options),
+    Truss(Asked),
     /// A tool of proc(1) or pmap(1).
     Tool(ToolKind, u32),
     /// gcore(1) of a process.
@@ -111,7 +111,7 @@ fn truss_of(alloc: Global, operands: Tokens) -> Result<Item, Refused<ScenKind>>
 {
     let words = words_of(alloc, operands)?;
     match read_words(alloc, &words) {
-        Ok(options) => Ok(Item::Truss(options)),
+        Ok(asked) => Ok(Item::Truss(asked)),
         Err(Refused::Kind(_)) => Err(Refused::Kind(truss_kind(alloc, &words)?)),
         Err(Refused::NoMemory(error)) => Err(Refused::NoMemory(error)),
     }

@@ -19,7 +19,7 @@ ghost use Rattle.pr_scen.specs.declared.script_blocks.InScript.TheVariants as In
 ghost use Rattle.pr_scen.specs.ScenarioText.{IsWritten, pieces_of};
 ghost use Rattle.pr_scen.specs.Scenarios.{Scenario, IsWithinLimits};
 ghost use Rattle.pr_scen.specs.TextEncoding.{Piece, IsPiece, scenario_of_pieces, text_of_pieces};
-ghost use Rattle.pr_scen.specs.TrussWords.{TrussLine, IsTrussLine, truss_words, truss_options};
+ghost use Rattle.pr_scen.specs.TrussWords.{TrussLine, IsTrussLine, truss_words, truss_asked};
 ghost use Rattle.pr_scen.specs.declared.refusals.ScenFault.{ScenFault};
 ghost use Rattle.pr_scen.specs.declared.script_lines.ScriptLine.{ScriptLine};
 
@@ -46,12 +46,12 @@ pub fn a_refusal_in_a_block_names_its_least_line()
         → IsLeastInBlock d n first body last fault → part_added d (block n first body last) ≡ Err fault }
 {}
 
-/// A line is read as what it was encoded from: the lines outside blocks, a truss line with its lists as numbers, and all
-/// lines of scripts, with their messages as bytes.
+/// A line is read as what it was encoded from: the lines outside blocks, a truss line with its lists as numbers and its
+/// functions by their names, and all lines of scripts, with their messages as bytes.
 pub fn lines_are_read_as_they_are_encoded()
     ensures outside { (i : Item) → IsItem i → item_of (texts_of (spaced (item_words i))) ≡ Ok i }
     ensures truss { (t : TrussLine) → IsTrussLine t
-        → item_of (texts_of (spaced (truss_words t))) ≡ Ok (item.Truss (truss_options t)) }
+        → item_of (texts_of (spaced (truss_words t))) ≡ Ok (item.Truss (truss_asked t)) }
     ensures in_scripts { (l : ScriptLine) → IsLine l
         → script_line_of (texts_of (spaced (line_words l))) ≡ Ok (InScript.Line l) }
 {}

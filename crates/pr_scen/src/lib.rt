@@ -6,6 +6,7 @@ mod bindings;
 mod blocks;
 mod drafts;
 mod few_names;
+mod functions;
 mod items;
 mod laws;
 mod lines;

@@ -6,13 +6,14 @@ use Rattle.pr_output.specs.declared.reports.Printer.{Printer}
 use Rattle.pr_output.specs.declared.reports.Printer.TheVariants as printer
 use Rattle.pr_output.specs.declared.reports.Report.{Report}
 use Rattle.pr_world.specs.Controllers.{printed}
-use Rattle.pr_world.specs.ControllerStates.{ControllerState, Script, Truss, Tool, Gcore, Probe}
+use Rattle.pr_world.specs.ControllerStates.{ControllerState, Script, Truss, FnTruss, Tool, Gcore, Probe}
 use Rattle.pr_world.specs.Worlds.{WorldState}
 
 -- who prints, if it is no script
 unfoldable pub printer_of : ControllerState → Option Printer
 printer_of (Script s) = None
 printer_of (Truss t) = Some printer.Truss
+printer_of (FnTruss t) = Some printer.Truss
 printer_of (Tool t) = Some (printer.Tool t.kind)
 printer_of (Gcore g) = Some printer.Gcore
 printer_of (Probe p) = Some printer.Probe

@@ -19,7 +19,7 @@ fn printer_of(controller: &Controller) -> Option<Printer>
 {
     match controller {
         Controller::Script(_) => None,
-        Controller::Truss(_) => Some(Printer::Truss),
+        Controller::Truss(_) | Controller::FnTruss(_) => Some(Printer::Truss),
         Controller::Tool(tool) => Some(Printer::Tool(tool.kind())),
         Controller::Gcore(_) => Some(Printer::Gcore),
         Controller::Probe(_) => Some(Printer::Probe),

@@ -1,7 +1,8 @@
 //! The run of a scenario, on one thread.
 ghost use Rattle.std.specs.Prelude.{◌≡◌, map, IfOk, OnOk, OnErr};
-ghost use Rattle.pr_run_laws.specs.ScenarioRuns.{controller_of, first_world, run_of};
+ghost use Rattle.pr_run_laws.specs.ScenarioRuns.{controller_of, first_world, run_of, truss_of};
 ghost use Rattle.pr_scen.specs.Scenarios.{IsWithinLimits};
+ghost use Rattle.pr_truss.specs.Marks.{has_functions};
 ghost use Rattle.pr_world.specs.ControllerStates.{state_of};
 ghost use Rattle.pr_world.specs.Runs.{IsFresh, IsTold, after_moves};
 ghost use Rattle.pr_world.specs.Worlds.{end_of, seen};
@@ -9,8 +10,10 @@ ghost use Rattle.pr_serve.specs.Made.{IsBroughtSoFar, IsWorldsWay, kern_view};
 ghost use Rattle.pr_serve.specs.Reports.{reports_of};
 
 use crate::reports::reports_of;
+use pr_bpt::FnTruss;
 use pr_core::Gcore;
 use pr_kern::Kern;
+use pr_line::Options;
 use pr_model::History;
 use pr_num::NoMemory;
 use pr_output::Report;
@@ -22,6 +25,18 @@ use pr_truss::Truss;
 use pr_world::{Controller, End, World};
 use std::alloc::Global;
 
+/// A truss before its first call, which shows calls of functions where there are some.
+#[tactic(auto, unfolding(pr_world::specs::ControllerStates::state_of))]
+fn truss_of(alloc: Global, options: Options) -> Result<Controller, NoMemory>
+    ensures { IfOk result (λ controller. state_of controller ≡ truss_of options (has_functions options)) }
+{
+    Ok(if options.functions.is_empty() {
+        Controller::Truss(Truss::new(alloc, options)?)
+    } else {
+        Controller::FnTruss(FnTruss::new(alloc, options)?)
+    })
+}
+
 /// The controller of a plan before its first call.
 #[tactic(auto, unfolding(pr_run_laws::specs::ScenarioRuns::controller_of, pr_world::specs::ControllerStates::state_of))]
 fn controller_of(alloc: Global, plan: Plan) -> Result<Controller, NoMemory>
@@ -29,7 +44,7 @@ fn controller_of(alloc: Global, plan: Plan) -> Result<Controller, NoMemory>
 {
     Ok(match plan {
         Plan::Script(script) => Controller::Script(script),
-        Plan::Truss(options) => Controller::Truss(Truss::new(alloc, options)?),
+        Plan::Truss(options) => truss_of(alloc, options)?,
         Plan::Tool(kind, pid) => Controller::Tool(Tool::new(alloc, kind, pid)?),
         Plan::Gcore(pid) => Controller::Gcore(Gcore::new(alloc, pid)?),
         Plan::Probe(pid) => Controller::Probe(Probe::new(alloc, pid)?),

@@ -15,7 +15,7 @@ use Rattle.pr_model.specs.UntracedSteps.{nothing_yet, with_returning, with_named
 use Rattle.pr_strip.specs.Pasts.{lwp_cmp, memory_of}
 
 -- a number is at another where the two are the same
-same_number : (a b : ℕ) → is_at (nat_cmp a) b ≡ (b == a)
+pub same_number : (a b : ℕ) → is_at (nat_cmp a) b ≡ (b == a)
 same_number a b = unsigned_tied a b ∙ nat_eq_equiv.symm a b
 
 same_lwp : (p l q k : ℕ) → is_at (lwp_cmp (p, l)) (q, k) ≡ ((q == p) && (k == l))

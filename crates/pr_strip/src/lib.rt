@@ -6,5 +6,7 @@ mod remembering;
 mod strips;
 mod traces;
 
-pub use strips::strip;
-pub use traces::trace;
+pub use pasts::Past;
+pub use remembering::remember;
+pub use strips::{push_steps, push_turn, strip};
+pub use traces::{trace, trace_of_steps};

@@ -35,7 +35,7 @@ fn push_fault(
 }
 
 /// Puts what a turn of an lwp is; `returning` says whether the lwp was on its way out of a system call.
-fn push_turn(
+pub fn push_turn(
     steps: &mut Vec<Step>,
     returning: bool,
     pid: u32,
@@ -69,7 +69,7 @@ fn push_call(steps: &mut Vec<Step>, call: &Call, reply: &Reply) -> Result<(), No
 
 /// Puts what an entry is, after those that are remembered.
 #[tactic(auto, unfolding(pr_model::specs::UntracedSteps::steps_of))]
-fn push_steps(steps: &mut Vec<Step>, past: &Past, entry: &Entry) -> Result<(), NoMemory>
+pub fn push_steps(steps: &mut Vec<Step>, past: &Past, entry: &Entry) -> Result<(), NoMemory>
     ensures { OnOk result (steps.new.items ≡ steps.old.items ++ steps_of (past_of past.now) entry.now) }
 {
     match (entry.actor, &entry.act) {

@@ -1,7 +1,7 @@
 -- Bytes at the front of the places of a text.
 use Rattle.std.proofs.Common.{◌≡◌, ℕ, ◌+◌, ◌-◌, ◌≤◌, List, ◌++◌, length, take, drop, replicate, min, ap, arith, ◌∙◌, sym}
 use Rattle.std.proofs.Math.Nat.{min-le_left}
-use Rattle.std.proofs.lemmas.List.{length-append, take-append-le, take_all, drop-replicate, length-replicate, length-take, take_min}
+use Rattle.std.proofs.lemmas.List.{length-append, drop-replicate, length-replicate, length-take, take_min}
 use Rattle.pr_num.specs.Limits.{asked_limit}
 use Rattle.pr_num.specs.Padding.{padded}
 use Rattle.pr_truss.specs.Texts.{IsText}

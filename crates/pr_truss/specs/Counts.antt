@@ -21,11 +21,12 @@ use Rattle.pr_truss.specs.declared.reports.Report.TheVariants as report
 
 -- ---- what an event counts as
 
--- the event of a report; a refusal is none
+-- the event of a report; a refusal is none, and the call of a function is not counted
 abbrev pub event_in : Report → Option Event
 event_in (report.CannotStart program errno) = None
 event_in (report.CannotTrace pid errno) = None
 event_in (report.Event pid lwp text) = event_of lwp
+event_in (report.Called pid lwp function arguments) = None
 
 -- A call counts as it ends, and exit and lwp_exit as they are entered.
 abbrev pub call_in : Option Event → Option Sysno

@@ -1,7 +1,13 @@
+pub mod Asides
 pub mod Children
 pub mod Closings
 pub mod Counts
 pub mod Feeding
+pub mod FunctionCalls
+pub mod FunctionEvents
+pub mod FunctionFeeding
+pub mod FunctionStops
+pub mod Marks
 pub mod Messages
 pub mod NextCalls
 pub mod Openings

@@ -1,11 +1,12 @@
 -- A process that truss(1) traces, and the files of it that are open (proc(4)).
 use Rattle.std.specs.Prelude.{ℕ, false, Option, Some, None, is_some, if◌then◌else◌}
 use Rattle.pr_model.specs.Replies.{number_of}
+use Rattle.pr_truss.specs.Marks.{no_marks}
 use Rattle.pr_truss.specs.declared.processes.Traced.{Traced}
 
 -- a process of which just the control file is open
 unfoldable pub newly_traced : ℕ → ℕ → Traced
-newly_traced pid control = record { pid = pid; control = control; status = None; lstatus = None; memory = None; attached = false; old = 0; seen = false }
+newly_traced pid control = record { pid = pid; control = control; status = None; lstatus = None; memory = None; attached = false; old = 0; seen = false; marks = no_marks }
 
 -- the handle of the file that was opened last: `ctl`, `status`, `lstatus` and `as` are opened in this order
 unfoldable pub last_handle : Traced → ℕ

@@ -4,19 +4,22 @@ use Rattle.std.specs.Prelude.{◌<◌, ◌+◌, ◌++◌, ℕ, Bool, false, Opti
 use Rattle.std.specs.List.{slice_index_or, remove}
 use Rattle.pr_line.specs.declared.options.Options.{Options}
 use Rattle.pr_truss.specs.Processes.{newly_traced}
+use Rattle.pr_truss.specs.declared.asides.Aside.{Aside}
+use Rattle.pr_truss.specs.declared.asides.Aside.TheVariants.{Nothing}
 use Rattle.pr_truss.specs.declared.processes.Traced.{Traced}
 use Rattle.pr_truss.specs.declared.reports.Report.{Report}
 use Rattle.pr_truss.specs.declared.stages.Stage.{Stage}
 use Rattle.pr_truss.specs.declared.stages.Stage.TheVariants.{Spawning, OpeningControl, Finished}
 
 -- The options; how many of the processes that they name it has begun to open; the processes that it traces, in the
--- order of opening; the step whose reply comes next; whether it was interrupted and leaves its processes; and what it
--- has reported so far.
+-- order of opening; the step whose reply comes next; what it does about breakpoints before the call of that step;
+-- whether it was interrupted and leaves its processes; and what it has reported so far.
 pub record TrussState : Type 0 where
   pub options : Options
   pub begun : ℕ
   pub traced : List Traced
   pub stage : Stage
+  pub aside : Aside
   pub leaving : Bool
   pub reports : List Report
 
@@ -70,7 +73,7 @@ opening_or s others (Some pid) = record s { stage = OpeningControl pid; begun = 
 
 -- before anything was done
 abbrev pub idle : Options → TrussState
-idle options = record { options = options; begun = 0; traced = []; stage = Finished; leaving = false; reports = [] }
+idle options = record { options = options; begun = 0; traced = []; stage = Finished; aside = Nothing; leaving = false; reports = [] }
 
 abbrev pub first_of_program : Options → Option (List ℕ) → TrussState
 first_of_program options None = opening_or (idle options) (idle options) (slice_get options.pids 0)

@@ -11,7 +11,7 @@ use pr_model::Reply;
 impl Truss {
     /// The reply to the call of a step.
     #[tactic(auto, unfolding(crate::specs::Feeding::with_reply))]
-    fn feed_stage(&mut self, reply: &Reply, stage: Stage)
+    pub(crate) fn feed_stage(&mut self, reply: &Reply, stage: Stage)
         requires { IsReady self.old }
         ensures { self.new.state ≡ with_reply self.old.state reply.now stage }
     {

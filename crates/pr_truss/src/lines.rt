@@ -1,16 +1,16 @@
 //! The text of what truss reports.
-ghost use Rattle.std.specs.Prelude.{◌≡◌, ◌∷◌, ◌++◌, [], OnOk, option_to_list};
+ghost use Rattle.std.specs.Prelude.{◌≡◌, ◌∷◌, ◌++◌, [], Some, OnOk, option_to_list};
 ghost use Rattle.std.specs.List.{flat_map};
 ghost use Rattle.pr_line.specs.EventLines.{event_text};
 ghost use Rattle.pr_text.specs.TextLines.{newline};
-ghost use Rattle.pr_truss.specs.Reports.{refusal_text, report_text, refusal_or_nothing, pending_at, all_reports, report_lines};
+ghost use Rattle.pr_truss.specs.Reports.{refusal_text, call_line, report_text, refusal_or_nothing, pending_at, all_reports, report_lines};
 
 use crate::Truss;
 use crate::reports::Report;
 use crate::stages::Stage;
 use crate::texts::Text;
 use itoa::Buffer;
-use pr_line::{Options, event_line};
+use pr_line::{Function, Options, event_line, function_line};
 use pr_num::{Errno, NoMemory};
 use pr_rec::LwpStatus;
 use pr_text::Line;
@@ -51,7 +51,7 @@ fn write_if_refusal(out: &mut Vec<u8>, report: &Report) -> Result<(), NoMemory>
                 *errno,
             )
         }
-        Report::Event { .. } => Ok(()),
+        Report::Event { .. } | Report::Called { .. } => Ok(()),
     }
 }
 
@@ -90,6 +90,29 @@ fn write_event(
     Ok(())
 }
 
+/// Adds the line of a call of a function. `line` is a buffer.
+fn write_call(
+    out: &mut Vec<u8>,
+    line: &mut Line,
+    options: &Options,
+    pid: u32,
+    lwp: u32,
+    function: &Function,
+    arguments: &[u64; 3],
+) -> Result<(), NoMemory>
+    ensures { OnOk result (out.new.items
+        ≡ out.old.items ++ call_line options.now pid lwp arguments.now (Some function.now)) }
+{
+    line.clear();
+    match function_line(line, options, pid, lwp, &function.name, arguments) {
+        Ok(()) => {}
+        Err(_) => unreachable!(),
+    }
+    out.extend_from_slice(line.bytes())?;
+    out.push(b'\n')?;
+    Ok(())
+}
+
 /// Adds a report.
 #[tactic(auto, unfolding(crate::specs::Reports::report_text, crate::specs::Reports::refusal_or_nothing))]
 fn write_report(
@@ -102,6 +125,15 @@ fn write_report(
 {
     match report {
         Report::Event { pid, lwp, text } => write_event(out, line, options, *pid, lwp, text),
+        Report::Called {
+            pid,
+            lwp,
+            function,
+            arguments,
+        } => match options.functions.as_slice().get(*function) {
+            Some(function) => write_call(out, line, options, *pid, *lwp, function, arguments),
+            None => Ok(()),
+        },
         _ => write_if_refusal(out, report),
     }
 }
@@ -123,7 +155,7 @@ fn write_reports(
 
 impl Truss {
     /// The event whose memory is still to be read.
-    fn pending(&self) -> Option<Report>
+    pub(crate) fn pending(&self) -> Option<Report>
         ensures { option_to_list result ≡ pending_at self.now.state self.now.state.stage }
     {
         match self.stage {

@@ -62,7 +62,7 @@ pub(crate) fn traced_entries(options: &Options) -> SysSet
 
 /// A set of calls with those that make a child.
 #[tactic(auto, unfolding(crate::specs::Messages::with_forks))]
-fn with_forks(calls: SysSet) -> SysSet
+pub(crate) fn with_forks(calls: SysSet) -> SysSet
     ensures { result ≡ with_forks calls }
 {
     calls.with(Sysno::Fork).with(Sysno::Vfork)

@@ -173,7 +173,7 @@ fn poll_call(alloc: Global, traced: &[Traced]) -> Result<Call, NoMemory>
 impl Truss {
     /// The call of the present step.
     #[tactic(auto, unfolding(crate::specs::NextCalls::call_of))]
-    fn call_of(&self, alloc: Global, stage: Stage) -> Result<Option<Call>, NoMemory>
+    pub(crate) fn call_of(&self, alloc: Global, stage: Stage) -> Result<Option<Call>, NoMemory>
         ensures { IfOk result (λ call. call ≡ call_of self.now.state stage) }
     {
         let call = match stage {

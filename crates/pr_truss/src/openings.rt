@@ -69,7 +69,7 @@ fn pid_in(reply: &Reply) -> u32
 
 impl Truss {
     #[tactic(auto, unfolding(crate::specs::Openings::with_step_done))]
-    fn step_done(&mut self, place: usize, reply: &Reply, step: OpeningStep)
+    pub(crate) fn step_done(&mut self, place: usize, reply: &Reply, step: OpeningStep)
         ensures { self.new.state ≡ with_step_done self.old.state place reply.now step }
     {
         let traced = learnt(self.traced_at(place), reply, step);
@@ -82,7 +82,7 @@ impl Truss {
 
     /// Reports a refusal, and closes what was opened of the process.
     #[tactic(auto, unfolding(crate::specs::Openings::with_refused_step))]
-    fn refuse_step(&mut self, place: usize, errno: Errno)
+    pub(crate) fn refuse_step(&mut self, place: usize, errno: Errno)
         requires { 0 < self.old.report_room }
         ensures { self.new.state ≡ with_refused_step self.old.state place errno }
     {

@@ -1,6 +1,9 @@
 ghost use Rattle.std.specs.Prelude.{◌≡◌};
 ghost use Rattle.pr_truss.specs.Processes.{newly_traced, last_handle, without_last};
 
+use crate::marks::Marks;
+use pr_model::number_of;
+
 /// A process that truss traces, with the handles of its files in the order of their opening.
 #[derive(Clone, Copy)]
 pub struct Traced {
@@ -16,6 +19,8 @@ pub struct Traced {
     pub old: u64,
     /// Whether the stop on which it stands was looked at already, so that it is not reported again.
     pub seen: bool,
+    /// The breakpoints that truss has in it (`-u`).
+    pub marks: Marks,
 }
 
 impl Traced {
@@ -33,6 +38,7 @@ impl Traced {
             attached: false,
             old: 0,
             seen: false,
+            marks: Marks::none(),
         }
     }
 
@@ -77,5 +83,3 @@ impl Traced {
         }
     }
 }
-
-use pr_model::number_of;

@@ -54,7 +54,7 @@ fn place_of(traced: &[Traced], control: u32) -> Option<usize>
 impl Truss {
     /// Runs a process, or closes its files where truss leaves.
     #[tactic(auto, unfolding(crate::specs::Stops::with_stop_over))]
-    fn end_stop(&mut self, place: usize)
+    pub(crate) fn end_stop(&mut self, place: usize)
         ensures { self.new.state ≡ with_stop_over self.old.state place }
     {
         if self.leaving {
@@ -155,7 +155,7 @@ impl Truss {
 
     /// An lwp of a process is stopped.
     #[tactic(auto, unfolding(crate::specs::Stops::with_stop))]
-    fn stop(&mut self, place: usize, lwp: &LwpStatus)
+    pub(crate) fn stop(&mut self, place: usize, lwp: &LwpStatus)
         requires { 0 < self.old.report_room }
         ensures { self.new.state ≡ with_stop self.old.state place lwp.now }
     {

@@ -2,6 +2,7 @@
 ghost use Rattle.std.specs.Prelude.{◌≡◌, OnOk, IfOk, ◌<◌, length, map};
 ghost use Rattle.pr_truss.specs.Trusses.{IsReady, first_truss, idle, traced_at, with_stage, with_traced, with_opened, without_traced, with_report};
 
+use crate::asides::Aside;
 use crate::processes::Traced;
 use crate::reports::Report;
 use crate::stages::Stage;
@@ -21,6 +22,8 @@ pub struct Truss {
     /// The processes that it traces, in the order of opening.
     pub(crate) traced: Vec<Traced>,
     pub(crate) stage: Stage,
+    /// What it does about breakpoints before the call of its stage (`-u`).
+    pub(crate) aside: Aside,
     /// Whether it was interrupted, and leaves its processes.
     pub(crate) leaving: bool,
     pub(crate) reports: Vec<Report>,
@@ -33,7 +36,7 @@ impl Model for Truss {
     ghost Value = { TrussView };
 
     ghost view = { λ a. record {
-      state = record { options = a.options; begun = a.begun; traced = a.traced.items; stage = a.stage; leaving = a.leaving; reports = a.reports.items };
+      state = record { options = a.options; begun = a.begun; traced = a.traced.items; stage = a.stage; aside = a.aside; leaving = a.leaving; reports = a.reports.items };
       traced_room = vec_capacity a.traced - vec_len a.traced;
       report_room = vec_capacity a.reports - vec_len a.reports;
     } };
@@ -66,6 +69,7 @@ impl Truss {
             begun,
             traced: Vec::new(alloc),
             stage,
+            aside: Aside::Nothing,
             leaving: false,
             reports: Vec::new(alloc),
         })

@@ -14,6 +14,7 @@ use Rattle.pr_truss.specs.Openings.{learnt}
 use Rattle.pr_truss.specs.Processes.{last_handle, newly_traced, without_last}
 use Rattle.pr_truss.specs.Replies.{answer_of}
 use Rattle.pr_truss.specs.Trusses.{TrussState, nobody, traced_at}
+use Rattle.pr_truss.specs.declared.marks.Marks.{Marks}
 use Rattle.pr_truss.specs.declared.processes.Traced.{Traced}
 use Rattle.pr_truss.specs.declared.replies.Answer.{Answer}
 use Rattle.pr_truss.specs.declared.replies.Answer.TheVariants.{Accepted}
@@ -66,6 +67,7 @@ LessBy t h None = handles_in h t ≡ unit (last_handle t == h)
 LessBy t h (Some u) = (handles_in h u + unit (last_handle t == h) ≡ handles_in h t) × (u.pid ≡ t.pid)
 
 less-fields : (h pid control : ℕ) (status lstatus memory : Option ℕ) (attached : Bool) (old : ℕ) (seen : Bool)
+    (marks : Marks)
     → let t : Traced = record {
       pid = pid;
       control = control;
@@ -75,16 +77,17 @@ less-fields : (h pid control : ℕ) (status lstatus memory : Option ℕ) (attach
       attached = attached;
       old = old;
       seen = seen;
+      marks = marks;
     } in LessBy t h (without_last t)
 unfolding handles_in last_handle without_last
-less-fields h pid control status lstatus (Some m) attached old seen = (omega arith, refl)
-less-fields h pid control status (Some l) None attached old seen = (omega arith, refl)
-less-fields h pid control (Some s) None None attached old seen = (omega arith, refl)
-less-fields h pid control None None None attached old seen = omega arith
+less-fields h pid control status lstatus (Some m) attached old seen marks = (omega arith, refl)
+less-fields h pid control status (Some l) None attached old seen marks = (omega arith, refl)
+less-fields h pid control (Some s) None None attached old seen marks = (omega arith, refl)
+less-fields h pid control None None None attached old seen marks = omega arith
 
 less-by : (h : ℕ) (t : Traced) (left : Option Traced) → without_last t ≡ left → LessBy t h left
 less-by h t left is =
-    subst (LessBy t h) is (less-fields h t.pid t.control t.status t.lstatus t.memory t.attached t.old t.seen)
+    subst (LessBy t h) is (less-fields h t.pid t.control t.status t.lstatus t.memory t.attached t.old t.seen t.marks)
 
 -- the handle that is closed is remembered
 last-remembered : (s : TrussState) (place : ℕ) → place < length s.traced

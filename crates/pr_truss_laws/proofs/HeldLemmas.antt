@@ -9,6 +9,7 @@ use Rattle.pr_truss.specs.Feeding.{fed, with_reply}
 use Rattle.pr_truss.specs.NextCalls.{call_of, next_call_of}
 use Rattle.pr_truss.specs.Processes.{last_handle, without_last}
 use Rattle.pr_truss.specs.Trusses.{TrussState, nobody, traced_at}
+use Rattle.pr_truss.specs.declared.marks.Marks.{Marks}
 use Rattle.pr_truss.specs.declared.processes.Traced.{Traced}
 use Rattle.pr_truss.specs.declared.reports.Report.{Report}
 use Rattle.pr_truss.specs.declared.stages.AfterClosing.{AfterClosing}
@@ -157,6 +158,7 @@ ClosesFirst u None = handles_of u ≡ last_handle u ∷ []
 ClosesFirst u (Some v) = handles_of u ≡ last_handle u ∷ handles_of v
 
 first-fields : (pid control : ℕ) (status lstatus memory : Option ℕ) (attached : Bool) (old : ℕ) (seen : Bool)
+    (marks : Marks)
     → let u : Traced = record {
       pid = pid;
       control = control;
@@ -166,15 +168,16 @@ first-fields : (pid control : ℕ) (status lstatus memory : Option ℕ) (attache
       attached = attached;
       old = old;
       seen = seen;
+      marks = marks;
     } in ClosesFirst u (without_last u)
 unfolding last_handle without_last
-first-fields pid control status lstatus (Some m) attached old seen = refl
-first-fields pid control status (Some l) None attached old seen = refl
-first-fields pid control (Some s) None None attached old seen = refl
-first-fields pid control None None None attached old seen = refl
+first-fields pid control status lstatus (Some m) attached old seen marks = refl
+first-fields pid control status (Some l) None attached old seen marks = refl
+first-fields pid control (Some s) None None attached old seen marks = refl
+first-fields pid control None None None attached old seen marks = refl
 
 pub closes-first : (u : Traced) → ClosesFirst u (without_last u)
-closes-first u = first-fields u.pid u.control u.status u.lstatus u.memory u.attached u.old u.seen
+closes-first u = first-fields u.pid u.control u.status u.lstatus u.memory u.attached u.old u.seen u.marks
 
 -- a file of a process is closed, whatever comes then
 pub close-fed : (s : TrussState) (r : Reply) (place : ℕ) (next : AfterClosing) → s.stage ≡ Closing place next

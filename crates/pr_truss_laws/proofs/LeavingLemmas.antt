@@ -20,6 +20,7 @@ use Rattle.pr_truss.specs.Records.{event_stops, status_lwp}
 use Rattle.pr_truss.specs.Replies.{answer_of}
 use Rattle.pr_truss.specs.Stops.{after_text, text_of, with_event_over, with_event_shown, with_lwps_answered, with_status_answered, with_stop_over, with_stop_read, with_text_answered, with_unfollowed}
 use Rattle.pr_truss.specs.Trusses.{TrussState, nobody, traced_at, with_stage, with_traced, without_traced}
+use Rattle.pr_truss.specs.declared.marks.Marks.{Marks}
 use Rattle.pr_truss.specs.declared.processes.Traced.{Traced}
 use Rattle.pr_truss.specs.declared.replies.Answer.{Answer}
 use Rattle.pr_truss.specs.declared.replies.Answer.TheVariants.{Accepted, Interrupted, Gone, Refused}
@@ -59,6 +60,7 @@ OneLess t None = files t ≡ 1
 OneLess t (Some u) = files u + 1 ≡ files t
 
 one-less-fields : (pid control : ℕ) (status lstatus memory : Option ℕ) (attached : Bool) (old : ℕ) (seen : Bool)
+    (marks : Marks)
     → OneLess
     (record {
       pid = pid;
@@ -69,6 +71,7 @@ one-less-fields : (pid control : ℕ) (status lstatus memory : Option ℕ) (atta
       attached = attached;
       old = old;
       seen = seen;
+      marks = marks;
     }) (without_last
     (record {
       pid = pid;
@@ -80,18 +83,20 @@ one-less-fields : (pid control : ℕ) (status lstatus memory : Option ℕ) (atta
           attached;
       old = old;
       seen = seen;
+      marks = marks;
     }))
 unfolding files without_last
-one-less-fields pid control status lstatus (Some m) attached old seen = omega arith
-one-less-fields pid control status (Some l) None attached old seen = omega arith
-one-less-fields pid control (Some s) None None attached old seen = omega arith
-one-less-fields pid control None None None attached old seen = omega arith
+one-less-fields pid control status lstatus (Some m) attached old seen marks = omega arith
+one-less-fields pid control status (Some l) None attached old seen marks = omega arith
+one-less-fields pid control (Some s) None None attached old seen marks = omega arith
+one-less-fields pid control None None None attached old seen marks = omega arith
 
 pub one-less : (t : Traced) → OneLess t (without_last t)
-one-less t = one-less-fields t.pid t.control t.status t.lstatus t.memory t.attached t.old t.seen
+one-less t = one-less-fields t.pid t.control t.status t.lstatus t.memory t.attached t.old t.seen t.marks
 
 -- the file that is closed first is one of them
 last-fields : (pid control : ℕ) (status lstatus memory : Option ℕ) (attached : Bool) (old : ℕ) (seen : Bool)
+    (marks : Marks)
     → IsNoFileOf
     (record {
       pid = pid;
@@ -102,6 +107,7 @@ last-fields : (pid control : ℕ) (status lstatus memory : Option ℕ) (attached
       attached = attached;
       old = old;
       seen = seen;
+      marks = marks;
     }) (last_handle
     (record {
       pid = pid;
@@ -113,15 +119,16 @@ last-fields : (pid control : ℕ) (status lstatus memory : Option ℕ) (attached
           attached;
       old = old;
       seen = seen;
+      marks = marks;
     })) → ⊥
 unfolding last_handle
-last-fields pid control status lstatus (Some m) attached old seen free = free.memory refl
-last-fields pid control status (Some l) None attached old seen free = free.lstatus refl
-last-fields pid control (Some s) None None attached old seen free = free.status refl
-last-fields pid control None None None attached old seen free = free.control refl
+last-fields pid control status lstatus (Some m) attached old seen marks free = free.memory refl
+last-fields pid control status (Some l) None attached old seen marks free = free.lstatus refl
+last-fields pid control (Some s) None None attached old seen marks free = free.status refl
+last-fields pid control None None None attached old seen marks free = free.control refl
 
 last-is : (t : Traced) → IsNoFileOf t (last_handle t) → ⊥
-last-is t free = last-fields t.pid t.control t.status t.lstatus t.memory t.attached t.old t.seen free
+last-is t free = last-fields t.pid t.control t.status t.lstatus t.memory t.attached t.old t.seen t.marks free
 
 no-file : (p t : Traced) (handle : ℕ) → SameFiles p t → IsNoFileOf p handle → IsNoFileOf t handle
 no-file p t handle same free = record {

@@ -12,6 +12,7 @@ pub mod FedSteps
 pub mod FitLemmas
 pub mod ForeignLemmas
 pub mod FrameLemmas
+pub mod FunctionOptionLemmas
 pub mod GivenLemmas
 pub mod HaltLemmas
 pub mod HeldLemmas

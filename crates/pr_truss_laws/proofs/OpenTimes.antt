@@ -1,13 +1,11 @@
-use Rattle.std.proofs.Common.{◌≡◌, ◌≤◌, ◌+◌, ℕ, Bool, true, false, cond, Option, Some, None, List, [], ◌∷◌, ◌++◌, length, refl, sym, subst, ap, ◌∙◌, append_assoc, arith}
+use Rattle.std.proofs.Common.{◌≡◌, ◌≤◌, ℕ, Bool, true, false, cond, Option, Some, None, List, [], ◌∷◌, ◌++◌, length, refl, sym, subst, ap, ◌∙◌, append_assoc, arith}
 use Rattle.std.proofs.lemmas.List.{append-nil}
 use Rattle.std.proofs.lemmas.Option.{none-some, same_Some}
 use Rattle.std.specs.List.{slice_get}
 use Rattle.pr_line.specs.declared.options.Options.{Options}
-use Rattle.pr_model.specs.declared.calls.Call.{Call}
 use Rattle.pr_model.specs.declared.calls.Call.TheVariants as call
 use Rattle.pr_model.specs.declared.calls.File.TheVariants.{Ctl}
 use Rattle.pr_model.specs.declared.calls.Mode.TheVariants.{WriteExcl}
-use Rattle.pr_model.specs.declared.calls.Reply.{Reply}
 use Rattle.pr_rec.specs.declared.lwps.LwpStatus.{LwpStatus}
 use Rattle.pr_truss.specs.Feeding.{fed}
 use Rattle.pr_truss.specs.NextCalls.{call_of, child_call, freeing_call, next_call_of, opening_call}
@@ -30,7 +28,7 @@ use Rattle.pr_truss_laws.proofs.OptionLemmas.{fed-options}
 use Rattle.pr_truss_laws.proofs.ReplySteps as step
 use Rattle.pr_truss_laws.proofs.ReplySteps.{GoesOn, Looks, Reads, ReplyStep, StopOver, Turns}
 use Rattle.pr_truss_laws.proofs.TracedChanges.{accepted-granted}
-use Rattle.pr_truss_laws.specs.Business.{MayOpen, OpensInTime, WasJustTold, WasRead, as_made, by_name, in_lstatus, in_status, just_told}
+use Rattle.pr_truss_laws.specs.Business.{MayOpen, OpensInTime, WasRead, as_made, by_name, in_lstatus, in_status, just_told}
 use Rattle.pr_truss_laws.specs.Exchanges.{Exchange, Makes, truss_after}
 
 -- Truss opens the control file of a child right after a read told of the child.

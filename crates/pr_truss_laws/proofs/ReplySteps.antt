@@ -17,6 +17,7 @@ use Rattle.pr_truss.specs.Records.{event_stops, is_on_event, status_lwp}
 use Rattle.pr_truss.specs.Replies.{answer_of, ready_in, refusal_of}
 use Rattle.pr_truss.specs.Stops.{asked_range, followed_child, has_control, text_of}
 use Rattle.pr_truss.specs.Trusses.{TrussState, traced_at, with_opened, with_report, with_stage, with_traced, without_traced}
+use Rattle.pr_truss.specs.declared.marks.Marks.{Marks}
 use Rattle.pr_truss.specs.declared.processes.Traced.{Traced}
 use Rattle.pr_truss.specs.declared.replies.Answer.{Answer}
 use Rattle.pr_truss.specs.declared.replies.Answer.TheVariants.{Accepted, Interrupted, Gone}
@@ -253,7 +254,7 @@ pub record IsSame (t u : Traced) : Type 0 where
   pub seen : u.seen ≡ t.seen
 
 lost-fields : (pid control : ℕ) (status lstatus memory : Option ℕ) (attached : Bool) (old : ℕ) (seen : Bool)
-    (u : Traced)
+    (marks : Marks) (u : Traced)
     → let t : Traced = record {
       pid = pid;
       control = control;
@@ -263,15 +264,16 @@ lost-fields : (pid control : ℕ) (status lstatus memory : Option ℕ) (attached
       attached = attached;
       old = old;
       seen = seen;
+      marks = marks;
     } in without_last t ≡ Some u → IsSame t u
 unfolding without_last
-lost-fields pid control status lstatus (Some m) attached old seen u is =
+lost-fields pid control status lstatus (Some m) attached old seen marks u is =
     subst (IsSame _) (same_Some _ u is) (record { pid = refl; attached = refl; old = refl; seen = refl })
-lost-fields pid control status (Some l) None attached old seen u is =
+lost-fields pid control status (Some l) None attached old seen marks u is =
     subst (IsSame _) (same_Some _ u is) (record { pid = refl; attached = refl; old = refl; seen = refl })
-lost-fields pid control (Some s) None None attached old seen u is =
+lost-fields pid control (Some s) None None attached old seen marks u is =
     subst (IsSame _) (same_Some _ u is) (record { pid = refl; attached = refl; old = refl; seen = refl })
-lost-fields pid control None None None attached old seen u is = absurd (none-some u is)
+lost-fields pid control None None None attached old seen marks u is = absurd (none-some u is)
 
 pub lost-same : (t u : Traced) → without_last t ≡ Some u → IsSame t u
-lost-same t u is = lost-fields t.pid t.control t.status t.lstatus t.memory t.attached t.old t.seen u is
+lost-same t u is = lost-fields t.pid t.control t.status t.lstatus t.memory t.attached t.old t.seen t.marks u is

@@ -1,17 +1,15 @@
-use Rattle.std.proofs.Common.{◌≡◌, ◌<◌, ℕ, Bool, true, false, cond, Option, Some, None, List, [], ◌∷◌, ◌++◌, length, refl, sym, subst, ap, ◌∙◌, append_assoc}
+use Rattle.std.proofs.Common.{◌≡◌, ℕ, Bool, true, false, cond, Option, Some, None, List, [], ◌∷◌, ◌++◌, length, refl, sym, subst, ap, ◌∙◌, append_assoc}
 use Rattle.std.proofs.lemmas.Bool.{false≢true}
 use Rattle.std.proofs.lemmas.List.{append-nil}
 use Rattle.std.proofs.lemmas.Option.{none-some, same_Some}
 use Rattle.std.specs.List.{slice_get, slice_set}
 use Rattle.pr_line.specs.declared.options.Options.{Options}
-use Rattle.pr_model.specs.Replies.{handle_in}
 use Rattle.pr_model.specs.declared.calls.Call.{Call}
 use Rattle.pr_model.specs.declared.calls.Reply.{Reply}
 use Rattle.pr_truss.specs.Children.{child_learnt, child_step_after}
 use Rattle.pr_truss.specs.Feeding.{fed}
 use Rattle.pr_truss.specs.NextCalls.{call_of, child_call, freeing_call, next_call_of, opening_call}
 use Rattle.pr_truss.specs.Openings.{learnt, step_after}
-use Rattle.pr_truss.specs.Processes.{newly_traced}
 use Rattle.pr_truss.specs.Trusses.{TrussState, first_of_program, first_truss, idle, opening_or, traced_at}
 use Rattle.pr_truss.specs.declared.processes.Traced.{Traced}
 use Rattle.pr_truss.specs.declared.stages.ChildStep.{ChildStep}
@@ -19,7 +17,6 @@ use Rattle.pr_truss.specs.declared.stages.ChildStep.TheVariants as child
 use Rattle.pr_truss.specs.declared.stages.OpeningStep.{OpeningStep}
 use Rattle.pr_truss.specs.declared.stages.OpeningStep.TheVariants as opening
 use Rattle.pr_truss.specs.declared.stages.Stage.{Stage}
-use Rattle.pr_truss.specs.declared.stages.Stage.TheVariants.{Opening, OpeningChild}
 use Rattle.pr_truss_laws.proofs.ClosesLemmas.{first-fits}
 use Rattle.pr_truss_laws.proofs.FedSteps.{fed-step}
 use Rattle.pr_truss_laws.proofs.FitLemmas.{fed-fits, last-within}
@@ -27,7 +24,7 @@ use Rattle.pr_truss_laws.proofs.HeldLemmas.{Fits, at_place, set-at}
 use Rattle.pr_truss_laws.proofs.OptionLemmas.{fed-options}
 use Rattle.pr_truss_laws.proofs.ReplySteps as step
 use Rattle.pr_truss_laws.proofs.ReplySteps.{GoesOn, Learns, Opens, ReplyStep, StopOver, Turns}
-use Rattle.pr_truss_laws.specs.Exchanges.{Exchange, Makes, truss_after}
+use Rattle.pr_truss_laws.specs.Exchanges.{Exchange, Makes}
 use Rattle.pr_truss_laws.specs.Sent.{IsInOrder, MayFollow, SendsInOrder, clears, follows, opens, releases, releases_child, runs, sends, stops, traces_entries, traces_exits, traces_faults, traces_signals, unfollows, waits}
 
 -- Each message of truss has its place.

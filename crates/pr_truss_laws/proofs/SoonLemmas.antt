@@ -1,9 +1,9 @@
-use Rattle.std.proofs.Common.{◌≡◌, ◌≤◌, ◌<◌, ◌+◌, ◌*◌, ◌-◌, ℕ, Bool, true, false, cond, Option, Some, None, List, [], ◌∷◌, ◌++◌, length, refl, sym, subst, ap, ◌∙◌, arith}
+use Rattle.std.proofs.Common.{◌≡◌, ◌≤◌, ◌<◌, ◌+◌, ◌*◌, ◌-◌, ℕ, Bool, true, false, cond, Option, Some, None, List, [], ◌∷◌, ◌++◌, length, sym, subst, ap, arith}
 use Rattle.std.proofs.lemmas.List.{length-append, length-set}
 use Rattle.std.proofs.lemmas.List.Edits.{length-remove}
 use Rattle.std.proofs.lemmas.List.Elements.{All-head, All-tail}
 use Rattle.std.proofs.lemmas.Option.{none-some, same_Some, slice_get_within}
-use Rattle.std.specs.List.{All, remove, slice_set}
+use Rattle.std.specs.List.{All, slice_set}
 use Rattle.pr_line.specs.declared.options.Options.{Options}
 use Rattle.pr_model.specs.Replies.{handle_in}
 use Rattle.pr_model.specs.declared.calls.Call.{Call}
@@ -30,13 +30,13 @@ use Rattle.pr_truss.specs.declared.stages.Stage.TheVariants.{Spawning, OpeningCo
 use Rattle.pr_truss_laws.proofs.ClosesLemmas.{after-fits, first-fits}
 use Rattle.pr_truss_laws.proofs.ExchangeLemmas.{makes-front, makes-rest}
 use Rattle.pr_truss_laws.proofs.FedSteps.{fed-step}
-use Rattle.pr_truss_laws.proofs.FitLemmas.{fed-fits, last-within}
+use Rattle.pr_truss_laws.proofs.FitLemmas.{fed-fits}
 use Rattle.pr_truss_laws.proofs.HeldLemmas.{Fits, at_place, set-at}
 use Rattle.pr_truss_laws.proofs.LeavingLemmas.{OneLess, files, files-most, one-less}
 use Rattle.pr_truss_laws.proofs.ReplySteps as step
 use Rattle.pr_truss_laws.proofs.ReplySteps.{Closes, GoesOn, Learns, Looks, Opens, Reads, ReplyStep, Returns, Settles, StopOver, Turns}
 use Rattle.pr_truss_laws.specs.Exchanges.{Exchange, Makes, truss_after}
-use Rattle.pr_truss_laws.specs.Soon.{IsNoPoll, PollsSoon, calls_without_poll}
+use Rattle.pr_truss_laws.specs.Soon.{IsNoPoll, PollsSoon}
 
 -- Truss polls soon, or has finished: each call brings it nearer to that.
 

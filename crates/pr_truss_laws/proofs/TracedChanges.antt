@@ -12,6 +12,7 @@ use Rattle.pr_truss.specs.Openings.{learnt}
 use Rattle.pr_truss.specs.Processes.{last_handle, newly_traced, without_last}
 use Rattle.pr_truss.specs.Replies.{answer_of}
 use Rattle.pr_truss.specs.Trusses.{TrussState, traced_at}
+use Rattle.pr_truss.specs.declared.marks.Marks.{Marks}
 use Rattle.pr_truss.specs.declared.processes.Traced.{Traced}
 use Rattle.pr_truss.specs.declared.replies.Answer.TheVariants.{Accepted}
 use Rattle.pr_truss.specs.declared.stages.ChildStep.{ChildStep}
@@ -38,6 +39,7 @@ accepted-granted r is = subst (IsAnswer r) is (answer-is r)
 -- ---- the file that is closed
 
 last-fields : (pid control : ℕ) (status lstatus memory : Option ℕ) (attached : Bool) (old : ℕ) (seen : Bool)
+    (marks : Marks)
     → let t : Traced = record {
       pid = pid;
       control = control;
@@ -47,15 +49,16 @@ last-fields : (pid control : ℕ) (status lstatus memory : Option ℕ) (attached
       attached = attached;
       old = old;
       seen = seen;
+      marks = marks;
     } in without_last t ≡ None → last_handle t ≡ control
 unfolding last_handle without_last
-last-fields pid control status lstatus (Some m) attached old seen is = absurd (none-some _ (sym is))
-last-fields pid control status (Some l) None attached old seen is = absurd (none-some _ (sym is))
-last-fields pid control (Some s) None None attached old seen is = absurd (none-some _ (sym is))
-last-fields pid control None None None attached old seen is = refl
+last-fields pid control status lstatus (Some m) attached old seen marks is = absurd (none-some _ (sym is))
+last-fields pid control status (Some l) None attached old seen marks is = absurd (none-some _ (sym is))
+last-fields pid control (Some s) None None attached old seen marks is = absurd (none-some _ (sym is))
+last-fields pid control None None None attached old seen marks is = refl
 
 last-control : (t : Traced) → without_last t ≡ None → last_handle t ≡ t.control
-last-control t is = last-fields t.pid t.control t.status t.lstatus t.memory t.attached t.old t.seen is
+last-control t is = last-fields t.pid t.control t.status t.lstatus t.memory t.attached t.old t.seen t.marks is
 
 module _ (s : TrussState) (r : Reply) (stage : Stage) where
   -- what becomes of the file of its lwps
@@ -83,7 +86,7 @@ module _ (s : TrussState) (r : Reply) (stage : Stage) where
   keeps t u pid control lstatus = record { pid = pid; control = control; lstatus = same lstatus }
 
   lost-fields : (pid control : ℕ) (status lstatus memory : Option ℕ) (attached : Bool) (old : ℕ) (seen : Bool)
-      (u : Traced)
+      (marks : Marks) (u : Traced)
       → let t : Traced = record {
         pid = pid;
         control = control;
@@ -93,18 +96,19 @@ module _ (s : TrussState) (r : Reply) (stage : Stage) where
         attached = attached;
         old = old;
         seen = seen;
+        marks = marks;
       } in without_last t ≡ Some u → KeepsProcess t u
   unfolding without_last
-  lost-fields pid control status lstatus (Some m) attached old seen u is =
+  lost-fields pid control status lstatus (Some m) attached old seen marks u is =
       subst (KeepsProcess _) (same_Some _ u is) (record { pid = refl; control = refl; lstatus = same refl })
-  lost-fields pid control status (Some l) None attached old seen u is =
+  lost-fields pid control status (Some l) None attached old seen marks u is =
       subst (KeepsProcess _) (same_Some _ u is) (record { pid = refl; control = refl; lstatus = lost refl })
-  lost-fields pid control (Some s) None None attached old seen u is =
+  lost-fields pid control (Some s) None None attached old seen marks u is =
       subst (KeepsProcess _) (same_Some _ u is) (record { pid = refl; control = refl; lstatus = same refl })
-  lost-fields pid control None None None attached old seen u is = absurd (none-some u is)
+  lost-fields pid control None None None attached old seen marks u is = absurd (none-some u is)
 
   less-keeps : (t u : Traced) → without_last t ≡ Some u → KeepsProcess t u
-  less-keeps t u is = lost-fields t.pid t.control t.status t.lstatus t.memory t.attached t.old t.seen u is
+  less-keeps t u is = lost-fields t.pid t.control t.status t.lstatus t.memory t.attached t.old t.seen t.marks u is
 
 module _ (s : TrussState) (r : Reply) where
   abbrev Goes : Stage → List Traced → Type 0

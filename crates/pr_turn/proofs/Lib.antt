@@ -4,5 +4,7 @@ pub mod ClockLemmas
 pub mod MakeLemmas
 pub mod MoveLemmas
 pub mod NextLemmas
+pub mod SettleLemmas
+pub mod TakingLemmas
 pub mod TurnLemmas
 pub mod UsageLemmas

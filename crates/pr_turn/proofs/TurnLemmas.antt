@@ -18,7 +18,7 @@ use Rattle.pr_model.specs.State.{TracedLwp, TracedProcess, TracedSystem, live_pr
 use Rattle.pr_model.specs.Transitions.{own_taken, shared_taken, dropped, job_stopped, after_transition, changing, ending, requested, posted, returned, ran, entered, incurred, trapped, stored_in}
 use Rattle.pr_proc.specs.Counts.{AllUsedAtMost}
 use Rattle.pr_turn.proofs.ChangeUsageLemmas.{AllUsedAtMost-transition}
-use Rattle.pr_turn.specs.CallTurns.{Asks, may_take_memory, phase_takes}
+use Rattle.pr_turn.specs.CallTurns.{Asks}
 use Rattle.pr_turn.specs.Making.{ends, of_row, process_after, quiet}
 use Rattle.pr_turn.specs.NextRows.{row_of, row_of_turn, turn_fits}
 use Rattle.pr_turn.specs.Turns.{IsNext, TurnMakes}
@@ -92,11 +92,7 @@ module _ (s : TracedSystem) (pid id : ℕ) where
   pub is-next : (p : TracedProcess) (l : TracedLwp) (next : NextTurn) → live_process s pid ≡ Some p → lwp_of p id ≡ Some l → can_move s pid id ≡ true → row_of_turn s pid p id l next ≡ row_for s pid p id l → turn_fits l next ≡ true → Asks s.clock pid id l next → IsNext s pid id next
   is-next p l next found stands can row room asks = record { process = p; lwp = l; found = found; stands = stands; may = can_move-may p l found stands can; fits = room; asks = asks; row = row }
 
-  pub may_take-phase : (p : TracedProcess) (l : TracedLwp) → live_process s pid ≡ Some p → lwp_of p id ≡ Some l → may_take_memory s pid id ≡ false → phase_takes l.phase ≡ false
-  unfolding may_take_memory
-  may_take-phase p l found stands none = rw (found, stands) at none
-
-pub ruleset turn_laws = (can_move-live, can_move-stands, is-next, may_take-phase)
+pub ruleset turn_laws = (can_move-live, can_move-stands, is-next)
 
 -- a process that came back as it was
 pub put-same : (s : TracedSystem) (pid : ℕ) (p q : TracedProcess) → under pid s.processes ≡ Some p → q ≡ p

@@ -67,5 +67,3 @@ meeting-usage (Some point) id p =
 pub used-after : (n : ℕ) (s counted met : TracedSystem) (pid id : ℕ) (d : Did) (begun : Bool) (point : Option Point) → AllUsedAtMost n s → counted ≡ with_process pid (with_counted d begun) s → met ≡ with_process pid (after_meeting point id) counted → AllUsedAtMost (n + 1) met
 used-after n s counted met pid id d begun point h e f =
     subst (AllUsedAtMost (n + 1)) (sym f) (AllUsedAtMost-with_process (n + 1) pid (after_meeting point id) counted (meeting-usage point id) (subst (AllUsedAtMost (n + 1)) (sym e) (AllUsedAtMost-counted n pid d begun s h)))
-
-pub ruleset usage_laws = (AllUsedAtMost-under)

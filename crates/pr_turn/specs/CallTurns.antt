@@ -1,23 +1,23 @@
-use Rattle.std.specs.Prelude.{◌≡◌, ℕ, Bool, true, false, Option, Some, None}
-use Rattle.pr_call.specs.Effects.{takes_memory}
+use Rattle.std.specs.Prelude.{◌≡◌, ◌&&◌, ℕ, Bool, true, false, Option, Some, None}
+use Rattle.std.specs.List.{list_any}
+use Rattle.pr_call.specs.Effects.{may_lack_memory, takes_memory}
 use Rattle.pr_call.specs.Requests.{request_in}
 use Rattle.pr_call.specs.declared.requests.Performed.{Performed}
 use Rattle.pr_call.specs.declared.requests.Request.{Request}
 use Rattle.pr_call.specs.declared.requests.Performed.TheVariants.{Done, Sleep, Ended}
+use Rattle.pr_model.specs.Changes.{Change, space_is, does}
 use Rattle.pr_model.specs.Machines.{traced}
 use Rattle.pr_model.specs.Moves.{moved, leaves, sleeps}
-use Rattle.pr_model.specs.Rows.{finished}
+use Rattle.pr_model.specs.Rows.{Row, finished, row_for}
 use Rattle.pr_model.specs.State.{TracedSystem, TracedProcess, TracedLwp, live_process, lwp_of}
-use Rattle.pr_model.specs.declared.events.Did.TheVariants.{Slept}
+use Rattle.pr_model.specs.declared.events.Did.{Did}
+use Rattle.pr_model.specs.declared.events.Did.TheVariants.{Ran, Faulted, Woke, Slept, Made as MadeCall}
+use Rattle.pr_model.specs.declared.events.Res.{Res}
 use Rattle.pr_model.specs.declared.events.Res.TheVariants as res
-use Rattle.pr_model.specs.declared.lwps.Phase.{Phase}
-use Rattle.pr_model.specs.declared.lwps.Phase.TheVariants.{User, Entered, Asleep, Exiting, Faulted}
 use Rattle.pr_model.specs.declared.stops.Point.TheVariants.{Exit}
 use Rattle.pr_num.specs.declared.syscalls.Sysno.{Sysno}
 use Rattle.pr_turn.specs.Making.{at_point, quiet}
 use Rattle.pr_turn.specs.declared.making.Made.{Made}
-use Rattle.pr_turn.specs.declared.next.Next.{Next}
-use Rattle.pr_turn.specs.declared.next.Next.TheVariants.{Executed}
 use Rattle.pr_turn.specs.declared.next.NextTurn.{NextTurn}
 use Rattle.pr_turn.specs.declared.next.NextTurn.TheVariants.{Row as ThisRow, Performs}
 
@@ -48,29 +48,35 @@ Asks clock pid id l (Performs woken call args since) =
 
 -- ---- memory
 
--- whether the turn of an lwp may take memory: an instruction may, which may store bytes, and some calls
-abbrev pub phase_takes : Phase → Bool
-phase_takes User = true
-phase_takes (Entered call) = takes_memory call
-phase_takes (Asleep call args since) = takes_memory call
-phase_takes (Exiting call args result) = false
-phase_takes (Faulted f address) = false
+-- whether changes store bytes
+abbrev pub is_store : Change → Bool
+is_store (space_is space) = true
+is_store _ = false
 
-abbrev pub row_takes : Next → Bool
-row_takes Executed = true
-row_takes _ = false
+-- Whether a row of the turn table may take memory. That of an instruction does where it stores bytes; that of a call
+-- where the call is one that takes memory, and is granted or refused because too much would be mapped.
+unfoldable pub row_takes : Row → Bool
+row_takes row = of row.did
+  where
+    of_call : Sysno → Res → Bool
+    of_call call result = takes_memory call && may_lack_memory (does result row.transition.changes)
 
-abbrev pub turn_takes : NextTurn → Bool
-turn_takes (ThisRow next) = row_takes next
-turn_takes (Performs woken call args since) = takes_memory call
+    of : Did → Bool
+    of Ran = list_any is_store row.transition.changes
+    of (Faulted f) = list_any is_store row.transition.changes
+    of (MadeCall call result) = of_call call result
+    of (Woke call result) = of_call call result
+    of _ = false
 
-abbrev pub lwp_takes : Option TracedLwp → Bool
-lwp_takes None = false
-lwp_takes (Some l) = phase_takes l.phase
+-- whether the next turn of an lwp may take memory
+module _ (s : TracedSystem) (pid id : ℕ) where
+  abbrev pub lwp_takes : TracedProcess → Option TracedLwp → Bool
+  lwp_takes p None = false
+  lwp_takes p (Some l) = row_takes (row_for s pid p id l)
 
-abbrev pub process_takes : Option TracedProcess → ℕ → Bool
-process_takes None id = false
-process_takes (Some p) id = lwp_takes (lwp_of p id)
+  abbrev pub process_takes : Option TracedProcess → Bool
+  process_takes None = false
+  process_takes (Some p) = lwp_takes p (lwp_of p id)
 
-unfoldable pub may_take_memory : TracedSystem → ℕ → ℕ → Bool
-may_take_memory s pid id = process_takes (live_process s pid) id
+  unfoldable pub may_take_memory : Bool
+  may_take_memory = process_takes (live_process s pid)

@@ -1,10 +1,11 @@
 use Rattle.std.specs.Prelude.{◌≡◌, ℕ, Bool, true, Some}
-use Rattle.pr_model.specs.LwpTurns.{may_turn}
+use Rattle.pr_model.specs.LwpTurns.{may_turn, with_counted}
 use Rattle.pr_model.specs.Machines.{traced}
-use Rattle.pr_model.specs.Points.{meets}
+use Rattle.pr_model.specs.Points.{after_meeting, meets}
 use Rattle.pr_model.specs.Rows.{row_for}
-use Rattle.pr_model.specs.State.{TracedSystem, TracedProcess, TracedLwp, live_process, lwp_of}
+use Rattle.pr_model.specs.State.{TracedSystem, TracedProcess, TracedLwp, live_process, lwp_of, with_process}
 use Rattle.pr_model.specs.Transitions.{after_transition}
+use Rattle.pr_model.specs.declared.events.Turned.{Turned}
 use Rattle.pr_turn.specs.CallTurns.{Asks}
 use Rattle.pr_turn.specs.Making.{of_row}
 use Rattle.pr_turn.specs.NextRows.{row_of_turn, turn_fits}
@@ -35,3 +36,13 @@ pub record TurnMakes (s new : TracedSystem) (pid id : ℕ) (did : Made) (stop : 
   pub system : new ≡ after_transition traced pid process id lwp (row_for s pid process id lwp).transition s
   pub what : did ≡ of_row (row_for s pid process id lwp)
   pub traces : stop ≡ meets process.control (row_for s pid process id lwp).point
+
+-- A system is as the next turn of an lwp leaves another one: as its row makes it, what it did is counted, and the lwp
+-- stops at what it met; and this is told of the turn.
+pub record IsTurned (s new : TracedSystem) (pid id : ℕ) (turned : Turned) : Type 0 where
+  pub did : Made
+  pub stop : Bool
+  pub after : TracedSystem
+  pub makes : TurnMakes s after pid id did stop
+  pub settled : new ≡ with_process pid (after_meeting did.point id) (with_process pid (with_counted did.did did.begun) after)
+  pub told : turned ≡ record { did = did.did; stop = stop }

@@ -1,14 +1,13 @@
 //! The turn of an lwp that performs a system call.
-ghost use Rattle.std.specs.Prelude.{◌≡◌, true, false, IsSome, IfOk, IsOk, OnErr};
+ghost use Rattle.std.specs.Prelude.{◌≡◌, true, IsSome, IfOk, OnErr};
 ghost use Rattle.std.specs.Option.{ForSome};
-ghost use Rattle.pr_call.specs.Effects.{takes_memory};
 ghost use Rattle.pr_num.specs.ById.{change_under};
 ghost use Rattle.pr_model.specs.Lawful.{IsLawfulSystem};
 ghost use Rattle.pr_model.specs.Machines.{traced, call_over};
 ghost use Rattle.pr_model.specs.Moves.{leaves, moved, sleeps};
 ghost use Rattle.pr_model.specs.Points.{is_traced};
 ghost use Rattle.pr_model.specs.State.{live_process, with_lwp, with_lwp_of, with_process};
-ghost use Rattle.pr_turn.specs.CallTurns.{call_made, call_moved, call_stops};
+ghost use Rattle.pr_turn.specs.CallTurns.{call_made, call_moved, call_stops, may_take_memory};
 ghost use Rattle.pr_turn.specs.Turns.{IsNext, TurnMakes};
 
 use crate::making::{Made, at_point, quiet};
@@ -108,7 +107,7 @@ pub fn perform_next(
     requires lawful { IsLawfulSystem sys.old }
     requires next { IsNext sys.old request.now.pid request.now.lwp (NextTurn.Performs woken request.now.call request.now.args request.now.since) }
     ensures ok { IfOk result (λ made. TurnMakes sys.old sys.new request.now.pid request.now.lwp made.0 made.1) }
-    ensures sure { takes_memory request.now.call ≡ false → IsOk result }
+    ensures memory { OnErr result (may_take_memory sys.old request.now.pid request.now.lwp ≡ true) }
     ensures err { OnErr result (sys.new ≡ sys.old) }
 {
     let traced = traces_exit(sys, request.pid, request.call);

@@ -1,10 +1,10 @@
 //! What a row of the turn table makes of its process, and what it did.
-ghost use Rattle.std.specs.Prelude.{◌≡◌, true, false, None, Some, IfOk, IsOk, IsSome, OnErr, OnOk};
+ghost use Rattle.std.specs.Prelude.{◌≡◌, true, false, None, Some, IfOk, IsSome, OnErr, OnOk};
 ghost use Rattle.std.specs.Option.{ForSome};
 ghost use Rattle.pr_num.specs.ById.{change_under, under};
 ghost use Rattle.pr_model.specs.Points.{meets};
 ghost use Rattle.pr_model.specs.State.{lwp_of};
-ghost use Rattle.pr_lwp.specs.Plain.{space_after};
+ghost use Rattle.pr_lwp.specs.Plain.{space_after, stores_bytes};
 ghost use Rattle.pr_model.specs.InstructionEffects.{instruction_effect};
 ghost use Rattle.pr_turn.specs.CallTurns.{row_takes};
 ghost use Rattle.pr_turn.specs.Making.{effect_of, ends, executed_by, made_by, made_of, moved_by, of_row, process_after};
@@ -124,6 +124,7 @@ fn execute_under(
     ensures lwps { OnOk result (ForSome (under id lwps.old) (λ l. lwps.new ≡ change_under id (executed_by (instruction_effect space.old areas.now l.regs)) lwps.old)) }
     ensures space { OnOk result (ForSome (under id lwps.old) (λ l. space.new ≡ space_after (instruction_effect space.old areas.now l.regs) space.old)) }
     ensures made { IfOk result (λ made. ForSome (under id lwps.old) (λ l. made ≡ made_by (effect_of l (instruction_effect space.old areas.now l.regs)))) }
+    ensures memory { OnErr result (ForSome (under id lwps.old) (λ l. stores_bytes (instruction_effect space.old areas.now l.regs) ≡ true)) }
     ensures kept_lwps { OnErr result (lwps.new ≡ lwps.old) }
     ensures kept_space { OnErr result (space.new ≡ space.old) }
 {
@@ -171,15 +172,15 @@ fn stop_by_job(process: &mut Proc, id: u32, signal: Sig)
 }
 
 /// What a row makes of a process, and what it did; a row that ends its process makes nothing of it. Only an instruction
-/// takes memory; where that runs out nothing is changed.
-#[tactic(auto, using(crate::proofs::MakeLemmas::making))]
+/// that stores bytes takes memory; where that runs out nothing is changed.
+#[tactic(auto, using(crate::proofs::MakeLemmas::making, crate::proofs::TakingLemmas::taking))]
 pub fn make(process: &mut Proc, id: u32, next: Next) -> Result<Made, NoMemory>
     requires found { IsSome (lwp_of process.old id) }
     requires lives { ends next ≡ false }
     requires fits { ForSome (lwp_of process.old id) (λ l. fits l next ≡ true) }
     ensures process { OnOk result (ForSome (lwp_of process.old id) (λ l. process.new ≡ process_after id (row_of process.old l next).transition process.old)) }
     ensures made { IfOk result (λ made. ForSome (lwp_of process.old id) (λ l. made ≡ of_row (row_of process.old l next))) }
-    ensures sure { row_takes next ≡ false → IsOk result }
+    ensures memory { OnErr result (ForSome (lwp_of process.old id) (λ l. row_takes (row_of process.old l next) ≡ true)) }
     ensures err { OnErr result (process.new ≡ process.old) }
 {
     match next {
@@ -210,7 +211,7 @@ pub fn make_and_ask(process: &mut Proc, id: u32, next: Next) -> Result<(Made, bo
     ensures process { OnOk result (ForSome (lwp_of process.old id) (λ l. process.new ≡ process_after id (row_of process.old l next).transition process.old)) }
     ensures made { IfOk result (λ made. ForSome (lwp_of process.old id) (λ l. made.0 ≡ of_row (row_of process.old l next))) }
     ensures stop { IfOk result (λ made. ForSome (lwp_of process.old id) (λ l. made.1 ≡ meets process.old.control (row_of process.old l next).point)) }
-    ensures sure { row_takes next ≡ false → IsOk result }
+    ensures memory { OnErr result (ForSome (lwp_of process.old id) (λ l. row_takes (row_of process.old l next) ≡ true)) }
     ensures err { OnErr result (process.new ≡ process.old) }
 {
     let made = make(process, id, next)?;

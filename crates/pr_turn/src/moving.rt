@@ -1,7 +1,7 @@
 //! What a row of the turn table makes of its lwp.
 ghost use Rattle.std.specs.Prelude.{◌≡◌, ◌<◌, false, true, length, IfOk, OnErr, OnOk};
 ghost use Rattle.pr_num.specs.Limits.{frame_limit};
-ghost use Rattle.pr_lwp.specs.Plain.{outcome_of, space_after};
+ghost use Rattle.pr_lwp.specs.Plain.{outcome_of, space_after, stores_bytes};
 ghost use Rattle.pr_model.specs.InstructionEffects.{instruction_effect};
 ghost use Rattle.pr_model.specs.Machines.{call_over, fault_posted, step_taken, stopped_as_directed, traced};
 ghost use Rattle.pr_model.specs.Moves.{drops, leaves, moved, posts, stops, takes};
@@ -201,13 +201,14 @@ fn finish(lwp: &mut Lwp, effect: Effect)
     }
 }
 
-/// Runs the instruction at pc, and brings the lwp to the system call or the fault to which it came. Where memory runs
-/// out for what it stores, nothing is changed.
+/// Runs the instruction at pc, and brings the lwp to the system call or the fault to which it came. Memory runs out only
+/// for what it stores; nothing is changed then.
 #[tactic(auto, using(crate::proofs::MoveLemmas::executed_laws))]
 pub fn execute_lwp(lwp: &mut Lwp, space: &mut Space, areas: &Areas) -> Result<Effect, NoMemory>
     ensures lwp { OnOk result (lwp.new ≡ executed_by (instruction_effect space.old areas.now lwp.old.regs) lwp.old) }
     ensures space { OnOk result (space.new ≡ space_after (instruction_effect space.old areas.now lwp.old.regs) space.old) }
     ensures effect { IfOk result (λ effect. effect ≡ effect_of lwp.old (instruction_effect space.old areas.now lwp.old.regs)) }
+    ensures memory { OnErr result (stores_bytes (instruction_effect space.old areas.now lwp.old.regs) ≡ true) }
     ensures kept_lwp { OnErr result (lwp.new ≡ lwp.old) }
     ensures kept_space { OnErr result (space.new ≡ space.old) }
 {

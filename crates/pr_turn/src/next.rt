@@ -1,12 +1,11 @@
 //! Which row of the turn table is the next turn of an lwp.
-ghost use Rattle.std.specs.Prelude.{◌≡◌, ℕ, true, false, Some, IfSome};
-ghost use Rattle.pr_call.specs.Effects.{takes_memory};
+ghost use Rattle.std.specs.Prelude.{◌≡◌, ℕ, true, Some, IfSome};
 ghost use Rattle.pr_call.specs.Requests.{request_in};
 ghost use Rattle.pr_model.specs.LwpTurns.{is_held_back};
 ghost use Rattle.pr_model.specs.Rows.{Row, acted_row, call_row, caught_row, finished, handler_row, interrupted_row, row_for, row_in, signal_row_or, taken_or};
 ghost use Rattle.pr_model.specs.Signals.{has_takeable, own_takeable, shared_takeable};
 ghost use Rattle.pr_model.specs.State.{TracedLwp, TracedProcess, TracedSystem};
-ghost use Rattle.pr_turn.specs.CallTurns.{Asks, phase_takes, row_takes, turn_takes};
+ghost use Rattle.pr_turn.specs.CallTurns.{Asks};
 ghost use Rattle.pr_turn.specs.NextRows.{unposted_fault, fits, row_of, row_of_turn, row_or, turn_fits};
 
 use pr_model::{Current, Did, Frames, How, Phase, Res};
@@ -107,7 +106,6 @@ pub fn finished(woken: bool, call: Sysno, outcome: Res) -> Did
 fn interrupted(woken: bool, call: Sysno, args: [u64; 6]) -> Next
     ensures row { (p : TracedProcess) (l : TracedLwp) → row_of p l result ≡ interrupted_row woken call args }
     ensures fits { (l : TracedLwp) → fits l result ≡ true }
-    ensures sure { row_takes result ≡ false }
 {
     Next::Gave {
         woken,
@@ -122,7 +120,6 @@ fn interrupted(woken: bool, call: Sysno, args: [u64; 6]) -> Next
 fn at_call(lwp: &Lwp, woken: bool, call: Sysno, args: [u64; 6], since: u64) -> NextTurn
     ensures row { (s : TracedSystem) (pid : ℕ) (p : TracedProcess) (id : ℕ) → row_of_turn s pid p id lwp.now result ≡ call_row s pid p id lwp.now woken call args since }
     ensures fits { turn_fits lwp.now result ≡ true }
-    ensures sure { takes_memory call ≡ false → turn_takes result ≡ false }
     ensures asks { (clock pid id : ℕ) → request_in clock pid id lwp.now lwp.now.phase ≡ Some (record { pid = pid; lwp = id; since = since; call = call; args = args }) → Asks clock pid id lwp.now result }
 {
     if lwp.control.abort {
@@ -143,7 +140,6 @@ fn at_call(lwp: &Lwp, woken: bool, call: Sysno, args: [u64; 6], since: u64) -> N
 fn handled(lwp: &Lwp, current: Current, handler: u64) -> Next
     ensures row { (p : TracedProcess) → row_of p lwp.now result ≡ handler_row lwp.now current handler }
     ensures fits { fits lwp.now result ≡ true }
-    ensures sure { row_takes result ≡ false }
 {
     if lwp.frames.len() < Frames::MAX {
         return Next::Caught { current, handler };
@@ -159,7 +155,6 @@ fn handled(lwp: &Lwp, current: Current, handler: u64) -> Next
 fn caught(lwp: &Lwp, current: Current, handler: u64) -> Next
     ensures row { (p : TracedProcess) → row_of p lwp.now result ≡ caught_row lwp.now current handler lwp.now.phase }
     ensures fits { fits lwp.now result ≡ true }
-    ensures sure { row_takes result ≡ false }
 {
     match lwp.phase {
         Phase::Entered(call) => interrupted(false, call, arguments_of(&lwp.regs)),
@@ -175,7 +170,6 @@ fn caught(lwp: &Lwp, current: Current, handler: u64) -> Next
 fn acted(process: &Proc, lwp: &Lwp, current: Current) -> Next
     ensures row { row_of process.now lwp.now result ≡ acted_row process.now lwp.now current }
     ensures fits { fits lwp.now result ≡ true }
-    ensures sure { row_takes result ≡ false }
 {
     let signal = current.signal;
     match action(signal, disposition_of(&process.dispositions, signal)) {
@@ -196,7 +190,6 @@ fn acted(process: &Proc, lwp: &Lwp, current: Current) -> Next
 fn taken(process: &Proc, lwp: &Lwp) -> Option<Next>
     ensures row { (s : TracedSystem) (pid id : ℕ) (otherwise : Row) → row_or process.now lwp.now result otherwise ≡ taken_or s pid process.now id lwp.now (own_takeable lwp.now) (shared_takeable process.now lwp.now) otherwise }
     ensures fits { IfSome result (λ next. fits lwp.now next ≡ true) }
-    ensures sure { IfSome result (λ next. row_takes next ≡ false) }
 {
     if let Some(signal) = lwp.pending.set().minus(lwp.held).first() {
         return Some(Next::TookOwn(signal));
@@ -211,7 +204,6 @@ fn taken_or(process: &Proc, lwp: &Lwp, otherwise: Next) -> Next
     requires { fits lwp.now otherwise ≡ true }
     ensures row { (s : TracedSystem) (pid id : ℕ) → row_of process.now lwp.now result ≡ taken_or s pid process.now id lwp.now (own_takeable lwp.now) (shared_takeable process.now lwp.now) (row_of process.now lwp.now otherwise) }
     ensures fits { fits lwp.now result ≡ true }
-    ensures sure { row_takes otherwise ≡ false → row_takes result ≡ false }
 {
     match taken(process, lwp) {
         Some(next) => next,
@@ -223,7 +215,6 @@ fn taken_or(process: &Proc, lwp: &Lwp, otherwise: Next) -> Next
 fn asleep(process: &Proc, lwp: &Lwp, call: Sysno, args: [u64; 6], since: u64) -> NextTurn
     ensures row { (s : TracedSystem) (pid id : ℕ) → row_of_turn s pid process.now id lwp.now result ≡ taken_or s pid process.now id lwp.now (own_takeable lwp.now) (shared_takeable process.now lwp.now) (call_row s pid process.now id lwp.now true call args since) }
     ensures fits { turn_fits lwp.now result ≡ true }
-    ensures sure { takes_memory call ≡ false → turn_takes result ≡ false }
     ensures asks { (clock pid id : ℕ) → request_in clock pid id lwp.now lwp.now.phase ≡ Some (record { pid = pid; lwp = id; since = since; call = call; args = args }) → Asks clock pid id lwp.now result }
 {
     match taken(process, lwp) {
@@ -244,7 +235,6 @@ fn in_program(process: &Proc, lwp: &Lwp) -> Next
 fn leaving(process: &Proc, lwp: &Lwp, call: Sysno) -> Next
     ensures row { (s : TracedSystem) (pid id : ℕ) → row_of process.now lwp.now result ≡ taken_or s pid process.now id lwp.now (own_takeable lwp.now) (shared_takeable process.now lwp.now) (row_of process.now lwp.now (Next.Returned call)) }
     ensures fits { fits lwp.now result ≡ true }
-    ensures sure { row_takes result ≡ false }
 {
     taken_or(process, lwp, Next::Returned(call))
 }
@@ -254,7 +244,6 @@ fn leaving(process: &Proc, lwp: &Lwp, call: Sysno) -> Next
 fn in_phase(clock: u64, process: &Proc, lwp: &Lwp) -> NextTurn
     ensures row { (s : TracedSystem) (pid id : ℕ) → s.clock ≡ clock → row_of_turn s pid process.now id lwp.now result ≡ signal_row_or s pid process.now id lwp.now lwp.now.phase (row_in s pid process.now id lwp.now lwp.now.phase) }
     ensures fits { turn_fits lwp.now result ≡ true }
-    ensures sure { phase_takes lwp.now.phase ≡ false → turn_takes result ≡ false }
     ensures asks { (pid id : ℕ) → Asks clock pid id lwp.now result }
 {
     match lwp.phase {
@@ -282,7 +271,6 @@ fn unposted_fault(phase: Phase) -> Option<(Flt, u64)>
 pub fn next_row(clock: u64, process: &Proc, lwp: &Lwp) -> NextTurn
     ensures row { (s : TracedSystem) (pid id : ℕ) → s.clock ≡ clock → row_of_turn s pid process.now id lwp.now result ≡ row_for s pid process.now id lwp.now }
     ensures fits { turn_fits lwp.now result ≡ true }
-    ensures sure { phase_takes lwp.now.phase ≡ false → turn_takes result ≡ false }
     ensures asks { (pid id : ℕ) → Asks clock pid id lwp.now result }
 {
     if lwp.control.directed {

@@ -6,9 +6,9 @@ ghost use Rattle.pr_model.specs.Points.{after_meeting, stopped_at, with_stop_at}
 ghost use Rattle.pr_model.specs.Lawful.{IsLawfulSystem};
 ghost use Rattle.pr_model.specs.State.{with_process};
 ghost use Rattle.pr_proc.specs.Counts.{AllUsedAtMost, UsedAtMost};
-ghost use Rattle.pr_turn.specs.CallTurns.{may_take_memory, row_takes, turn_takes};
+ghost use Rattle.pr_turn.specs.CallTurns.{may_take_memory};
 ghost use Rattle.pr_turn.specs.Making.{ends};
-ghost use Rattle.pr_turn.specs.Turns.{IsNext, TurnMakes};
+ghost use Rattle.pr_turn.specs.Turns.{IsNext, IsTurned};
 
 use crate::calls::perform_next;
 use crate::making::{Made, make_and_ask, quiet};
@@ -83,6 +83,15 @@ fn meet(process: &mut Proc, id: u32, point: Option<Point>)
     }
 }
 
+/// What a turn leaves of its process, once it is made: it is counted, and the lwp stops at what it met.
+fn settle(process: &mut Proc, id: u32, made: Made)
+    requires { UsedAtMost (2 ^ 64 - 2) process.old.control.usage }
+    ensures { process.new ≡ after_meeting made.point id (with_counted made.did made.begun process.old) }
+{
+    count_in(process, made.did, made.begun);
+    meet(process, id, made.point);
+}
+
 /// Whether an lwp that is asleep in a call goes on: it is directed to stop, has a signal to act on or to take, or its
 /// call was aborted or is ready.
 #[tactic(auto, using(crate::proofs::TurnLemmas::wake_laws))]
@@ -152,61 +161,110 @@ pub fn movable(sys: &Sys, pid: u32, lwp: u32) -> bool
 #[tactic(auto, using(crate::proofs::TurnLemmas::turn_laws))]
 fn next_of(sys: &Sys, pid: u32, id: u32) -> NextTurn
     requires { can_move sys.now pid id ≡ true }
-    ensures next { IsNext sys.now pid id result }
-    ensures sure { may_take_memory sys.now pid id ≡ false → turn_takes result ≡ false }
+    ensures { IsNext sys.now pid id result }
 {
     let process = live(sys, pid).unwrap();
     let lwp = process.lwps.get(id).unwrap();
     next_row(sys.clock, process, lwp)
 }
 
-/// What a row that does not end its process makes of the system. Where memory runs out it stays as it is.
-#[tactic(auto, using(crate::proofs::TurnLemmas::making_laws, crate::proofs::TurnLemmas::next_laws))]
-fn make_in(sys: &mut Sys, pid: u32, id: u32, next: Next) -> Result<(Made, bool), NoMemory>
+/// The turn of a row that does not end its process, which is looked up once. Where memory runs out the system stays as
+/// it is.
+#[tactic(auto, using(crate::proofs::TurnLemmas::next_laws))]
+fn turn_in(sys: &mut Sys, pid: u32, id: u32, next: Next) -> Result<Turned, NoMemory>
     requires next { IsNext sys.old pid id (NextTurn.Row next) }
     requires lives { ends next ≡ false }
-    ensures ok { IfOk result (λ made. TurnMakes sys.old sys.new pid id made.0 made.1) }
-    ensures sure { row_takes next ≡ false → IsOk result }
+    requires room { AllUsedAtMost (2 ^ 64 - 2) sys.old }
+    ensures ok { IfOk result (λ turned. IsTurned sys.old sys.new pid id turned) }
+    ensures memory { OnErr result (may_take_memory sys.old pid id ≡ true) }
     ensures err { OnErr result (sys.new ≡ sys.old) }
 {
-    let made = make_and_ask(sys.processes.get_mut(pid), id, next)?;
-    Ok(made)
+    let process = sys.processes.get_mut(pid);
+    let (made, stop) = make_and_ask(process, id, next)?;
+    settle(process, id, made);
+    Ok(Turned {
+        did: made.did,
+        stop,
+    })
 }
 
-/// What a row makes of the system, and what it did. Only an instruction takes memory; where that runs out the system
-/// stays as it is.
-#[tactic(auto, using(crate::proofs::TurnLemmas::making_laws, crate::proofs::TurnLemmas::next_laws))]
-fn make_row(sys: &mut Sys, pid: u32, id: u32, next: Next) -> Result<(Made, bool), NoMemory>
-    requires next { IsNext sys.old pid id (NextTurn.Row next) }
-    ensures ok { IfOk result (λ made. TurnMakes sys.old sys.new pid id made.0 made.1) }
-    ensures sure { row_takes next ≡ false → IsOk result }
-    ensures err { OnErr result (sys.new ≡ sys.old) }
+/// What a turn leaves of the process of an id; one that ended keeps its counts.
+#[tactic(auto, using(crate::proofs::SettleLemmas::settling))]
+fn settle_under(sys: &mut Sys, pid: u32, id: u32, made: Made)
+    requires { AllUsedAtMost (2 ^ 64 - 2) sys.old }
+    ensures { sys.new ≡ with_process pid (after_meeting made.point id) (with_process pid (with_counted made.did made.begun) sys.old) }
 {
-    match next {
-        Next::Ends { did, status } => {
-            end(sys, pid, status);
-            Ok((quiet(did), false))
-        }
-        _ => make_in(sys, pid, id, next),
+    if let Some(process) = sys.processes.find_mut(pid) {
+        settle(process, id, made);
     }
 }
 
-/// What the next turn of an lwp makes of the system, and what it did.
+/// The turn of a row that ends its process.
+#[tactic(auto, using(crate::proofs::TurnLemmas::next_laws))]
+fn turn_to_end(sys: &mut Sys, pid: u32, id: u32, did: Did, status: u64) -> Turned
+    requires next { IsNext sys.old pid id (NextTurn.Row (Next.Ends did status)) }
+    requires room { AllUsedAtMost (2 ^ 64 - 2) sys.old }
+    ensures { IsTurned sys.old sys.new pid id result }
+{
+    end(sys, pid, status);
+    settle_under(sys, pid, id, quiet(did));
+    Turned { did, stop: false }
+}
+
+/// The turn of a row. Where memory runs out the system stays as it is.
+fn turn_of_row(sys: &mut Sys, pid: u32, id: u32, next: Next) -> Result<Turned, NoMemory>
+    requires next { IsNext sys.old pid id (NextTurn.Row next) }
+    requires room { AllUsedAtMost (2 ^ 64 - 2) sys.old }
+    ensures ok { IfOk result (λ turned. IsTurned sys.old sys.new pid id turned) }
+    ensures memory { OnErr result (may_take_memory sys.old pid id ≡ true) }
+    ensures err { OnErr result (sys.new ≡ sys.old) }
+{
+    match next {
+        Next::Ends { did, status } => Ok(turn_to_end(sys, pid, id, did, status)),
+        _ => turn_in(sys, pid, id, next),
+    }
+}
+
+/// The turn of an lwp that performs a call, which it makes or in which it wakes. Where memory runs out the system stays
+/// as it is.
+fn turn_in_call(
+    alloc: Global,
+    sys: &mut Sys,
+    woken: bool,
+    request: &Request,
+) -> Result<Turned, NoMemory>
+    requires lawful { IsLawfulSystem sys.old }
+    requires next { IsNext sys.old request.now.pid request.now.lwp (NextTurn.Performs woken request.now.call request.now.args request.now.since) }
+    requires room { AllUsedAtMost (2 ^ 64 - 2) sys.old }
+    ensures ok { IfOk result (λ turned. IsTurned sys.old sys.new request.now.pid request.now.lwp turned) }
+    ensures memory { OnErr result (may_take_memory sys.old request.now.pid request.now.lwp ≡ true) }
+    ensures err { OnErr result (sys.new ≡ sys.old) }
+{
+    let (made, stop) = perform_next(alloc, sys, woken, request)?;
+    settle_under(sys, request.pid, request.lwp, made);
+    Ok(Turned {
+        did: made.did,
+        stop,
+    })
+}
+
+/// The next turn of an lwp, made.
 fn make_turn(
     alloc: Global,
     sys: &mut Sys,
     pid: u32,
     id: u32,
     next: NextTurn,
-) -> Result<(Made, bool), NoMemory>
+) -> Result<Turned, NoMemory>
     requires lawful { IsLawfulSystem sys.old }
     requires next { IsNext sys.old pid id next }
-    ensures ok { IfOk result (λ made. TurnMakes sys.old sys.new pid id made.0 made.1) }
-    ensures sure { turn_takes next ≡ false → IsOk result }
+    requires room { AllUsedAtMost (2 ^ 64 - 2) sys.old }
+    ensures ok { IfOk result (λ turned. IsTurned sys.old sys.new pid id turned) }
+    ensures memory { OnErr result (may_take_memory sys.old pid id ≡ true) }
     ensures err { OnErr result (sys.new ≡ sys.old) }
 {
     match next {
-        NextTurn::Row(row) => make_row(sys, pid, id, row),
+        NextTurn::Row(row) => turn_of_row(sys, pid, id, row),
         NextTurn::Performs {
             woken,
             call,
@@ -220,35 +278,14 @@ fn make_turn(
                 call,
                 args,
             };
-            perform_next(alloc, sys, woken, &request)
+            turn_in_call(alloc, sys, woken, &request)
         }
     }
 }
 
-/// Counts what a turn did in the process of an id; a process that ended keeps its counts.
-#[tactic(auto, using(pr_num::proofs::ByIdLaws::by_id_laws, crate::proofs::UsageLemmas::usage_laws), unfolding(pr_model::specs::State::with_process))]
-fn count_under(sys: &mut Sys, pid: u32, did: Did, begun: bool)
-    requires { AllUsedAtMost (2 ^ 64 - 2) sys.old }
-    ensures { sys.new ≡ with_process pid (with_counted did begun) sys.old }
-{
-    if let Some(process) = sys.processes.find_mut(pid) {
-        count_in(process, did, begun);
-    }
-}
-
-/// An lwp of the process of an id met this, or nothing.
-#[tactic(auto, using(pr_num::proofs::ByIdLaws::by_id_laws), unfolding(pr_model::specs::State::with_process))]
-fn meet_under(sys: &mut Sys, pid: u32, id: u32, point: Option<Point>)
-    ensures { sys.new ≡ with_process pid (after_meeting point id) sys.old }
-{
-    if let Some(process) = sys.processes.find_mut(pid) {
-        meet(process, id, point);
-    }
-}
-
 /// One turn of an lwp: it makes the first row of the turn table that fits. Where memory runs out, the system stays as
-/// it is; only turns that run an instruction, which may store bytes, and those that perform some calls take memory.
-#[tactic(auto, using(crate::proofs::TurnLemmas::making_laws))]
+/// it is; only an instruction that stores bytes, and some calls that are granted, take memory.
+#[tactic(auto, using(crate::proofs::SettleLemmas::turned))]
 pub fn turn(alloc: Global, sys: &mut Sys, pid: u32, lwp: u32) -> Result<Turned, NoMemory>
     requires lawful { IsLawfulSystem sys.old }
     requires movable { can_move sys.old pid lwp ≡ true }
@@ -262,11 +299,6 @@ pub fn turn(alloc: Global, sys: &mut Sys, pid: u32, lwp: u32) -> Result<Turned, 
     ensures err { OnErr result (sys.new ≡ sys.old) }
 {
     let next = next_of(sys, pid, lwp);
-    let (made, stop) = make_turn(alloc, sys, pid, lwp, next)?;
-    count_under(sys, pid, made.did, made.begun);
-    meet_under(sys, pid, lwp, made.point);
-    Ok(Turned {
-        did: made.did,
-        stop,
-    })
+    let turned = make_turn(alloc, sys, pid, lwp, next)?;
+    Ok(turned)
 }

@@ -38,10 +38,20 @@ fn reads_options(rt: HostRuntime) -> Result<(), Fail> {
     Ok(())
 }
 
+// Of the word after -u the form is judged, and the functions are left to who knows the programs.
+#[test]
+fn leaves_functions_open(rt: HostRuntime) -> Result<(), Fail> {
+    let options = options(&rt, b"-u p:go -l -u q-1:a+b+c+d+e+f+g+h+i+j+k+l+m+n+o+p p")?;
+    assert!(rt; options.lwps && !options.follow && !options.count);
+    assert!(rt; options.functions.is_empty());
+    assert!(rt; options.program.is_some());
+    Ok(())
+}
+
 // Words of truss(1), and the first of them at fault.
 #[test]
 fn names_the_word_at_fault(rt: HostRuntime) -> Result<(), Fail> {
-    let rows: [(&[u8], OptFault); 7] = [
+    let rows: [(&[u8], OptFault); 19] = [
         (b"-z p", OptFault::BadOption { word: 0 }),
         (b"-f p q", OptFault::BadOption { word: 1 }),
         (b"-f -t", OptFault::BadOption { word: 1 }),
@@ -49,6 +59,21 @@ fn names_the_word_at_fault(rt: HostRuntime) -> Result<(), Fail> {
         (b"-p x", OptFault::BadOption { word: 1 }),
         (b"-f -s !all p", OptFault::BadName { word: 2 }),
         (b"-t frob -z", OptFault::BadName { word: 1 }),
+        (b"-u go p", OptFault::BadOption { word: 1 }),
+        (b"-u p:go+ p", OptFault::BadOption { word: 1 }),
+        (b"-u p:go+9 p", OptFault::BadOption { word: 1 }),
+        (b"-u p:go:on p", OptFault::BadOption { word: 1 }),
+        (b"-u :go p", OptFault::BadOption { word: 1 }),
+        (
+            b"-u p:a+b+c+d+e+f+g+h+i+j+k+l+m+n+o+p+q p",
+            OptFault::BadOption { word: 1 },
+        ),
+        (b"-l -u", OptFault::BadOption { word: 1 }),
+        (b"-u p:go -f p", OptFault::BadOption { word: 0 }),
+        (b"-c -u p:go p", OptFault::BadOption { word: 1 }),
+        (b"-u p:go -t frob -c p", OptFault::BadOption { word: 0 }),
+        (b"-t frob -u p:go -c p", OptFault::BadName { word: 1 }),
+        (b"-s -f -u p:go p", OptFault::BadName { word: 1 }),
     ];
     for (line, want) in rows {
         let words = words(&rt, line)?;

@@ -7,9 +7,11 @@ use Rattle.pr_truss.specs.Trusses.{TrussState, IsReady as HasRoom}
 use Rattle.pr_world.specs.declared.controllers.Controller.{Controller}
 use Rattle.pr_world.specs.declared.controllers.Controller.TheVariants as declared
 
+-- FnTruss is a truss that shows calls of functions.
 pub data ControllerState : Type 0 where
   Script : ScriptState → ControllerState
   Truss : TrussState → ControllerState
+  FnTruss : TrussState → ControllerState
   Tool : ToolState → ControllerState
   Gcore : gcores.GcoreState → ControllerState
   Probe : ProbeState → ControllerState
@@ -18,6 +20,7 @@ pub data ControllerState : Type 0 where
 unfoldable pub state_of : Controller → ControllerState
 state_of (declared.Script s) = Script s
 state_of (declared.Truss t) = Truss t.state
+state_of (declared.FnTruss t) = FnTruss t.state
 state_of (declared.Tool t) = Tool t
 state_of (declared.Gcore g) = Gcore g.state
 state_of (declared.Probe p) = Probe p
@@ -26,6 +29,7 @@ state_of (declared.Probe p) = Probe p
 unfoldable pub IsReady : Controller → Type 0
 IsReady (declared.Script s) = Unit {0}
 IsReady (declared.Truss t) = HasRoom t
+IsReady (declared.FnTruss t) = HasRoom t
 IsReady (declared.Tool t) = Unit {0}
 IsReady (declared.Gcore g) = gcores.IsReady g
 IsReady (declared.Probe p) = Unit {0}

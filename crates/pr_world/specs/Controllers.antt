@@ -11,10 +11,12 @@ use Rattle.pr_probe.specs.ProbeText as probe_text
 use Rattle.pr_probe.specs.Probes as probe
 use Rattle.pr_scen.specs.Scripts as script
 use Rattle.pr_tools.specs.Tools as tool
+use Rattle.pr_truss.specs.FunctionCalls as function_calls
+use Rattle.pr_truss.specs.FunctionFeeding as function_replies
 use Rattle.pr_truss.specs.NextCalls as truss_calls
 use Rattle.pr_truss.specs.Feeding as truss_replies
 use Rattle.pr_truss.specs.Printing as truss_text
-use Rattle.pr_world.specs.ControllerStates.{ControllerState, Script, Truss, Tool, Gcore, Probe}
+use Rattle.pr_world.specs.ControllerStates.{ControllerState, Script, Truss, FnTruss, Tool, Gcore, Probe}
 
 -- The controllers of a world. Each is a core that knows the machine by replies alone: it says which call it makes next,
 -- and is fed the reply.
@@ -23,6 +25,7 @@ use Rattle.pr_world.specs.ControllerStates.{ControllerState, Script, Truss, Tool
 unfoldable pub next_call : ControllerState → Option Call
 next_call (Script s) = script.next_call_of s
 next_call (Truss t) = truss_calls.next_call_of t
+next_call (FnTruss t) = function_calls.next_function_call_of t
 next_call (Tool t) = tool.next_call_of t
 next_call (Gcore g) = gcore.next_call_of g
 next_call (Probe p) = probe.next_call_of p
@@ -31,6 +34,7 @@ next_call (Probe p) = probe.next_call_of p
 unfoldable pub after_reply : ControllerState → Reply → ControllerState
 after_reply (Script s) r = Script (script.fed s r)
 after_reply (Truss t) r = Truss (truss_replies.fed t r)
+after_reply (FnTruss t) r = FnTruss (function_replies.fed_functions t r)
 after_reply (Tool t) r = Tool (tool.fed t r)
 after_reply (Gcore g) r = Gcore (gcore.fed g r)
 after_reply (Probe p) r = Probe (probe.fed p r)
@@ -39,6 +43,7 @@ after_reply (Probe p) r = Probe (probe.fed p r)
 unfoldable pub printed : ControllerState → List Program → List ℕ
 printed (Script s) programs = []
 printed (Truss t) programs = truss_text.printed t
+printed (FnTruss t) programs = truss_text.printed t
 printed (Tool t) programs = tool.printed t programs
 printed (Gcore g) programs = gcore_text.printed g
 printed (Probe p) programs = probe_text.printed p

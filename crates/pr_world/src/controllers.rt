@@ -3,6 +3,7 @@ ghost use Rattle.pr_world.specs.Controllers.{after_reply, next_call, printed};
 ghost use Rattle.pr_world.specs.ControllerStates.{state_of, IsReady};
 
 use pr_asm::Program;
+use pr_bpt::FnTruss;
 use pr_core::Gcore;
 use pr_model::{Call, Reply};
 use pr_num::{Bytes, NoMemory};
@@ -19,6 +20,8 @@ pub enum Controller {
     Script(Script),
     /// truss(1).
     Truss(Truss),
+    /// truss(1) with calls of functions.
+    FnTruss(FnTruss),
     /// A tool of proc(1) or pmap(1).
     Tool(Tool),
     /// gcore(1).
@@ -36,6 +39,7 @@ impl Controller {
         match self {
             Controller::Script(script) => script.next_call(alloc),
             Controller::Truss(truss) => truss.next_call(alloc),
+            Controller::FnTruss(truss) => truss.next_call(alloc),
             Controller::Tool(tool) => tool.next_call(alloc),
             Controller::Gcore(gcore) => gcore.next_call(alloc),
             Controller::Probe(probe) => probe.next_call(alloc),
@@ -51,6 +55,7 @@ impl Controller {
         match self {
             Controller::Script(script) => script.prepare(),
             Controller::Truss(truss) => truss.prepare(),
+            Controller::FnTruss(truss) => truss.prepare(),
             Controller::Tool(tool) => tool.prepare(),
             Controller::Gcore(gcore) => gcore.prepare(),
             Controller::Probe(probe) => probe.prepare(),
@@ -66,6 +71,7 @@ impl Controller {
         match self {
             Controller::Script(script) => script.feed(reply),
             Controller::Truss(truss) => truss.feed(reply),
+            Controller::FnTruss(truss) => truss.feed(reply),
             Controller::Tool(tool) => tool.feed(reply),
             Controller::Gcore(gcore) => gcore.feed(reply),
             Controller::Probe(probe) => probe.feed(reply),
@@ -80,6 +86,7 @@ impl Controller {
         match self {
             Controller::Script(script) => script.print(alloc, programs),
             Controller::Truss(truss) => truss.print(alloc, programs),
+            Controller::FnTruss(truss) => truss.print(alloc, programs),
             Controller::Tool(tool) => tool.print(alloc, programs),
             Controller::Gcore(gcore) => gcore.print(alloc),
             Controller::Probe(probe) => probe.print(alloc),

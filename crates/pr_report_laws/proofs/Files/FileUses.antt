@@ -16,6 +16,7 @@ use Rattle.pr_rec.specs.declared.lwps.LwpStatus.{LwpStatus}
 use Rattle.pr_truss.specs.Processes.{last_handle}
 use Rattle.pr_truss.specs.Stops.{has_control}
 use Rattle.pr_truss.specs.Trusses.{TrussState, nobody, traced_at}
+use Rattle.pr_truss.specs.declared.marks.Marks.{Marks}
 use Rattle.pr_truss.specs.declared.processes.Traced.{Traced}
 use Rattle.pr_truss.specs.declared.stages.FreeingStep.{FreeingStep}
 use Rattle.pr_truss.specs.declared.stages.FreeingStep.TheVariants as freeing
@@ -246,6 +247,7 @@ module _ (k : ℕ) (t : TrussState) (s : TracedState) (h : HasFiles k t s) where
   -- ---- the file that is closed next
 
   last-fields : (pid control : ℕ) (status lstatus memory : Option ℕ) (attached : Bool) (old : ℕ) (seen : Bool)
+      (marks : Marks)
       → FilesAre (FileOf k s) (record {
         pid = pid;
         control = control;
@@ -255,6 +257,7 @@ module _ (k : ℕ) (t : TrussState) (s : TracedState) (h : HasFiles k t s) where
         attached = attached;
         old = old;
         seen = seen;
+        marks = marks;
       })
       → IsSomeFile k s pid (last_handle (record {
         pid = pid;
@@ -265,26 +268,32 @@ module _ (k : ℕ) (t : TrussState) (s : TracedState) (h : HasFiles k t s) where
         attached = attached;
         old = old;
         seen = seen;
+        marks = marks;
       }))
   unfolding last_handle
-  last-fields pid control status lstatus (Some m) attached old seen f = record {
+  last-fields pid control status lstatus (Some m) attached old seen marks f = record {
     file = _;
     mode = _;
     is = f.memory m refl;
   }
-  last-fields pid control status (Some l) None attached old seen f = record {
+  last-fields pid control status (Some l) None attached old seen marks f = record {
     file = _;
     mode = _;
     is = f.lstatus l refl;
   }
-  last-fields pid control (Some st) None None attached old seen f = record { file = _; mode = _; is = f.status st refl }
-  last-fields pid control None None None attached old seen f = record { file = _; mode = _; is = f.control }
+  last-fields pid control (Some st) None None attached old seen marks f = record {
+    file = _;
+    mode = _;
+    is = f.status st refl;
+  }
+  last-fields pid control None None None attached old seen marks f = record { file = _; mode = _; is = f.control }
 
   pub closed-file : (place : ℕ) → place < length t.traced
       → IsSomeFile k s (traced_at t place).pid (last_handle (traced_at t place))
   closed-file place within =
       let u = traced_at t place in
-      last-fields u.pid u.control u.status u.lstatus u.memory u.attached u.old u.seen (has-each k t s h place within)
+      last-fields u.pid u.control u.status u.lstatus u.memory u.attached u.old u.seen u.marks
+      (has-each k t s h place within)
 
   -- ---- the poll
 

@@ -14,6 +14,7 @@ use Rattle.pr_model.specs.declared.calls.Reply.{Reply}
 use Rattle.pr_truss.specs.Closings.{with_closing}
 use Rattle.pr_truss.specs.Processes.{newly_traced, without_last}
 use Rattle.pr_truss.specs.Trusses.{TrussState, nobody, traced_at, with_report, with_stage, with_traced}
+use Rattle.pr_truss.specs.declared.marks.Marks.{Marks}
 use Rattle.pr_truss.specs.declared.processes.Traced.{Traced}
 use Rattle.pr_truss.specs.declared.replies.Answer.{Answer}
 use Rattle.pr_truss.specs.declared.replies.Answer.TheVariants.{Accepted, Interrupted}
@@ -112,6 +113,7 @@ module _ (P : ℕ → File → Mode → ℕ → Type 0) where
   FilesLeft (Some u) = FilesAre u × IsUnseen u
 
   without-fields : (pid control : ℕ) (status lstatus memory : Option ℕ) (attached : Bool) (old : ℕ) (seen : Bool)
+      (marks : Marks)
       → FilesAre (record {
         pid = pid;
         control = control;
@@ -121,6 +123,7 @@ module _ (P : ℕ → File → Mode → ℕ → Type 0) where
         attached = attached;
         old = old;
         seen = seen;
+        marks = marks;
       })
       → (attached ≡ true → seen ≡ false)
       → FilesLeft (without_last (record {
@@ -132,24 +135,26 @@ module _ (P : ℕ → File → Mode → ℕ → Type 0) where
         attached = attached;
         old = old;
         seen = seen;
+        marks = marks;
       }))
   unfolding without_last
-  without-fields pid control status lstatus (Some m) attached old seen f unseen = (
+  without-fields pid control status lstatus (Some m) attached old seen marks f unseen = (
     record { control = f.control; status = f.status; lstatus = f.lstatus; memory = λ n is. absurd (none-some n is) },
     unseen,
   )
-  without-fields pid control status (Some l) None attached old seen f unseen = (
+  without-fields pid control status (Some l) None attached old seen marks f unseen = (
     record { control = f.control; status = f.status; lstatus = λ n is. absurd (none-some n is); memory = f.memory },
     unseen,
   )
-  without-fields pid control (Some st) None None attached old seen f unseen = (
+  without-fields pid control (Some st) None None attached old seen marks f unseen = (
     record { control = f.control; status = λ n is. absurd (none-some n is); lstatus = f.lstatus; memory = f.memory },
     unseen,
   )
-  without-fields pid control None None None attached old seen f unseen = tt
+  without-fields pid control None None None attached old seen marks f unseen = tt
 
   pub without-files : (u : Traced) → FilesAre u → IsUnseen u → FilesLeft (without_last u)
-  without-files u f unseen = without-fields u.pid u.control u.status u.lstatus u.memory u.attached u.old u.seen f unseen
+  without-files u f unseen =
+      without-fields u.pid u.control u.status u.lstatus u.memory u.attached u.old u.seen u.marks f unseen
 
   -- ---- one stage after the other
 

@@ -9,7 +9,6 @@ use Rattle.pr_model.specs.declared.events.Entry.{Entry}
 use Rattle.pr_num.specs.declared.errnos.Errno.TheVariants.{Intr}
 use Rattle.pr_truss.specs.NextCalls.{open_control}
 use Rattle.pr_truss.specs.Replies.{answer_of}
-use Rattle.pr_truss.specs.declared.processes.Traced.{Traced}
 use Rattle.pr_truss.specs.declared.replies.Answer.TheVariants.{Interrupted}
 use Rattle.pr_truss.specs.declared.reports.Report.{Report}
 use Rattle.pr_truss_laws.specs.Exchanges.{Exchange, calls_in, exchange_of, exchanges}
@@ -82,10 +81,10 @@ never-left n k of s h before later legal is d =
     (child-calm of (handle_in (reply_at d.opening 0))) (ap calls_in (sym b.last) ∙ b.calls)) refl
 
 -- nor is the open of a child that is set free
-pub never-kept : (n k of : ℕ) (s : TracedState) (h : List Entry) (before later : List Exchange) (parent : Traced)
+pub never-kept : (n k of : ℕ) (s : TracedState) (h : List Entry) (before later : List Exchange) (handles : List ℕ)
     (base reports : List Report) (next : Option Call) → IsLegal n s h → exchanges k h ≡ before ++ later
-    → IsInterruptedFreeing of parent base reports next later → ⊥
+    → IsInterruptedFreeing of handles base reports next later → ⊥
 unfolding answer_of
-never-kept n k of s h before later parent base reports next legal is d =
+never-kept n k of s h before later handles base reports next legal is d =
     calm-exchanges h n k s before d.later (record { call = open_control of; reply = reply.Fail Intr }) legal (is
     ∙ ap (λ ys. before ++ ys) d.is) refl refl

@@ -32,6 +32,7 @@ use Rattle.pr_truss_laws.proofs.ClosesLemmas.{after-fits, after-grown, first-fit
 use Rattle.pr_truss_laws.proofs.FitLemmas.{fed-fits}
 use Rattle.pr_truss_laws.proofs.HeldLemmas.{ClosesFirst, Fits, Grown, close-fed, closes-first, closes-next, set-at}
 use Rattle.pr_truss_laws.specs.Exchanges.{Exchange, Makes, errno_in, truss_after}
+use Rattle.pr_truss_laws.specs.Handles.{handles_of}
 use Rattle.pr_report_laws.proofs.Watching.BeginLaws.{at-options}
 use Rattle.pr_report_laws.proofs.FollowedChildren.FollowForks.{leaving-comes}
 use Rattle.pr_report_laws.proofs.Replies.Leaving.{leaves, reached-leaving}
@@ -75,9 +76,9 @@ record IsClosing (s : TrussState) (u : Traced) : Type 0 where
 
 closed-goes : (s : TrussState) (u : Traced) (x : Exchange) (xs : List Exchange) → IsClosing s u
     → x.call ≡ call.Close (last_handle u)
-    → ((t : TrussState) (v : Traced) → IsClosing t v → Makes t xs → Goes (closing_calls v) t.reports t xs)
+    → ((t : TrussState) (v : Traced) → IsClosing t v → Makes t xs → Goes (closing_calls (handles_of v)) t.reports t xs)
     → (left : Option Traced) → ClosesFirst u left → fed s x.reply ≡ closed_or_removed s 0 GoOn left
-    → Makes (fed s x.reply) xs → Goes (closing_calls u) s.reports s (x ∷ xs)
+    → Makes (fed s x.reply) xs → Goes (closing_calls (handles_of u)) s.reports s (x ∷ xs)
 unfolding after_closing
 closed-goes s u x xs c called later None first is makes =
     let over = going_on-comes (without_traced s 0) in
@@ -92,21 +93,21 @@ closed-goes s u x xs c called later (Some v) first is makes =
       first = set-at s.traced 0 v c.within;
     } in
     subst (λ hs. Goes (map call.Close hs) s.reports s (x ∷ xs)) (sym first)
-    (goes-more (call.Close (last_handle u)) (closing_calls v) s.reports s x xs called
-    (subst (λ w. Goes (closing_calls v) s.reports w xs) (sym is)
+    (goes-more (call.Close (last_handle u)) (closing_calls (handles_of v)) s.reports s x xs called
+    (subst (λ w. Goes (closing_calls (handles_of v)) s.reports w xs) (sym is)
     (later t v at (subst (λ w. Makes w xs) is makes))))
 
 closing-none : (s : TrussState) (u : Traced) → next_call_of s ≡ Some (call.Close (last_handle u))
-    → (left : Option Traced) → ClosesFirst u left → Goes (closing_calls u) s.reports s []
+    → (left : Option Traced) → ClosesFirst u left → Goes (closing_calls (handles_of u)) s.reports s []
 closing-none s u next None first =
     subst (λ hs. Goes (map call.Close hs) s.reports s []) (sym first)
     (goes-none (call.Close (last_handle u)) [] s.reports s next refl)
 closing-none s u next (Some v) first =
     subst (λ hs. Goes (map call.Close hs) s.reports s []) (sym first)
-    (goes-none (call.Close (last_handle u)) (closing_calls v) s.reports s next refl)
+    (goes-none (call.Close (last_handle u)) (closing_calls (handles_of v)) s.reports s next refl)
 
 closing-goes : (xs : List Exchange) (s : TrussState) (u : Traced) → IsClosing s u → Makes s xs
-    → Goes (closing_calls u) s.reports s xs
+    → Goes (closing_calls (handles_of u)) s.reports s xs
 closing-goes [] s u c makes =
     closing-none s u (closes-next s u 0 GoOn c.stage c.first) (without_last u) (closes-first u)
 closing-goes (x ∷ xs) s u c makes =
@@ -142,34 +143,37 @@ module _ (child : ℕ) (u : Traced) where
     now-freeing next = record { stage = refl; within = at.within; first = at.first }
 
     closes-then : (x : Exchange) (xs : List Exchange) → fed s x.reply ≡ with_closing s 0 → Makes (fed s x.reply) xs
-        → Goes (closing_calls u) s.reports (fed s x.reply) xs
+        → Goes (closing_calls (handles_of u)) s.reports (fed s x.reply) xs
     closes-then x xs is makes =
-        subst (λ t. Goes (closing_calls u) s.reports t xs) (sym is)
+        subst (λ t. Goes (closing_calls (handles_of u)) s.reports t xs) (sym is)
         (closing-goes xs (with_closing s 0) u now-closing (subst (λ t. Makes t xs) is makes))
 
   close-goes : (control : ℕ) (xs : List Exchange) (s : TrussState) → IsFreeing s (freeing.Close control) → Makes s xs
-      → Goes (call.Close control ∷ closing_calls u) s.reports s xs
+      → Goes (call.Close control ∷ closing_calls (handles_of u)) s.reports s xs
   unfolding freeing_call with_freeing_answered
   close-goes control [] s at makes =
-      goes-none (call.Close control) (closing_calls u) s.reports s (freeing-next s (freeing.Close control) at) refl
+      goes-none (call.Close control) (closing_calls (handles_of u)) s.reports s
+      (freeing-next s (freeing.Close control) at) refl
   close-goes control (x ∷ xs) s at makes =
-      goes-more (call.Close control) (closing_calls u) s.reports s x xs
+      goes-more (call.Close control) (closing_calls (handles_of u)) s.reports s x xs
       (freeing-called s (freeing.Close control) at x makes.0)
       (closes-then s (freeing.Close control) at x xs (step-fed s (freeing.Close control) at x) makes.1)
 
   set-goes : (control : ℕ) (xs : List Exchange) (s : TrussState) → IsFreeing s (freeing.SetRelease control)
       → Makes s xs
-      → Goes (message_call control (message.Set rlc_mode) ∷ call.Close control ∷ closing_calls u) s.reports s xs
+      → Goes (message_call control (message.Set rlc_mode) ∷ call.Close control ∷ closing_calls (handles_of u)) s.reports s
+      xs
   unfolding freeing_call with_freeing_answered
   set-goes control [] s at makes =
-      goes-none (message_call control (message.Set rlc_mode)) (call.Close control ∷ closing_calls u) s.reports s
-      (freeing-next s (freeing.SetRelease control) at) refl
+      goes-none (message_call control (message.Set rlc_mode)) (call.Close control ∷ closing_calls (handles_of u))
+      s.reports s (freeing-next s (freeing.SetRelease control) at) refl
   set-goes control (x ∷ xs) s at makes =
       let now : TrussState = with_stage s (FreeingChild child (freeing.Close control)) in
       let is : fed s x.reply ≡ now = step-fed s (freeing.SetRelease control) at x in
-      goes-more (message_call control (message.Set rlc_mode)) (call.Close control ∷ closing_calls u) s.reports s x xs
+      goes-more (message_call control (message.Set rlc_mode)) (call.Close control ∷ closing_calls (handles_of u))
+      s.reports s x xs
       (freeing-called s (freeing.SetRelease control) at x makes.0)
-      (subst (λ t. Goes (call.Close control ∷ closing_calls u) s.reports t xs) (sym is)
+      (subst (λ t. Goes (call.Close control ∷ closing_calls (handles_of u)) s.reports t xs) (sym is)
       (close-goes control xs now (now-freeing s (freeing.SetRelease control) at (freeing.Close control))
       (subst (λ t. Makes t xs) is makes.1)))
 
@@ -177,7 +181,7 @@ module _ (child : ℕ) (u : Traced) where
 
   module _ (f t : TrussState) (at : IsFreeing t freeing.OpenControl) (fits : Fits t.traced t.stage) where
     abbrev Goal : List Exchange → Type 0
-    Goal xs = IsSetFree child u t.reports f.reports (next_call_of f) xs
+    Goal xs = IsSetFree child (handles_of u) t.reports f.reports (next_call_of f) xs
 
     ends-so : (calls : List Call) (s : TrussState) (xs : List Exchange) → truss_after s xs ≡ f
         → ComeNext (next_call_of (truss_after s xs)) calls xs → ComeNext (next_call_of f) calls xs
@@ -220,7 +224,7 @@ module _ (child : ℕ) (u : Traced) where
             is = was errno is;
             not_interrupted = not;
             reported = g.is ∙ append_assoc t.reports (CannotTrace child errno ∷ []) g.more;
-            closes = ends-so (closing_calls u) (refused_state errno) xs ends c.next;
+            closes = ends-so (closing_calls (handles_of u)) (refused_state errno) xs ends c.next;
           })
 
       interrupted-ends : x.reply ≡ reply.Fail Intr → fed t x.reply ≡ with_closing t 0 → Goal (x ∷ xs)
@@ -229,7 +233,7 @@ module _ (child : ℕ) (u : Traced) where
           interrupted (record {
             later = xs;
             is = was Intr is;
-            closes = ends-so (closing_calls u) (fed t x.reply) xs last c.next;
+            closes = ends-so (closing_calls (handles_of u)) (fed t x.reply) xs last c.next;
             silent = λ short. ap (λ (v : TrussState). v.reports) (sym last) ∙ c.silent short;
           })
 
@@ -242,13 +246,14 @@ module _ (child : ℕ) (u : Traced) where
           let comes : fed t x.reply ≡ now = freed-fed t child x.reply accepted at.stage in
           let c = goes-more (open_control child) _ t.reports t x xs called
           (subst (λ v. Goes
-          (message_call control (message.Set rlc_mode) ∷ call.Close control ∷ closing_calls u) t.reports v xs)
+          (message_call control (message.Set rlc_mode) ∷ call.Close control ∷ closing_calls (handles_of u)) t.reports v
+          xs)
           (sym comes)
           (set-goes control xs now (now-freeing t freeing.OpenControl at (freeing.SetRelease control))
           (subst (λ v. Makes v xs) comes makes))) in
           freed (record {
             granted = granted;
-            calls = ends-so (freeing_calls child control u) t (x ∷ xs) last c.next;
+            calls = ends-so (freeing_calls child control (handles_of u)) t (x ∷ xs) last c.next;
             silent = λ short. ap (λ (v : TrussState). v.reports) (sym last) ∙ c.silent short;
           })
 
@@ -288,7 +293,7 @@ module _ (child : ℕ) (u : Traced) where
 pub read-freed : (o : Options) (xs before later : List Exchange) (x : Exchange) (child : ℕ) → o.follow ≡ true
     → Makes (first_truss o) xs → xs ≡ before ++ x ∷ later
     → ReadsLastFork (truss_after (first_truss o) before) x.reply child
-    → IsSetFree child (traced_at (truss_after (first_truss o) before) 0)
+    → IsSetFree child (handles_of (traced_at (truss_after (first_truss o) before) 0))
     (fed (truss_after (first_truss o) before) x.reply).reports (truss_after (first_truss o) xs).reports
     (next_call_of (truss_after (first_truss o) xs)) later
 read-freed o xs before later x child follow makes is reads =

@@ -300,7 +300,7 @@ next-left child.OpenLstatus next is = ap (λ n. suc (child_left n)) (same_Some _
 next-left child.OpenMemory next is = ap (λ n. suc (child_left n)) (same_Some _ next is)
 next-left child.Start next is = absurd (none-some next is)
 
-one-left : (step : ChildStep) → child_left step ≡ 1 → step ≡ child.Start
+pub one-left : (step : ChildStep) → child_left step ≡ 1 → step ≡ child.Start
 one-left child.Start one = refl
 one-left _ one = absurd (omega arith)
 

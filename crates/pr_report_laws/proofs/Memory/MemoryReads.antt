@@ -158,6 +158,7 @@ module _ (k : ℕ) (o : Options) (s : TracedState) (h : List Entry) (e : Entry) 
   still-text earlier (report.Event pid l text) (unasked none empty) = unasked none empty
   still-text earlier (report.Event pid l text) (read from len asked m) =
       read from len asked (still-read pid from len earlier text m)
+  still-text earlier (report.Called pid lwp function arguments) has = tt
 
   still-texts : (reports : List Report) → HaveTheirTexts k o s h reports → HaveTheirTexts k o s (h ++ e ∷ []) reports
   still-texts reports w = record { each = λ earlier later x is. still-text earlier x (w.each earlier later x is) }
@@ -214,6 +215,7 @@ module _ (n k : ℕ) (o : Options) (s : TracedState) (h : List Entry) (e : Entry
     told-has (report.CannotStart program errno) is = tt
     told-has (report.CannotTrace pid errno) is = tt
     told-has (report.Event pid l text) is = event-has pid l text is
+    told-has (report.Called pid lwp function arguments) is = tt
 
     grown-has : (reports : List Report) → Grows o t x.reply reports → HaveTheirTexts k o s (h ++ e ∷ []) reports
     grown-has reports (as_before same) = subst (HaveTheirTexts k o s (h ++ e ∷ [])) (sym same) kept

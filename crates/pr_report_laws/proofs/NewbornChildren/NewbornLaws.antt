@@ -39,7 +39,7 @@ use Rattle.pr_report_laws.proofs.Invariant.HistoryLaw.{first-is, picked-both}
 use Rattle.pr_report_laws.proofs.Machine.MadeOnce.{not-both}
 use Rattle.pr_report_laws.proofs.NewbornChildren.NewbornForks.{forked-before}
 use Rattle.pr_report_laws.proofs.NewbornChildren.NewbornTurns.{HasRested, Rests, call-turn, rests-after}
-use Rattle.pr_report_laws.proofs.Invariant.OpeningRuns.{IsFollowing, OpensControl, born, born-fed, born-following, child-runs, freed, freed-fed, given, given-fed, granted-first, granted-rest, opens-control}
+use Rattle.pr_report_laws.proofs.Invariant.OpeningRuns.{IsFollowing, OpensControl, born, born-fed, born-following, child-runs, child_left, freed, freed-fed, given, given-fed, granted-first, granted-rest, opens-control}
 use Rattle.pr_report_laws.proofs.Files.WatchHistories.{after-append, makes-front, makes-rest, run-pushed}
 use Rattle.pr_report_laws.specs.Births.{LeavesForks, NamesNoChild}
 use Rattle.pr_report_laws.specs.Lineages.{IsLeftToTruss, Lineage, itself}
@@ -55,7 +55,9 @@ use Rattle.pr_report_laws.specs.Watching.{watches}
 module _ (pid : ℕ) (t : TrussState) (last : Exchange) where
   -- before the last call of the opening
   abbrev pub Placed : TrussState → Type 0
-  Placed u = (parent : ℕ) × ((place : ℕ) × ((step : ChildStep) × IsFollowing u pid parent place step))
+  Placed u =
+      (parent : ℕ) ×
+      ((place : ℕ) × ((step : ChildStep) × ((child_left step ≡ 1) × IsFollowing u pid parent place step)))
 
   born-placed : (x : Exchange) (xs : List Exchange) (parent : ℕ) → t.stage ≡ OpeningChildControl parent pid
       → All IsGranted (x ∷ xs) → length xs ≡ 4 → Placed (truss_after (fed t x.reply) xs)
@@ -65,7 +67,7 @@ module _ (pid : ℕ) (t : TrussState) (last : Exchange) where
       child-runs xs (with_child_control t parent pid control) pid parent (length t.traced) child.SetRelease
       (born-following t parent pid control) (granted-rest x xs all) (omega (arith, left)) in
       subst (λ u. Placed (truss_after u xs)) (sym (born-fed t pid x.reply (granted-first x xs all) parent stage))
-      (parent, (length t.traced, (runs.0, runs.1.1)))
+      (parent, (length t.traced, (runs.0, runs.1)))
 
   pub child-placed : (xs : List Exchange) (control : ℕ) → Makes t xs → calls_in
       (xs ++ last ∷ []) ≡ child_calls pid control
@@ -180,7 +182,7 @@ module _ (n k : ℕ) (o : Options) (pid : ℕ) (s : TracedState) (before : List 
         by None its = absurd (stays-off n k o pid s before e run off on its)
         by (Some x) its =
             let w = placed x its in
-            let f = w.1.1.1 in
+            let f = w.1.1.1.1 in
             let r = rests in
             let has : HasRested pid before =
             subst (λ m. HasRested m before) f.of

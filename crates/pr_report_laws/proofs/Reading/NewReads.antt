@@ -84,7 +84,7 @@ bytes-reply _ bytes is = absurd (none-some bytes is)
 
 -- ---- the entry
 
-same-exchange : (y : Exchange) (c : Call) (r : Reply) → y.call ≡ c → y.reply ≡ r
+pub same-exchange : (y : Exchange) (c : Call) (r : Reply) → y.call ≡ c → y.reply ≡ r
     → y ≡ record { call = c; reply = r }
 same-exchange y c r one two =
     ap (λ (d : Call). let z : Exchange = record { call = d; reply = y.reply } in z) one
@@ -93,7 +93,8 @@ same-exchange y c r one two =
 module _ (k pid : ℕ) (t : TrussState) (s : TracedState) (e : Entry) (g : Reaches k t s) (x : Exchange)
     (own : exchange_of k e ≡ Some x) (next : next_call_of t ≡ Some x.call) (event : LwpEvent) where
   -- the entry is the read of this file, which got these bytes
-  reads-file : (f : File) (of handle : ℕ) → handle_of s.opens k handle ≡ Some (held_by k of 0 f Read) → of ≡ pid
+  unfoldable pub reads-file : (f : File) (of handle : ℕ)
+      → handle_of s.opens k handle ≡ Some (held_by k of 0 f Read) → of ≡ pid
       → x.call ≡ call.Read handle 0 read_limit → (bytes : List ℕ) → bytes_in x.reply ≡ Some bytes
       → ReadsFile k pid f s e
   reads-file f of handle held mine made bytes got = record {
@@ -112,7 +113,7 @@ module _ (k pid : ℕ) (t : TrussState) (s : TracedState) (e : Entry) (g : Reach
   }
 
   -- the call of a stage
-  call-is : (stage : Stage) (c : Call) → t.stage ≡ stage → call_of t stage ≡ Some c → x.call ≡ c
+  pub call-is : (stage : Stage) (c : Call) → t.stage ≡ stage → call_of t stage ≡ Some c → x.call ≡ c
   unfolding next_call_of
   call-is stage c at is = same_Some x.call c (sym next ∙ ap (call_of t) at ∙ is)
 

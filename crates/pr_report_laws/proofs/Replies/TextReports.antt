@@ -39,6 +39,7 @@ abbrev pub IsTold : Options → TrussState → Reply → Report → Type 0
 IsTold o t r (report.CannotStart program errno) = Unit {0}
 IsTold o t r (report.CannotTrace pid errno) = Unit {0}
 IsTold o t r (report.Event pid l text) = IsToldEvent o t r pid l text
+IsTold o t r (report.Called pid lwp function arguments) = Unit {0}
 
 -- These reports are those of truss before the reply, or one more.
 pub data Grows (o : Options) (t : TrussState) (r : Reply) (reports : List Report) : Type 0 where

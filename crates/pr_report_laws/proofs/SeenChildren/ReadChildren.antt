@@ -9,11 +9,11 @@ use Rattle.pr_num.specs.declared.errnos.Errno.{Errno}
 use Rattle.pr_truss.specs.Feeding.{fed}
 use Rattle.pr_truss.specs.NextCalls.{next_call_of, open_control}
 use Rattle.pr_truss.specs.Trusses.{first_truss, traced_at}
-use Rattle.pr_truss.specs.declared.processes.Traced.{Traced}
 use Rattle.pr_truss.specs.declared.reports.Report.{Report}
 use Rattle.pr_truss.specs.declared.reports.Report.TheVariants.{CannotTrace}
 use Rattle.pr_truss_laws.specs.Exchanges.{Exchange, Makes, errno_in, exchanges, truss_after}
 use Rattle.pr_truss_laws.specs.Given.{reply_at}
+use Rattle.pr_truss_laws.specs.Handles.{handles_of}
 use Rattle.pr_report_laws.proofs.FollowedChildren.FollowCalm.{never-kept, never-left}
 use Rattle.pr_report_laws.proofs.FollowedChildren.FollowLaws.{read-followed}
 use Rattle.pr_report_laws.proofs.FollowedChildren.FreedLaws.{read-freed}
@@ -65,12 +65,12 @@ module _ (n k : ℕ) (s : TracedState) (h : List Entry) (legal : IsLegal n s h) 
 
   -- ---- a child that is set free
 
-  freed-calls : (parent : Traced) (ys : List Exchange) → xs ≡ ys → errno_in (reply_at ys 0) ≡ None
-      → ComeNext None (freeing_calls child (handle_in (reply_at ys 0)) parent) ys → WasSetFree child xs
-  freed-calls parent [] is granted calls = absurd (none-some (open_control child) calls)
-  freed-calls parent (a ∷ []) is granted calls = absurd (none-some _ calls.1)
-  freed-calls parent (a ∷ b ∷ []) is granted calls = absurd (none-some _ calls.1.1)
-  freed-calls parent (a ∷ b ∷ c ∷ ys) is granted calls = record {
+  freed-calls : (handles : List ℕ) (ys : List Exchange) → xs ≡ ys → errno_in (reply_at ys 0) ≡ None
+      → ComeNext None (freeing_calls child (handle_in (reply_at ys 0)) handles) ys → WasSetFree child xs
+  freed-calls handles [] is granted calls = absurd (none-some (open_control child) calls)
+  freed-calls handles (a ∷ []) is granted calls = absurd (none-some _ calls.1)
+  freed-calls handles (a ∷ b ∷ []) is granted calls = absurd (none-some _ calls.1.1)
+  freed-calls handles (a ∷ b ∷ c ∷ ys) is granted calls = record {
     before = [];
     opening = a;
     setting = b;
@@ -83,11 +83,11 @@ module _ (n k : ℕ) (s : TracedState) (h : List Entry) (legal : IsLegal n s h) 
     closes = calls.1.1.0;
   }
 
-  freed-done : (parent : Traced) → IsSetFree child parent base reports None xs → IsDone child base reports xs
-  freed-done parent (frees.freed d) = freed (freed-calls parent xs refl d.granted d.calls)
-  freed-done parent (frees.refused d) = told d.errno d.more d.reported
-  freed-done parent (interrupted d) =
-      absurd (never-kept n k child s h past xs parent base reports None legal split d)
+  freed-done : (handles : List ℕ) → IsSetFree child handles base reports None xs → IsDone child base reports xs
+  freed-done handles (frees.freed d) = freed (freed-calls handles xs refl d.granted d.calls)
+  freed-done handles (frees.refused d) = told d.errno d.more d.reported
+  freed-done handles (interrupted d) =
+      absurd (never-kept n k child s h past xs handles base reports None legal split d)
 
 -- ---- the read
 
@@ -113,9 +113,9 @@ read-done n k o s h past xs x child follow legal makes split finished reads = by
         (subst (λ due. IsFollowedUp child control base reports due xs) finished
         (read-followed o (exchanges k h) past xs x place child follow makes split w))
     by (at_last w) =
-        let parent : Traced = traced_at (truss_after (first_truss o) past) 0 in
+        let handles : List ℕ = handles_of (traced_at (truss_after (first_truss o) past) 0) in
         let base : List Report = (fed (truss_after (first_truss o) past) x.reply).reports in
         let reports : List Report = (truss_after (first_truss o) (exchanges k h)).reports in
-        freed-done n k s h legal (past ++ x ∷ []) xs later child base reports parent
-        (subst (λ due. IsSetFree child parent base reports due xs) finished
+        freed-done n k s h legal (past ++ x ∷ []) xs later child base reports handles
+        (subst (λ due. IsSetFree child handles base reports due xs) finished
         (read-freed o (exchanges k h) past xs x child follow makes split w))

@@ -47,12 +47,12 @@ use Rattle.pr_report_laws.specs.Watching.{is_away, place_of, watches, with_excha
 
 -- ---- the stage
 
-child-reads : (u : _) (now : ChildStep) (handle from len : ℕ) → child_call u now ≡ call.Read handle from len → ⊥
+pub child-reads : (u : _) (now : ChildStep) (handle from len : ℕ) → child_call u now ≡ call.Read handle from len → ⊥
 unfolding child_call
 child-reads u child.SetRelease handle from len is = cc
 child-reads u _ handle from len is = cc
 
-freeing-reads : (pid : ℕ) (now : FreeingStep) (handle from len : ℕ)
+pub freeing-reads : (pid : ℕ) (now : FreeingStep) (handle from len : ℕ)
     → freeing_call pid now ≡ call.Read handle from len → ⊥
 unfolding freeing_call
 freeing-reads pid freeing.OpenControl handle from len is = cc

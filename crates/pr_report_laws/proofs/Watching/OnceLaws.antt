@@ -327,7 +327,7 @@ module _ (n k : ℕ) (o : Options) (pid : ℕ) (s : TracedState) (before : List 
       child-placed pid t h.last h.opening (handle_in (reply_at h.opening 0)) makes h.calls h.granted in
       let at : IsFollowing then pid w.0 w.1.0 w.1.1.0 =
       subst (λ (u : TrussState). IsFollowing u pid w.0 w.1.0 w.1.1.0)
-      (sym (then-is h.earlier h.opening (split h.earlier h.opening h.last h.is))) w.1.1.1 in
+      (sym (then-is h.earlier h.opening (split h.earlier h.opening h.last h.is))) w.1.1.1.1 in
       following-off k then (state_after s before) then-reached pid w.1.0 w.0 w.1.1.0 at
 
   pub hold-off : HasOpened k o pid (before ++ e ∷ []) ⊎ HasFollowed k pid (before ++ e ∷ [])

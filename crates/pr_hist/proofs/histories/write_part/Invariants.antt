@@ -6,4 +6,4 @@ use Rattle.pr_hist.proofs.histories.write_part.Given as goal
 abbrev pub invariant-loop-at : goal.invariant-loop-at
 invariant-loop-at l =
     l.text ++ selected_blocks l.selection l.at l.names (drop l.at l.history.entries)
-    ≡ l.fn.text ++ selected_text l.selection l.history.entries
+    ≡ l.fn.text ++ selected_text l.selection l.fn.names l.history.entries

@@ -1,4 +1,8 @@
+use Rattle.std.proofs.Common.{◌≡◌, Some}
+use Rattle.pr_call.proofs.FilingLemmas.{on_err}
+use Rattle.pr_call.specs.Requests.{request_of}
 use Rattle.pr_turn.proofs.CallTurnLemmas.{next-asked, next-asks, performed-makes}
+use Rattle.pr_turn.proofs.TakingLemmas.{call-takes}
 use Rattle.pr_turn.proofs.calls.perform_next.Goals as goal
 
 -- the call that is performed is the one that the lwp makes
@@ -15,7 +19,12 @@ returns-clause-ok c =
     c.made_after.ensures
     c.stops_after.ensures
 
--- memory runs out in no call that takes none
-pub returns-in_err-outcome-clause-sure : goal.returns-in_err-outcome-clause-sure
-returns-in_err-outcome-clause-sure c none =
-    absurd (let wrong = c.in_err-outcome.ensures.sure c.args.request.now (next-asks c.args.sys.now c.args.woken c.args.request.now c.requires.next) none in cc)
+-- memory runs out as the effect of the call says
+pub returns-in_err-outcome-clause-memory : goal.returns-in_err-outcome-clause-memory
+returns-in_err-outcome-clause-memory c =
+    let request = c.args.request.now in
+    let asks : request_of c.args.sys.now request.pid request.lwp ≡ Some request = next-asks c.args.sys.now c.args.woken request c.requires.next in
+    on_err _
+    (call-takes c.args.sys.now c.args.woken request c.requires.next
+    (λ none. absurd (let wrong = c.in_err-outcome.ensures.sure request asks none in cc))
+    (λ p found l stands. c.in_err-outcome.ensures.memory request asks p found l stands))

@@ -21,7 +21,7 @@ invariant_of-result c =
           (subst (λ (m : TracedState). IsSound 0 m.system) (sym c.in_ok-state.ensures) (first-sound _ _ _)) lawful;
       looks =
           all-ready _ _ lawful.system c.all-ready.ensures.movable c.all-ready.ensures.at_pipes
-          c.all-ready.ensures.dozing;
+          c.all-ready.ensures.dozing c.all-ready.ensures.moments;
     }
 
 pub returns-clause-lawful : goal.returns-clause-lawful

@@ -1,4 +1,4 @@
-use Rattle.std.proofs.Common.{◌||◌, ◌&&◌, ◌<◌, ◌/◌, ℕ, List, length, not, eqb, ap, subst, sym, ◌∙◌}
+use Rattle.std.proofs.Common.{◌&&◌, ◌<◌, ◌/◌, ℕ, List, not, eqb, ap, subst, sym, ◌∙◌}
 use Rattle.pr_pids.specs.Members.{has_pid}
 use Rattle.pr_pids.proofs.BitLemmas.{has-removed}
 use Rattle.pr_pids.proofs.WalkLemmas.{word-inside}

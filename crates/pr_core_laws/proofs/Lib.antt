@@ -1,0 +1,14 @@
+pub mod GcoreCalls
+pub mod GcoreEnds
+pub mod GcoreLaw
+pub mod GcoreStages
+pub mod GcoreSteps
+pub mod HandleLemmas
+pub mod LiveTexts
+pub mod MemoryLemmas
+pub mod ReadLemmas
+pub mod SameLemmas
+pub mod SparingLemmas
+pub mod StandLemmas
+pub mod StoppedLemmas
+pub mod WaitLemmas

@@ -1,0 +1,2 @@
+pub mod OneCore
+pub mod Spared

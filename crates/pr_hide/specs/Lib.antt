@@ -1,0 +1,4 @@
+pub mod Bare
+pub mod CoverTables
+pub mod Hidings
+pub mod Walks

@@ -1,0 +1,96 @@
+use Rattle.std.proofs.Common.{◌≡◌, ◌==◌, ℕ, Bool, true, false, None, Some, List, [], ◌∷◌, cond, sym, subst, ap, ◌∙◌, refl}
+use Rattle.std.specs.List.{cons_option, slice_get}
+use Rattle.std.specs.Option.{option_and_then}
+use Rattle.std.proofs.lemmas.Bool.{eqb-false, eqb-true}
+use Rattle.pr_line.specs.declared.options.Options.{Options}
+use Rattle.pr_model.specs.Legal.{after}
+use Rattle.pr_model.specs.State.{TracedState}
+use Rattle.pr_model.specs.declared.calls.Call.{Call}
+use Rattle.pr_model.specs.declared.calls.Reply.{Reply}
+use Rattle.pr_model.specs.declared.events.Act.{Act}
+use Rattle.pr_model.specs.declared.events.Act.TheVariants as act
+use Rattle.pr_model.specs.declared.events.Actor.{Actor}
+use Rattle.pr_model.specs.declared.events.Actor.TheVariants.{Controller, Lwp, Clock}
+use Rattle.pr_model.specs.declared.events.Entry.{Entry}
+use Rattle.pr_tool_laws.proofs.ProtocolLemmas.{fed-other, fed-own}
+use Rattle.pr_truss.specs.FunctionCalls.{next_function_call_of}
+use Rattle.pr_truss.specs.FunctionFeeding.{fed_functions}
+use Rattle.pr_truss.specs.Trusses.{TrussState, first_truss}
+use Rattle.pr_truss_laws.specs.Exchanges.{Exchange, exchange_in, exchanges}
+use Rattle.pr_world.specs.Controllers.{after_reply, call_by, next_call, with_fed}
+use Rattle.pr_world.specs.ControllerStates.{ControllerState, FnTruss}
+use Rattle.pr_world.specs.Protocol.{Follows, FollowsAt, controllers_after, controllers_at}
+use Rattle.pr_run_laws.proofs.TrussLemmas.{exchanges-cons, exchanges-none}
+use Rattle.pr_run_laws.specs.FunctionRuns.{IsFunctionTrussKept, MakesCalls, functions_after}
+
+-- A truss that shows calls of functions among the controllers of a run.
+
+-- ---- its call, and the reply to it
+
+function-next : (controllers : List ControllerState) (k : ℕ) (t : TrussState) (c : Call)
+    → slice_get controllers k ≡ Some (FnTruss t) → call_by controllers k ≡ Some c → next_function_call_of t ≡ Some c
+unfolding call_by next_call
+function-next controllers k t c at calls = sym (ap (option_and_then next_call) at) ∙ calls
+
+function-fed : (controllers : List ControllerState) (k : ℕ) (t : TrussState) (r : Reply)
+    → slice_get controllers k ≡ Some (FnTruss t)
+    → slice_get (with_fed k r controllers) k ≡ Some (FnTruss (fed_functions t r))
+unfolding after_reply
+function-fed controllers k t r at = fed-own controllers k r (FnTruss t) at
+
+-- ---- an entry
+
+-- the truss and its exchanges, once the rest of the history was made by these controllers
+abbrev Stays : List ControllerState → List Entry → ℕ → TrussState → List Exchange → Type 0
+Stays controllers h k t xs =
+    MakesCalls t xs × (slice_get (controllers_at controllers h) k ≡ Some (FnTruss (functions_after t xs)))
+
+abbrev Rest : List ControllerState → List Entry → ℕ → List Exchange → Type 0
+Rest controllers h k xs = (u : TrussState) → slice_get controllers k ≡ Some (FnTruss u) → Stays controllers h k u xs
+
+call-stays : (controllers : List ControllerState) (h : List Entry) (k by : ℕ) (t : TrussState) (c : Call) (r : Reply)
+    (xs : List Exchange) (b : Bool) → (by == k) ≡ b → slice_get controllers k ≡ Some (FnTruss t)
+    → call_by controllers by ≡ Some c → Rest (with_fed by r controllers) h k xs
+    → Stays (with_fed by r controllers) h k t (cons_option (cond b (Some (record { call = c; reply = r })) None) xs)
+call-stays controllers h k by t c r xs true is at calls rest =
+    let same = eqb-true by k is in
+    let next = function-next controllers k t c at (subst (λ n. call_by controllers n ≡ Some c) same calls) in
+    let here =
+    subst (λ n. slice_get (with_fed n r controllers) k ≡ Some (FnTruss (fed_functions t r))) (sym same)
+    (function-fed controllers k t r at) in
+    let it = rest (fed_functions t r) here in
+    ((next, it.0), it.1)
+call-stays controllers h k by t c r xs false is at calls rest =
+    rest t (fed-other controllers by k r (eqb-false by k is) ∙ at)
+
+entry-stays : (controllers : List ControllerState) (s : TracedState) (h : List Entry) (k : ℕ) (t : TrussState)
+    (actor : Actor) (it : Act) (xs : List Exchange) → slice_get controllers k ≡ Some (FnTruss t)
+    → FollowsAt controllers s (record { actor = actor; act = it })
+    → Rest (controllers_after controllers (record { actor = actor; act = it })) h k xs
+    → Stays (controllers_after controllers (record { actor = actor; act = it })) h k t
+    (cons_option (exchange_in k actor it) xs)
+unfolding FollowsAt controllers_after
+entry-stays controllers s h k t (Controller by) (act.Call c r) xs at follows rest =
+    call-stays controllers h k by t c r xs (by == k) refl at follows rest
+entry-stays controllers s h k t (Controller by) (act.Turn did) xs at follows rest = rest t at
+entry-stays controllers s h k t (Controller by) (act.Tick moment) xs at follows rest = rest t at
+entry-stays controllers s h k t (Lwp p l) it xs at follows rest = rest t at
+entry-stays controllers s h k t Clock it xs at follows rest = rest t at
+
+-- ---- a history
+
+function-stays : (h : List Entry) (controllers : List ControllerState) (s : TracedState) (k : ℕ) (t : TrussState)
+    → slice_get controllers k ≡ Some (FnTruss t) → Follows controllers s h → Stays controllers h k t (exchanges k h)
+function-stays [] controllers s k t at follows = subst (Stays controllers [] k t) (sym (exchanges-none k)) (tt, at)
+function-stays (e ∷ h) controllers s k t at follows =
+    let rest : Rest (controllers_after controllers e) h k (exchanges k h) =
+    λ u here. function-stays h (controllers_after controllers e) (after s e) k u here follows.1 in
+    subst (Stays controllers (e ∷ h) k t) (sym (exchanges-cons k e h))
+    (entry-stays controllers s h k t e.actor e.act (exchanges k h) at follows.0 rest)
+
+pub function-kept : (controllers : List ControllerState) (s : TracedState) (h : List Entry) (k : ℕ) (o : Options)
+    → slice_get controllers k ≡ Some (FnTruss (first_truss o)) → Follows controllers s h
+    → IsFunctionTrussKept controllers h k o
+function-kept controllers s h k o at follows =
+    let stays = function-stays h controllers s k (first_truss o) at follows in
+    record { makes = stays.0; truss = stays.1 }
