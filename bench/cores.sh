@@ -1,6 +1,6 @@
 #!/usr/bin/env bash
-# Time of gcore of a process, and of `core pmap` of what gcore printed, against the size of its space: a heap of 60, 120
-# and 240 pages, the last nearly all of 1 MiB. `run -q` keeps the history and writes the core alone. A plain program, in
+# Time of gcore of a process, and of `core pmap` of what gcore printed, against the size of its space: a heap of 32, 64
+# and 128 pages, as far as brk goes. `run -q` keeps the history and writes the core alone. A plain program, in
 # Python, writes and reads the same bytes in hex: the time of that does not count its start. Prints the seconds of each,
 # the ratio of time to that at the first size beside the ratio of the sizes, and the ratio to the plain program.
 #
@@ -70,7 +70,7 @@ END
 }
 
 first_gcore= first_core= first_bytes=
-for pages in 60 120 240; do
+for pages in 32 64 128; do
   words=(run -q) ends=(0 3) # the process may sleep on
   scenario "$pages" >"$input"
   least_times

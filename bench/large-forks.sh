@@ -1,5 +1,5 @@
 #!/usr/bin/env bash
-# Time of a run against the size of the space that fork copies: a process with a heap of 2, 64 and 200 pages makes 60
+# Time of a run against the size of the space that fork copies: a process with a heap of 2, 64 and 128 pages makes 60
 # children, one at a time, each of which ends at once. `run -q` keeps the history and does not write it. Prints seconds
 # and their ratios; where pages are shared after fork, the time is about the same at each size.
 #
@@ -34,4 +34,4 @@ spawn parent
 END
 }
 
-measure pages 2 64 200
+measure pages 2 64 128
