@@ -12,13 +12,6 @@ judgement=$(mktemp)
 measured=$(mktemp)
 trap 'rm -f "$input" "$output" "$both" "$judgement" "$measured"' EXIT
 
-# scenario TURNS: more turns than these, and a read of the status for every twentieth
-scenario() {
-  printf 'turns %s\nprogram p\nagain:\nsys getpid\nset r1, 1\njnz r1, again\nend\nspawn p\nscript\nopen a 1 status r\n' "$1"
-  yes 'read a 0 368' | head -n $(($1 / 20))
-  echo end
-}
-
 # used STATUS PROGRAM WORD IN OUT: the seconds and the KiB of a run, which is to end so
 used() {
   local status=0
@@ -31,7 +24,7 @@ used() {
 least() { printf '%s\n' "$@" | grep . | sort -n | head -n 1; }
 
 for turns in 10000 100000; do
-  scenario "$turns" >"$input"
+  looking_at_a_loop "$turns" >"$input"
   declare -A run=() check=()
   for ((try = 0; try < tries; try++)); do
     for program in "${programs[@]}"; do

@@ -94,3 +94,12 @@ long_script() {
     printf "%s", last
   }'
 }
+
+# looking_at_a_loop TURNS: more turns than these of a program that calls getpid in a loop, and a read of its status for
+# every twentieth
+looking_at_a_loop() {
+  printf 'turns %s\nprogram p\nagain:\nsys getpid\nset r1, 1\njnz r1, again\nend\nspawn p\nscript\n' "$1"
+  echo 'open a 1 status r'
+  yes 'read a 0 368' | head -n $(($1 / 20))
+  echo end
+}

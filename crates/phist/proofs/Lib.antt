@@ -1,1 +1,4 @@
+mod CodeLemmas
+mod DraftLemmas
+mod LineLemmas
 mod SourceLemmas

@@ -17,7 +17,7 @@ use Rattle.pr_output.specs.Output.{refusal_text}
 use Rattle.pr_plain.specs.EntryReading.{history_of}
 use Rattle.pr_scen.specs.Reading.{scenario_of}
 use Rattle.pr_scen.specs.Scenarios.{Scenario}
-use Rattle.pr_scen.specs.declared.refusals.ScenFault.{ScenFault}
+use Rattle.pr_scen.specs.Refusals.{ScenFault}
 use Rattle.pr_text.specs.HexWords.{digits_of_bytes}
 use Rattle.phist.specs.Sources.{names_of}
 use Rattle.phist.specs.declared.statuses.Status.{Status}

@@ -1,5 +1,5 @@
 -- The source lines of the instructions of a scenario's programs.
-use Rattle.std.specs.Prelude.{ℕ, ◌+◌, Bool, true, false, List, [], ◌∷◌, ◌++◌, Result, Ok, codes, drop, length, take, if◌then◌else◌}
+use Rattle.std.specs.Prelude.{◌≡◌, ℕ, ◌+◌, Bool, true, false, List, [], ◌∷◌, ◌++◌, Result, Ok, codes, drop, length, take, if◌then◌else◌}
 use Rattle.pr_asm.specs.Statements.{statement_of}
 use Rattle.pr_asm.specs.declared.refusals.AsmKind.{AsmKind}
 use Rattle.pr_asm.specs.declared.statements.Statement.{Statement}
@@ -56,6 +56,10 @@ code_lines text = code_from 1 Outside [] (lines_of text)
 -- a program with the lines of its instructions, which are the first of these
 abbrev pub listing_of : ProgramOf → List ℕ → Listing
 listing_of p numbers = record { program = p; lines = take (length p.code) numbers }
+
+-- a program that has as many lines as instructions
+abbrev pub HasItsLines : Listing → Type 0
+HasItsLines l = length l.lines ≡ length l.program.code
 
 -- programs with the lines of their instructions, which stand one after another in these
 unfoldable pub listings_of : List ProgramOf → List ℕ → List Listing

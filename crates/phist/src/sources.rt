@@ -1,11 +1,13 @@
 //! The source lines of the instructions of a scenario's programs.
-ghost use Rattle.std.specs.Prelude.{◌≡◌, ◌+◌, ◌≤◌, ◌<◌, ◌^◌, [], drop, length, map, take, IfOk, OnOk};
+ghost use Rattle.std.specs.Prelude.{◌≡◌, ◌+◌, ◌≤◌, ◌<◌, ◌^◌, [], drop, length, map, take, IfOk, Ok, OnOk};
+ghost use Rattle.std.specs.List.{All};
 ghost use Rattle.pr_hist.specs.News.{known_at_start};
 ghost use Rattle.pr_num.specs.Limits.{checked_limit, spawn_limit};
 ghost use Rattle.pr_scen.specs.Lines.{first_is, is_end};
+ghost use Rattle.pr_scen.specs.Reading.{scenario_of};
 ghost use Rattle.pr_scen.specs.Scenarios.{IsWithinLimits};
 ghost use Rattle.pr_text.specs.Words.{texts_of};
-ghost use Rattle.phist.specs.Sources.{block_after, block_begun, code_after, code_from, code_lines, inside_or_out, is_code, listing_of, listings_of, names_of};
+ghost use Rattle.phist.specs.Sources.{HasItsLines, block_after, block_begun, code_after, code_from, code_lines, inside_or_out, is_code, listing_of, listings_of, names_of};
 
 use pr_asm::{Program, Statement, statement_of};
 use pr_hist::{Listing, Names};
@@ -201,11 +203,12 @@ fn names_from(
 }
 
 /// What a scenario tells before the first entry of its history: its programs with their lines, and which of them its
-/// first processes run. It was read from this text.
+/// first processes run. Where it was read from this text, each program has as many lines as instructions.
 pub fn names_of(alloc: Global, scenario: Scenario, text: &[u8]) -> Result<Names, NoMemory>
     requires limits { IsWithinLimits scenario }
     requires few { length text.now ≤ checked_limit }
-    ensures { IfOk result (λ names. names ≡ names_of scenario text.now) }
+    ensures names { IfOk result (λ names. names ≡ names_of scenario text.now) }
+    ensures lines { scenario_of text.now ≡ Ok scenario → IfOk result (λ names. All HasItsLines names.listings) }
 {
     let Scenario {
         turns: _,

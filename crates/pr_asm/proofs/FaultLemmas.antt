@@ -2,7 +2,7 @@
 use Rattle.std.proofs.Common.{◌≡◌, ℕ, suc, ◌+◌, Option, List, [], ◌∷◌, take, Result, Ok, Err, refl, sym, ◌∙◌, ap, arith}
 use Rattle.pr_num.specs.Programs.{Program}
 use Rattle.pr_asm.specs.declared.places.Place.{Place}
-use Rattle.pr_asm.specs.declared.refusals.AsmFault.{AsmFault}
+use Rattle.pr_asm.specs.Refusals.{AsmFault}
 use Rattle.pr_asm.specs.declared.refusals.AsmKind.{AsmKind}
 use Rattle.pr_asm.specs.declared.statements.Statement.{Statement}
 use Rattle.pr_asm.specs.Assembly.{read_added, numbered, with_lines, assembled, reads_of, program_of}

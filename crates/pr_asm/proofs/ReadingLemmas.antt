@@ -6,12 +6,11 @@ use Rattle.std.proofs.lemmas.List.Sums.{count_by-le-length}
 use Rattle.pr_num.specs.Programs.{Program}
 use Rattle.pr_asm.specs.declared.places.Place.{Place}
 use Rattle.pr_asm.specs.declared.places.Places.{Places}
-use Rattle.pr_asm.specs.declared.refusals.AsmFault.{AsmFault}
+use Rattle.pr_asm.specs.Refusals.{AsmFault, AsmRefusal}
 use Rattle.pr_asm.specs.declared.refusals.AsmKind.{AsmKind}
-use Rattle.pr_asm.specs.declared.refusals.AsmRefusal.{AsmRefusal}
-use Rattle.pr_asm.specs.declared.refusals.AsmRefusal.TheVariants.{Fault, NoMemory}
+use Rattle.pr_text.specs.declared.refusals.LineRefusal.TheVariants.{Fault, NoMemory}
 use Rattle.pr_asm.specs.declared.statements.Statement.{Statement}
-use Rattle.pr_asm.specs.Reading.{Stops}
+use Rattle.pr_text.specs.Reads.{Stops}
 use Rattle.pr_asm.specs.Statements.{statement_of}
 use Rattle.std.proofs.Common.{Option}
 use Rattle.pr_asm.specs.Assembly.{read_added, numbered, with_lines, assembled}

@@ -9,7 +9,7 @@ use Rattle.pr_asm.specs.declared.places.Place.{Place}
 use Rattle.pr_asm.specs.declared.layouts.Layout.{Layout}
 use Rattle.pr_asm.specs.declared.statements.Statement.{Statement}
 use Rattle.pr_asm.specs.declared.statements.Statement.TheVariants.{Blank, Label, Data, Code}
-use Rattle.pr_asm.specs.declared.refusals.AsmFault.{AsmFault}
+use Rattle.pr_asm.specs.Refusals.{AsmFault}
 use Rattle.pr_asm.specs.declared.refusals.AsmKind.{AsmKind}
 use Rattle.pr_asm.specs.declared.refusals.AsmKind.TheVariants.{UnknownName, Double, TooBig}
 use Rattle.pr_asm.specs.Limits.{program}

@@ -1,7 +1,7 @@
 -- The first line of a program that is refused.
 use Rattle.std.specs.Prelude.{◌≡◌, ◌+◌, ℕ, Some, List, [], take, slice_get, Ok, Err}
 use Rattle.pr_num.specs.Programs.{Program}
-use Rattle.pr_asm.specs.declared.refusals.AsmFault.{AsmFault}
+use Rattle.pr_asm.specs.Refusals.{AsmFault}
 use Rattle.pr_asm.specs.declared.refusals.AsmKind.{AsmKind}
 use Rattle.pr_asm.specs.declared.statements.Statement.{Statement}
 use Rattle.std.specs.Prelude.{Result, Option}

@@ -5,7 +5,7 @@ pub mod Mnemonics
 pub mod Names
 pub mod Operands
 pub mod Placing
-pub mod Reading
+pub mod Refusals
 pub mod Spelling
 pub mod Statements
 pub mod Symbols

@@ -2,7 +2,7 @@
 ghost use Rattle.std.specs.Prelude.{◌≡◌};
 ghost use Rattle.pr_asm.specs.Assembly.{with_immediate, filled, is_first, numbered};
 ghost use Rattle.pr_asm.specs.Placing.{found};
-ghost use Rattle.pr_asm.specs.Reading.{LineGave};
+ghost use Rattle.pr_text.specs.Reads.{LineGave};
 
 use crate::places::Places;
 use crate::{AsmFault, AsmKind, AsmRefusal};

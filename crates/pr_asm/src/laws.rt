@@ -1,6 +1,6 @@
 //! Laws of the program language. Each function does nothing: its clauses are what is proved.
 ghost use Rattle.std.specs.Prelude.{◌≡◌, ℕ, List, Ok, Err, map};
-ghost use Rattle.pr_asm.specs.declared.refusals.AsmFault.{AsmFault};
+ghost use Rattle.pr_asm.specs.Refusals.{AsmFault};
 ghost use Rattle.std.specs.List.{AllByRecursion};
 ghost use Rattle.pr_asm.specs.declared.statements.Statement.{Statement};
 ghost use Rattle.pr_asm.specs.Assembly.{assembled, program_of};

@@ -6,7 +6,7 @@ ghost use Rattle.pr_num.specs.Instructions.{instruction_bytes};
 ghost use Rattle.pr_num.specs.Programs.{text_of};
 ghost use Rattle.pr_asm.specs.Limits.{program, IsWithinLimits};
 ghost use Rattle.pr_asm.specs.Placing.{aligned, found};
-ghost use Rattle.pr_asm.specs.Reading.{Answers};
+ghost use Rattle.pr_text.specs.Reads.{Answers};
 ghost use Rattle.pr_text.specs.Reads.{Gives};
 ghost use Rattle.pr_asm.specs.Assembly.{layout_of, with_label, with_data, with_code, label_added, data_added, code_added, with_statement, read_added, numbered};
 

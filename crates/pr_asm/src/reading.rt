@@ -1,7 +1,7 @@
 //! Programs as text.
 ghost use Rattle.std.specs.Prelude.{◌≡◌, ◌+◌, ◌<◌, ◌≤◌, ◌^◌, length, map, IfOk};
 ghost use Rattle.pr_asm.specs.Assembly.{assembled, program_in, program_of};
-ghost use Rattle.pr_asm.specs.Reading.{Answers};
+ghost use Rattle.pr_text.specs.Reads.{Answers};
 ghost use Rattle.pr_asm.specs.Statements.{statement_of};
 
 use crate::places::Places;

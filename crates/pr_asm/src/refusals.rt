@@ -1,6 +1,4 @@
-use pr_num::NoMemory;
-use pr_text::Refused;
-use thiserror::Error;
+use pr_text::{LineFault, LineRefusal, Refused};
 
 /// Why a line of a program is refused. Of several kinds in one line the first is named.
 #[derive(Clone, Copy, Debug, PartialEq, Eq)]
@@ -17,32 +15,11 @@ pub enum AsmKind {
     TooBig,
 }
 
-/// The first line of a program that is refused, and why.
-#[derive(Clone, Copy, Debug, PartialEq, Eq)]
-pub struct AsmFault {
-    pub line: u32,
-    pub kind: AsmKind,
-}
+/// The first line of a program that is refused and why.
+pub type AsmFault = LineFault<AsmKind>;
 
 /// Why a program was not read.
-#[derive(Clone, Copy, Debug, PartialEq, Eq, Error)]
-pub enum AsmRefusal {
-    #[error("line {}: {:?}", .0.line, .0.kind)]
-    Fault(AsmFault),
-    #[error("out of memory")]
-    NoMemory,
-}
-
-impl From<NoMemory> for AsmRefusal {
-    ghost use Rattle.std.specs.Prelude.{◌≡◌};
-    ghost use Rattle.pr_asm.specs.declared.refusals.AsmRefusal.TheVariants as variants;
-
-    ghost from_gives = { λ _ e. e ≡ variants.NoMemory };
-
-    fn from(_error: NoMemory) -> AsmRefusal {
-        AsmRefusal::NoMemory
-    }
-}
+pub type AsmRefusal = LineRefusal<AsmKind>;
 
 impl From<AsmKind> for Refused<AsmKind> {
     ghost use Rattle.std.specs.Prelude.{◌≡◌};

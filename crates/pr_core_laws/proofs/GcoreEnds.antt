@@ -21,9 +21,9 @@ use Rattle.pr_model.specs.declared.calls.Call.{Call}
 use Rattle.pr_model.specs.declared.calls.File.TheVariants as file
 use Rattle.pr_model.specs.declared.events.Entry.{Entry}
 use Rattle.pr_model.specs.declared.tools.ToolKind.TheVariants.{Pfiles, Pflags, Pmap, Psig}
-use Rattle.pr_num.specs.Spaces.{IsSpace}
 use Rattle.pr_reached.proofs.EntryRanges.{records-range}
 use Rattle.pr_reached.proofs.HistoryRanges.{history-range}
+use Rattle.pr_reached.proofs.MappedLemmas.{all-spaces}
 use Rattle.pr_reached.specs.ByteHistories.{HasBytes}
 use Rattle.pr_reached.specs.InRange.{IsInRange}
 use Rattle.pr_rec.specs.InRange.{IsStatus}
@@ -197,8 +197,8 @@ module _ (n k pid : ℕ) (first : TracedState) where
     own = taken.view.own status-read
 
     good : has_agent p ≡ false → IsSparedIn pid p first before (between n k pid first taken.front taken.view)
-        → IsSpace p.space → IsGood n k pid first h taken
-    good quiet spared space = record {
+        → IsGood n k pid first h taken
+    good quiet spared = record {
       fine = record {
         quiet = quiet;
         status = status-read;
@@ -208,7 +208,8 @@ module _ (n k pid : ℕ) (first : TracedState) where
         spared = spared;
       };
       descriptors = descriptors-read;
-      space = space;
+      space =
+          (all-spaces at_look look-sound.range).own pid p (found-live at_look pid p taken.view.live).0;
     }
 
     bytes-are : g.bytes ≡ all.notes.bytes
@@ -244,8 +245,8 @@ module _ (n k pid : ℕ) (first : TracedState) where
       process = p;
       lives = taken.view.live;
       own = own;
-      shown = λ quiet spared space.
-          let is_good = good quiet spared space in
+      shown = λ quiet spared.
+          let is_good = good quiet spared in
           record {
             stood = (taken.kept is_good.fine).stood;
             shown =

@@ -9,7 +9,6 @@ use Rattle.pr_model.specs.declared.calls.Call.{Call}
 use Rattle.pr_model.specs.declared.calls.File.TheVariants as file
 use Rattle.pr_model.specs.declared.calls.Reply.{Reply}
 use Rattle.pr_model.specs.declared.events.Entry.{Entry}
-use Rattle.pr_num.specs.Spaces.{IsSpace}
 use Rattle.pr_tool_laws.specs.Reads.{ReadsFile}
 use Rattle.pr_tool_laws.specs.Stacks.{HasStopped}
 use Rattle.pr_core_laws.specs.Spared.{IsSparedIn, StoodIn}
@@ -29,8 +28,8 @@ pub record ShowsCore (pid : ℕ) (p : TracedProcess) (first : TracedState) (befo
 
 -- This text is that of the core of a process in a state of the history. gcore has waited for the process to stop, and
 -- reads its status, with which these entries begin, and later its descriptors: it is the state that this last read
--- finds. The process has lent its memory to nobody. The text is so where the process has no agent, is spared from the
--- one read to the other, and has its mappings apart. Without that a core may still come, of which nothing is said.
+-- finds. The process has lent its memory to nobody. The text is so where the process has no agent and is spared from the
+-- one read to the other. Without that a core may still come, of which nothing is said.
 pub record ShowsOneCore (k pid : ℕ) (first : TracedState) (h : List Entry) (text : List ℕ) : Type 0 where
   pub before : List Entry
   pub look : Call
@@ -47,4 +46,4 @@ pub record ShowsOneCore (k pid : ℕ) (first : TracedState) (h : List Entry) (te
   pub lives : live_process (state_after first before).system pid ≡ Some process
   pub own : process.borrower ≡ None
   pub shown : has_agent process ≡ false → IsSparedIn pid process first before (call_entry k look seen ∷ later)
-      → IsSpace process.space → ShowsCore pid process first before (call_entry k look seen ∷ later) text
+      → ShowsCore pid process first before (call_entry k look seen ∷ later) text

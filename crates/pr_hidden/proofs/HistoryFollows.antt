@@ -41,7 +41,7 @@ use Rattle.pr_lawful.proofs.StartLemmas.{first-lawful}
 use Rattle.pr_laws.proofs.RunLemmas.{UntracedRun-append}
 use Rattle.pr_erasure.specs.Untouched.{IsUntouched}
 use Rattle.pr_hidden.specs.Covers.{Cover, Covers, Patch, keeps_lwp, no_cover, seen, uncovered, with_cover}
-use Rattle.pr_hidden.specs.Hiders.{Hiders, cover_turned, covers_after, covers_at, covers_from, covers_turned, exits, is_directed, is_own, lwp_at, no_covers}
+use Rattle.pr_hidden.specs.Hiders.{Hiders, cover_turned, covers_after, covers_at, covers_from, covers_turned, exits, is_directed, is_own, lwp_at, no_covers, replaces_memory}
 use Rattle.pr_hidden.specs.HiddenSteps.{IsHidden, hidden_steps, hidden_steps_from, hidden_steps_of, hidden_trace, hidden_trace_from, hidden_trace_of, is_leaving, steps_of_own, turn_seen}
 use Rattle.pr_hidden.specs.Hiding.{with_fault, with_own_agent}
 use Rattle.pr_hidden.specs.Tidiness.{AreSound, HoldsFrom, IsPassiveBut, IsSparing, IsSparingEntry, IsTidy, IsTidyEntry, is_hider_act}
@@ -52,6 +52,7 @@ use Rattle.pr_hidden.proofs.NoneLemmas.{none-same, none-tame}
 use Rattle.pr_hidden.proofs.OrderLemmas.{AreInOrder, live-made, none-in-order, order-with}
 use Rattle.pr_hidden.proofs.TameLemmas.{IsTame}
 use Rattle.pr_hidden.proofs.TurnFollows.{turn-follows}
+use Rattle.pr_hidden.proofs.WrittenCovers.{none-sound}
 
 -- Whole histories of those who hide, entry by entry.
 
@@ -65,7 +66,8 @@ turned-sound who covers s pid id did sound =
     let own = is_own who covers s pid id did in
     either (λ (d : Cover). AreSound d.patches) (not (keeps_lwp c id)) _ _
     (either (λ (d : Cover). AreSound d.patches) (exits did) (with_own_agent false c) c sound sound)
-    (either (λ (d : Cover). AreSound d.patches) (is_directed (lwp_at s.system pid id)) c (with_fault id own c) sound sound)
+    (either (λ (d : Cover). AreSound d.patches) (replaces_memory did) _ _ none-sound
+    (either (λ (d : Cover). AreSound d.patches) (is_directed (lwp_at s.system pid id)) c (with_fault id own c) sound sound))
 
 turn-order : (who : Hiders) (covers : Covers) (s : TracedState) (pid id : ℕ) (t : LwpTurn) → turn_of s.system pid id ≡ Some t
     → IsLawfulSystem s.system → AreInOrder covers s.system

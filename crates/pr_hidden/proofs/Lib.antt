@@ -23,6 +23,7 @@ pub mod OrderLemmas
 pub mod PatchLemmas
 pub mod PointCovers
 pub mod QuietLemmas
+pub mod ReplacedLemmas
 pub mod RowCovers
 pub mod RunCovers
 pub mod RunFollows

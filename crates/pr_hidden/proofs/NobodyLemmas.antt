@@ -27,8 +27,8 @@ use Rattle.pr_model.specs.declared.events.Did.TheVariants.{Stopped, Ran, Entered
 use Rattle.pr_model.specs.declared.events.Entry.{Entry}
 use Rattle.pr_model.specs.declared.handles.Held.{Held}
 use Rattle.pr_hidden.specs.Covers.{Cover, Covers, keeps_lwp, no_cover, with_cover}
-use Rattle.pr_hidden.specs.Hiders.{Hiders, cover_sent, cover_turned, covers_after, covers_at, covers_called, covers_closed, covers_controlled, covers_from, covers_sent, covers_targeted, covers_turned, exits, has_hold, is_at_patch, is_ctl, is_directed, is_hold, is_own, is_own_fault, lwp_at, no_covers, nobody}
-use Rattle.pr_hidden.specs.Hiding.{with_fault, with_own_agent}
+use Rattle.pr_hidden.specs.Hiders.{Hiders, cover_sent, cover_turned, covers_after, covers_at, covers_called, covers_closed, covers_controlled, covers_from, covers_sent, covers_targeted, covers_turned, exits, has_hold, is_at_patch, is_ctl, is_directed, is_hold, is_own, is_own_fault, lwp_at, no_covers, nobody, replaces_memory, without_replaced}
+use Rattle.pr_hidden.specs.Hiding.{with_fault, with_own_agent, with_patches}
 use Rattle.pr_hidden.specs.HiddenSteps.{hidden_steps, hidden_steps_from, hidden_steps_of, hidden_trace, hidden_trace_from, hidden_trace_of, is_leaving, steps_of_own, turn_seen}
 use Rattle.pr_hidden.proofs.CoverLemmas.{cover-same, each-cover}
 use Rattle.pr_hidden.proofs.NoneLemmas.{none-same}
@@ -86,8 +86,13 @@ module _ (covers : Covers) (none : NoAgents covers) where
       with-none covers pid (cover_turned nobody covers s pid id did c) none
       (either (λ (d : Cover). d.agent ≡ false) (not (keeps_lwp c id)) _ _
       (either (λ (d : Cover). d.agent ≡ false) (exits did) (with_own_agent false c) c refl (none pid))
+      (left (replaces_memory did) _
       (either (λ (d : Cover). d.agent ≡ false) (is_directed (lwp_at s.system pid id)) c (with_fault id own c) (none pid)
-      (none pid)))
+      (none pid))))
+    where
+      left : (b : Bool) (d : Cover) → d.agent ≡ false → (cond b (with_patches [] d) d).agent ≡ false
+      left true d is = is
+      left false d is = is
 
   after-all : (s : TracedState) (actor : Actor) (it : Act)
       → NoAgents (covers_after nobody covers s (record { actor = actor; act = it }))
@@ -215,11 +220,14 @@ turned-leaves : (s : TracedState) (pid id : ℕ) (did : Did) → covers_turned n
 unfolding covers_turned
 turned-leaves s pid id did =
     let own = is_own nobody no_covers s pid id did in
-    one-nothing pid (cond (is_directed (lwp_at s.system pid id)) no_cover (with_fault id own no_cover))
+    one-nothing pid
+    (without_replaced did (cond (is_directed (lwp_at s.system pid id)) no_cover (with_fault id own no_cover)))
+    (ap (without_replaced did)
     (ap (λ b. cond (is_directed (lwp_at s.system pid id)) no_cover (with_fault id b no_cover))
     (none-own no_covers s pid id did)
     ∙ ap (λ (c : Cover). cond (is_directed (lwp_at s.system pid id)) no_cover c) (fault-none id)
     ∙ cond-same (is_directed (lwp_at s.system pid id)) no_cover)
+    ∙ cond-same (replaces_memory did) no_cover)
 
 after-leaves : (s : TracedState) (actor : Actor) (it : Act)
     → covers_after nobody no_covers s (record { actor = actor; act = it }) ≡ no_covers

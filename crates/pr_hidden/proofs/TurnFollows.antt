@@ -7,7 +7,7 @@ use Rattle.pr_num.specs.ById.{IsRising}
 use Rattle.pr_num.specs.declared.faults.Flt.{Flt}
 use Rattle.pr_num.specs.declared.faults.Flt.TheVariants as flt
 use Rattle.pr_num.specs.declared.syscalls.Sysno.{Sysno}
-use Rattle.pr_num.proofs.BoolLemmas.{and_false}
+use Rattle.pr_num.proofs.BoolLemmas.{and_false, either}
 use Rattle.pr_num.proofs.ByIdLaws.{All-change_under, All-under}
 use Rattle.pr_parts.specs.AddressSpaces.{with_bytes}
 use Rattle.pr_model.specs.Changes.{Change, Ending, all_changed, changed, ended, ends_lwp, with_space}
@@ -44,7 +44,7 @@ use Rattle.pr_erasure.proofs.TransitionLemmas.{requested-bare}
 use Rattle.pr_erasure.proofs.UntouchedLemmas.{settled-keeps}
 use Rattle.pr_hidden.specs.Covers.{Cover, Covers, Patch, keeps_lwp, no_cover, seen, uncovered, uncovered_lwp, uncovered_process, with_cover}
 use Rattle.pr_hidden.specs.Following.{IsOpenTurn, RunsInstruction, SparesPatches}
-use Rattle.pr_hidden.specs.Hiders.{Hiders, cover_turned, covers_turned, exits, has_hold, is_at_patch, is_directed, is_own, is_own_fault, lwp_at, lwp_in}
+use Rattle.pr_hidden.specs.Hiders.{Hiders, cover_turned, covers_turned, exits, has_hold, is_at_patch, is_directed, is_own, is_own_fault, lwp_at, lwp_in, without_replaced}
 use Rattle.pr_hidden.specs.HiddenSteps.{is_leaving, is_way_out, steps_of_own, turn_seen}
 use Rattle.pr_hidden.specs.Hiding.{AreCovered, ChangesOwn, GoesBack, IsUnhampered, Stands, nothing, stores, with_fault, with_own_agent}
 use Rattle.pr_hidden.specs.Sparing.{AreWithin, spares_instruction}
@@ -55,6 +55,7 @@ use Rattle.pr_hidden.proofs.FaultRows.{HowFaulted, Steps, apart-bools, bpt-effec
 use Rattle.pr_hidden.proofs.FollowLemmas.{Follows, agent-of-one, agents-same, beneath-tame, change-same, follows-unseen, process-same, settled-tame}
 use Rattle.pr_hidden.proofs.HiddenCovers.{agent-gone, agent-unseen, agent_gone, settled-seen}
 use Rattle.pr_hidden.proofs.OrderLemmas.{AreInOrder, live-made, transition-allowed}
+use Rattle.pr_hidden.proofs.ReplacedLemmas.{none-dropped}
 use Rattle.pr_hidden.proofs.RunCovers.{breakpoint-hidden, open-runs, step-runs, stepped_return-hidden}
 use Rattle.pr_hidden.proofs.TameLemmas.{IsTame, IsTameLwp, IsTameProcess, tame-found, tame-lwp, tame-process, tame-untouched, untouched-tame}
 use Rattle.pr_hidden.proofs.TurnCovers.{TurnHere, lwp-beneath, live-beneath, turn-beneath, turn-here}
@@ -131,7 +132,7 @@ module _ (who : Hiders) (covers : Covers) (s : TracedState) (pid id : ℕ) (t : 
     unfolding covers_turned
     agent-cover =
         ap (λ b. with_cover pid (cond (not b) (cond (exits did) (with_own_agent false c) c)
-        (cond (is_directed (lwp_at s.system pid id)) c (with_fault id own c))) covers) hidden
+        (without_replaced did (cond (is_directed (lwp_at s.system pid id)) c (with_fault id own c)))) covers) hidden
 
     -- it ends
     module _ (exit : exits did ≡ true) (is : row.transition ≡ ending ends_lwp) (more : eqb (length p.lwps) 1 ≡ false) where
@@ -247,9 +248,17 @@ module _ (who : Hiders) (covers : Covers) (s : TracedState) (pid id : ℕ) (t : 
     unfolding covers_turned
     kept-cover b is =
         ap (λ k. with_cover pid (cond (not k) (cond (exits did) (with_own_agent false c) c)
-        (cond (is_directed (lwp_at s.system pid id)) c (with_fault id own c))) covers) kept
-        ∙ ap (λ o. with_cover pid (cond (is_directed o) c (with_fault id own c)) covers) at
-        ∙ ap (λ d. with_cover pid (cond d c (with_fault id own c)) covers) is
+        (without_replaced did (cond (is_directed (lwp_at s.system pid id)) c (with_fault id own c)))) covers) kept
+        ∙ ap (λ o. with_cover pid (without_replaced did (cond (is_directed o) c (with_fault id own c))) covers) at
+        ∙ ap (λ d. with_cover pid (without_replaced did (cond d c (with_fault id own c))) covers) is
+        ∙ ap (λ (d : Cover). with_cover pid d covers) (dropped (cond b c (with_fault id own c)) same)
+      where
+        -- a vfork or an exec that is granted finds no patches
+        dropped : (d : Cover) → d.patches ≡ c.patches → without_replaced did d ≡ d
+        dropped = none-dropped covers s.system pid p id l did did-is tidy.changes
+
+        same : (cond b c (with_fault id own c)).patches ≡ c.patches
+        same = either (λ (d : Cover). d.patches ≡ c.patches) b c (with_fault id own c) refl refl
 
     kept-seen : (m : Memory) (b : Bool) → own ≡ b
         → turn_seen who covers s m pid id did

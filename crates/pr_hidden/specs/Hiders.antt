@@ -11,7 +11,7 @@ use Rattle.pr_num.specs.declared.messages.Message.{Message}
 use Rattle.pr_num.specs.declared.messages.Message.TheVariants.{Agent, Write}
 use Rattle.pr_num.specs.declared.messages.MsgFault.{MsgFault}
 use Rattle.pr_num.specs.declared.syscalls.Sysno.{Sysno}
-use Rattle.pr_num.specs.declared.syscalls.Sysno.TheVariants.{LwpExit}
+use Rattle.pr_num.specs.declared.syscalls.Sysno.TheVariants.{Exec, LwpExit, Vfork}
 use Rattle.pr_model.specs.ControlMessages.{tail_of, target_of}
 use Rattle.pr_model.specs.Handles.{handle_of}
 use Rattle.pr_model.specs.Legal.{after}
@@ -30,7 +30,8 @@ use Rattle.pr_model.specs.declared.events.Actor.TheVariants.{Controller, Lwp}
 use Rattle.pr_model.specs.declared.events.Did.{Did}
 use Rattle.pr_model.specs.declared.events.Did.TheVariants.{Faulted, Made}
 use Rattle.pr_model.specs.declared.events.Entry.{Entry}
-use Rattle.pr_model.specs.declared.events.Res.TheVariants.{Ended}
+use Rattle.pr_model.specs.declared.events.Res.{Res}
+use Rattle.pr_model.specs.declared.events.Res.TheVariants.{Ended, Value}
 use Rattle.pr_model.specs.declared.handles.Held.{Held}
 use Rattle.pr_hidden.specs.Covers.{Cover, Covers, Patch, keeps_lwp, no_cover, with_cover}
 use Rattle.pr_hidden.specs.Hiding.{with_fault, with_own_agent, with_patches}
@@ -194,12 +195,34 @@ abbrev pub exits : Did → Bool
 exits (Made LwpExit Ended) = true
 exits did = false
 
+-- whether a turn is a vfork(2) or an exec(2) that was granted
+abbrev pub is_value : Res → Bool
+is_value (Value value) = true
+is_value result = false
+
+abbrev pub replaces : Sysno → Bool
+replaces Vfork = true
+replaces Exec = true
+replaces call = false
+
+abbrev pub replaces_memory : Did → Bool
+replaces_memory (Made call result) = replaces call && is_value result
+replaces_memory did = false
+
+-- After that a child has the memory too, or the memory is another: no breakpoint counts as planted in the process any
+-- more, and FLTBPT where one stood is a fault like others. Who plants traces the exits of these calls, so that the
+-- process goes no further before that exit was read.
+abbrev pub without_replaced : Did → Cover → Cover
+without_replaced did c = if replaces_memory did then with_patches [] c else c
+
 -- What the turn of an lwp leaves hidden of its process. A probe's agent that ends is there no more. Another lwp that
--- stops as it was directed stays where it was, and any other turn says whether it stands at a fault of a controller's.
+-- stops as it was directed stays where it was, and any other turn says whether it stands at a fault of a controller's,
+-- and leaves no patch if it was a vfork or an exec that was granted.
 abbrev pub cover_turned : Hiders → Covers → TracedState → ℕ → ℕ → Did → Cover → Cover
 cover_turned who covers s pid id did c =
     if not (keeps_lwp c id) then (if exits did then with_own_agent false c else c)
-    else (if is_directed (lwp_at s.system pid id) then c else with_fault id (is_own who covers s pid id did) c)
+    else without_replaced did
+    (if is_directed (lwp_at s.system pid id) then c else with_fault id (is_own who covers s pid id did) c)
 
 unfoldable pub covers_turned : Hiders → Covers → TracedState → ℕ → ℕ → Did → Covers
 covers_turned who covers s pid id did = with_cover pid (cover_turned who covers s pid id did (covers pid)) covers

@@ -23,8 +23,8 @@ use Rattle.pr_model.specs.declared.events.Did.{Did}
 use Rattle.pr_model.specs.declared.handles.Held.{Held}
 use Rattle.pr_hidden.specs.Covers.{Cover, Covers, Patch, keeps_lwp, with_cover}
 use Rattle.pr_hidden.specs.HiddenSteps.{hidden_steps_of, turn_seen}
-use Rattle.pr_hidden.specs.Hiders.{Hiders, cover_sent, cover_turned, covers_after, covers_called, covers_closed, covers_controlled, covers_sent, covers_targeted, covers_turned, exits, finished, hides, is_ctl, is_directed, is_own, lwp_at}
-use Rattle.pr_hidden.specs.Hiding.{with_fault, with_own_agent}
+use Rattle.pr_hidden.specs.Hiders.{Hiders, cover_sent, cover_turned, covers_after, covers_called, covers_closed, covers_controlled, covers_sent, covers_targeted, covers_turned, exits, finished, hides, is_ctl, is_directed, is_own, lwp_at, replaces_memory, without_replaced}
+use Rattle.pr_hidden.specs.Hiding.{with_fault, with_own_agent, with_patches}
 use Rattle.pr_hide.specs.Bare.{bare, bare_cover}
 use Rattle.pr_hide.specs.CoverTables.{covers_in}
 use Rattle.pr_hide.proofs.CoverTableLemmas.{same-cover}
@@ -50,19 +50,27 @@ module _ (agents : BTreeSet ℕ) (patches : BTreeMap ℕ (List Patch)) where
         by q false = refl
 
     left-out : (c : Cover) (kept out directed own : Bool) → kept ≡ false → out ≡ true
-        → with_own_agent false (bare_cover c) ≡ bare_cover (cond (not kept) (cond out (with_own_agent false c) c) (cond directed c (with_fault id own c)))
+        → with_own_agent false (bare_cover c) ≡ bare_cover (cond (not kept) (cond out (with_own_agent false c) c) (without_replaced did (cond directed c (with_fault id own c))))
     left-out c false true directed own k o = refl
     left-out c true out directed own k o = cc
     left-out c false false directed own k o = cc
 
-    stays-so : (c : Cover) (kept out directed own : Bool) → kept ≡ true
-        → bare_cover c ≡ bare_cover (cond (not kept) (cond out (with_own_agent false c) c) (cond directed c (with_fault id own c)))
-    stays-so c true out true own k = refl
-    stays-so c true out false own k = refl
-    stays-so c false out directed own k = cc
+    stays-so : (c : Cover) (kept out directed own : Bool) → kept ≡ true → replaces_memory did ≡ false
+        → bare_cover c ≡ bare_cover (cond (not kept) (cond out (with_own_agent false c) c) (without_replaced did (cond directed c (with_fault id own c))))
+    stays-so c true out true own k r = ap (λ b. bare_cover (cond b (with_patches [] c) c)) (sym r)
+    stays-so c true out false own k r =
+        ap (λ b. bare_cover (cond b (with_patches [] (with_fault id own c)) (with_fault id own c))) (sym r)
+    stays-so c false out directed own k r = cc
+
+    replaced-so : (c : Cover) (kept out directed own : Bool) → kept ≡ true → replaces_memory did ≡ true
+        → finished c ≡ bare_cover (cond (not kept) (cond out (with_own_agent false c) c) (without_replaced did (cond directed c (with_fault id own c))))
+    replaced-so c true out true own k r = ap (λ b. bare_cover (cond b (with_patches [] c) c)) (sym r)
+    replaced-so c true out false own k r =
+        ap (λ b. bare_cover (cond b (with_patches [] (with_fault id own c)) (with_fault id own c))) (sym r)
+    replaced-so c false out directed own k r = cc
 
     goes-on : (c : Cover) (kept out directed own : Bool) → kept ≡ false → out ≡ false
-        → bare_cover c ≡ bare_cover (cond (not kept) (cond out (with_own_agent false c) c) (cond directed c (with_fault id own c)))
+        → bare_cover c ≡ bare_cover (cond (not kept) (cond out (with_own_agent false c) c) (without_replaced did (cond directed c (with_fault id own c))))
     goes-on c false false directed own k o = refl
     goes-on c true out directed own k o = cc
     goes-on c false true directed own k o = cc
@@ -89,14 +97,22 @@ module _ (agents : BTreeSet ℕ) (patches : BTreeMap ℕ (List Patch)) where
         ∙ alike _ _ (goes-on (covers_in agents patches pid) (keeps_lwp (covers_in agents patches pid) id) (exits did)
         (is_directed (lwp_at s.system pid id)) (is_own who (covers_in agents patches) s pid id did) hidden goes)
 
-    -- any other lwp
-    pub lwp-turned : keeps_lwp (covers_in agents patches pid) id ≡ true
+    -- any other lwp: after a vfork or an exec that was granted no breakpoint is planted
+    pub memory-replaced : keeps_lwp (covers_in agents patches pid) id ≡ true → replaces_memory did ≡ true
+        → with_cover pid (finished (covers_in agents patches pid)) (covers_in agents patches)
+        ≡ bare (covers_turned who (covers_in agents patches) s pid id did)
+    unfolding covers_turned covers_in
+    memory-replaced kept replaced =
+        alike _ _ (replaced-so (covers_in agents patches pid) (keeps_lwp (covers_in agents patches pid) id) (exits did)
+        (is_directed (lwp_at s.system pid id)) (is_own who (covers_in agents patches) s pid id did) kept replaced)
+
+    pub lwp-turned : keeps_lwp (covers_in agents patches pid) id ≡ true → replaces_memory did ≡ false
         → covers_in agents patches ≡ bare (covers_turned who (covers_in agents patches) s pid id did)
     unfolding covers_turned covers_in
-    lwp-turned kept =
+    lwp-turned kept other =
         sym same
         ∙ alike _ _ (stays-so (covers_in agents patches pid) (keeps_lwp (covers_in agents patches pid) id) (exits did)
-        (is_directed (lwp_at s.system pid id)) (is_own who (covers_in agents patches) s pid id did) kept)
+        (is_directed (lwp_at s.system pid id)) (is_own who (covers_in agents patches) s pid id did) kept other)
 
 pub ruleset entries = (is-bare, still-bare)
 
@@ -156,18 +172,24 @@ module _ (who : Hiders) (covers : Covers) (s : TracedState) where
   called-bare k (call.Close handle) reply.Done = closed-bare k (handle_of s.opens k handle)
   called-bare k _ _ = refl
 
-  turned-alike : (id : ℕ) (c : Cover) (kept out directed own : Bool)
-      → bare_cover (cond (not kept) (cond out (with_own_agent false (bare_cover c)) (bare_cover c)) (cond directed (bare_cover c) (with_fault id own (bare_cover c))))
-      ≡ bare_cover (cond (not kept) (cond out (with_own_agent false c) c) (cond directed c (with_fault id own c)))
-  turned-alike id c false true directed own = refl
-  turned-alike id c false false directed own = refl
-  turned-alike id c true out true own = refl
-  turned-alike id c true out false own = refl
+  replaced-alike : (b : Bool) (x y : Cover) → bare_cover x ≡ bare_cover y
+      → bare_cover (cond b (with_patches [] x) x) ≡ bare_cover (cond b (with_patches [] y) y)
+  replaced-alike true x y e = ap (λ (c : Cover). with_patches [] c) e
+  replaced-alike false x y e = e
+
+  turned-alike : (id : ℕ) (did : Did) (c : Cover) (kept out directed own : Bool)
+      → bare_cover (cond (not kept) (cond out (with_own_agent false (bare_cover c)) (bare_cover c)) (without_replaced did (cond directed (bare_cover c) (with_fault id own (bare_cover c)))))
+      ≡ bare_cover (cond (not kept) (cond out (with_own_agent false c) c) (without_replaced did (cond directed c (with_fault id own c))))
+  turned-alike id did c false true directed own = refl
+  turned-alike id did c false false directed own = refl
+  turned-alike id did c true out true own = replaced-alike (replaces_memory did) (bare_cover c) c refl
+  turned-alike id did c true out false own =
+      replaced-alike (replaces_memory did) (with_fault id own (bare_cover c)) (with_fault id own c) refl
 
   turned-bare : (pid id : ℕ) (did : Did) → bare (covers_turned who (bare covers) s pid id did) ≡ bare (covers_turned who covers s pid id did)
   unfolding covers_turned is_own
   turned-bare pid id did =
-      both pid _ _ (turned-alike id (covers pid) (keeps_lwp (covers pid) id) (exits did) (is_directed (lwp_at s.system pid id)) (is_own who covers s pid id did))
+      both pid _ _ (turned-alike id did (covers pid) (keeps_lwp (covers pid) id) (exits did) (is_directed (lwp_at s.system pid id)) (is_own who covers s pid id did))
 
   pub after-bare : (actor : Actor) (it : Act)
       → bare (covers_after who (bare covers) s (record { actor = actor; act = it })) ≡ bare (covers_after who covers s (record { actor = actor; act = it }))

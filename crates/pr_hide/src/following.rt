@@ -2,7 +2,7 @@
 ghost use Rattle.std.specs.Prelude.{◌≡◌, OnOk};
 ghost use Rattle.pr_model.specs.Handles.{handle_of};
 ghost use Rattle.pr_num.specs.Messages.{first_message};
-ghost use Rattle.pr_hidden.specs.Hiders.{covers_after, covers_called, covers_closed, covers_controlled, covers_sent, covers_turned, exits};
+ghost use Rattle.pr_hidden.specs.Hiders.{covers_after, covers_called, covers_closed, covers_controlled, covers_sent, covers_turned, exits, is_value, replaces, replaces_memory};
 ghost use Rattle.pr_hide.specs.Bare.{bare};
 ghost use Rattle.pr_hide.specs.CoverTables.{covers_of};
 ghost use Rattle.pr_hide.specs.Hidings.{hiders_of};
@@ -120,7 +120,31 @@ fn exits(did: Did) -> bool
     matches!(did, Did::Made(Sysno::LwpExit, Res::Ended))
 }
 
-/// What a turn of an lwp leaves hidden: an agent of a controller's that ends is there no more.
+/// Whether a call, where it is granted, leaves a process another memory, or a child the memory too.
+fn replaces(call: Sysno) -> bool
+    ensures { result ≡ replaces call }
+{
+    matches!(call, Sysno::Vfork | Sysno::Exec)
+}
+
+fn is_value(given: Res) -> bool
+    ensures { result ≡ is_value given }
+{
+    matches!(given, Res::Value(_))
+}
+
+/// Whether a turn is a vfork(2) or an exec(2) that was granted.
+fn replaces_memory(did: Did) -> bool
+    ensures { result ≡ replaces_memory did }
+{
+    match did {
+        Did::Made(call, given) => replaces(call) && is_value(given),
+        _ => false,
+    }
+}
+
+/// What a turn of an lwp leaves hidden: an agent of a controller's that ends is there no more, and no breakpoint is
+/// planted after a vfork or an exec that was granted.
 fn follow_turn(
     table: &mut CoverTable,
     who: &[Hider],
@@ -133,6 +157,9 @@ fn follow_turn(
         ≡ bare (covers_turned (hiders_of who.now) (covers_of table.old) machine.now pid lwp did) }
 {
     if table.keeps_lwp(pid, lwp) {
+        if replaces_memory(did) {
+            table.finish(pid);
+        }
         return;
     }
     if exits(did) {

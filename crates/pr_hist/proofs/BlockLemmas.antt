@@ -22,18 +22,18 @@ drop-past i h past = nil_from_length (drop i h) (omega (arith, past, length-drop
 
 -- from a place on: the block of the entry there, and those of the others
 blocks-more : (i : ℕ) (names : Names) (h : List Entry) (e : Entry) → slice_get h i ≡ Some e
-    → blocks i names (drop i h) ≡ words_of false i names e ++ blocks (i + 1) (names_beyond names e) (drop (i + 1) h)
+    → blocks i names (drop i h) ≡ words_of false i names e ++ blocks (i + 1) (names_beyond names i e) (drop (i + 1) h)
 unfolding blocks
 blocks-more i names h e here = ap (blocks i names) (drop-at h i e here)
 
 -- what was told, and the block behind it, leaves the others to be told
 pub blocks-next : (i : ℕ) (names beyond : Names) (h : List Entry) (e : Entry) (now next all : List ℕ)
-    → slice_get h i ≡ Some e → beyond ≡ names_beyond names e → next ≡ now ++ words_of false i names e
+    → slice_get h i ≡ Some e → beyond ≡ names_beyond names i e → next ≡ now ++ words_of false i names e
     → now ++ blocks i names (drop i h) ≡ all → next ++ blocks (i + 1) beyond (drop (i + 1) h) ≡ all
 blocks-next i names beyond h e now next all here noted is before =
     ap (λ t. t ++ blocks (i + 1) beyond (drop (i + 1) h)) is
     ∙ ap (λ ns. now ++ words_of false i names e ++ blocks (i + 1) ns (drop (i + 1) h)) noted
-    ∙ append_assoc now (words_of false i names e) (blocks (i + 1) (names_beyond names e) (drop (i + 1) h))
+    ∙ append_assoc now (words_of false i names e) (blocks (i + 1) (names_beyond names i e) (drop (i + 1) h))
     ∙ ap (λ t. now ++ t) (sym (blocks-more i names h e here))
     ∙ before
 
@@ -48,18 +48,18 @@ blocks-done i names h now all past is =
 
 selected-more : (s : Selection) (i : ℕ) (names : Names) (h : List Entry) (e : Entry) → slice_get h i ≡ Some e
     → selected_blocks s i names (drop i h)
-    ≡ selected s i names e ++ selected_blocks s (i + 1) (names_beyond names e) (drop (i + 1) h)
+    ≡ selected s i names e ++ selected_blocks s (i + 1) (names_beyond names i e) (drop (i + 1) h)
 unfolding selected_blocks
 selected-more s i names h e here = ap (selected_blocks s i names) (drop-at h i e here)
 
 pub selected-next : (s : Selection) (i : ℕ) (names beyond : Names) (h : List Entry) (e : Entry) (now next all : List ℕ)
-    → slice_get h i ≡ Some e → beyond ≡ names_beyond names e → next ≡ now ++ selected s i names e
+    → slice_get h i ≡ Some e → beyond ≡ names_beyond names i e → next ≡ now ++ selected s i names e
     → now ++ selected_blocks s i names (drop i h) ≡ all
     → next ++ selected_blocks s (i + 1) beyond (drop (i + 1) h) ≡ all
 selected-next s i names beyond h e now next all here noted is before =
     ap (λ t. t ++ selected_blocks s (i + 1) beyond (drop (i + 1) h)) is
     ∙ ap (λ ns. now ++ selected s i names e ++ selected_blocks s (i + 1) ns (drop (i + 1) h)) noted
-    ∙ append_assoc now (selected s i names e) (selected_blocks s (i + 1) (names_beyond names e) (drop (i + 1) h))
+    ∙ append_assoc now (selected s i names e) (selected_blocks s (i + 1) (names_beyond names i e) (drop (i + 1) h))
     ∙ ap (λ t. now ++ t) (sym (selected-more s i names h e here))
     ∙ before
 

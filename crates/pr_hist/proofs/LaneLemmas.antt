@@ -37,12 +37,12 @@ with_entries-done r w i lanes h all past is = ap (with_entries r w lanes) (sym (
 
 rows_from-more : (s : Selection) (i row : ℕ) (names : Names) (h : List Entry) (e : Entry) → slice_get h i ≡ Some e
     → rows_from s i row names (drop i h)
-    ≡ rows_from s (i + 1) (row_after s i row names e) (names_beyond names e) (drop (i + 1) h)
+    ≡ rows_from s (i + 1) (row_after s i row names e) (names_beyond names i e) (drop (i + 1) h)
 unfolding rows_from
 rows_from-more s i row names h e here = ap (rows_from s i row names) (drop-at h i e here)
 
 pub rows_from-next : (s : Selection) (i row next : ℕ) (names beyond : Names) (h : List Entry) (e : Entry) (all : ℕ)
-    → slice_get h i ≡ Some e → next ≡ row_after s i row names e → beyond ≡ names_beyond names e
+    → slice_get h i ≡ Some e → next ≡ row_after s i row names e → beyond ≡ names_beyond names i e
     → rows_from s i row names (drop i h) ≡ all → rows_from s (i + 1) next beyond (drop (i + 1) h) ≡ all
 rows_from-next s i row next names beyond h e all here is noted before =
     ap (λ r. rows_from s (i + 1) r beyond (drop (i + 1) h)) is
@@ -61,13 +61,13 @@ rows_text-more : (c : Chart) (s : Selection) (i row : ℕ) (names : Names) (lane
     → slice_get h i ≡ Some e
     → rows_text c s i row names lanes (drop i h)
     ≡ told_row c s i row names (lanes_after e lanes) e
-    ++ rows_text c s (i + 1) (row_after s i row names e) (names_beyond names e) (lanes_after e lanes) (drop (i + 1) h)
+    ++ rows_text c s (i + 1) (row_after s i row names e) (names_beyond names i e) (lanes_after e lanes) (drop (i + 1) h)
 unfolding rows_text
 rows_text-more c s i row names lanes h e here = ap (rows_text c s i row names lanes) (drop-at h i e here)
 
 pub rows_text-next : (c : Chart) (s : Selection) (i row further : ℕ) (names beyond : Names) (lanes moved : List Lane)
     (h : List Entry) (e : Entry) (now next all : List ℕ)
-    → slice_get h i ≡ Some e → further ≡ row_after s i row names e → beyond ≡ names_beyond names e
+    → slice_get h i ≡ Some e → further ≡ row_after s i row names e → beyond ≡ names_beyond names i e
     → moved ≡ lanes_after e lanes → next ≡ now ++ told_row c s i row names moved e
     → now ++ rows_text c s i row names lanes (drop i h) ≡ all
     → next ++ rows_text c s (i + 1) further beyond moved (drop (i + 1) h) ≡ all
@@ -77,9 +77,9 @@ rows_text-next c s i row further names beyond lanes moved h e now next all here 
     ∙ ap (λ ns. (now ++ told_row c s i row names moved e)
     ++ rows_text c s (i + 1) (row_after s i row names e) ns moved (drop (i + 1) h)) noted
     ∙ ap (λ ls. (now ++ told_row c s i row names ls e)
-    ++ rows_text c s (i + 1) (row_after s i row names e) (names_beyond names e) ls (drop (i + 1) h)) moves
+    ++ rows_text c s (i + 1) (row_after s i row names e) (names_beyond names i e) ls (drop (i + 1) h)) moves
     ∙ append_assoc now (told_row c s i row names (lanes_after e lanes) e)
-    (rows_text c s (i + 1) (row_after s i row names e) (names_beyond names e) (lanes_after e lanes) (drop (i + 1) h))
+    (rows_text c s (i + 1) (row_after s i row names e) (names_beyond names i e) (lanes_after e lanes) (drop (i + 1) h))
     ∙ ap (λ t. now ++ t) (sym (rows_text-more c s i row names lanes h e here))
     ∙ before
 

@@ -7,7 +7,7 @@ use Rattle.pr_model.specs.declared.calls.Reply.{Reply}
 use Rattle.pr_model.specs.declared.calls.Reply.TheVariants as reply
 use Rattle.pr_hist.specs.Listings.{place_text}
 use Rattle.pr_hist.specs.Messages.{messages_text, signal_text}
-use Rattle.pr_hist.specs.Names.{Names, handle_text, handles_text, known_text, layout_in, listing_by, memory_by}
+use Rattle.pr_hist.specs.Names.{Names, handle_text, handles_text, known_text, layout_in, listing_by, memory_by, moved_text}
 use Rattle.pr_hist.specs.Records.{raw_text, record_text}
 use Rattle.pr_hist.specs.Refusals.{refusal_text}
 use Rattle.pr_hist.specs.Texts.{number_text, size_text, time_text}
@@ -91,15 +91,20 @@ read_text full names _ bytes = raw_text bytes
 unfoldable pub bytes_answer : Bool → Names → Call → List ℕ → List ℕ
 bytes_answer full names c bytes = size_text (length bytes) ++ read_text full names c bytes
 
+-- that a wait is over for which a process last moved so
+unfoldable pub waited_text : Names → Call → List ℕ
+waited_text names (call.CtlWait h until bytes) = moved_text names h
+waited_text names _ = []
+
 -- what comes with the answer, a row an answer
 unfoldable pub answer_text : Bool → Names → Call → Reply → List ℕ
 answer_text full names c (reply.Handle h) = decimal h
 answer_text full names c reply.Done = []
-answer_text full names c (reply.Used n) = size_text n
+answer_text full names c (reply.Used n) = size_text n ++ waited_text names c
 answer_text full names c (reply.Half n) = until_text n
 answer_text full names c (reply.Bytes bytes) = bytes_answer full names c bytes
 answer_text full names c (reply.Pid p) = decimal p
-answer_text full names c (reply.Ready h) = handle_text names h
+answer_text full names c (reply.Ready h) = handle_text names h ++ moved_text names h
 answer_text full names c (reply.Fail e) = refusal_text c e
 
 -- a call and its answer

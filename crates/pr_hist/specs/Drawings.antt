@@ -31,12 +31,12 @@ unfoldable pub rows_text : Chart → Selection → ℕ → ℕ → Names → Lis
 rows_text c s n row names lanes [] = []
 rows_text c s n row names lanes (e ∷ es) =
     told_row c s n row names (lanes_after e lanes) e
-    ++ rows_text c s (n + 1) (row_after s n row names e) (names_beyond names e) (lanes_after e lanes) es
+    ++ rows_text c s (n + 1) (row_after s n row names e) (names_beyond names n e) (lanes_after e lanes) es
 
 -- how many rows there are behind entries
 unfoldable pub rows_from : Selection → ℕ → ℕ → Names → List Entry → ℕ
 rows_from s n row names [] = row
-rows_from s n row names (e ∷ es) = rows_from s (n + 1) (row_after s n row names e) (names_beyond names e) es
+rows_from s n row names (e ∷ es) = rows_from s (n + 1) (row_after s n row names e) (names_beyond names n e) es
 
 -- Which entries are told, their handles say, and not what processes run.
 abbrev pub rows_of : Selection → List Entry → ℕ

@@ -30,7 +30,7 @@ words_of full n names e =
 -- the blocks of entries that count from a number
 unfoldable pub blocks : ℕ → Names → List Entry → List ℕ
 blocks n names [] = []
-blocks n names (e ∷ es) = words_of false n names e ++ blocks (n + 1) (names_beyond names e) es
+blocks n names (e ∷ es) = words_of false n names e ++ blocks (n + 1) (names_beyond names n e) es
 
 -- a history in words, before which this is known
 abbrev pub text_of : Names → List Entry → List ℕ

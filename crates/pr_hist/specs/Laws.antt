@@ -1,5 +1,5 @@
 -- What holds of histories in words, said of entries and handles alone.
-use Rattle.std.specs.Prelude.{◌≡◌, ◌≢◌, ◌&&◌, ◌||◌, not, Bool, true, false, ℕ, List, [], ◌∷◌, ◌++◌, Some, None}
+use Rattle.std.specs.Prelude.{◌≡◌, ◌≢◌, ◌&&◌, ◌||◌, not, Bool, true, false, ℕ, List, [], ◌∷◌, ◌++◌, ◌+◌, Some, None}
 use Rattle.pr_num.specs.ById.{under}
 use Rattle.pr_model.specs.declared.calls.Call.TheVariants as call
 use Rattle.pr_model.specs.declared.calls.File.{File}
@@ -18,10 +18,10 @@ use Rattle.pr_hist.specs.News.{names_beyond}
 use Rattle.pr_hist.specs.declared.lanes.Stand.{Stand}
 use Rattle.pr_hist.specs.declared.lanes.Stand.TheVariants.{OnEvent, Requested, JobStopped}
 
--- what is known after entries, where this was known before them
-unfoldable pub names_behind : Names → List Entry → Names
-names_behind names [] = names
-names_behind names (e ∷ es) = names_behind (names_beyond names e) es
+-- what is known after entries that count from a number, where this was known before them
+unfoldable pub names_behind : Names → ℕ → List Entry → Names
+names_behind names n [] = names
+names_behind names n (e ∷ es) = names_behind (names_beyond names n e) (n + 1) es
 
 -- an open that gave a handle names it, and leaves the names of all others
 pub record NamesOpened (names : Handles) (pid lwp : ℕ) (file : File) (mode : Mode) (h : ℕ) : Type 0 where

@@ -1,4 +1,4 @@
--- What is known before an entry: open handles by what they stand for, and processes by what they run.
+-- What is known before an entry: open handles by what they stand for, processes by what they run, and when they moved.
 use Rattle.std.specs.Prelude.{ℕ, Bool, true, false, Option, Some, None, List, [], ◌++◌, codes, decimal, if◌then◌else◌}
 use Rattle.std.specs.List.{flat_map, slice_get}
 use Rattle.pr_num.specs.ById.{under, inserted, without_id}
@@ -16,20 +16,23 @@ use Rattle.pr_model.specs.declared.events.Act.TheVariants as act
 use Rattle.pr_plain.specs.HistoryText.{target_text}
 use Rattle.pr_hist.specs.Fields.{layout_of}
 use Rattle.pr_hist.specs.Listings.{Listing}
+use Rattle.pr_hist.specs.Phrases.{phrase}
 use Rattle.pr_hist.specs.declared.fields.Layout.{Layout}
 use Rattle.pr_hist.specs.declared.fields.Layout.TheVariants as layout
 use Rattle.pr_hist.specs.declared.names.Known.{Known}
+use Rattle.pr_hist.specs.declared.phrases.Phrase.TheVariants.{LastMoved}
 
 -- the open handles, each with what it stands for
 abbrev pub Handles : Type 0
 Handles = List (ℕ × Known)
 
--- What is known: the programs with their lines, the open handles, and for processes the place of the listing of the
--- program that they run, counted from 0.
+-- What is known: the programs with their lines, the open handles, for processes the place of the listing of the program
+-- that they run, counted from 0, and for processes the entry in which an lwp of theirs last had a turn.
 pub record Names : Type 0 where
   pub listings : List Listing
   pub handles : Handles
   pub running : List (ℕ × ℕ)
+  pub moved : List (ℕ × ℕ)
 
 -- for what a file is open
 unfoldable pub mode_words : Mode → List ℕ
@@ -94,6 +97,21 @@ memory_for names (Some k) = if is_memory k.file then listing_of names k.pid else
 
 unfoldable pub memory_by : Names → ℕ → Option Listing
 memory_by names h = memory_for names (under h names.handles)
+
+-- ---- when processes moved
+
+-- the entry in which a process last moved, where it did
+abbrev pub moved_or_none : ℕ → Option ℕ → List ℕ
+moved_or_none p None = []
+moved_or_none p (Some n) = codes "; process " ++ (decimal p ++ (phrase LastMoved ++ decimal n))
+
+-- that of the process whose file is open by a handle
+abbrev pub moved_for : Names → Option Known → List ℕ
+moved_for names None = []
+moved_for names (Some k) = moved_or_none k.pid (under k.pid names.moved)
+
+unfoldable pub moved_text : Names → ℕ → List ℕ
+moved_text names h = moved_for names (under h names.handles)
 
 -- ---- how names come and go
 

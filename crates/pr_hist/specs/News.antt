@@ -1,6 +1,6 @@
 -- What an entry tells of what a process runs, and what is known after it.
-use Rattle.std.specs.Prelude.{ℕ, ◌+◌, ◌-◌, ◌&&◌, Bool, true, false, Option, Some, None, List, [], ◌∷◌, drop, length, nat_le, if◌then◌else◌}
-use Rattle.pr_num.specs.ById.{under, without_id}
+use Rattle.std.specs.Prelude.{ℕ, ◌+◌, ◌-◌, ◌&&◌, Bool, true, false, Option, Some, None, List, [], ◌∷◌, drop, is_some, length, nat_le, if◌then◌else◌}
+use Rattle.pr_num.specs.ById.{inserted, put_under, under, without_id}
 use Rattle.pr_num.specs.declared.syscalls.Sysno.TheVariants.{Exec}
 use Rattle.pr_model.specs.declared.calls.Call.{Call}
 use Rattle.pr_model.specs.declared.calls.Call.TheVariants as call
@@ -86,19 +86,29 @@ unfoldable pub running_after : Option News → List (ℕ × ℕ) → List (ℕ �
 running_after None running = running
 running_after (Some news) running = runs_now news.pid news.place running
 
--- what is known after an entry
-unfoldable pub names_beyond : Names → Entry → Names
-names_beyond names e = record {
+-- the entry of a number as the one in which a process last moved
+unfoldable pub moved_now : ℕ → ℕ → List (ℕ × ℕ) → List (ℕ × ℕ)
+moved_now p n moved = if is_some (under p moved) then put_under p n moved else inserted p n moved
+
+-- the same where it is a turn of one of its lwps
+unfoldable pub moved_after : ℕ → Actor → List (ℕ × ℕ) → List (ℕ × ℕ)
+moved_after n (Lwp p l) moved = moved_now p n moved
+moved_after n _ moved = moved
+
+-- what is known after the entry of a number
+unfoldable pub names_beyond : Names → ℕ → Entry → Names
+names_beyond names n e = record {
   listings = names.listings;
   handles = handles_after names.handles e.act;
   running = running_after (news_of names e) names.running;
+  moved = moved_after n e.actor names.moved;
 }
 
 -- ---- what is known before the first entry
 
 -- nothing: a history stands alone
 abbrev pub nothing_known : Names
-nothing_known = record { listings = []; handles = []; running = [] }
+nothing_known = record { listings = []; handles = []; running = []; moved = [] }
 
 -- processes that are made before the first turn, in their order, each by the place of its program; this is the first
 unfoldable pub started : ℕ → List (ℕ × ℕ) → List ℕ → List (ℕ × ℕ)
@@ -107,4 +117,9 @@ started pid running (place ∷ places) = started (pid + 1) (named pid place runn
 
 -- the programs of a scenario, and which of them its first processes run
 abbrev pub known_at_start : List Listing → List ℕ → Names
-known_at_start listings spawns = record { listings = listings; handles = []; running = started 1 [] spawns }
+known_at_start listings spawns = record {
+  listings = listings;
+  handles = [];
+  running = started 1 [] spawns;
+  moved = [];
+}

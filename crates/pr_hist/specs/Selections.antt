@@ -91,7 +91,7 @@ selected s n names e = if is_told s n names e then words_of s.full n names e els
 -- the blocks of those entries that are told, which count from a number
 unfoldable pub selected_blocks : Selection → ℕ → Names → List Entry → List ℕ
 selected_blocks s n names [] = []
-selected_blocks s n names (e ∷ es) = selected s n names e ++ selected_blocks s (n + 1) (names_beyond names e) es
+selected_blocks s n names (e ∷ es) = selected s n names e ++ selected_blocks s (n + 1) (names_beyond names n e) es
 
 -- a part of a history in words, before which this is known
 abbrev pub selected_text : Selection → Names → List Entry → List ℕ

@@ -62,13 +62,13 @@ outcome_text (Made c r) = result_text r
 outcome_text (Woke c r) = result_text r
 outcome_text _ = []
 
--- why an lwp stops that met something traced in such a turn
+-- why an lwp stops that met something traced in such a turn, and which set of its process had it
 unfoldable pub reason : Did → List ℕ
-reason (Entered c) = codes "PR_SYSENTRY"
-reason (Made c r) = codes "PR_SYSEXIT"
-reason (Woke c r) = codes "PR_SYSEXIT"
-reason (Faulted f) = codes "PR_FAULTED"
-reason (Took s) = codes "PR_SIGNALLED"
+reason (Entered c) = codes "PR_SYSENTRY, by its entry set"
+reason (Made c r) = codes "PR_SYSEXIT, by its exit set"
+reason (Woke c r) = codes "PR_SYSEXIT, by its exit set"
+reason (Faulted f) = codes "PR_FAULTED, by its fault set"
+reason (Took s) = codes "PR_SIGNALLED, by its signal set"
 reason _ = codes "an event"
 
 unfoldable pub stop_text : Did → Bool → List ℕ

@@ -24,13 +24,7 @@ fn write_refused(text: &mut Text, reply: &Reply) -> Result<(), NoMemory>
             text.text(errno.name().as_bytes())?;
             text.text(b": ")
         }
-        Reply::Handle(_)
-        | Reply::Done
-        | Reply::Used(_)
-        | Reply::Half(_)
-        | Reply::Bytes(_)
-        | Reply::Pid(_)
-        | Reply::Ready(_) => Ok(()),
+        _ => Ok(()),
     }
 }
 
@@ -64,14 +58,7 @@ fn write_asking(text: &mut Text, names: &Names, call: &Call) -> Result<(), NoMem
         Call::Ctl { bytes, .. } => write_messages(text, None, bytes.as_slice()),
         Call::CtlWait { bytes, .. } => write_waiting(text, bytes.as_slice()),
         Call::Read { handle, .. } => write_reading(text, names, *handle),
-        Call::Open { .. }
-        | Call::Close { .. }
-        | Call::Poll { .. }
-        | Call::Interrupt { .. }
-        | Call::Spawn { .. }
-        | Call::Kill { .. }
-        | Call::Until { .. }
-        | Call::List => write_whole(text, names, call),
+        _ => write_whole(text, names, call),
     }
 }
 

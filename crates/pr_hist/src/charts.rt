@@ -66,14 +66,7 @@ fn call_aims(names: &Names, call: &Call, actor: Actor) -> bool
         Call::Ctl { handle, .. } => known_aims(names.get(*handle).copied(), actor),
         Call::Kill { pid, .. } => is_lwp_of(*pid, actor),
         Call::Interrupt { controller } => is_same(Actor::Controller(*controller), actor),
-        Call::Open { .. }
-        | Call::Close { .. }
-        | Call::CtlWait { .. }
-        | Call::Read { .. }
-        | Call::Poll { .. }
-        | Call::Spawn { .. }
-        | Call::Until { .. }
-        | Call::List => false,
+        _ => false,
     }
 }
 
@@ -83,13 +76,7 @@ fn is_refusal(reply: &Reply) -> bool
 {
     match reply {
         Reply::Fail(_) => true,
-        Reply::Handle(_)
-        | Reply::Done
-        | Reply::Used(_)
-        | Reply::Half(_)
-        | Reply::Bytes(_)
-        | Reply::Pid(_)
-        | Reply::Ready(_) => false,
+        _ => false,
     }
 }
 
@@ -110,13 +97,7 @@ fn is_absent(stand: Stand) -> bool
 {
     match stand {
         Stand::Absent => true,
-        Stand::New
-        | Stand::Runs
-        | Stand::OnEvent
-        | Stand::Requested
-        | Stand::Asleep
-        | Stand::JobStopped
-        | Stand::Ends => false,
+        _ => false,
     }
 }
 

@@ -86,7 +86,7 @@ fn write_rows(
         move_lanes(lanes, entry);
         write_told(alloc, text, chart, selection, at, row, &names, lanes, entry)?;
         row = row_after(selection, at, row, &names, entry);
-        note(&mut names, entry)?;
+        note(&mut names, at, entry)?;
     }
     Ok(())
 }
@@ -100,7 +100,7 @@ fn rows_of(alloc: Global, selection: Selection, history: &History) -> Result<u64
     for at in 0..history.len() {
         let entry = history.get(at).unwrap();
         row = row_after(selection, at, row, &names, entry);
-        note(&mut names, entry)?;
+        note(&mut names, at, entry)?;
     }
     Ok(row)
 }

@@ -29,7 +29,7 @@ fn write_history(text: &mut Text, names: Names, history: &History) -> Result<(),
     for at in 0..history.len() {
         let entry = history.get(at).unwrap();
         words_of(text, false, &names, at, entry)?;
-        note(&mut names, entry)?;
+        note(&mut names, at, entry)?;
     }
     Ok(())
 }
@@ -63,7 +63,7 @@ fn write_part(
     for at in 0..history.len() {
         let entry = history.get(at).unwrap();
         write_selected(text, selection, &names, at, entry)?;
-        note(&mut names, entry)?;
+        note(&mut names, at, entry)?;
     }
     Ok(())
 }

@@ -225,13 +225,7 @@ fn settled(stand: Stand) -> Stand
 {
     match stand {
         Stand::Ends => Stand::Absent,
-        Stand::Absent
-        | Stand::New
-        | Stand::Runs
-        | Stand::OnEvent
-        | Stand::Requested
-        | Stand::Asleep
-        | Stand::JobStopped => stand,
+        _ => stand,
     }
 }
 
@@ -242,12 +236,7 @@ fn ended(stand: Stand) -> Stand
     match stand {
         Stand::Absent => Stand::Absent,
         Stand::Ends => Stand::Absent,
-        Stand::New
-        | Stand::Runs
-        | Stand::OnEvent
-        | Stand::Requested
-        | Stand::Asleep
-        | Stand::JobStopped => Stand::Ends,
+        _ => Stand::Ends,
     }
 }
 

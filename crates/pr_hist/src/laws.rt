@@ -16,7 +16,7 @@ ghost use Rattle.pr_hist.specs.declared.lanes.Stand.{Stand as AnyStand};
 pub fn a_text_grows_by_a_block()
     ensures none { (names : Names) → text_of names [] ≡ [] }
     ensures longer { (names : Names) (es : List AnyEntry) (e : AnyEntry)
-        → text_of names (es ++ e ∷ []) ≡ text_of names es ++ words_of false (length es) (names_behind names es) e }
+        → text_of names (es ++ e ∷ []) ≡ text_of names es ++ words_of false (length es) (names_behind names 0 es) e }
 {}
 
 /// A handle is named from the open that gave it to the close that was done, whatever happens to others.

@@ -13,6 +13,7 @@ mod lanes;
 mod laws;
 mod listings;
 mod messages;
+mod moves;
 mod names;
 mod news;
 mod operand_words;

@@ -1,4 +1,4 @@
-//! What is known before an entry: open handles by what they stand for, and processes by what they run.
+//! What is known before an entry: open handles by what they stand for, processes by what they run, and when they moved.
 ghost use Rattle.std.specs.Prelude.{◌≡◌, ◌++◌, ◌+◌, ◌<◌, ◌^◌, [], length, None, IfOk, OnOk};
 ghost use Rattle.std.specs.List.{flat_map};
 ghost use Rattle.std.specs.Option.{option_copied};
@@ -9,6 +9,7 @@ ghost use Rattle.pr_hist.specs.News.{known_at_start, names_beyond, nothing_known
 
 use crate::fields::{Layout, layout_of};
 use crate::listings::Listing;
+use crate::moves::note_turn;
 use crate::news::{News, news_of};
 use crate::texts::Text;
 use pr_model::{Act, Call, Entry, File, Mode, Reply, file_name};
@@ -35,6 +36,8 @@ pub struct Names {
     handles: ById<Known>,
     /// Under the ids of processes the places of the listings of the programs that they run, counted from 0.
     running: ById<usize>,
+    /// Under the ids of processes the numbers of the entries in which an lwp of theirs last had a turn.
+    moved: ById<usize>,
 }
 
 impl Model for Names {
@@ -42,7 +45,7 @@ impl Model for Names {
 
     ghost Value = { plain.Names };
 
-    ghost view = { λ n. record { listings = n.listings.items; handles = n.handles; running = n.running } };
+    ghost view = { λ n. record { listings = n.listings.items; handles = n.handles; running = n.running; moved = n.moved } };
 }
 
 /// Whether a file is the memory of its process.
@@ -52,17 +55,7 @@ fn is_memory(file: File) -> bool
 {
     match file {
         File::Mem => true,
-        File::Ctl
-        | File::Status
-        | File::Lstatus
-        | File::Psinfo
-        | File::Map
-        | File::Usage
-        | File::Sigact
-        | File::Watch
-        | File::Fds
-        | File::Lwpctl
-        | File::Lwpstatus => false,
+        _ => false,
     }
 }
 
@@ -81,6 +74,7 @@ impl Names {
             listings: Vec::new(alloc),
             handles: ById::new(alloc),
             running: ById::new(alloc),
+            moved: ById::new(alloc),
         }
     }
 
@@ -95,6 +89,7 @@ impl Names {
             listings,
             handles: ById::new(alloc),
             running,
+            moved: ById::new(alloc),
         })
     }
 
@@ -110,6 +105,13 @@ impl Names {
         ensures { result.now ≡ self.now.running }
     {
         &self.running
+    }
+
+    /// When processes last moved.
+    pub(crate) fn moved(&self) -> &ById<usize>
+        ensures { result.now ≡ self.now.moved }
+    {
+        &self.moved
     }
 
     /// What an open handle stands for.
@@ -273,13 +275,7 @@ fn note_open(handles: &mut ById<Known>, known: Known, reply: &Reply) -> Result<(
 {
     match reply {
         Reply::Handle(handle) => name(handles, *handle, known),
-        Reply::Done
-        | Reply::Used(_)
-        | Reply::Half(_)
-        | Reply::Bytes(_)
-        | Reply::Pid(_)
-        | Reply::Ready(_)
-        | Reply::Fail(_) => Ok(()),
+        _ => Ok(()),
     }
 }
 
@@ -290,13 +286,7 @@ fn note_close(handles: &mut ById<Known>, handle: u32, reply: &Reply)
 {
     match reply {
         Reply::Done => forget(handles, handle),
-        Reply::Handle(_)
-        | Reply::Used(_)
-        | Reply::Half(_)
-        | Reply::Bytes(_)
-        | Reply::Pid(_)
-        | Reply::Ready(_)
-        | Reply::Fail(_) => {}
+        _ => {}
     }
 }
 
@@ -324,15 +314,7 @@ fn note_call(handles: &mut ById<Known>, call: &Call, reply: &Reply) -> Result<()
             note_close(handles, *handle, reply);
             Ok(())
         }
-        Call::Ctl { .. }
-        | Call::CtlWait { .. }
-        | Call::Read { .. }
-        | Call::Poll { .. }
-        | Call::Interrupt { .. }
-        | Call::Spawn { .. }
-        | Call::Kill { .. }
-        | Call::Until { .. }
-        | Call::List => Ok(()),
+        _ => Ok(()),
     }
 }
 
@@ -372,12 +354,13 @@ fn note_news(running: &mut ById<usize>, news: Option<News>) -> Result<(), NoMemo
     }
 }
 
-/// Notes an entry.
+/// Notes the entry of a number.
 #[tactic(auto, unfolding(crate::specs::News::names_beyond))]
-pub fn note(names: &mut Names, entry: &Entry) -> Result<(), NoMemory>
-    ensures { OnOk result (names.new ≡ names_beyond names.old entry.now) }
+pub fn note(names: &mut Names, number: usize, entry: &Entry) -> Result<(), NoMemory>
+    ensures { OnOk result (names.new ≡ names_beyond names.old number entry.now) }
 {
     let news = news_of(names, entry);
     note_news(&mut names.running, news)?;
+    note_turn(&mut names.moved, number, entry.actor)?;
     note_act(&mut names.handles, &entry.act)
 }

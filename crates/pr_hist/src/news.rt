@@ -29,13 +29,7 @@ fn spawn_news(listings: &[Listing], program: &[u8], reply: &Reply) -> Option<New
             pid: *pid,
             place: listed_at(listings, program),
         }),
-        Reply::Handle(_)
-        | Reply::Done
-        | Reply::Used(_)
-        | Reply::Half(_)
-        | Reply::Bytes(_)
-        | Reply::Ready(_)
-        | Reply::Fail(_) => None,
+        _ => None,
     }
 }
 
@@ -61,17 +55,7 @@ fn is_psinfo(file: File) -> bool
 {
     match file {
         File::Psinfo => true,
-        File::Ctl
-        | File::Status
-        | File::Lstatus
-        | File::Map
-        | File::Usage
-        | File::Mem
-        | File::Sigact
-        | File::Watch
-        | File::Fds
-        | File::Lwpctl
-        | File::Lwpstatus => false,
+        _ => false,
     }
 }
 
@@ -115,13 +99,7 @@ fn read_news(names: &Names, handle: u32, at: u64, reply: &Reply) -> Option<News>
             at,
             bytes.as_slice(),
         ),
-        Reply::Handle(_)
-        | Reply::Done
-        | Reply::Used(_)
-        | Reply::Half(_)
-        | Reply::Pid(_)
-        | Reply::Ready(_)
-        | Reply::Fail(_) => None,
+        _ => None,
     }
 }
 
@@ -133,15 +111,7 @@ fn call_news(names: &Names, call: &Call, reply: &Reply) -> Option<News>
     match call {
         Call::Spawn { program, .. } => spawn_news(names.listings(), program.as_slice(), reply),
         Call::Read { handle, at, .. } => read_news(names, *handle, *at, reply),
-        Call::Open { .. }
-        | Call::Close { .. }
-        | Call::Ctl { .. }
-        | Call::CtlWait { .. }
-        | Call::Poll { .. }
-        | Call::Interrupt { .. }
-        | Call::Kill { .. }
-        | Call::Until { .. }
-        | Call::List => None,
+        _ => None,
     }
 }
 

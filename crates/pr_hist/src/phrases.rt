@@ -9,6 +9,7 @@ use pr_num::NoMemory;
 #[derive(Clone, Copy, Debug, PartialEq, Eq)]
 pub enum Phrase {
     AndStops,
+    LastMoved,
     NoMessage,
 }
 
@@ -18,6 +19,7 @@ fn words(which: Phrase) -> &'static [u8]
 {
     match which {
         Phrase::AndStops => b", and stops: ",
+        Phrase::LastMoved => b" last moved in entry ",
         Phrase::NoMessage => b"no message: ",
     }
 }

@@ -193,13 +193,7 @@ fn write_bar(text: &mut Text, row: u64, column: u64, stand: Stand) -> Result<(),
 {
     match stand {
         Stand::Absent => Ok(()),
-        Stand::New
-        | Stand::Runs
-        | Stand::OnEvent
-        | Stand::Requested
-        | Stand::Asleep
-        | Stand::JobStopped
-        | Stand::Ends => write_bar_of(text, row, column, bar_kind(stand)),
+        _ => write_bar_of(text, row, column, bar_kind(stand)),
     }
 }
 

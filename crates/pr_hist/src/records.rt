@@ -129,16 +129,7 @@ fn is_raw(layout: Layout) -> bool
 {
     match layout {
         Layout::Raw => true,
-        Layout::Status
-        | Layout::Lstatus
-        | Layout::Lwpstatus
-        | Layout::Psinfo
-        | Layout::Map
-        | Layout::Usage
-        | Layout::Sigact
-        | Layout::Watch
-        | Layout::Fds
-        | Layout::List => false,
+        _ => false,
     }
 }
 

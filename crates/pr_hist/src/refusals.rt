@@ -17,20 +17,7 @@ fn open_reason(errno: Errno) -> &'static [u8]
         Errno::Noent => b"there is no such process or lwp, or it has ended",
         Errno::Busy => b"the process is open for writing, or exclusively",
         Errno::Mfile => b"1,024 handles are open",
-        Errno::Perm
-        | Errno::Srch
-        | Errno::Intr
-        | Errno::Io
-        | Errno::Badf
-        | Errno::Child
-        | Errno::Again
-        | Errno::Nomem
-        | Errno::Fault
-        | Errno::Nfile
-        | Errno::Nospc
-        | Errno::Spipe
-        | Errno::Pipe
-        | Errno::Notsup => b"",
+        _ => b"",
     }
 }
 
@@ -41,23 +28,7 @@ fn close_reason(errno: Errno) -> &'static [u8]
 {
     match errno {
         Errno::Badf => b"the handle is not open, or not this controller's",
-        Errno::Perm
-        | Errno::Noent
-        | Errno::Srch
-        | Errno::Intr
-        | Errno::Io
-        | Errno::Child
-        | Errno::Again
-        | Errno::Nomem
-        | Errno::Fault
-        | Errno::Busy
-        | Errno::Inval
-        | Errno::Nfile
-        | Errno::Mfile
-        | Errno::Nospc
-        | Errno::Spipe
-        | Errno::Pipe
-        | Errno::Notsup => b"",
+        _ => b"",
     }
 }
 
@@ -71,20 +42,7 @@ fn read_reason(errno: Errno) -> &'static [u8]
         Errno::Inval => b"the length is 0, or above 20,480",
         Errno::Noent => b"the process or the lwp has ended",
         Errno::Io => b"the first byte is not mapped",
-        Errno::Perm
-        | Errno::Srch
-        | Errno::Intr
-        | Errno::Child
-        | Errno::Again
-        | Errno::Nomem
-        | Errno::Fault
-        | Errno::Busy
-        | Errno::Nfile
-        | Errno::Mfile
-        | Errno::Nospc
-        | Errno::Spipe
-        | Errno::Pipe
-        | Errno::Notsup => b"",
+        _ => b"",
     }
 }
 
@@ -97,21 +55,7 @@ fn poll_reason(errno: Errno) -> &'static [u8]
         Errno::Badf => b"a handle is not open, or not this controller's",
         Errno::Inval => b"there is no handle, or there are more than 1,024",
         Errno::Intr => b"the wait was interrupted",
-        Errno::Perm
-        | Errno::Noent
-        | Errno::Srch
-        | Errno::Io
-        | Errno::Child
-        | Errno::Again
-        | Errno::Nomem
-        | Errno::Fault
-        | Errno::Busy
-        | Errno::Nfile
-        | Errno::Mfile
-        | Errno::Nospc
-        | Errno::Spipe
-        | Errno::Pipe
-        | Errno::Notsup => b"",
+        _ => b"",
     }
 }
 
@@ -122,23 +66,7 @@ fn interrupt_reason(errno: Errno) -> &'static [u8]
 {
     match errno {
         Errno::Inval => b"no controller has this number",
-        Errno::Perm
-        | Errno::Noent
-        | Errno::Srch
-        | Errno::Intr
-        | Errno::Io
-        | Errno::Badf
-        | Errno::Child
-        | Errno::Again
-        | Errno::Nomem
-        | Errno::Fault
-        | Errno::Busy
-        | Errno::Nfile
-        | Errno::Mfile
-        | Errno::Nospc
-        | Errno::Spipe
-        | Errno::Pipe
-        | Errno::Notsup => b"",
+        _ => b"",
     }
 }
 
@@ -151,21 +79,7 @@ fn spawn_reason(errno: Errno) -> &'static [u8]
         Errno::Noent => b"there is no such program",
         Errno::Again => b"4,096 processes were made",
         Errno::Nomem => b"too much memory would be mapped",
-        Errno::Perm
-        | Errno::Srch
-        | Errno::Intr
-        | Errno::Io
-        | Errno::Badf
-        | Errno::Child
-        | Errno::Fault
-        | Errno::Busy
-        | Errno::Inval
-        | Errno::Nfile
-        | Errno::Mfile
-        | Errno::Nospc
-        | Errno::Spipe
-        | Errno::Pipe
-        | Errno::Notsup => b"",
+        _ => b"",
     }
 }
 
@@ -179,20 +93,7 @@ fn kill_reason(errno: Errno) -> &'static [u8]
         Errno::Perm => b"process 0 takes no signal",
         Errno::Srch => b"there is no such process",
         Errno::Again => b"the queue of signals is full",
-        Errno::Noent
-        | Errno::Intr
-        | Errno::Io
-        | Errno::Badf
-        | Errno::Child
-        | Errno::Nomem
-        | Errno::Fault
-        | Errno::Busy
-        | Errno::Nfile
-        | Errno::Mfile
-        | Errno::Nospc
-        | Errno::Spipe
-        | Errno::Pipe
-        | Errno::Notsup => b"",
+        _ => b"",
     }
 }
 
@@ -203,23 +104,7 @@ fn until_reason(errno: Errno) -> &'static [u8]
 {
     match errno {
         Errno::Intr => b"the wait was interrupted",
-        Errno::Perm
-        | Errno::Noent
-        | Errno::Srch
-        | Errno::Io
-        | Errno::Badf
-        | Errno::Child
-        | Errno::Again
-        | Errno::Nomem
-        | Errno::Fault
-        | Errno::Busy
-        | Errno::Inval
-        | Errno::Nfile
-        | Errno::Mfile
-        | Errno::Nospc
-        | Errno::Spipe
-        | Errno::Pipe
-        | Errno::Notsup => b"",
+        _ => b"",
     }
 }
 
@@ -235,18 +120,7 @@ fn control_reason(errno: Errno) -> &'static [u8]
         Errno::Io => b"not all of the bytes are mapped",
         Errno::Again => b"the queue of signals is full",
         Errno::Nomem => b"there are 64 of these already",
-        Errno::Perm
-        | Errno::Srch
-        | Errno::Child
-        | Errno::Fault
-        | Errno::Busy
-        | Errno::Inval
-        | Errno::Nfile
-        | Errno::Mfile
-        | Errno::Nospc
-        | Errno::Spipe
-        | Errno::Pipe
-        | Errno::Notsup => b"",
+        _ => b"",
     }
 }
 
@@ -262,23 +136,7 @@ fn busy_reason(message: &Message) -> &'static [u8]
         Message::Watch { .. } => b"the process has lent its memory",
         Message::Agent { .. } => b"an agent exists, an lwp is not stopped, or the memory is lent",
         Message::Write { .. } => b"the process has lent its memory",
-        Message::Stop
-        | Message::Dstop
-        | Message::Wstop
-        | Message::Twstop { .. }
-        | Message::Csig
-        | Message::Cfault
-        | Message::Ssig { .. }
-        | Message::Kill { .. }
-        | Message::Unkill { .. }
-        | Message::Shold { .. }
-        | Message::Strace { .. }
-        | Message::Sfault { .. }
-        | Message::Sentry { .. }
-        | Message::Sexit { .. }
-        | Message::Set { .. }
-        | Message::Unset { .. }
-        | Message::Read { .. } => { b"process 0 takes no message" }
+        _ => { b"process 0 takes no message" }
     }
 }
 
@@ -291,26 +149,7 @@ fn invalid_reason(message: &Message) -> &'static [u8]
         Message::Set { .. } => b"process 0 takes no message",
         Message::Unset { .. } => b"process 0 takes no message",
         Message::Watch { .. } => b"the area overlaps another one",
-        Message::Stop
-        | Message::Dstop
-        | Message::Wstop
-        | Message::Twstop { .. }
-        | Message::Run { .. }
-        | Message::Csig
-        | Message::Cfault
-        | Message::Ssig { .. }
-        | Message::Kill { .. }
-        | Message::Unkill { .. }
-        | Message::Shold { .. }
-        | Message::Strace { .. }
-        | Message::Sfault { .. }
-        | Message::Sentry { .. }
-        | Message::Sexit { .. }
-        | Message::Sreg { .. }
-        | Message::Svaddr { .. }
-        | Message::Agent { .. }
-        | Message::Read { .. }
-        | Message::Write { .. } => { b"the bytes begin with no message that can be given here" }
+        _ => { b"the bytes begin with no message that can be given here" }
     }
 }
 
@@ -322,22 +161,7 @@ fn by_message(message: &Message, errno: Errno) -> &'static [u8]
     match errno {
         Errno::Busy => busy_reason(message),
         Errno::Inval => invalid_reason(message),
-        Errno::Perm
-        | Errno::Noent
-        | Errno::Srch
-        | Errno::Intr
-        | Errno::Io
-        | Errno::Badf
-        | Errno::Child
-        | Errno::Again
-        | Errno::Nomem
-        | Errno::Fault
-        | Errno::Nfile
-        | Errno::Mfile
-        | Errno::Nospc
-        | Errno::Spipe
-        | Errno::Pipe
-        | Errno::Notsup => control_reason(errno),
+        _ => control_reason(errno),
     }
 }
 

@@ -1,9 +1,12 @@
 //! What the kernel answered.
 ghost use Rattle.std.specs.Prelude.{◌≡◌, ◌++◌, OnOk};
-ghost use Rattle.pr_hist.specs.Calls.{answer_text, answering, bytes_answer, call_text, read_text};
+ghost use Rattle.pr_hist.specs.Calls.{answer_text, answering, bytes_answer, call_text, read_text, waited_text};
+ghost use Rattle.pr_hist.specs.Names.{handle_text, moved_text};
+ghost use Rattle.pr_hist.specs.Texts.{size_text};
 
 use crate::calls::{calling, write_operands, write_until};
 use crate::fields::Layout;
+use crate::moves::write_moved;
 use crate::names::{Names, layout_in, write_handle};
 use crate::records::{write_raw, write_record};
 use crate::refusals::write_refusal;
@@ -49,15 +52,7 @@ fn write_read(
             bytes,
         ),
         Call::List => write_record(text, full, None, Layout::List, 0, bytes),
-        Call::Open { .. }
-        | Call::Close { .. }
-        | Call::Ctl { .. }
-        | Call::CtlWait { .. }
-        | Call::Poll { .. }
-        | Call::Interrupt { .. }
-        | Call::Spawn { .. }
-        | Call::Kill { .. }
-        | Call::Until { .. } => write_raw(text, bytes),
+        _ => write_raw(text, bytes),
     }
 }
 
@@ -75,6 +70,31 @@ fn write_bytes(
     write_read(text, full, names, call, bytes)
 }
 
+/// That a wait is over: the entry in which the process last moved for which it was.
+#[tactic(auto, unfolding(crate::specs::Calls::waited_text))]
+fn write_waited(text: &mut Text, names: &Names, call: &Call) -> Result<(), NoMemory>
+    ensures { OnOk result (text.new ≡ text.old ++ waited_text names.now call.now) }
+{
+    match call {
+        Call::CtlWait { handle, .. } => write_moved(text, names, *handle),
+        _ => Ok(()),
+    }
+}
+
+fn write_used(text: &mut Text, names: &Names, call: &Call, n: u64) -> Result<(), NoMemory>
+    ensures { OnOk result (text.new ≡ text.old ++ (size_text n ++ waited_text names.now call.now)) }
+{
+    text.size(n)?;
+    write_waited(text, names, call)
+}
+
+fn write_ready(text: &mut Text, names: &Names, handle: u32) -> Result<(), NoMemory>
+    ensures { OnOk result (text.new ≡ text.old ++ (handle_text names.now handle ++ moved_text names.now handle)) }
+{
+    write_handle(text, names, handle)?;
+    write_moved(text, names, handle)
+}
+
 /// What comes with the answer.
 #[tactic(auto, unfolding(crate::specs::Calls::answer_text))]
 fn write_answer(
@@ -89,11 +109,11 @@ fn write_answer(
     match reply {
         Reply::Handle(handle) => text.decimal(u64::from(*handle)),
         Reply::Done => Ok(()),
-        Reply::Used(n) => text.size(*n),
+        Reply::Used(n) => write_used(text, names, call, *n),
         Reply::Half(until) => write_until(text, *until),
         Reply::Bytes(bytes) => write_bytes(text, full, names, call, bytes.as_slice()),
         Reply::Pid(pid) => text.decimal(u64::from(*pid)),
-        Reply::Ready(handle) => write_handle(text, names, *handle),
+        Reply::Ready(handle) => write_ready(text, names, *handle),
         Reply::Fail(errno) => write_refusal(text, call, *errno),
     }
 }

@@ -58,13 +58,7 @@ fn made(pid: u32, reply: &Reply) -> bool
 {
     match reply {
         Reply::Pid(id) => *id == pid,
-        Reply::Handle(_)
-        | Reply::Done
-        | Reply::Used(_)
-        | Reply::Half(_)
-        | Reply::Bytes(_)
-        | Reply::Ready(_)
-        | Reply::Fail(_) => false,
+        _ => false,
     }
 }
 

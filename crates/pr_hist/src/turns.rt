@@ -86,35 +86,22 @@ pub fn write_outcome(text: &mut Text, did: Did) -> Result<(), NoMemory>
     match did {
         Did::Made(_, res) => write_result(text, res),
         Did::Woke(_, res) => write_result(text, res),
-        Did::Stopped
-        | Did::Ran
-        | Did::Entered(_)
-        | Did::Slept(_)
-        | Did::Returned(_)
-        | Did::Faulted(_)
-        | Did::Posted(_)
-        | Did::Took(_)
-        | Did::Acted(_, _) => Ok(()),
+        _ => Ok(()),
     }
 }
 
-/// Why an lwp stops that met something traced in such a turn.
+/// Why an lwp stops that met something traced in such a turn, and which set of its process had it.
 #[tactic(auto, unfolding(crate::specs::Turns::reason))]
 fn reason(did: Did) -> &'static [u8]
     ensures { result.now ≡ reason did }
 {
     match did {
-        Did::Entered(_) => b"PR_SYSENTRY",
-        Did::Made(_, _) => b"PR_SYSEXIT",
-        Did::Woke(_, _) => b"PR_SYSEXIT",
-        Did::Faulted(_) => b"PR_FAULTED",
-        Did::Took(_) => b"PR_SIGNALLED",
-        Did::Stopped
-        | Did::Ran
-        | Did::Slept(_)
-        | Did::Returned(_)
-        | Did::Posted(_)
-        | Did::Acted(_, _) => b"an event",
+        Did::Entered(_) => b"PR_SYSENTRY, by its entry set",
+        Did::Made(_, _) => b"PR_SYSEXIT, by its exit set",
+        Did::Woke(_, _) => b"PR_SYSEXIT, by its exit set",
+        Did::Faulted(_) => b"PR_FAULTED, by its fault set",
+        Did::Took(_) => b"PR_SIGNALLED, by its signal set",
+        _ => b"an event",
     }
 }
 

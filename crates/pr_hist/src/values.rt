@@ -234,29 +234,7 @@ fn says_something(kind: Kind, w: u64) -> bool
     match kind {
         Kind::Place | Kind::Access => true,
         Kind::Rest => false,
-        Kind::Count
-        | Kind::Number
-        | Kind::Address
-        | Kind::Code
-        | Kind::LwpFlags
-        | Kind::ProcessFlags
-        | Kind::WatchFlags
-        | Kind::Protection
-        | Kind::Why
-        | Kind::What
-        | Kind::Signal
-        | Kind::Fault
-        | Kind::Call
-        | Kind::Errno
-        | Kind::Signals
-        | Kind::Faults
-        | Kind::Calls
-        | Kind::Disposition
-        | Kind::Handler
-        | Kind::Origin
-        | Kind::MappingKind
-        | Kind::DescriptorKind
-        | Kind::Name => w != 0,
+        _ => w != 0,
     }
 }
 
@@ -267,30 +245,6 @@ pub fn is_shown(full: bool, kind: Kind, w: u64) -> bool
 {
     match kind {
         Kind::Rest => false,
-        Kind::Place
-        | Kind::Access
-        | Kind::Count
-        | Kind::Number
-        | Kind::Address
-        | Kind::Code
-        | Kind::LwpFlags
-        | Kind::ProcessFlags
-        | Kind::WatchFlags
-        | Kind::Protection
-        | Kind::Why
-        | Kind::What
-        | Kind::Signal
-        | Kind::Fault
-        | Kind::Call
-        | Kind::Errno
-        | Kind::Signals
-        | Kind::Faults
-        | Kind::Calls
-        | Kind::Disposition
-        | Kind::Handler
-        | Kind::Origin
-        | Kind::MappingKind
-        | Kind::DescriptorKind
-        | Kind::Name => full || says_something(kind, w),
+        _ => full || says_something(kind, w),
     }
 }

@@ -1,4 +1,4 @@
-use Rattle.std.proofs.Common.{◌≡◌, ℕ, Bool, true, false, Option, None, Some, Result, Ok, Err, IsOk, List, length, refl, ap, sym, ◌∙◌}
+use Rattle.std.proofs.Common.{◌≡◌, ◌+◌, ◌%◌, ◌^◌, ℕ, zero, suc, Bool, true, false, Option, None, Some, Result, Ok, Err, IsOk, List, [], ◌∷◌, length, refl, ap, arith, sym, ◌∙◌}
 use Rattle.std.specs.Result.{result_err}
 use Rattle.pr_num.specs.Control.{prot_read, prot_write, watch_read, watch_write}
 use Rattle.pr_num.specs.Spaces.{Space, bytes_for}
@@ -118,3 +118,14 @@ store-stores None (Some at) regs store = refl
 store-stores None None regs store = refl
 
 pub ruleset storing = (good-is_ok, store-fails, store-watched, store-free, store-outcome, store-space, store-stores, fault-space)
+
+-- ---- no watched areas
+
+-- nothing is hit where nothing is watched
+pub no-hit : (kind : ℕ) (areas : List Area) (at size : ℕ) → length areas ≡ 0 → hit_in kind areas at size ≡ None
+unfolding hit_in
+no-hit kind [] at zero none = refl
+no-hit kind [] at (suc size) none = no-hit kind [] ((at + 1) % 2 ^ 64) size refl
+no-hit kind (area ∷ areas) at size none = absurd (omega arith)
+
+pub ruleset no_hits = (no-hit)

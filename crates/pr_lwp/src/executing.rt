@@ -243,6 +243,18 @@ fn of_instruction(
     }
 }
 
+/// The first byte of an instruction that is watched for execution, and whether its area traps after the access. Most
+/// processes watch nothing, and then no byte is looked for.
+#[tactic(auto, using(crate::proofs::ExecutionLemmas::no_hits))]
+fn exec_hit(areas: &Areas, at: u64) -> Option<(u64, bool)>
+    ensures { result ≡ hit_in watch_exec areas.now at 16 }
+{
+    if areas.is_empty() {
+        return None;
+    }
+    areas.hit(at, Instruction::SIZE as u64, WATCH_EXEC)
+}
+
 /// What bytes that were fetched do, unless an area watched for execution forbids it.
 fn unless_watched(
     space: &mut Space,
@@ -255,7 +267,7 @@ fn unless_watched(
     ensures memory { OnErr result (stores_bytes (unless_exec_watched space.old areas.now (hit_in watch_exec areas.now (pc_of regs.now) 16) regs.now bytes.now) ≡ true) }
     ensures err { OnErr result (space.new ≡ space.old) }
 {
-    let hit = areas.hit(regs[PC], Instruction::SIZE as u64, WATCH_EXEC);
+    let hit = exec_hit(areas, regs[PC]);
     match hit_before(hit) {
         Some(at) => Ok(Outcome::Faults(Flt::Watch, at)),
         None => {

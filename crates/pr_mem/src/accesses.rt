@@ -1,4 +1,4 @@
-ghost use Rattle.std.specs.Prelude.{◌≡◌, ◌≤◌, ◌<◌, ◌+◌, ◌^◌, length, Ok, Err, IfOk, IfErr, OnOk};
+ghost use Rattle.std.specs.Prelude.{◌≡◌, ◌≤◌, ◌<◌, ◌+◌, ◌^◌, length, Ok, Err, IfOk, IfErr, IfSome, OnOk, OnErr};
 ghost use Rattle.pr_num.specs.Spaces.{IsSpace, byte_for, bytes_for};
 ghost use Rattle.pr_mem.specs.Answers.{checked, IsRun};
 ghost use Rattle.pr_mem.specs.Places.{IsPlace};
@@ -81,5 +81,46 @@ pub fn fill(
         done += run.len();
         place = ranges::next_place(mappings, at + done as u64, out.len() - done);
     }
+    Ok(())
+}
+
+/// The bytes of an access from an address on, of which `place` is the place, where one page has all of them. `None` also
+/// where the access fails.
+fn whole_run(mappings: &[Mapping], place: usize, need: u8, at: u64, len: usize) -> Option<&[u8]>
+    requires space { IsSpace mappings.now }
+    requires place { IsPlace mappings.now at place }
+    ensures bytes { IfSome result (λ run. bytes_for need mappings.now at len ≡ Ok run.now) }
+    ensures len { IfSome result (λ run. length run.now ≡ len) }
+{
+    if len == 0 {
+        return None;
+    }
+    match run_at(mappings, place, need, at, len) {
+        Ok(run) if run.len() == len => Some(run),
+        _ => None,
+    }
+}
+
+/// Gives the bytes of an access from an address on, of which `first` is the place; or the first byte at which it fails,
+/// and then the buffer stays as it is. Most accesses are to bytes that one page has, which is looked at once.
+pub fn read(
+    mappings: &[Mapping],
+    first: usize,
+    need: u8,
+    at: u64,
+    out: &mut [u8],
+) -> Result<(), BadByte>
+    requires space { IsSpace mappings.now }
+    requires place { IsPlace mappings.now at first }
+    ensures answer { result ≡ checked (bytes_for need mappings.now at (length out.old)) }
+    ensures ok { OnOk result (bytes_for need mappings.now at (length out.old) ≡ Ok out.new) }
+    ensures err { OnErr result (out.new ≡ out.old) }
+{
+    if let Some(run) = whole_run(mappings, first, need, at, out.len()) {
+        out.copy_from_slice(run);
+        return Ok(());
+    }
+    check(mappings, first, need, at, out.len())?;
+    fill(mappings, first, need, at, out)?;
     Ok(())
 }

@@ -1,4 +1,4 @@
-ghost use Rattle.std.specs.Prelude.{◌≡◌, ◌≤◌, ◌<◌, ◌+◌, ◌^◌, length, map, OnOk, OnErr};
+ghost use Rattle.std.specs.Prelude.{◌≡◌, ◌≤◌, ◌<◌, ◌+◌, ◌^◌, length, map, IfOk, OnOk, OnErr};
 ghost use Rattle.std.specs.Arc.{arc_value};
 ghost use Rattle.pr_parts.specs.AddressSpaces.{written_bytes};
 ghost use Rattle.pr_mem.specs.Pages.{written_pages};
@@ -39,6 +39,22 @@ fn written_page(page: &[u8; PAGE], first: u64, at: u64, bytes: &[u8]) -> [u8; PA
     page
 }
 
+/// The same in memory of its own. It stands apart from the walk over the pages, which has no page in place then and
+/// begins at once.
+fn copied_page(
+    page: &[u8; PAGE],
+    alloc: Global,
+    first: u64,
+    at: u64,
+    bytes: &[u8],
+) -> Result<Page, NoMemory>
+    requires { at + length bytes.now < 2 ^ 64 }
+    ensures { IfOk result (λ copy. arc_value copy ≡ written_bytes at bytes.now first page.now) }
+{
+    let copy = Arc::new(alloc, written_page(page, first, at, bytes))?;
+    Ok(copy)
+}
+
 /// Writes a range of bytes over pages that stand from the address `first` on, as far as these reach. Where memory runs
 /// out they stay as they are.
 #[tactic(auto, using(crate::proofs::PageLemmas::page_writes))]
@@ -67,7 +83,7 @@ pub fn write_pages(
             Ok(())
         }
         None => {
-            let copy = Arc::new(alloc, written_page(page, first, at, bytes))?;
+            let copy = copied_page(page, alloc, first, at, bytes)?;
             write_pages(more, alloc, next, at, bytes)?;
             *page = copy;
             Ok(())

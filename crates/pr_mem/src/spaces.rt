@@ -92,8 +92,7 @@ impl Space {
         ensures err { OnErr result (out.new ≡ out.old) }
     {
         let first = ranges::place_at(&self.mappings, at);
-        accesses::check(&self.mappings, first, need, at, out.len())?;
-        accesses::fill(&self.mappings, first, need, at, out)?;
+        accesses::read(&self.mappings, first, need, at, out)?;
         Ok(())
     }
 

@@ -10,7 +10,7 @@ ghost use Rattle.pr_proc.specs.Refusals.{Says, exec_refusal};
 
 use crate::loans::give_back;
 use crate::sizes::given_up;
-use crate::spawns::{FIRST_REGISTERS, first_lwp, first_space, one_lwp};
+use crate::spawns::{FIRST_REGISTERS, first_lwp, one_lwp};
 use crate::{Lwp, Proc, ProcNo, Processes, Sys, live, total_has_room};
 use pr_asm::Program;
 use pr_mem::Space;
@@ -120,7 +120,8 @@ pub fn exec(alloc: Global, sys: &mut Sys, pid: u32, lwp: u32, program: u32) -> R
     let process = live(sys, pid).unwrap();
     let (lender, borrower) = (process.lender, process.borrower);
     let given_up = given_up(process);
-    let space = first_space(alloc, sys.programs.at(program))?;
+    let (_, first) = sys.programs.start(program);
+    let space = first.copy(alloc)?;
     if !total_has_room(sys, space.mapped(), given_up) {
         return Err(ProcNo::NoSpace);
     }

@@ -72,7 +72,7 @@ pub fn first_system(
     // no process has the next id
     ensures free { IfOk result (λ s. process_of s s.made ≡ None) }
 {
-    let mut sys = bare_system(alloc, Programs::from_vec(programs), files)?;
+    let mut sys = bare_system(alloc, Programs::from_vec(programs)?, files)?;
     for place in spawns {
         spawn_at(alloc, &mut sys, *place)?;
     }

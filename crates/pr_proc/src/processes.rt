@@ -6,6 +6,7 @@ ghost use Rattle.pr_num.specs.ById.{IsRising, under, inserted, without_id, first
 ghost use Rattle.pr_num.specs.Limits.{mapping_limit};
 ghost use Rattle.pr_model.specs.Readers.{sizes_of};
 ghost use Rattle.pr_slots.specs.Walks.{rest_from};
+ghost use Rattle.pr_proc.specs.Keeping.{IsKept};
 ghost use Rattle.pr_proc.specs.Marks.{HasNoChild, HasNoChildFrom};
 ghost use Rattle.pr_proc.specs.Totals.{AreSmall, IsTotal, size_under};
 
@@ -77,6 +78,25 @@ fn all_but(table: &SlabById<Proc>, others: u64, out: u32, id: u32) -> u64
 {
     table.ids_rise();
     whole(table, others, out) - size_under(table, id)
+}
+
+/// Lets the process of another id be the one that may have any size and any parent: answers how many bytes all others
+/// have mapped. Where it is that one already, as when an lwp has one turn after another, nothing is looked up.
+fn leave_out(
+    table: &SlabById<Proc>,
+    others: u64,
+    out: u32,
+    children: &mut BlockSets,
+    id: u32,
+) -> u64
+    requires { IsKept others out children.old table.now }
+    ensures { IsKept result id children.new table.now }
+{
+    if id == out {
+        return others;
+    }
+    settle(table, children, out);
+    all_but(table, others, out, id)
 }
 
 impl Processes {
@@ -161,8 +181,7 @@ impl Processes {
         ensures* writes_back { sem 𝓛 (lends_under self.entry id result) }
         ensures value { under id self.old ≡ Some result.now }
     {
-        settle(&self.table, &mut self.children, self.out);
-        self.others = all_but(&self.table, self.others, self.out, id);
+        self.others = leave_out(&self.table, self.others, self.out, &mut self.children, id);
         self.out = id;
         self.table.get_mut(id)
     }

@@ -80,16 +80,6 @@ pub(crate) fn bare_process(alloc: Global, parent: u32, name: Name, clock: u64) -
     }
 }
 
-/// The address space in which a program begins.
-#[tactic(auto, using(crate::proofs::SpaceLemmas::first_space_laws))]
-pub(crate) fn first_space(alloc: Global, program: &Program) -> Result<Space, NoMemory>
-    ensures { IfOk result (λ space. space ≡ first_space program.now) }
-{
-    prove!(program.code().len() <= Program::MAX_CODE);
-    let text = program.text(alloc)?;
-    Space::first(alloc, &text, program.data())
-}
-
 /// The lwps of a process that has one.
 pub(crate) fn one_lwp(alloc: Global, id: u32, lwp: Lwp) -> Result<ById<Lwp>, NoMemory>
     ensures { IfOk result (λ lwps. lwps ≡ (id, lwp) ∷ []) }
@@ -174,7 +164,8 @@ pub(crate) fn spawn_unlimited(
     ensures ids { IsNumbered sys.new }
     ensures err { OnErr result (sys.new ≡ sys.old) }
 {
-    let space = first_space(alloc, sys.programs.at(place))?;
+    let (_, first) = sys.programs.start(place);
+    let space = first.copy(alloc)?;
     add_spawned(alloc, sys, place, space, held)
 }
 
@@ -196,7 +187,8 @@ pub fn spawn(alloc: Global, sys: &mut Sys, place: u32, held: bool) -> Result<u32
     if child >= PROCESS_LIMIT as u32 {
         return Err(ProcNo::Again);
     }
-    let space = first_space(alloc, sys.programs.at(place))?;
+    let (_, first) = sys.programs.start(place);
+    let space = first.copy(alloc)?;
     if !total_has_room(sys, space.mapped(), 0) {
         return Err(ProcNo::NoSpace);
     }

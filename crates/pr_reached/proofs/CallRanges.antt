@@ -16,7 +16,7 @@ use Rattle.pr_num.specs.Limits.{last_lwp, lwp_limit, process_limit, signal_count
 use Rattle.pr_num.specs.Programs.{Program, rounded}
 use Rattle.pr_num.specs.Sets.{without_number}
 use Rattle.pr_num.specs.Signals.{holdable_word, signal_number, signal_of_number}
-use Rattle.pr_num.specs.Spaces.{Space, bytes_for, first_space, mapped_size, mapping_limit}
+use Rattle.pr_num.specs.Spaces.{IsSpace, Space, bytes_for, first_space, mapped_size, mapping_limit}
 use Rattle.pr_num.specs.Words.{IsByte, IsWord, word_bytes}
 use Rattle.pr_num.specs.declared.errnos.Errno.{Errno}
 use Rattle.pr_num.specs.declared.infos.Info.{Info}
@@ -51,7 +51,7 @@ use Rattle.pr_model.specs.declared.frames.Frame.{Frame}
 use Rattle.pr_reached.proofs.ChangeRanges.{IsChangeInRange}
 use Rattle.pr_reached.proofs.EndRanges.{IsEndingInRange, signal-word}
 use Rattle.pr_reached.proofs.FileRanges.{AreBytesGiven, IsFileEffect, IsNumber, closed-range, duplicated-range, opened-range, piped-range, read-range, sought-range, written-range}
-use Rattle.pr_reached.proofs.MemoryRanges.{All-find, AreBytesRead, break-range, bytes-read, gap-word, path-name, rounded-page, sized-few, with_bytes-range, with_protected-range, without_range-range, zeros_mapped-range}
+use Rattle.pr_reached.proofs.MemoryRanges.{All-find, AreBytesRead, break-range, break-space, bytes-read, gap-word, mapped-space, path-name, rounded-page, sized-few, with_bytes-range, with_protected-range, without_range-range, zeros_mapped-range}
 use Rattle.pr_reached.proofs.ProcessRanges.{lwp-range, process-range}
 use Rattle.pr_reached.proofs.RegisterRanges.{registers-set, word_at, zeros-registers}
 use Rattle.pr_reached.specs.InRange.{AreArguments, AreRegisters, IsFrameInRange, IsInRange, IsLwpInRange, IsMappingInRange, IsProcessInRange, IsProgramInRange, IsResult, IsSignalSet, IsSpaceInRange, HasWord}
@@ -165,8 +165,8 @@ module _ (s : TracedSystem) (pid : ℕ) (p : TracedProcess) (id : ℕ) (l : Trac
   one-space value space fits it = (fits, one-change (space_is space) it)
 
   sized-range : (value : ℕ) (space : Space) → IsWord value → All IsMappingInRange space
-      → IsEffectInRange (unless_too_big s p value space)
-  sized-range value space fits it =
+      → (mapped_size space ≤ mapping_limit → IsSpace space) → IsEffectInRange (unless_too_big s p value space)
+  sized-range value space fits it apart =
       choice IsEffectInRange
       (leb (mapped_size space) mapping_limit && total_has_room s (mapped_size space) (size_of p)) _ _
       (λ room.
@@ -174,15 +174,20 @@ module _ (s : TracedSystem) (pid : ℕ) (p : TracedProcess) (id : ℕ) (l : Trac
       leb-true (mapped_size space) mapping_limit
       (and_parts (leb (mapped_size space) mapping_limit)
       (total_has_room s (mapped_size space) (size_of p)) room).0 in
-      one-space value space fits (sized-few space it small))
+      one-space value space fits (sized-few space (apart small) it))
       (λ big. refusal)
 
   brk-range : (end : ℕ) → IsEffectInRange (brk_effect s p end)
   unfolding brk_effect
   brk-range end =
       choice IsEffectInRange (ltb end heap_base || ltb break_limit end) _ _ (λ out. refusal)
-      (λ within. sized-range 0 (with_break end p.space) (omega arith)
-      (break-range end p.space acting-process.space.mappings))
+      (λ within.
+      let both = or_parts (ltb end heap_base) (ltb break_limit end) within in
+      let above = ltb-false end heap_base both.0 in
+      let below = ltb-false break_limit end both.1 in
+      sized-range 0 (with_break end p.space) (omega arith) (break-range end p.space acting-process.space.mappings)
+      (break-space end p.space acting-process.space.is_space (own-process s pid p id l a).heap_place (omega arith)
+      (omega arith)))
 
   mmap-range : (len prot : ℕ) → IsEffectInRange (mmap_effect s p len prot)
   unfolding mmap_effect
@@ -207,7 +212,9 @@ module _ (s : TracedSystem) (pid : ℕ) (p : TracedProcess) (id : ℕ) (l : Trac
           let fits = gap-word (rounded len) p.space at is in
           sized-range at (with_mapping (zeros_at at (rounded len) prot Mapped) p.space) fits
           (zeros_mapped-range at (rounded len) prot Mapped p.space fits (omega arith)
-          (rounded-page len some) acting-process.space.mappings)))
+          (rounded-page len some) acting-process.space.mappings)
+          (mapped-space at (rounded len) prot p.space acting-process.space.is_space
+          (let page = rounded-page len some in omega arith) is)))
 
   munmap-range : (at len : ℕ) → IsEffectInRange (munmap_effect s p at len)
   unfolding munmap_effect

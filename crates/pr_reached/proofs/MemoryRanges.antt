@@ -1,4 +1,4 @@
-use Rattle.std.proofs.Common.{◌≡◌, ◌==◌, ◌&&◌, ◌+◌, ◌-◌, ◌*◌, ◌%◌, ◌^◌, ◌<◌, ◌≤◌, ℕ, zero, suc, Bool, true, false, cond, eqb, ltb, leb, length, get_or, take, replicate, Option, Some, None, Result, Ok, Err, List, [], ◌∷◌, ◌++◌, refl, ap, subst, arith}
+use Rattle.std.proofs.Common.{◌≡◌, ◌==◌, ◌&&◌, ◌+◌, ◌-◌, ◌*◌, ◌%◌, ◌^◌, ◌<◌, ◌≤◌, ℕ, zero, suc, Bool, true, false, cond, eqb, ltb, leb, length, get_or, take, replicate, Option, Some, None, Result, Ok, Err, List, [], ◌∷◌, ◌++◌, refl, sym, ap, subst, arith}
 use Rattle.std.specs.List.{All, find, flat_map}
 use Rattle.std.proofs.lemmas.Bool.{and_parts, eqb-false, ltb-true}
 use Rattle.std.proofs.lemmas.List.{length-append, length-map, length-replicate, length-take}
@@ -6,14 +6,15 @@ use Rattle.std.proofs.lemmas.List.Elements.{All-nil, All-cons, All-head, All-tai
 use Rattle.std.proofs.lemmas.List.Sums.{sum_by-cons}
 use Rattle.std.proofs.lemmas.Option.{none-some, same_Some}
 use Rattle.pr_codec.proofs.WordLemmas.{AreBytes-word_bytes}
+use Rattle.pr_num.proofs.ListLemmas.{length-text}
 use Rattle.pr_num.proofs.TableLaws.{All-change_first, All-without_first}
 use Rattle.pr_num.specs.Control.{has_flags}
 use Rattle.pr_num.specs.KeyedTables.{change_first, without_first}
 use Rattle.pr_num.specs.Instructions.{fields_of, instruction_bytes, register_number}
-use Rattle.pr_num.specs.Layout.{data_base, heap_base, page_size, stack_base, text_base, gap_base}
+use Rattle.pr_num.specs.Layout.{break_limit, data_base, heap_base, page_size, stack_base, text_base, gap_base}
 use Rattle.pr_num.specs.Limits.{path_limit}
 use Rattle.pr_num.specs.Programs.{Program, rounded, text_of, whole_pages}
-use Rattle.pr_num.specs.Spaces.{Space, byte_for, bytes_for, covers, first_mappings, first_space, mapped_size, mapping_limit, one_more, read_execute, read_write, unless_empty}
+use Rattle.pr_num.specs.Spaces.{IsBefore, IsSpace, Space, byte_for, bytes_for, covers, first_mappings, first_space, mapped_size, mapping_limit, one_more, read_execute, read_write, unless_empty}
 use Rattle.pr_num.specs.Syscalls.{syscall_number}
 use Rattle.pr_num.specs.Words.{IsByte, IsWord, word_bytes}
 use Rattle.pr_num.specs.declared.errnos.Errno.{Errno}
@@ -25,18 +26,21 @@ use Rattle.pr_num.specs.declared.mappings.BadByte.{BadByte}
 use Rattle.pr_num.specs.declared.mappings.BadByte.TheVariants.{Hole, NotAllowed}
 use Rattle.pr_num.specs.declared.mappings.Mapping.{Mapping}
 use Rattle.pr_num.specs.declared.mappings.MappingKind.{MappingKind}
-use Rattle.pr_num.specs.declared.mappings.MappingKind.TheVariants.{Text, Data, Heap, Stack}
+use Rattle.pr_num.specs.declared.mappings.MappingKind.TheVariants.{Text, Data, Heap, Stack, Mapped}
 use Rattle.pr_parts.proofs.AccessLemmas.{length-written_bytes}
-use Rattle.pr_parts.proofs.ByAddressLemmas.{All-placed}
-use Rattle.pr_parts.specs.AddressSpaces.{address_of, gap_from, gap_in, gap_places, is_break_heap, is_gap, is_range, resized, text_at, text_behind, text_with, with_break, with_bytes, with_heap, with_mapping, with_prot, with_protected, with_written, without_range, written_byte, written_bytes, zeros_at}
+use Rattle.pr_parts.proofs.ByAddressLemmas.{All-placed, AllPairs-nil, pairs-without_first}
+use Rattle.pr_parts.proofs.FirstLemmas.{IsSpace-first, first_space-mappings}
+use Rattle.pr_parts.proofs.HeapLemmas.{IsSpace-resized, is_free-heap, mapped_size-none, with_heap-made, with_heap-none, with_heap-resized}
+use Rattle.pr_parts.proofs.SpaceLemmas.{EndsWithin, HasBytes, IsSpace-with_bytes, IsSpace-with_mapping, IsSpace-with_protected, mapped_size-with_mapping}
+use Rattle.pr_parts.specs.AddressSpaces.{LeavesHeapPlace, address_of, gap_from, gap_in, gap_places, is_break_heap, is_free, is_gap, is_range, resized, text_at, text_behind, text_with, with_break, with_bytes, with_heap, with_mapping, with_prot, with_protected, with_written, without_range, written_byte, written_bytes, zeros_at}
 use Rattle.pr_lawful.proofs.FileLemmas.{choice}
+use Rattle.pr_model.specs.Lawful.{IsLawfulProgram}
 use Rattle.pr_model.specs.MemoryCalls.{path_at}
 use Rattle.pr_reached.proofs.RegisterRanges.{byte_at, wraps}
 use Rattle.pr_reached.specs.InRange.{IsMappingInRange, IsShortName, IsProgramInRange, IsSpaceInRange}
 
--- The bytes of address spaces stay bytes, and what is read of them are bytes. Each mapping keeps a page at least, and
--- so
--- there are never more mappings than a process can map pages.
+-- The bytes of address spaces stay bytes, and what is read of them are bytes. The mappings stay apart, by rising address,
+-- and each keeps a page at least, so there are never more of them than a process can map pages.
 
 -- ---- lists
 
@@ -75,12 +79,24 @@ pages-within (m ∷ space) h =
     let rest = pages-within space (All-tail IsMappingInRange m space h) in
     omega arith
 
--- mappings of at most 1 MiB are few
-pub sized-few : (space : Space) → All IsMappingInRange space → mapped_size space ≤ mapping_limit → IsSpaceInRange space
-sized-few space h small = record { mappings = h; few = let pages = pages-within space h in omega arith }
+-- the mappings of an address space, which have at most 1 MiB, are few
+pub sized-few : (space : Space) → IsSpace space → All IsMappingInRange space → IsSpaceInRange space
+sized-few space is h = record {
+  is_space = is;
+  mappings = h;
+  few = let pages = pages-within space h in let small = is.limit in omega arith;
+}
+
+nothing-space : IsSpace []
+nothing-space = record {
+  apart = AllPairs-nil IsBefore;
+  not_empty = All-nil HasBytes;
+  within = All-nil EndsWithin;
+  limit = omega arith;
+}
 
 pub nothing-mapped : IsSpaceInRange []
-nothing-mapped = record { mappings = All-nil IsMappingInRange; few = omega arith }
+nothing-mapped = record { is_space = nothing-space; mappings = All-nil IsMappingInRange; few = omega arith }
 
 -- a length that is rounded up to whole pages is 0, or a page at least
 pub rounded-page : (n : ℕ) → 0 < n → page_size ≤ rounded n
@@ -204,6 +220,7 @@ module _ (at : ℕ) (bytes : List ℕ) (all : All IsByte bytes) where
   pub with_bytes-range : (space : Space) → IsSpaceInRange space → IsSpaceInRange (with_bytes at bytes space)
   unfolding with_bytes
   with_bytes-range space h = record {
+    is_space = IsSpace-with_bytes at bytes space h.is_space;
     mappings =
         All-map IsMappingInRange (with_written at bytes) space
         (All-weaker IsMappingInRange
@@ -230,10 +247,29 @@ zeros_mapped-range at size prot kind space fits allowed page h =
     All-placed IsMappingInRange address_of (zeros_at at size prot kind) space
     (zeros-range at size prot kind fits allowed page) h
 
+-- a space that loses a mapping, if it has that, maps no more
+without_first-size : (p : Mapping → Bool) (space : Space) → mapped_size (without_first p space) ≤ mapped_size space
+without_first-size p [] = omega arith
+without_first-size p (m ∷ space) =
+    let rest = without_first-size p space in
+    let whole = sum_by-cons (λ (x : Mapping). length x.bytes) m space in
+    let kept = sum_by-cons (λ (x : Mapping). length x.bytes) m (without_first p space) in
+    choice (λ (ms : Space). mapped_size ms ≤ mapped_size (m ∷ space)) (p m) space (m ∷ without_first p space)
+    (λ here. omega arith) (λ there. omega arith)
+
+without_first-space : (p : Mapping → Bool) (space : Space) → IsSpace space → IsSpace (without_first p space)
+without_first-space p space old = record {
+  apart = pairs-without_first IsBefore p space old.apart;
+  not_empty = All-without_first HasBytes p space old.not_empty;
+  within = All-without_first EndsWithin p space old.within;
+  limit = let less = without_first-size p space in let limit = old.limit in omega arith;
+}
+
 pub without_range-range : (at size : ℕ) (space : Space) → IsSpaceInRange space
     → IsSpaceInRange (without_range at size space)
 unfolding without_range
 without_range-range at size space h = record {
+  is_space = without_first-space (is_range at size) space h.is_space;
   mappings = All-without_first IsMappingInRange (is_range at size) space h.mappings;
   few = let shorter = without_first-within (is_range at size) space in let few = h.few in omega arith;
 }
@@ -242,6 +278,7 @@ pub with_protected-range : (at size prot : ℕ) (space : Space) → prot < 8 →
     → IsSpaceInRange (with_protected at size prot space)
 unfolding with_protected with_prot
 with_protected-range at size prot space allowed h = record {
+  is_space = IsSpace-with_protected at size prot space h.is_space;
   mappings =
       All-change_first IsMappingInRange (is_range at size) (with_prot prot)
       (λ m is it. record { at = it.at; prot = allowed; bytes = it.bytes; page = it.page }) space h.mappings;
@@ -268,6 +305,35 @@ gap_from-word size space at (suc places) found is =
 pub gap-word : (size : ℕ) (space : Space) (at : ℕ) → gap_in size space ≡ Some at → IsWord at
 unfolding gap_in
 gap-word size space at is = gap_from-word size space gap_base gap_places at is
+
+-- a gap that is found is one
+gap_from-gap : (size : ℕ) (space : Space) (at places found : ℕ) → gap_from size space at places ≡ Some found
+    → is_gap size space found ≡ true
+unfolding gap_from
+gap_from-gap size space at zero found is = absurd (none-some found is)
+gap_from-gap size space at (suc places) found is =
+    by (is_gap size space at) refl (gap_from size space (at + page_size) places)
+    (gap_from-gap size space (at + page_size) places found) is
+  where
+    by : (b : Bool) → is_gap size space at ≡ b → (rest : Option ℕ)
+        → (rest ≡ Some found → is_gap size space found ≡ true) → cond b (Some at) rest ≡ Some found
+        → is_gap size space found ≡ true
+    by true free rest later here =
+        subst (λ (a : ℕ). is_gap size space a ≡ true) (same_Some at found here) free
+    by false taken rest later there = later there
+
+-- a mapping in a gap leaves an address space, where that is not too big
+pub mapped-space : (at size prot : ℕ) (space : Space) → IsSpace space → 0 < size → gap_in size space ≡ Some at
+    → mapped_size (with_mapping (zeros_at at size prot Mapped) space) ≤ mapping_limit
+    → IsSpace (with_mapping (zeros_at at size prot Mapped) space)
+unfolding gap_in
+mapped-space at size prot space old some is small =
+    let gap = and_parts _ _ (gap_from-gap size space gap_base gap_places at is) in
+    let low : at + size < stack_base = ltb-true (at + size) stack_base gap.0 in
+    let long : length (replicate {A = ℕ} size 0) ≡ size = length-replicate size 0 in
+    let all = mapped_size-with_mapping (zeros_at at size prot Mapped) space in
+    IsSpace-with_mapping (zeros_at at size prot Mapped) space old (omega arith) (omega arith)
+    (subst (λ (n : ℕ). is_free at n space ≡ true) (sym long) gap.1) (omega arith)
 
 -- ---- the heap
 
@@ -304,6 +370,39 @@ heap-range size space page h = by (find is_break_heap space) refl
 
 pub break-range : (end : ℕ) (space : Space) → All IsMappingInRange space → All IsMappingInRange (with_break end space)
 break-range end space h = heap-range (rounded (end - heap_base)) space (pages-page (end - heap_base)) h
+
+-- a space whose heap is gone
+heap-gone : (space : Space) (m : Mapping) → IsSpace space → find is_break_heap space ≡ Some m
+    → IsSpace (with_heap 0 space)
+unfolding with_heap
+heap-gone space m old is = rw is (without_first-space is_break_heap space old)
+
+-- a heap of another size leaves an address space, where that is not too big
+heap-space : (size : ℕ) (space : Space) → IsSpace space → All LeavesHeapPlace space → heap_base + size ≤ break_limit
+    → mapped_size (with_heap size space) ≤ mapping_limit → IsSpace (with_heap size space)
+heap-space size space old leaves within small = by size within small (find is_break_heap space) refl
+  where
+    by : (n : ℕ) → heap_base + n ≤ break_limit → mapped_size (with_heap n space) ≤ mapping_limit
+        → (o : Option Mapping) → find is_break_heap space ≡ o → IsSpace (with_heap n space)
+    by zero within small None is = subst IsSpace (sym (with_heap-none space is)) old
+    by zero within small (Some m) is = heap-gone space m old is
+    by (suc n) within small None is =
+        let long : length (replicate {A = ℕ} (suc n) 0) ≡ suc n = length-replicate (suc n) 0 in
+        let all = mapped_size-none (suc n) space is in
+        subst IsSpace (sym (with_heap-made (suc n) space is (omega arith)))
+        (IsSpace-with_mapping (zeros_at heap_base (suc n) read_write Heap) space old (omega arith) (omega arith)
+        (subst (λ (k : ℕ). is_free heap_base k space ≡ true) (sym long) (is_free-heap (suc n) space leaves is within))
+        (omega arith))
+    by (suc n) within small (Some m) is =
+        let same = with_heap-resized (suc n) space m is (omega arith) in
+        subst IsSpace (sym same)
+        (IsSpace-resized (suc n) space old leaves (omega arith) within
+        (subst (λ (ms : Space). mapped_size ms ≤ mapping_limit) same small))
+
+pub break-space : (end : ℕ) (space : Space) → IsSpace space → All LeavesHeapPlace space → heap_base ≤ end
+    → end ≤ break_limit → mapped_size (with_break end space) ≤ mapping_limit → IsSpace (with_break end space)
+break-space end space old leaves above below small =
+    heap-space (rounded (end - heap_base)) space old leaves (omega arith) small
 
 -- ---- where a program begins
 
@@ -417,5 +516,17 @@ first-few program =
     let other = one-at-most data_base read_write Data program.bytes in
     omega arith
 
+-- a program within its limits begins in an address space
+program-space : (program : Program) → IsLawfulProgram program → IsSpace (first_space program)
+program-space program h =
+    let text = length-text program.code in
+    let code = h.code in
+    subst IsSpace (sym (first_space-mappings program))
+    (IsSpace-first (text_of program) program.bytes (omega arith) h.bytes)
+
 pub first-range : (program : Program) → IsProgramInRange program → IsSpaceInRange (first_space program)
-first-range program h = record { mappings = first-mappings program h; few = let few = first-few program in omega arith }
+first-range program h = record {
+  is_space = program-space program h.within;
+  mappings = first-mappings program h;
+  few = let few = first-few program in omega arith;
+}

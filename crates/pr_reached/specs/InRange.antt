@@ -5,7 +5,7 @@ use Rattle.pr_num.specs.Layout.{page_size}
 use Rattle.pr_num.specs.Limits.{area_limit, clock_limit, fault_count, name_limit, register_count}
 use Rattle.pr_num.specs.Limits.{signal_count, syscall_count}
 use Rattle.pr_num.specs.Programs.{Program}
-use Rattle.pr_num.specs.Spaces.{Space}
+use Rattle.pr_num.specs.Spaces.{IsSpace, Space}
 use Rattle.pr_num.specs.Words.{IsByte, IsWord}
 use Rattle.pr_num.specs.declared.files.StoredFile.{StoredFile}
 use Rattle.pr_num.specs.declared.infos.Info.{Info}
@@ -13,6 +13,7 @@ use Rattle.pr_num.specs.declared.mappings.Area.{Area}
 use Rattle.pr_num.specs.declared.mappings.Mapping.{Mapping}
 use Rattle.pr_parts.specs.PendingSignals.{Pending}
 use Rattle.pr_parts.specs.declared.signals.Queued.{Queued}
+use Rattle.pr_model.specs.Lawful.{IsLawfulProgram}
 use Rattle.pr_model.specs.State.{TracedControl, TracedLwp, TracedProcess, TracedSystem}
 use Rattle.pr_model.specs.declared.events.Res.{Res}
 use Rattle.pr_model.specs.declared.events.Res.TheVariants.{Value, Error, Ended}
@@ -23,8 +24,8 @@ use Rattle.pr_model.specs.declared.lwps.Phase.TheVariants.{User, Entered, Asleep
 use Rattle.pr_reached.specs.Mapped.{most_mappings}
 
 -- The ranges of the numbers of a system, beside what makes it lawful. Registers and addresses are words, bytes are below
--- 256, a set has no number outside its table, and mappings have a page at least and are few. What processes have used is
--- left out: it grows with every turn.
+-- 256, a set has no number outside its table, and the mappings of a process are an address space, have a page at least
+-- and are few. What processes have used is left out: it grows with every turn.
 
 -- a name of a program or a file
 pub record IsShortName (name : List ℕ) : Type 0 where
@@ -99,8 +100,10 @@ pub record IsMappingInRange (m : Mapping) : Type 0 where
   pub bytes : All IsByte m.bytes
   pub page : page_size ≤ length m.bytes
 
--- what a process has mapped
+-- What a process has mapped: an address space, whose mappings stand by rising address and apart, none past the last
+-- address.
 pub record IsSpaceInRange (space : Space) : Type 0 where
+  pub is_space : IsSpace space
   pub mappings : All IsMappingInRange space
   pub few : length space ≤ most_mappings
 
@@ -140,9 +143,11 @@ pub record IsProcessInRange (p : TracedProcess) : Type 0 where
 
 -- ---- programs and files
 
+-- a program within its limits, whose text and data leave the stack its place
 pub record IsProgramInRange (program : Program) : Type 0 where
   pub name : IsShortName program.name
   pub bytes : All IsByte program.bytes
+  pub within : IsLawfulProgram program
 
 pub record IsFileInRange (f : StoredFile) : Type 0 where
   pub name : IsShortName f.name

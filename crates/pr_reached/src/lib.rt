@@ -1,6 +1,6 @@
-//! Laws of reached states: they are lawful, fit and in range, and so the fields of their records are in their ranges; a
-//! process has few mappings; what it has used is bounded by the length of the history. Each public function carries one
-//! law in its contract, and does nothing.
+//! Laws of reached states: they are lawful, fit and in range, and so the fields of their records are in their ranges;
+//! what a process has mapped is an address space of few mappings; what it has used is bounded by the length of the
+//! history. Each public function carries one law in its contract, and does nothing.
 #![tactic(auto)]
 
 mod fits;
@@ -11,7 +11,7 @@ mod states;
 mod uses;
 
 pub use fits::reached_states_are_fit;
-pub use mapped::processes_have_few_mappings;
+pub use mapped::{processes_have_address_spaces, processes_have_few_mappings};
 pub use reached::legal_histories_reach_states;
 pub use records::{records_of_lawful_systems_are_in_range, records_of_reached_states_are_in_range};
 pub use states::{

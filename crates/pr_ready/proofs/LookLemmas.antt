@@ -1,9 +1,13 @@
-use Rattle.std.proofs.Common.{◌≡◌, ◌⊎◌, ◌||◌, ◌&&◌, ◌<◌, ℕ, Bool, true, false, eqb, sym, subst, ◌∙◌, inl, inr}
+use Rattle.std.proofs.Common.{◌≡◌, ◌⊎◌, ◌||◌, ◌&&◌, ◌<◌, ℕ, Bool, true, false, eqb, List, [], ◌∷◌, length, Some, refl, ap, arith, sym, subst, ◌∙◌, inl, inr}
+use Rattle.std.specs.List.{list_any, slice_get}
+use Rattle.std.proofs.lemmas.Option.{same_Some}
 use Rattle.std.proofs.lemmas.Bool.{and_parts, cases_Bool, eq-eqb, eqb-true, false≢true, or_parts, true≢false}
 use Rattle.pr_num.specs.Limits.{process_limit}
-use Rattle.pr_model.specs.State.{TracedSystem}
+use Rattle.pr_model.specs.State.{TracedLwp, TracedSystem}
+use Rattle.pr_model.specs.declared.lwps.Phase.TheVariants.{User}
 use Rattle.pr_ready.specs.Around.{is_around}
-use Rattle.pr_ready.specs.Ready.{Covers, CoversEach, Grows, GrowsBut, IsWoken, ReadySets}
+use Rattle.pr_ready.specs.Ready.{Covers, CoversEach, Grows, GrowsBut, IsWoken, ReadySets, is_at_pipe, is_dozing, is_woken}
+use Rattle.pr_ready_laws.specs.Left.{dozes, sleeps_at_pipe, wakes_between}
 use Rattle.pr_ready.specs.Steps.{Follows}
 use Rattle.pr_ready.specs.declared.around.Around.{Around}
 
@@ -108,3 +112,27 @@ module _ (answer : ℕ × ℕ → Bool) (s : TracedSystem) where
         by_clock = λ may pid spared small due said. absurd (false≢true may);
         moments = λ pid moment spared small due wakes. last.moments pid moment (before.moments pid moment due);
       }
+
+-- ---- a process with one lwp
+
+-- what its lwp does not
+only : (f : ℕ × TracedLwp → Bool) (es : List (ℕ × TracedLwp)) (e : ℕ × TracedLwp) → length es ≡ 1 → slice_get es 0 ≡ Some e
+    → f e ≡ false → list_any f es ≡ false
+only f [] e one at fails = absurd (omega arith)
+only f (x ∷ []) e one at fails = let same : x ≡ e = same_Some x e at in rw (same, fails) refl
+only f (x ∷ y ∷ es) e one at fails = absurd (omega arith)
+
+-- one in its program sleeps nowhere
+pub alone-waits : (es : List (ℕ × TracedLwp)) (e : ℕ × TracedLwp) → length es ≡ 1 → slice_get es 0 ≡ Some e → e.1.phase ≡ User
+    → list_any is_at_pipe es ≡ false
+alone-waits es e one at user = only is_at_pipe es e one at (ap sleeps_at_pipe user)
+
+pub alone-dozes : (es : List (ℕ × TracedLwp)) (e : ℕ × TracedLwp) → length es ≡ 1 → slice_get es 0 ≡ Some e → e.1.phase ≡ User
+    → list_any is_dozing es ≡ false
+alone-dozes es e one at user = only is_dozing es e one at (ap dozes user)
+
+pub alone-wakes : (from to : ℕ) (es : List (ℕ × TracedLwp)) (e : ℕ × TracedLwp) → length es ≡ 1 → slice_get es 0 ≡ Some e
+    → e.1.phase ≡ User → list_any (is_woken from to) es ≡ false
+alone-wakes from to es e one at user = only (is_woken from to) es e one at (ap (wakes_between from to) user)
+
+pub ruleset alone_laws = (alone-waits, alone-dozes, alone-wakes)

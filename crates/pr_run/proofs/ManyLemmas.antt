@@ -3,8 +3,10 @@ use borrow.Author.Tests.{ltb-true, ltb-false}
 use Rattle.std.proofs.Math.Bool.{or-false, or-true}
 use Rattle.std.proofs.lemmas.List.{length-map, take_all, take_at, drop_all, drop_at}
 use Rattle.std.proofs.lemmas.List.Elements.{All-append, All-cons, All-head, All-nil}
+use Rattle.std.proofs.lemmas.Bool.{and_parts}
 use Rattle.std.proofs.lemmas.Bool.Decides.{nat_tests}
 use Rattle.std.proofs.lemmas.Option.{none-some, same_Some}
+use Rattle.std.specs.Cmp.Derive.{both_true}
 use Rattle.std.specs.List.{enumerate_from, list_any, slice_get, slice_index_or}
 use Rattle.std.specs.Option.{ForSome, option_and_then}
 use Rattle.pr_api.specs.Views.{IsLawful, KernelView}
@@ -28,7 +30,7 @@ use Rattle.pr_world.specs.Worlds.{WorldState, as_lwp, can_act, clock_if_awaited,
 use Rattle.pr_world.specs.declared.ends.End.{End}
 use Rattle.pr_run.proofs.OneLemmas.{full-ends}
 use Rattle.pr_run.proofs.LogLemmas.{all-entries, each-stands, entries-append, entries-of_each, order-entries, order-log, stands-apart, log-at, log-next}
-use Rattle.pr_run.specs.ManyRuns.{AtPlaces, GoesOn, HasLeft, HasMade, HasStopped, HasWorked, IsMadeBy, IsMovedBy, IsNextOf, IsReady, IsTurnOf, IsWorkOf, MakesTurn, MovesNext, Rests, is_done, is_finished, last_lwp, lwp_of, next_for, next_of_controller, next_on_processor, is_over}
+use Rattle.pr_run.specs.ManyRuns.{AsksMade, AtPlaces, GoesOn, HasLeft, HasMade, HasStopped, HasWorked, IsMadeBy, IsMovedBy, IsNextOf, IsReady, IsTurnOf, IsWorkOf, MakesTurn, MovesNext, Rests, is_done, is_finished, last_lwp, lwp_of, next_for, next_of_controller, next_on_processor, is_over}
 use Rattle.pr_run.specs.Logs.{behind, entries_of, log_of}
 use Rattle.pr_run.specs.declared.shared_worlds.LoggedEntry.{LoggedEntry}
 use Rattle.pr_run.specs.declared.shared_worlds.SharedWorld.{SharedWorld}
@@ -115,13 +117,12 @@ at-finished cs k b h told = of (slice_get cs k) refl told
     of None e f = absurd (within-some cs k h e)
     of (Some core) e f = f core refl
 
-pub controller-finished : (r : Result Bool NoMemory) (w : WorldState) (processors worker : ℕ) → processors ≤ worker → worker < processors + length w.controllers
-    → IfOk r (λ finished. ForSome (slice_get w.controllers (worker - processors)) (λ core. finished ≡ has_finished core)) → IfOk r (λ finished. finished ≡ is_finished processors worker w)
+pub controller-finished : (b : Bool) (w : WorldState) (processors worker : ℕ) → processors ≤ worker → worker < processors + length w.controllers
+    → ForSome (slice_get w.controllers (worker - processors)) (λ core. b ≡ has_finished core) → b ≡ is_finished processors worker w
 unfolding is_finished
-controller-finished (Ok b) w processors worker behind within told =
+controller-finished b w processors worker behind within told =
     at-finished w.controllers (worker - processors) b (omega arith) told
     ∙ sym (ap (λ (t : Bool). t && is_none (call_by w.controllers (worker - processors))) (is_within processors worker behind))
-controller-finished (Err x) w processors worker behind within told = tt
 
 pub finished-done : (w : WorldState) (processors worker : ℕ) (finished : Bool) → finished ≡ is_finished processors worker w → finished ≡ true → true ≡ is_done processors worker w
 unfolding is_done
@@ -163,36 +164,50 @@ move-goes_on processors worker old new w v lawful m = of (next_actor w) refl
     of None rest = let no : true ≡ false = sym m.moves.leads.acts ∙ all-rest w m.actor lawful rest in cc
     of (Some a) next = ap (λ (b : Bool). b && is_some (next_actor w)) place ∙ ap is_some next
 
--- a world that has ended is as it is after a turn
-pub turn-stays : (processors worker : ℕ) (old new : Option (ℕ × ℕ)) (w v : WorldState) → IsLawful w.kernel
-    → IsTurnOf processors worker old new w v → is_some (ended_as w) ≡ true → is_some (ended_as v) ≡ true
+-- in a world that has ended no actor moves
+no-move : (processors worker : ℕ) (old new : Option (ℕ × ℕ)) (w v : WorldState) → IsLawful w.kernel
+    → MovesNext processors worker old new w v → is_some (ended_as w) ≡ true → ⊥
 unfolding ended_as
-turn-stays processors worker old new w v lawful (inl r) ended = subst (λ (x : WorldState). is_some (ended_as x) ≡ true) (sym r.world) ended
-turn-stays processors worker old new w v lawful (inr m) ended =
+no-move processors worker old new w v lawful m ended =
     let goes = move-goes_on processors worker old new w v lawful m in
     let no : is_some (ended_as w) ≡ false = ap (λ (b : Bool). is_some (cond b None (Some (end_of w)))) goes in
     let never : true ≡ false = sym ended ∙ no in
     cc
 
-pub over-on : (r : Option NoMemory) (w v : WorldState) → (is_some (ended_as w) ≡ true → is_some (ended_as v) ≡ true)
-    → (is_some r || is_some (ended_as w)) ≡ true → (is_some r || is_some (ended_as v)) ≡ true
-over-on None w v on e = on e
-over-on (Some x) w v on e = refl
+-- a world that has ended is as it is after a turn
+turn-stays : (processors worker : ℕ) (old new : Option (ℕ × ℕ)) (w v : WorldState) → IsLawful w.kernel
+    → IsTurnOf processors worker old new w v → is_some (ended_as w) ≡ true → is_some (ended_as v) ≡ true
+turn-stays processors worker old new w v lawful (inl r) ended = subst (λ (x : WorldState). is_some (ended_as x) ≡ true) (sym r.world) ended
+turn-stays processors worker old new w v lawful (inr m) ended = absurd (no-move processors worker old new w v lawful m ended)
+
+-- where memory was refused to nobody, what is over is so by its world
+of-world : (r : Option NoMemory) (b : Bool) → r ≡ None → (is_some r || b) ≡ true → b ≡ true
+of-world None b none over = over
+of-world (Some x) b none over = cc
+
+by-world : (r : Option NoMemory) (b : Bool) → b ≡ true → (is_some r || b) ≡ true
+by-world r b e = ap (λ (x : Bool). is_some r || x) e ∙ or-true (is_some r)
 
 module _ {Q : Type 0} (view : Q → KernelView) (shared : SharedWorld Q) where
-  pub ended-over : is_some (ended_as (seen view shared.world)) ≡ true → is_over view shared ≡ true
-  ended-over e = ap (λ (b : Bool). is_some shared.refusal || b) e ∙ or-true (is_some shared.refusal)
+  abbrev world_over : Bool
+  world_over = shared.world.made && is_some (ended_as (seen view shared.world))
+
+  pub ended-over : shared.world.made ≡ true → is_some (ended_as (seen view shared.world)) ≡ true → is_over view shared ≡ true
+  ended-over made e = by-world shared.refusal world_over (both_true made e)
 
   pub refused-over : IsSome shared.refusal → is_over view shared ≡ true
-  refused-over e = ap (λ (b : Bool). b || is_some (ended_as (seen view shared.world))) e
+  refused-over e = ap (λ (b : Bool). b || world_over) e
 
-  -- what is over has ended, where memory was not refused
+  -- What is over has ended, where memory was not refused, and how is told without memory.
+  pub over-made : is_over view shared ≡ true → shared.refusal ≡ None → shared.world.made ≡ true
+  over-made over none = (and_parts shared.world.made _ (of-world shared.refusal world_over none over)).0
+
   pub over-ends : is_over view shared ≡ true → shared.refusal ≡ None → goes_on (seen view shared.world) ≡ false
   unfolding ended_as
   over-ends over none = of (goes_on (seen view shared.world)) refl
     where
       ended : is_some (ended_as (seen view shared.world)) ≡ true
-      ended = sym (ap (λ (r : Option NoMemory). is_some r || is_some (ended_as (seen view shared.world))) none) ∙ over
+      ended = (and_parts shared.world.made _ (of-world shared.refusal world_over none over)).1
 
       of : (b : Bool) → goes_on (seen view shared.world) ≡ b → goes_on (seen view shared.world) ≡ false
       of true goes =
@@ -200,6 +215,24 @@ module _ {Q : Type 0} (view : Q → KernelView) (shared : SharedWorld Q) where
           let never : true ≡ false = sym ended ∙ no in
           cc
       of false goes = goes
+
+-- what is over is so after a turn, in which no actor can move
+pub over-stays : (processors worker : ℕ) (old new : Option (ℕ × ℕ)) (w v : WorldState) (p : Progress) (r : Option NoMemory) (before now : Bool) → IsLawful w.kernel
+    → MakesTurn processors worker old new w v p → AsksMade p now
+    → (is_some r || (before && is_some (ended_as w))) ≡ true → (is_some r || (now && is_some (ended_as v))) ≡ true
+over-stays processors worker old new w v p (Some x) before now lawful made asked over = refl
+over-stays processors worker old new w v p None before now lawful made asked over = of p made asked
+  where
+    ended : is_some (ended_as w) ≡ true
+    ended = (and_parts before _ over).1
+
+    still : IsTurnOf processors worker old new w v → is_some (ended_as v) ≡ true
+    still turn = turn-stays processors worker old new w v lawful turn ended
+
+    of : (p : Progress) → MakesTurn processors worker old new w v p → AsksMade p now → (now && is_some (ended_as v)) ≡ true
+    of Moved m asked = absurd (no-move processors worker old new w v lawful m ended)
+    of Idle m asked = both_true asked (still (inl m.0))
+    of Done m asked = both_true asked (still (inl m.0))
 
 pub on-refused : {T E : Type 0} (r : Result T E) (A B : Type 0) → OnErr r A → (A → B) → OnErr r B
 on-refused (Ok x) A B a f = tt
@@ -286,19 +319,19 @@ module _ (processors worker : ℕ) (old new : Option (ℕ × ℕ)) (w v : WorldS
   turn-last (inr m) = m.last ∙ ap (λ (l : List (ℕ × LoggedEntry)). last_lwp old (entries_of l)) (sym (move-adds m))
 
 -- a worker that has nothing more to do, left in that world
-pub done-left : {V : Type 0} (first : WorldState) (processors worker : ℕ) (old new : Option (ℕ × ℕ)) (w v : WorldState) (r : Result Progress NoMemory) (seat : Seat V LoggedEntry)
-    → IfOk r (λ progress. MakesTurn processors worker old new w v progress) → IsLawful w.kernel → CameFrom first w → seen_of seat ≡ log_of v.kernel.history
-    → (is_some (ended_as v) ≡ true → saw_over seat ≡ true) → IfOk r (λ progress. progress ≡ Done → HasLeft first processors worker seat)
-done-left first processors worker old new w v (Err x) seat made lawful came seen over = tt
-done-left first processors worker old new w v (Ok Moved) seat made lawful came seen over = λ e. cc
-done-left first processors worker old new w v (Ok Idle) seat made lawful came seen over = λ e. cc
-done-left first processors worker old new w v (Ok Done) seat made lawful came seen over = λ e. record {
+pub done-left : {V : Type 0} (first : WorldState) (processors worker : ℕ) (old new : Option (ℕ × ℕ)) (w v : WorldState) (r : Result Progress NoMemory) (now : Bool) (seat : Seat V LoggedEntry)
+    → IfOk r (λ progress. MakesTurn processors worker old new w v progress) → IfOk r (λ progress. AsksMade progress now) → IsLawful w.kernel → CameFrom first w → seen_of seat ≡ log_of v.kernel.history
+    → (now ≡ true → is_some (ended_as v) ≡ true → saw_over seat ≡ true) → IfOk r (λ progress. progress ≡ Done → HasLeft first processors worker seat)
+done-left first processors worker old new w v (Err x) now seat made asked lawful came seen over = tt
+done-left first processors worker old new w v (Ok Moved) now seat made asked lawful came seen over = λ e. cc
+done-left first processors worker old new w v (Ok Idle) now seat made asked lawful came seen over = λ e. cc
+done-left first processors worker old new w v (Ok Done) now seat made asked lawful came seen over = λ e. record {
   world = w;
   lawful = lawful;
   came = came;
   seen = seen ∙ ap (λ (x : WorldState). log_of x.kernel.history) made.0.world;
   done = made.1;
-  over = λ ended. over (ap (λ (x : WorldState). is_some (ended_as x)) made.0.world ∙ ended);
+  over = λ ended. over asked (ap (λ (x : WorldState). is_some (ended_as x)) made.0.world ∙ ended);
 }
 
 -- ---- the entries of a worker

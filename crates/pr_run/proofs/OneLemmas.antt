@@ -67,15 +67,10 @@ stands-those : (w v : WorldState) → StandsAs w v → HasThose w v
 stands-those w v (inl same) = picked-those w v None same
 stands-those w v (inr is) = picked-those w v (next_pick w) is
 
-module _ {K : Type 0} (view : K → KernelView) (w u : WorldOf K) (place : u ≡ picked (next_pick (seen view w)) w) where
-  seen-picked : (o : Option Pick) → seen view (picked o w) ≡ picked o (seen view w)
-  unfolding with_pick
-  seen-picked None = refl
-  seen-picked (Some p) = refl
-
+module _ {K : Type 0} (view : K → KernelView) (w u : WorldOf K) (place : seen view u ≡ picked (next_pick (seen view w)) (seen view w)) where
   -- it stands, with the actor picked
   pub stands : StandsAs (seen view w) (seen view u)
-  stands = inr (ap (seen view) place ∙ seen-picked (next_pick (seen view w)))
+  stands = inr place
 
   pub has-place : length (view w.kernel).history < (view w.kernel).places → length (view u.kernel).history < (view u.kernel).places
   has-place h = subst (λ (k : KernelView). length k.history < k.places) (sym (stands-those (seen view w) (seen view u) stands).kernel) h
@@ -90,7 +85,7 @@ module _ {K : Type 0} (view : K → KernelView) (w u : WorldOf K) (place : u ≡
         pick = p;
         found = f;
         actor = cc;
-        world = ap (seen view) (place ∙ ap (λ (o : Option Pick). picked o w) f);
+        world = place ∙ ap (λ (o : Option Pick). picked o (seen view w)) f;
       }
 
   pub picked-none : (next : Option Actor) → next ≡ next_actor (seen view w) → next ≡ None → (seen view u ≡ seen view w) × (next_pick (seen view w) ≡ None)
@@ -98,7 +93,7 @@ module _ {K : Type 0} (view : K → KernelView) (w u : WorldOf K) (place : u ≡
   picked-none next is e = of (next_pick (seen view w)) refl (sym is ∙ e)
     where
       of : (o : Option Pick) → next_pick (seen view w) ≡ o → option_map actor_of o ≡ None → (seen view u ≡ seen view w) × (next_pick (seen view w) ≡ None)
-      of None f h = (ap (seen view) (place ∙ ap (λ (o : Option Pick). picked o w) f), f)
+      of None f h = (place ∙ ap (λ (o : Option Pick). picked o (seen view w)) f, f)
       of (Some p) f h = cc
 
 module _ {K : Type 0} (view : K → KernelView) (w u : WorldOf K) (a : Actor) (p : Picked view w u a) where

@@ -1,5 +1,5 @@
 //! Runs of a world on several threads.
-ghost use Rattle.std.specs.Prelude.{◌≡◌, ◌+◌, ◌≤◌, ◌<◌, ◌^◌, ◌++◌, ◌||◌, true, [], None, Some, All, length, flat_map, vec_len, IfOk, OnErr, OnOk, IsOkUnless};
+ghost use Rattle.std.specs.Prelude.{◌≡◌, ◌+◌, ◌≤◌, ◌<◌, ◌^◌, ◌++◌, ◌||◌, true, [], None, Some, All, length, flat_map, vec_len, IfOk, IsOk, OnErr, OnOk, IsOkUnless};
 ghost use Rattle.std.specs.List.{list_any};
 ghost use Rattle.pr_lock.specs.Seats.{IsOutside, first_of, own_of, saw_over, shares_of};
 ghost use Rattle.pr_num.specs.Limits.{worker_limit};
@@ -154,17 +154,19 @@ fn keep_within<Q: Kernel>(kernel: &Q)
     prove!(entries <= places);
 }
 
-/// The world that workers left where all was over, and how its run ended: it had, unless memory was refused.
+/// The world that workers left where all was over, and how its run ended: it had, unless memory was refused to one of
+/// them. Takes no memory.
 fn ended<Q: Kernel>(shared: SharedWorld<Q>) -> (World<Q>, Result<End, NoMemory>)
     requires { is_over Q.view shared ≡ true }
     ensures world { result.0 ≡ shared.world }
+    ensures sure { shared.refusal ≡ None → IsOk result.1 }
     ensures within { length (Q.view result.0.kernel).history ≤ (Q.view result.0.kernel).places }
     ensures end { IfOk result.1 (λ end. ended_as (seen Q.view result.0) ≡ Some end) }
 {
-    let SharedWorld { mut world, refusal } = shared;
+    let SharedWorld { world, refusal } = shared;
     let end = match refusal {
         Some(refusal) => Err(refusal),
-        None => end(&mut world),
+        None => Ok(end(&world)),
     };
     keep_within(world.kernel());
     (world, end)
@@ -173,8 +175,8 @@ fn ended<Q: Kernel>(shared: SharedWorld<Q>) -> (World<Q>, Result<End, NoMemory>)
 /// Makes the run of a world by workers, each in a thread of its own: so many that share the processor and move lwps and
 /// the clock, and one for each controller. They take the world in turn under a lock, in any order; its schedule is not
 /// used. A worker leaves where the world has ended, its controller has finished, or memory was refused, and one of the
-/// processor never where its controller has: so the world has ended when all have left, and it says how. Where memory
-/// runs out on the way, the world is handed back as it stands. It waits for its workers, and for nothing else once they
+/// processor never where its controller has: so the world has ended when all have left, and it says how, without asking
+/// for memory. Where memory runs out on the way, the world is handed back as it stands. It waits for its workers, and for nothing else once they
 /// have left: what is said here holds if it returns.
 pub fn run_many<R: Threads + Wait + Sync, Q: Kernel + Send, G: Gate + Sync>(
     rt: &R,

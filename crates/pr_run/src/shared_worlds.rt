@@ -1,7 +1,7 @@
 //! What lies under the lock of a run on several threads.
 ghost use Rattle.std.specs.Prelude.{◌≡◌, ◌+◌, ◌<◌, true, None, IsSome, IfOk, OnOk, OnErr, length};
 ghost use Rattle.pr_api.specs.Views.{IsLawful};
-ghost use Rattle.pr_run.specs.ManyRuns.{IsTurnOf, MakesTurn, is_over};
+ghost use Rattle.pr_run.specs.ManyRuns.{AsksMade, IsTurnOf, MakesTurn, is_over};
 ghost use Rattle.pr_world.specs.Runs.{CameFrom};
 ghost use Rattle.pr_world.specs.Worlds.{WorldState, seen};
 
@@ -62,9 +62,10 @@ impl<Q: Kernel> SharedWorld<Q> {
             → CameFrom first (seen Q.view self.new.world) }
         ensures made { IfOk result (λ progress. MakesTurn worker.processors worker.number last.old last.new
             (seen Q.view self.old.world) (seen Q.view self.new.world) progress) }
+        ensures asked { IfOk result (λ progress. AsksMade progress self.new.world.made) }
         ensures unmarked { OnOk result (self.new.refusal ≡ None) }
-        ensures refused { OnErr result
-            (IsSome self.new.refusal × (self.new.world ≡ self.old.world) × (last.new ≡ last.old)) }
+        ensures refused { OnErr result (IsSome self.new.refusal
+            × (seen Q.view self.new.world ≡ seen Q.view self.old.world) × (last.new ≡ last.old)) }
         ensures stays { is_over Q.view self.old ≡ true → is_over Q.view self.new ≡ true }
         ensures marked { IsSome self.old.refusal → self.new ≡ self.old }
     {

@@ -1,6 +1,6 @@
 //! What the workers of a run on several threads do in a world.
-ghost use Rattle.std.specs.Prelude.{◌≡◌, ◌+◌, ◌<◌, ◌≤◌, length, IfOk, OnErr};
-ghost use Rattle.pr_run.specs.ManyRuns.{MakesTurn, is_done, is_finished, lwp_of, next_for, next_of_controller, next_on_processor};
+ghost use Rattle.std.specs.Prelude.{◌≡◌, ◌+◌, ◌<◌, ◌≤◌, true, length, IfOk, OnErr};
+ghost use Rattle.pr_run.specs.ManyRuns.{AsksMade, MakesTurn, is_done, is_finished, lwp_of, next_for, next_of_controller, next_on_processor};
 ghost use Rattle.pr_world.specs.Worlds.{seen};
 
 use pr_api::Kernel;
@@ -29,33 +29,27 @@ pub enum Progress {
 /// Who a worker of the processor moves next: the first lwp after the one that it moved last, then the clock, and then
 /// the first lwp of all.
 #[tactic(auto, unfolding(crate::specs::ManyRuns::next_on_processor))]
-fn next_on_processor<Q: Kernel>(
-    world: &mut World<Q>,
-    last: Option<(u32, u32)>,
-) -> Result<Option<Actor>, NoMemory>
-    ensures value { IfOk result (λ next. next ≡ next_on_processor last (seen Q.view world.old)) }
-    ensures same { world.new ≡ world.old }
+fn next_on_processor<Q: Kernel>(world: &World<Q>, last: Option<(u32, u32)>) -> Option<Actor>
+    requires { world.now.made ≡ true }
+    ensures { result ≡ next_on_processor last (seen Q.view world.now) }
 {
-    match world.from_lwp(last)? {
-        Some(actor) => Ok(Some(actor)),
+    match world.from_lwp(last) {
+        Some(actor) => Some(actor),
         None => world.from_lwp(None),
     }
 }
 
 /// The controller of a number, if it can move.
 #[tactic(auto, unfolding(crate::specs::ManyRuns::next_of_controller))]
-fn next_of_controller<Q: Kernel>(
-    world: &mut World<Q>,
-    controller: u32,
-) -> Result<Option<Actor>, NoMemory>
-    ensures value { IfOk result (λ next. next ≡ next_of_controller controller (seen Q.view world.old)) }
-    ensures same { world.new ≡ world.old }
+fn next_of_controller<Q: Kernel>(world: &World<Q>, controller: u32) -> Option<Actor>
+    requires { world.now.made ≡ true }
+    ensures { result ≡ next_of_controller controller (seen Q.view world.now) }
 {
     let actor = Actor::Controller(controller);
-    if world.movable(actor)? {
-        Ok(Some(actor))
+    if world.can_act(actor) {
+        Some(actor)
     } else {
-        Ok(None)
+        None
     }
 }
 
@@ -72,13 +66,9 @@ fn lwp_of(actor: Actor) -> Option<(u32, u32)>
 impl Worker {
     /// Who it moves next, if anybody.
     #[tactic(auto, unfolding(crate::specs::ManyRuns::next_for))]
-    fn next<Q: Kernel>(
-        self,
-        world: &mut World<Q>,
-        last: Option<(u32, u32)>,
-    ) -> Result<Option<Actor>, NoMemory>
-        ensures value { IfOk result (λ next. next ≡ next_for self.processors self.number last (seen Q.view world.old)) }
-        ensures same { world.new ≡ world.old }
+    fn next<Q: Kernel>(self, world: &World<Q>, last: Option<(u32, u32)>) -> Option<Actor>
+        requires { world.now.made ≡ true }
+        ensures { result ≡ next_for self.processors self.number last (seen Q.view world.now) }
     {
         if self.number < self.processors {
             next_on_processor(world, last)
@@ -88,33 +78,33 @@ impl Worker {
     }
 
     /// Whether it moves a controller, and that has finished.
-    fn is_finished<Q: Kernel>(self, world: &mut World<Q>) -> Result<bool, NoMemory>
-        requires { self.number < self.processors + length world.old.controllers }
-        ensures value { IfOk result (λ finished. finished
-            ≡ is_finished self.processors self.number (seen Q.view world.old)) }
-        ensures same { world.new ≡ world.old }
+    fn is_finished<Q: Kernel>(self, world: &World<Q>) -> bool
+        requires made { world.now.made ≡ true }
+        requires number { self.number < self.processors + length world.now.controllers }
+        ensures { result ≡ is_finished self.processors self.number (seen Q.view world.now) }
     {
         if self.number < self.processors {
-            return Ok(false);
+            return false;
         }
-        world.finished(self.number - self.processors)
+        world.is_finished(self.number - self.processors)
     }
 
     /// Whether it has nothing more to do: the world has ended, or its controller has finished.
-    fn is_done<Q: Kernel>(self, world: &mut World<Q>) -> Result<bool, NoMemory>
-        requires { self.number < self.processors + length world.old.controllers }
-        ensures value { IfOk result (λ done. done ≡ is_done self.processors self.number (seen Q.view world.old)) }
-        ensures same { world.new ≡ world.old }
+    fn is_done<Q: Kernel>(self, world: &World<Q>) -> bool
+        requires made { world.now.made ≡ true }
+        requires number { self.number < self.processors + length world.now.controllers }
+        ensures { result ≡ is_done self.processors self.number (seen Q.view world.now) }
     {
-        if self.is_finished(world)? {
-            return Ok(true);
+        if self.is_finished(world) {
+            return true;
         }
-        Ok(world.ended()?.is_some())
+        world.end().is_some()
     }
 
     /// One turn, with at most one move. `last` is the lwp that the worker moved last. Where memory runs out, both are
-    /// as they were. It looks first for who moves next, since how a world stands takes longer to find out: where
-    /// somebody can move, it has ended only if its places are taken.
+    /// as they were: it is asked for the controllers' next calls at first, and in the move, and for no question. The
+    /// worker looks first for who moves next, since how a world stands takes longer to find out: where somebody can
+    /// move, it has ended only if its places are taken.
     pub fn make_turn<Q: Kernel>(
         self,
         world: &mut World<Q>,
@@ -123,11 +113,13 @@ impl Worker {
         requires { self.number < self.processors + length world.old.controllers }
         ensures ok { IfOk result (λ progress. MakesTurn self.processors self.number last.old last.new
             (seen Q.view world.old) (seen Q.view world.new) progress) }
-        ensures err { OnErr result (world.new ≡ world.old) }
+        ensures asked { IfOk result (λ progress. AsksMade progress world.new.made) }
+        ensures err { OnErr result (seen Q.view world.new ≡ seen Q.view world.old) }
         ensures kept { OnErr result (last.new ≡ last.old) }
     {
-        let Some(actor) = self.next(world, *last)? else {
-            if self.is_done(world)? {
+        world.make_calls()?;
+        let Some(actor) = self.next(world, *last) else {
+            if self.is_done(world) {
                 return Ok(Progress::Done);
             }
             return Ok(Progress::Idle);

@@ -4,6 +4,8 @@ use Rattle.std.specs.Option.{option_map}
 use Rattle.std.proofs.lemmas.Option.{slice_get-map}
 use Rattle.std.proofs.lemmas.List.Elements.{All-cons, All-nil}
 use Rattle.pr_api.specs.Views.{kernel_of}
+use Rattle.pr_core.specs.Gcores.{first_gcore}
+use Rattle.pr_core_laws.proofs.GcoreLaw.{shows-one-core}
 use Rattle.pr_erasure.proofs.HistoryLemmas.{transparent-first}
 use Rattle.pr_erasure.specs.Transparency.{IsTransparent}
 use Rattle.pr_line.specs.declared.functions.Function.{Function}
@@ -13,6 +15,8 @@ use Rattle.pr_model.specs.Legal.{IsLegal}
 use Rattle.pr_model.specs.declared.events.Entry.{Entry}
 use Rattle.pr_model.specs.declared.tools.ToolKind.{ToolKind}
 use Rattle.pr_model.specs.declared.tools.ToolKind.TheVariants.{Pstack}
+use Rattle.pr_probe.specs.Probes.{first_probe}
+use Rattle.pr_probe_laws.proofs.ProbeLaw.{puts-back}
 use Rattle.pr_reached.proofs.ReachedLemmas.{first-reached}
 use Rattle.pr_reached.specs.Reached.{IsReached}
 use Rattle.pr_scen.specs.Scenarios.{Scenario, probe_in, probes_of, script_in, scripts_of, shown_functions, shown_in}
@@ -25,13 +29,15 @@ use Rattle.pr_tool_laws.proofs.ProgramLemmas.{first-same}
 use Rattle.pr_tool_laws.proofs.StackLaw.{shows-one-stack}
 use Rattle.pr_tool_laws.proofs.WholeLemmas.{tool-shows}
 use Rattle.pr_tools.specs.Tools.{first_tool}
-use Rattle.pr_world.specs.ControllerStates.{Tool}
+use Rattle.pr_world.specs.ControllerStates.{Gcore, Probe, Tool}
 use Rattle.pr_world.specs.Protocol.{Follows}
 use Rattle.pr_world.specs.Runs.{CameFrom, IsFresh, IsMachineRun, IsTold, LedFrom}
 use Rattle.pr_world.specs.Worlds.{WorldState}
 use Rattle.pr_run_laws.specs.ScenarioRuns.{IsKept, controller_of, controllers_of, files_of, first_state_of, first_world, history_after, truss_of, world_after}
 use Rattle.pr_run_laws.specs.ScenarioRanges.{IsScenarioInRange}
+use Rattle.pr_run_laws.specs.CoreRuns.{IsGcoreKept}
 use Rattle.pr_run_laws.specs.FunctionRuns.{IsFunctionTrussKept}
+use Rattle.pr_run_laws.specs.ProbeRuns.{IsProbeKept}
 use Rattle.pr_run_laws.specs.ToolRuns.{IsToolKept}
 use Rattle.pr_run_laws.specs.Tracers.{IsTracer}
 use Rattle.pr_run_laws.specs.TrussRuns.{IsTrussKept}
@@ -153,6 +159,42 @@ tools-kept s h range legal follows k kind pid at = record {
       ended accepted;
 }
 
+-- ---- cores
+
+gcore-first : (s : Scenario) (k pid : ℕ) → slice_get s.controllers k ≡ Some (plan.Gcore pid)
+    → slice_get (controllers_of s) k ≡ Some (Gcore (first_gcore pid))
+unfolding controller_of
+gcore-first s k pid at = slice_get-map controller_of s.controllers k ∙ ap (option_map controller_of) at
+
+gcores-kept : (s : Scenario) (h : List Entry) → IsScenarioInRange s → IsLegal (length (controllers_of s))
+    (first_state_of s) h → Follows (controllers_of s) (first_state_of s) h → (k pid : ℕ)
+    → slice_get s.controllers k ≡ Some (plan.Gcore pid) → IsGcoreKept (controllers_of s) (first_state_of s) h k pid
+gcores-kept s h range legal follows k pid at = record {
+  shows = λ g ends ended accepted.
+      let n = length (controllers_of s) in
+      let reached = state-reached s range in
+      shows-one-core (controllers_of s) n k pid (first_state_of s) h g reached.lawful reached.in_range
+      (follows-bytes (controllers_of s) n (first_state_of s) h reached range.bytes legal follows) (gcore-first s k pid at)
+      legal follows ends ended accepted;
+}
+
+-- ---- probes
+
+probe-first : (s : Scenario) (k pid : ℕ) → slice_get s.controllers k ≡ Some (plan.Probe pid)
+    → slice_get (controllers_of s) k ≡ Some (Probe (first_probe pid))
+unfolding controller_of
+probe-first s k pid at = slice_get-map controller_of s.controllers k ∙ ap (option_map controller_of) at
+
+probes-kept : (s : Scenario) (h : List Entry) → IsLegal (length (controllers_of s)) (first_state_of s) h
+    → Follows (controllers_of s) (first_state_of s) h → (k pid : ℕ)
+    → slice_get s.controllers k ≡ Some (plan.Probe pid) → IsProbeKept (controllers_of s) (first_state_of s) h k pid
+probes-kept s h legal follows k pid at = record {
+  puts_back =
+      λ p ends ended accepted.
+      puts-back (controllers_of s) (length (controllers_of s)) k pid (first_state_of s) h p (probe-first s k pid at)
+      legal follows ends ended accepted;
+}
+
 -- ---- runs
 
 -- the entries by which a world was led to from the first one are a run of the machine
@@ -177,6 +219,8 @@ led-kept s w range led =
       trusses = trusses-kept s led.entries range run.legal run.follows;
       functions = functions-kept s led.entries run.follows;
       tools = tools-kept s led.entries range run.legal run.follows;
+      cores = gcores-kept s led.entries range run.legal run.follows;
+      probes = probes-kept s led.entries run.legal run.follows;
       programs = first-same (length (controllers_of s)) s.programs (files_of s) s.spawns led.entries range.start
           run.legal;
     } in

@@ -18,12 +18,11 @@ use Rattle.pr_asm.specs.Statements.{code_of, instruction_of, label_or, space_of,
 use Rattle.pr_asm.specs.declared.mnemonics.Mnemonic.{Mnemonic}
 use Rattle.pr_asm.specs.declared.mnemonics.Mnemonic.TheVariants as does
 use Rattle.pr_asm.specs.declared.places.Place.{Place}
-use Rattle.pr_asm.specs.declared.refusals.AsmFault.{AsmFault}
+use Rattle.pr_asm.specs.Refusals.{AsmFault}
 use Rattle.pr_asm.specs.declared.refusals.AsmKind.{AsmKind}
 use Rattle.pr_asm.specs.declared.refusals.AsmKind.TheVariants.{BadOperand}
 use Rattle.pr_asm.specs.declared.statements.Statement.{Statement}
 use Rattle.pr_asm.specs.declared.statements.Statement.TheVariants as says
-use Rattle.pr_model.specs.Lawful.{IsLawfulProgram}
 use Rattle.pr_num.specs.Limits.{code_limit, data_limit}
 use Rattle.pr_num.specs.Programs.{Program}
 use Rattle.pr_num.specs.Words.{IsByte}
@@ -34,7 +33,7 @@ use Rattle.pr_scen.proofs.StepLemmas.{if_ok, then_ok, of_ok, ok_some, of_some}
 use Rattle.pr_scen.specs.Blocks.{all_readable, first_of_both, program_read}
 use Rattle.pr_scen.specs.Blocks as blocks
 use Rattle.pr_scen.specs.Lines.{readable}
-use Rattle.pr_scen.specs.declared.refusals.ScenFault.{ScenFault}
+use Rattle.pr_scen.specs.Refusals.{ScenFault}
 use Rattle.pr_scen.specs.declared.refusals.ScenKind.{ScenKind}
 use Rattle.pr_text.specs.Comments.{begins_comment}
 use Rattle.pr_text.specs.Names.{name_of}
@@ -132,36 +131,43 @@ says-bytes line small = in_words (texts_of line) (texts-bytes line small)
 
 -- ---- what a program becomes line by line
 
-pub record IsWhole (p : Program) : Type 0 where
-  pub lawful : IsLawfulProgram p
-  pub range : IsProgramInRange p
-
-begins : (name : List ℕ) → IsShortName name → IsWhole (program name [] [] [])
+begins : (name : List ℕ) → IsShortName name → IsProgramInRange (program name [] [] [])
 begins name is = record {
-  lawful = record { code = omega arith; bytes = omega arith };
-  range = record { name = is; bytes = All-nil IsByte };
+  name = is;
+  bytes = All-nil IsByte;
+  within = record { code = omega arith; bytes = omega arith };
 }
 
-label_more : (p : Program) (name : List ℕ) → IsWhole p → IsWhole (with_label p name)
+label_more : (p : Program) (name : List ℕ) → IsProgramInRange p → IsProgramInRange (with_label p name)
 label_more p name s = record {
-  lawful = record { code = s.lawful.code; bytes = s.lawful.bytes };
-  range = record { name = s.range.name; bytes = s.range.bytes };
+  name = s.name;
+  bytes = s.bytes;
+  within = record { code = s.within.code; bytes = s.within.bytes };
 }
 
-code_more : (p : Program) (i : Instruction) → length p.code < code_limit → IsWhole p → IsWhole (with_code p i)
+code_more : (p : Program) (i : Instruction) → length p.code < code_limit → IsProgramInRange p
+    → IsProgramInRange (with_code p i)
 code_more p i room s = record {
-  lawful = record { code = omega (arith, room, length-append p.code (i ∷ [])); bytes = s.lawful.bytes };
-  range = record { name = s.range.name; bytes = s.range.bytes };
+  name = s.name;
+  bytes = s.bytes;
+  within = record { code = omega (arith, room, length-append p.code (i ∷ [])); bytes = s.within.bytes };
 }
 
 data_more : (p : Program) (bytes : List ℕ) (zeros : ℕ) → aligned (length p.bytes) + length bytes + zeros ≤ data_limit
-    → All IsByte bytes → IsWhole p → IsWhole (with_data p bytes zeros)
+    → All IsByte bytes → IsProgramInRange p → IsProgramInRange (with_data p bytes zeros)
 data_more p bytes zeros room small s =
     let gap : List ℕ = replicate (aligned (length p.bytes) - length p.bytes) 0 in
     let none : List ℕ = replicate zeros 0 in
     record {
-      lawful = record {
-        code = s.lawful.code;
+      name = s.name;
+      bytes =
+          All-append IsByte (p.bytes ++ gap ++ bytes) none
+          (All-append IsByte (p.bytes ++ gap) bytes
+          (All-append IsByte p.bytes gap s.bytes
+          (All-replicate IsByte (aligned (length p.bytes) - length p.bytes) 0 (omega arith))) small)
+          (All-replicate IsByte zeros 0 (omega arith));
+      within = record {
+        code = s.within.code;
         bytes =
             omega (
               arith,
@@ -175,50 +181,42 @@ data_more p bytes zeros room small s =
               length-replicate {A = ℕ} zeros 0,
             );
       };
-      range = record {
-        name = s.range.name;
-        bytes =
-            All-append IsByte (p.bytes ++ gap ++ bytes) none
-            (All-append IsByte (p.bytes ++ gap) bytes
-            (All-append IsByte p.bytes gap s.range.bytes
-            (All-replicate IsByte (aligned (length p.bytes) - length p.bytes) 0 (omega arith))) small)
-            (All-replicate IsByte zeros 0 (omega arith));
-      };
     }
 
 module _ (place_of : List ℕ → Option Place) where
-  statement_more : (n : ℕ) (p : Program) (s : Statement) → SaysBytes s → IsWhole p
-      → IfOk (with_statement place_of n p s) IsWhole
+  statement_more : (n : ℕ) (p : Program) (s : Statement) → SaysBytes s → IsProgramInRange p
+      → IfOk (with_statement place_of n p s) IsProgramInRange
   unfolding with_statement label_added data_added code_added
   statement_more n p says.Blank h w = w
   statement_more n p (says.Label name) h w =
-      if_ok IsWhole (is_first place_of n name) _ _ (λ _. label_more p name w) (λ _. tt)
+      if_ok IsProgramInRange (is_first place_of n name) _ _ (λ _. label_more p name w) (λ _. tt)
   statement_more n p (says.Data name bytes zeros) h w =
-      if_ok IsWhole (is_first place_of n name) _ _
-      (λ _. if_ok IsWhole (has_room (length p.bytes) (length bytes) zeros) _ _
+      if_ok IsProgramInRange (is_first place_of n name) _ _
+      (λ _. if_ok IsProgramInRange (has_room (length p.bytes) (length bytes) zeros) _ _
       (λ room. data_more p bytes zeros (leb-true _ _ room) h w) (λ _. tt)) (λ _. tt)
   statement_more n p (says.Code i name) h w =
-      then_ok IsWhole (filled place_of i name) _
-      (λ j _. if_ok IsWhole (nat_lt (length p.code) code_limit) _ _ (λ room. code_more p j (ltb-true _ _ room) w)
-      (λ _. tt))
+      then_ok IsProgramInRange (filled place_of i name) _
+      (λ j _. if_ok IsProgramInRange (nat_lt (length p.code) code_limit) _ _
+      (λ room. code_more p j (ltb-true _ _ room) w) (λ _. tt))
 
-  read_more : (n : ℕ) (p : Program) (r : Result Statement AsmKind) → IfOk r SaysBytes → IsWhole p
-      → IfOk (read_added place_of n p r) IsWhole
+  read_more : (n : ℕ) (p : Program) (r : Result Statement AsmKind) → IfOk r SaysBytes → IsProgramInRange p
+      → IfOk (read_added place_of n p r) IsProgramInRange
   read_more n p (Ok s) h w = statement_more n p s h w
   read_more n p (Err kind) h w = tt
 
-  at_line : (n : ℕ) (r : Result Program AsmKind) → IfOk r IsWhole → IfOk (numbered n r) IsWhole
+  at_line : (n : ℕ) (r : Result Program AsmKind) → IfOk r IsProgramInRange → IfOk (numbered n r) IsProgramInRange
   at_line n (Ok p) w = w
   at_line n (Err kind) w = tt
 
   reads_more : (n : ℕ) (p : Program) (reads : List (Result Statement AsmKind)) → All (λ r. IfOk r SaysBytes) reads
-      → IsWhole p → IfOk (folded (read_added_at place_of) n p reads) IsWhole
+      → IsProgramInRange p → IfOk (folded (read_added_at place_of) n p reads) IsProgramInRange
   unfolding folded
   reads_more n p [] h w = w
   reads_more n p (r ∷ reads) h w =
-      then_ok IsWhole (read_added_at place_of n p r) (λ q. folded (read_added_at place_of) (n + 1) q reads) (λ q is.
+      then_ok IsProgramInRange (read_added_at place_of n p r) (λ q. folded (read_added_at place_of) (n + 1) q reads)
+      (λ q is.
       reads_more (n + 1) q reads (All-tail (λ r. IfOk r SaysBytes) r reads h)
-      (of_ok IsWhole (read_added_at place_of n p r) q is
+      (of_ok IsProgramInRange (read_added_at place_of n p r) q is
       (at_line n (read_added place_of n p r) (read_more n p r (All-head (λ r. IfOk r SaysBytes) r reads h) w))))
 
 -- ---- the program of a block
@@ -230,7 +228,7 @@ each_says (line ∷ body) h =
     (each_says body (All-tail (All IsByte) line body h))
 
 program-whole : (name : List ℕ) (body : List (List ℕ)) (n : ℕ) → IsShortName name → AreWordsOfBytes body
-    → IfOk (program_in name body n) IsWhole
+    → IfOk (program_in name body n) IsProgramInRange
 unfolding assembled
 program-whole name body n is h =
     reads_more (place_in n (map statement_of body)) n (program name [] [] []) (map statement_of body)
@@ -255,15 +253,15 @@ body-bytes n (this ∷ below) =
     with_below (Err fault) small h = tt
 
 both-read : (a : Result (Unit {0}) ScenFault) (r : Result Program AsmFault) (P : Type 0) → IfOk a (λ _. P)
-    → (P → IfOk r IsWhole) → IfOk (first_of_both a r) IsWhole
+    → (P → IfOk r IsProgramInRange) → IfOk (first_of_both a r) IsProgramInRange
 both-read (Ok x) (Ok p) P h on = on h
 both-read (Ok x) (Err fault) P h on = tt
 both-read (Err unreadable) (Ok p) P h on = tt
 both-read (Err unreadable) (Err fault) P h on =
-    if_ok IsWhole (nat_le unreadable.line fault.line) _ _ (λ _. tt) (λ _. tt)
+    if_ok IsProgramInRange (nat_le unreadable.line fault.line) _ _ (λ _. tt) (λ _. tt)
 
 pub program-range : (name : List ℕ) (n : ℕ) (body : List (List ℕ)) → IsShortName name
-    → IfOk (program_read name n body) IsWhole
+    → IfOk (program_read name n body) IsProgramInRange
 unfolding program_read
 program-range name n body is =
     both-read (all_readable n body) (program_in name body n) (AreWordsOfBytes body) (body-bytes n body)

@@ -26,7 +26,7 @@ use Rattle.pr_num.specs.declared.files.StoredFile.{StoredFile}
 use Rattle.pr_num.specs.declared.instructions.Instruction.{Instruction}
 use Rattle.pr_reached.proofs.MemoryRanges.{instruction-bytes}
 use Rattle.pr_reached.specs.InRange.{IsFileInRange, IsShortName, IsProgramInRange}
-use Rattle.pr_run_laws.proofs.ProgramRanges.{IsWhole, program-range, second-bytes}
+use Rattle.pr_run_laws.proofs.ProgramRanges.{program-range, second-bytes}
 use Rattle.pr_run_laws.proofs.WordRanges.{AreWordsOfBytes, name_of-range, quoted-bytes, readable-bytes, texts-bytes}
 use Rattle.pr_run_laws.proofs.WritingRanges.{messages-bytes}
 use Rattle.pr_run_laws.specs.ScenarioRanges.{HasCodeOfBytes, IsCoreOfBytes, IsLineOfBytes, IsScenarioInRange}
@@ -236,7 +236,7 @@ abbrev IsStored : List ℕ × List ℕ → Type 0
 IsStored f = IsFileInRange (stored_file f)
 
 record IsDraftInRange (d : Draft) : Type 0 where
-  programs : All IsWhole d.programs
+  programs : All IsProgramInRange d.programs
   files : All IsStored d.files
   controllers : All IsPlanOfBytes d.controllers
   lines : All IsLineOfBytes d.lines
@@ -420,8 +420,8 @@ range_program n d name body last named s =
     then_ok IsDraftInRange (numbered (n + (length body + 1)) (ended last)) _ (λ _ _.
     record {
       programs =
-          All-push IsWhole d.programs p s.programs
-          (of_ok IsWhole (program_read name (n + 1) body) p is (program-range name (n + 1) body named));
+          All-push IsProgramInRange d.programs p s.programs
+          (of_ok IsProgramInRange (program_read name (n + 1) body) p is (program-range name (n + 1) body named));
       files = s.files;
       controllers = s.controllers;
       lines = s.lines;
@@ -523,7 +523,7 @@ range_parts d (part ∷ parts) s =
 
 -- what is so of a scenario beside its limits
 record HasRanges (s : Scenario) : Type 0 where
-  programs : All IsWhole s.programs
+  programs : All IsProgramInRange s.programs
   files : All IsStored s.files
   controllers : All IsPlanOfBytes s.controllers
 
@@ -540,7 +540,7 @@ has_ranges lines =
 in_all : (s : Scenario) → IsWithinLimits s → HasRanges s → IsScenarioInRange s
 in_all s w r = record {
   start = record {
-    within = All-weaker IsWhole IsLawfulProgram (λ p h. h.lawful) s.programs r.programs;
+    within = All-weaker IsProgramInRange IsLawfulProgram (λ p h. h.within) s.programs r.programs;
     few = omega (arith, w.files, length-map s.files stored_file);
     short = All-map (λ (f : StoredFile). length f.bytes ≤ file_size_limit) stored_file s.files w.short;
     own_names = w.own_names;
@@ -548,7 +548,7 @@ in_all s w r = record {
     mapped = w.mapped;
   };
   range = record {
-    of_programs = All-weaker IsWhole IsProgramInRange (λ p h. h.range) s.programs r.programs;
+    of_programs = r.programs;
     of_files = All-map IsFileInRange stored_file s.files r.files;
   };
   bytes = All-map IsCoreOfBytes controller_of s.controllers r.controllers;

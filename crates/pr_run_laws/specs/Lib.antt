@@ -1,5 +1,7 @@
+pub mod CoreRuns
 pub mod Prefixes
 pub mod FunctionRuns
+pub mod ProbeRuns
 pub mod ScenarioRanges
 pub mod ScenarioRuns
 pub mod ToolRuns

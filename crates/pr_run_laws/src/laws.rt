@@ -8,9 +8,10 @@ ghost use Rattle.pr_world.specs.Runs.{CameFrom};
 ghost use Rattle.pr_world.specs.Worlds.{WorldState};
 
 /// The history of a scenario's run is legal from the first state and follows the protocol of its controllers; where it
-/// is passive, tracing is transparent in it; each truss has shown the selected events; and what each tool shows stands
-/// so in one state. This holds in whatever order the actors moved, and of the run on one thread after any number of
-/// moves. The scenario is in range, as each one is that was read.
+/// is passive, tracing is transparent in it; each truss has shown the selected events; what each tool shows stands so
+/// in one state, and what gcore prints is the core of one; and apfiles puts back what it writes over. This holds in
+/// whatever order the actors moved, and of the run on one thread after any number of moves. The scenario is in range, as
+/// each one is that was read.
 pub fn histories_of_runs_are_kept()
     ensures any_order { (s : Scenario) (w : WorldState) → IsScenarioInRange s → CameFrom (first_world s) w → IsKept s w.kernel.history }
     ensures one_thread { (s : Scenario) (n : ℕ) → IsScenarioInRange s → IsKept s (history_after n s) }

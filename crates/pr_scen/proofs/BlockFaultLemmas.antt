@@ -8,7 +8,7 @@ use Rattle.pr_asm.specs.Limits.{program}
 use Rattle.pr_asm.specs.Placing.{place_in}
 use Rattle.pr_asm.specs.Statements.{statement_of}
 use Rattle.pr_asm.specs.declared.places.Place.{Place}
-use Rattle.pr_asm.specs.declared.refusals.AsmFault.{AsmFault}
+use Rattle.pr_asm.specs.Refusals.{AsmFault}
 use Rattle.pr_asm.specs.declared.refusals.AsmKind.{AsmKind}
 use Rattle.pr_asm.specs.declared.statements.Statement.{Statement}
 use Rattle.pr_text.specs.Steps.{◌>>=◌, folded}
@@ -20,7 +20,7 @@ use Rattle.pr_scen.specs.Parts.{block}
 use Rattle.pr_scen.specs.declared.drafts.Draft.{Draft}
 use Rattle.pr_scen.specs.declared.items.Item.{Item}
 use Rattle.pr_scen.specs.declared.items.Item.TheVariants as item
-use Rattle.pr_scen.specs.declared.refusals.ScenFault.{ScenFault}
+use Rattle.pr_scen.specs.Refusals.{ScenFault}
 use Rattle.pr_scen.specs.declared.refusals.ScenKind.{ScenKind}
 
 abbrev fault_at : ℕ → ScenKind → ScenFault

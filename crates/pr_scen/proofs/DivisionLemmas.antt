@@ -13,7 +13,7 @@ use Rattle.pr_scen.specs.Reading.{draft_in, finished, scenario_in}
 use Rattle.pr_scen.specs.Scenarios.{Scenario}
 use Rattle.pr_scen.specs.declared.drafts.Draft.{Draft}
 use Rattle.pr_scen.specs.declared.items.Item.{Item}
-use Rattle.pr_scen.specs.declared.refusals.ScenFault.{ScenFault}
+use Rattle.pr_scen.specs.Refusals.{ScenFault}
 use Rattle.pr_scen.specs.declared.refusals.ScenKind.{ScenKind}
 use Rattle.pr_scen.specs.declared.refusals.ScenKind.TheVariants.{NoEnd}
 

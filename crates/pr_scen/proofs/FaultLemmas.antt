@@ -7,7 +7,7 @@ use Rattle.pr_scen.specs.Drafts.{nothing}
 use Rattle.pr_scen.specs.Parts.{Part, parts_of}
 use Rattle.pr_scen.specs.Reading.{draft_in, finished, scenario_in}
 use Rattle.pr_scen.specs.declared.drafts.Draft.{Draft}
-use Rattle.pr_scen.specs.declared.refusals.ScenFault.{ScenFault}
+use Rattle.pr_scen.specs.Refusals.{ScenFault}
 
 -- a part is refused, or one below it is
 here : (d : Draft) (part : Part) (parts : List Part) (fault : ScenFault) → part_added d part ≡ Err fault → StopsAt d (part ∷ parts) fault

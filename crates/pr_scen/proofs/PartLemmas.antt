@@ -9,12 +9,11 @@ use Rattle.pr_scen.specs.Blocks.{part_added, parts_added}
 use Rattle.pr_scen.specs.Lines.{is_end}
 use Rattle.pr_scen.specs.Parts.{Part, line, block, endless, begins_block, parts_from, block_from}
 use Rattle.pr_scen.proofs.LineLemmas.{bytes_of}
-use Rattle.pr_scen.specs.Reads.{Stops}
+use Rattle.pr_text.specs.Reads.{Stops}
 use Rattle.pr_scen.specs.Taken.{StopsAtPart, TakesPart}
 use Rattle.pr_scen.specs.declared.drafts.Draft.{Draft}
-use Rattle.pr_scen.specs.declared.refusals.ScenFault.{ScenFault}
-use Rattle.pr_scen.specs.declared.refusals.ScenRefusal.{ScenRefusal}
-use Rattle.pr_scen.specs.declared.refusals.ScenRefusal.TheVariants.{Fault, NoMemory}
+use Rattle.pr_scen.specs.Refusals.{ScenFault, ScenRefusal}
+use Rattle.pr_text.specs.declared.refusals.LineRefusal.TheVariants.{Fault, NoMemory}
 
 -- where a search ends
 position-some : (xs : List (List ℕ)) (k : ℕ) → position is_end xs ≡ Some k → (position_or_len is_end xs ≡ k) × (position_or_len is_end xs < length xs)

@@ -6,11 +6,10 @@ use Rattle.pr_scen.specs.Blocks.{numbered, part_added}
 use Rattle.pr_scen.specs.Lines.{is_end}
 use Rattle.pr_scen.specs.Parts.{Part, line, block, endless, begins_block, first_line_of, parts_from}
 use Rattle.pr_scen.specs.ProgramTexts.{admitted, part_admitted, program_parts_added}
-use Rattle.pr_scen.specs.Reads.{Stops}
+use Rattle.pr_text.specs.Reads.{Stops}
 use Rattle.pr_scen.specs.Taken.{StopsAtPart, TakesPart}
 use Rattle.pr_scen.specs.declared.drafts.Draft.{Draft}
-use Rattle.pr_scen.specs.declared.refusals.ScenFault.{ScenFault}
-use Rattle.pr_scen.specs.declared.refusals.ScenRefusal.{ScenRefusal}
+use Rattle.pr_scen.specs.Refusals.{ScenFault, ScenRefusal}
 use Rattle.pr_scen.proofs.LineLemmas.{bytes_of}
 use Rattle.pr_scen.proofs.PartLemmas.{left_parts, part-block, part-endless, part-line, stops_whole}
 

@@ -32,7 +32,7 @@ use Rattle.pr_scen.specs.TextEncoding.{Piece, outside, program, script, item_lin
 use Rattle.pr_scen.specs.declared.drafts.Draft.{Draft}
 use Rattle.pr_scen.specs.declared.items.Item.{Item}
 use Rattle.pr_scen.specs.declared.items.Item.TheVariants as item
-use Rattle.pr_scen.specs.declared.refusals.ScenFault.{ScenFault}
+use Rattle.pr_scen.specs.Refusals.{ScenFault}
 use Rattle.pr_scen.specs.declared.refusals.ScenKind.{ScenKind}
 use Rattle.pr_scen.specs.declared.script_lines.ScriptLine.{ScriptLine}
 use Rattle.pr_scen.specs.declared.script_lines.ScriptLine.TheVariants as call

@@ -12,7 +12,7 @@ use Rattle.pr_scen.specs.Blocks.{begun, ended, kind_of, all_readable, program_re
 use Rattle.pr_scen.specs.Lines.{readable}
 use Rattle.pr_scen.specs.declared.drafts.Draft.{Draft}
 use Rattle.pr_scen.specs.declared.items.Item.TheVariants as item
-use Rattle.pr_scen.specs.declared.refusals.ScenFault.{ScenFault}
+use Rattle.pr_scen.specs.Refusals.{ScenFault}
 use Rattle.pr_scen.specs.declared.refusals.ScenKind.{ScenKind}
 
 -- ---- lines of programs

@@ -2,7 +2,7 @@
 use Rattle.std.specs.Prelude.{◌+◌, ℕ, List, [], ◌∷◌, length, nat_le, Result, Ok, Err, if◌then◌else◌}
 use Rattle.pr_num.specs.Programs.{Program}
 use Rattle.pr_asm.specs.Assembly.{program_in}
-use Rattle.pr_asm.specs.declared.refusals.AsmFault.{AsmFault}
+use Rattle.pr_asm.specs.Refusals.{AsmFault}
 use Rattle.pr_asm.specs.declared.refusals.AsmKind.{AsmKind}
 use Rattle.pr_asm.specs.declared.refusals.AsmKind.TheVariants as asm
 use Rattle.pr_text.specs.Steps.{◌>>=◌, none, folded}
@@ -15,7 +15,7 @@ use Rattle.pr_scen.specs.ScriptLines.{script_line_of}
 use Rattle.pr_scen.specs.declared.drafts.Draft.{Draft}
 use Rattle.pr_scen.specs.declared.items.Item.{Item}
 use Rattle.pr_scen.specs.declared.items.Item.TheVariants as item
-use Rattle.pr_scen.specs.declared.refusals.ScenFault.{ScenFault}
+use Rattle.pr_scen.specs.Refusals.{ScenFault}
 use Rattle.pr_scen.specs.declared.refusals.ScenKind.{ScenKind}
 use Rattle.pr_scen.specs.declared.refusals.ScenKind.TheVariants as kind
 

@@ -14,7 +14,7 @@ pub mod Names
 pub mod Parts
 pub mod ProgramTexts
 pub mod Reading
-pub mod Reads
+pub mod Refusals
 pub mod ScenarioText
 pub mod Scenarios
 pub mod Schedules

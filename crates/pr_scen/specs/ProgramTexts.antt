@@ -11,7 +11,7 @@ use Rattle.pr_scen.specs.Drafts.{nothing}
 use Rattle.pr_scen.specs.Lines.{readable}
 use Rattle.pr_scen.specs.Parts.{Part, first_line_of, parts_of}
 use Rattle.pr_scen.specs.declared.drafts.Draft.{Draft}
-use Rattle.pr_scen.specs.declared.refusals.ScenFault.{ScenFault}
+use Rattle.pr_scen.specs.Refusals.{ScenFault}
 use Rattle.pr_scen.specs.declared.refusals.ScenKind.{ScenKind}
 use Rattle.pr_scen.specs.declared.refusals.ScenKind.TheVariants.{UnknownWord}
 

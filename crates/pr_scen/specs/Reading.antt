@@ -7,7 +7,7 @@ use Rattle.pr_scen.specs.Drafts.{nothing, made}
 use Rattle.pr_scen.specs.Parts.{parts_of}
 use Rattle.pr_scen.specs.Scenarios.{Scenario}
 use Rattle.pr_scen.specs.declared.drafts.Draft.{Draft}
-use Rattle.pr_scen.specs.declared.refusals.ScenFault.{ScenFault}
+use Rattle.pr_scen.specs.Refusals.{ScenFault}
 
 -- what the parts of lines make
 unfoldable pub draft_in : List (List ℕ) → Result Draft ScenFault

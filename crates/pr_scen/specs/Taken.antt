@@ -2,9 +2,9 @@
 use Rattle.std.specs.Prelude.{◌≡◌, ◌+◌, ◌≤◌, ℕ, List, [], ◌∷◌, drop, get_or, length, Result, Ok, Err}
 use Rattle.pr_scen.specs.Blocks.{part_added}
 use Rattle.pr_scen.specs.Parts.{Part, first_line_of, parts_from}
-use Rattle.pr_scen.specs.Reads.{Stops}
+use Rattle.pr_text.specs.Reads.{Stops}
 use Rattle.pr_scen.specs.declared.drafts.Draft.{Draft}
-use Rattle.pr_scen.specs.declared.refusals.ScenRefusal.{ScenRefusal}
+use Rattle.pr_scen.specs.Refusals.{ScenRefusal}
 
 -- the first part was taken: it has so many lines, and makes the new draft of the old one
 pub record TakesPart (n : ℕ) (old new : Draft) (lines : List (List ℕ)) (k : ℕ) : Type 0 where

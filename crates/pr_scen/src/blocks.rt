@@ -6,7 +6,7 @@ ghost use Rattle.pr_text.specs.Steps.{folded};
 ghost use Rattle.pr_scen.specs.Blocks.{numbered, item_in, line_added, begun, ended, kind_of, all_readable, first_of_both, program_read, program_added, script_words_added, script_line_read, script_added, part_added};
 ghost use Rattle.pr_scen.specs.Drafts.{may_begin};
 ghost use Rattle.pr_scen.specs.Parts.{line, block, endless};
-ghost use Rattle.pr_scen.specs.Reads.{Answers, LineGave, Stops};
+ghost use Rattle.pr_text.specs.Reads.{Answers, LineGave, Stops};
 ghost use Rattle.pr_scen.specs.Names.{place_of};
 
 use crate::drafts::Draft;

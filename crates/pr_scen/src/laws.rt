@@ -20,7 +20,7 @@ ghost use Rattle.pr_scen.specs.ScenarioText.{IsWritten, pieces_of};
 ghost use Rattle.pr_scen.specs.Scenarios.{Scenario, IsWithinLimits};
 ghost use Rattle.pr_scen.specs.TextEncoding.{Piece, IsPiece, scenario_of_pieces, text_of_pieces};
 ghost use Rattle.pr_scen.specs.TrussWords.{TrussLine, IsTrussLine, truss_words, truss_asked};
-ghost use Rattle.pr_scen.specs.declared.refusals.ScenFault.{ScenFault};
+ghost use Rattle.pr_scen.specs.Refusals.{ScenFault};
 ghost use Rattle.pr_scen.specs.declared.script_lines.ScriptLine.{ScriptLine};
 
 /// Lines are read as a scenario exactly where they encode it: they are lines outside blocks and whole blocks, one after

@@ -3,7 +3,7 @@ ghost use Rattle.std.specs.Prelude.{◌≡◌, ◌+◌, ◌<◌, ◌^◌, length
 ghost use Rattle.pr_text.specs.Words.{texts_of};
 ghost use Rattle.pr_scen.specs.Blocks.{numbered};
 ghost use Rattle.pr_scen.specs.ProgramTexts.{admitted, may_stand, program_draft_in, programs_of};
-ghost use Rattle.pr_scen.specs.Reads.{Answers};
+ghost use Rattle.pr_text.specs.Reads.{Answers};
 
 use crate::drafts::Draft;
 use crate::lines::readable;

@@ -4,7 +4,7 @@ ghost use Rattle.std.specs.List.{position_from};
 ghost use Rattle.pr_scen.specs.Lines.{is_end};
 ghost use Rattle.pr_scen.specs.Parts.{begins_block};
 ghost use Rattle.pr_scen.specs.Reading.{draft_in, scenario_in, scenario_of};
-ghost use Rattle.pr_scen.specs.Reads.{Answers};
+ghost use Rattle.pr_text.specs.Reads.{Answers};
 ghost use Rattle.pr_scen.specs.Scenarios.{IsWithinLimits};
 ghost use Rattle.pr_scen.specs.Taken.{PartTaken};
 

@@ -1,6 +1,4 @@
-use pr_num::NoMemory;
-use pr_text::Refused;
-use thiserror::Error;
+use pr_text::{LineFault, LineRefusal, Refused};
 
 /// Why a line of a scenario is refused. Of several kinds of one line the first is named.
 #[derive(Clone, Copy, Debug, PartialEq, Eq)]
@@ -26,31 +24,10 @@ pub enum ScenKind {
 }
 
 /// The first line of a scenario that is refused, counted from 1, and why.
-#[derive(Clone, Copy, Debug, PartialEq, Eq)]
-pub struct ScenFault {
-    pub line: u32,
-    pub kind: ScenKind,
-}
+pub type ScenFault = LineFault<ScenKind>;
 
 /// Why a scenario was not read.
-#[derive(Clone, Copy, Debug, PartialEq, Eq, Error)]
-pub enum ScenRefusal {
-    #[error("line {}: {:?}", .0.line, .0.kind)]
-    Fault(ScenFault),
-    #[error("out of memory")]
-    NoMemory,
-}
-
-impl From<NoMemory> for ScenRefusal {
-    ghost use Rattle.std.specs.Prelude.{◌≡◌};
-    ghost use Rattle.pr_scen.specs.declared.refusals.ScenRefusal.TheVariants as variants;
-
-    ghost from_gives = { λ _ e. e ≡ variants.NoMemory };
-
-    fn from(_error: NoMemory) -> ScenRefusal {
-        ScenRefusal::NoMemory
-    }
-}
+pub type ScenRefusal = LineRefusal<ScenKind>;
 
 impl From<ScenKind> for Refused<ScenKind> {
     ghost use Rattle.std.specs.Prelude.{◌≡◌};
@@ -60,16 +37,5 @@ impl From<ScenKind> for Refused<ScenKind> {
 
     fn from(kind: ScenKind) -> Refused<ScenKind> {
         Refused::Kind(kind)
-    }
-}
-
-impl From<ScenFault> for ScenRefusal {
-    ghost use Rattle.std.specs.Prelude.{◌≡◌};
-    ghost use Rattle.pr_scen.specs.declared.refusals.ScenRefusal.TheVariants as variants;
-
-    ghost from_gives = { λ fault e. e ≡ variants.Fault fault };
-
-    fn from(fault: ScenFault) -> ScenRefusal {
-        ScenRefusal::Fault(fault)
     }
 }

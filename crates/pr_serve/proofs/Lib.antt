@@ -5,11 +5,12 @@ pub mod EarlyLemmas
 pub mod GivingLemmas
 pub mod InputLemmas
 pub mod MadeLemmas
-pub mod MarkLemmas
 pub mod OnwardLemmas
 pub mod PieceLemmas
 pub mod ReadingLemmas
 pub mod ReportLemmas
 pub mod RunEndLemmas
 pub mod RunLemmas
+pub mod SeenLemmas
 pub mod SharedLemmas
+pub mod UnseenLemmas

@@ -15,6 +15,12 @@ use Rattle.pr_serve.specs.Reports.{reports_of}
 use Rattle.pr_serve.specs.declared.outcomes.Status.{Status}
 use Rattle.pr_serve.specs.declared.runs.Ran.{Ran}
 
+-- What is asked of the history of the run is so of the history that was made.
+pub made-fits : (Fits : List Entry → Type 0) (r : Result Ran NoMemory) (made h : List Entry) → OnOk r (made ≡ h)
+    → Fits h → OnOk r (Fits made)
+made-fits Fits (Ok run) made h is fits = subst Fits (sym is) fits
+made-fits Fits (Err e) made h is fits = tt
+
 module _ (text : RunText) (s : Scenario) (made : List Entry) (status : Status) (h : List Entry) (old new : Option (List ℕ)) (before after : ℕ) where
   -- What was made so far is left of the run.
   so-far : IsBroughtSoFar s made → LeftWith made h old new → StoppedRun s h old new

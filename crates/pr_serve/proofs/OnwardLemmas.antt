@@ -23,7 +23,7 @@ use Rattle.pr_scen.specs.Scenarios.{Scenario}
 use Rattle.pr_serve.proofs.RunLemmas.{first_world-places}
 use Rattle.pr_serve.specs.Answers.{IsEndOf}
 use Rattle.pr_serve.specs.Histories.{IsLedTo}
-use Rattle.pr_world.proofs.RunLemmas.{came-first, came-on, next-leads, picked-kernel, signalled-lawful, stuck-next}
+use Rattle.pr_world.proofs.RunLemmas.{came-first, came-on, moves-told, next-leads, picked-kernel, signalled-lawful, stuck-next}
 use Rattle.pr_world.proofs.ToldLemmas.{is-told, told-at}
 use Rattle.pr_world.specs.Moves.{IsMachines, IsShaped, Moves, entry_of}
 use Rattle.pr_world.specs.Runs.{CameFrom, IsMachineRun, IsTold, after_moves, after_next}
@@ -131,6 +131,33 @@ module _ (s : Scenario) (range : IsScenarioInRange s) (w : WorldState) where
   onward (suc n) told came =
       onward-next n (after_moves n w) (onward n told came) (next_pick (after_moves n w)) refl
 
+-- ---- how long a run is
+
+first-none : (s : Scenario) → (first_world s).kernel.history ≡ []
+unfolding first_world kernel_of
+first-none s = refl
+
+-- a move adds an entry at most
+next-short : (v : WorldState) (n : ℕ) → IsTold v → length v.kernel.history ≤ n → (next : Option Pick)
+    → next_pick v ≡ next → length (after_next v).kernel.history ≤ suc n
+next-short v n told before None rest =
+    subst (λ (w : WorldState). length w.kernel.history ≤ suc n) (sym (stuck-next v rest)) (omega (arith, before))
+next-short v n told before (Some p) next =
+    let step = next-leads v p told next in
+    let e = entry_of step.pick.actor step.leads.act in
+    let history : (after_next v).kernel.history ≡ v.kernel.history ++ e ∷ [] =
+    step.leads.history ∙ ap (λ (k : KernelView). k.history ++ e ∷ []) (picked-kernel step.pick v) in
+    let more = ap length history ∙ length-append v.kernel.history (e ∷ []) in
+    omega (arith, more, before)
+
+-- and so many moves add as many at most
+pub run-short : (s : Scenario) (n : ℕ) → length (after_moves n (first_world s)).kernel.history ≤ n
+unfolding after_moves
+run-short s zero = let none = ap length (first-none s) in omega (arith, none)
+run-short s (suc n) =
+    let v = after_moves n (first_world s) in
+    next-short v n (moves-told (first_world s) n (first-told s)) (run-short s n) (next_pick v) refl
+
 -- ---- the end
 
 -- A world in which a run of the scenario may end, whose history begins with this one.
@@ -204,10 +231,6 @@ led-end s history range led =
     omega (arith, led.within, ap length led.is, ap length same) in
     let end = told-end s (as_machine m w) range (machine-told w m) come few in
     subst (HasEnd s) (same ∙ sym led.is) end
-
-first-none : (s : Scenario) → (first_world s).kernel.history ≡ []
-unfolding first_world kernel_of
-first-none s = refl
 
 -- and one of which nothing was made yet
 pub first-end : (s : Scenario) → IsScenarioInRange s → HasEnd s []

@@ -65,7 +65,7 @@ first-seen s w state history places controllers schedule last =
 
 -- The world that is made of a kernel and the parts of a scenario is its first world.
 pub first-made : (r : Result (WorldOf Kernel) NoMemory) (s : Scenario) (k : Kernel) (controllers : List ControllerState) (schedule : List Actor) → k.state ≡ first_state s.programs (stored s.files) s.spawns → k.history ≡ [] → k.places ≡ s.turns → controllers ≡ controllers_of s → schedule ≡ s.schedule
-    → IfOk r (λ world. world ≡ record { kernel = k; controllers = controllers; schedule = schedule; last = None }) → IfOk r (λ world. seen kern_view world ≡ first_world s)
+    → IfOk r (λ world. world ≡ record { kernel = k; controllers = controllers; schedule = schedule; last = None; made = false }) → IfOk r (λ world. seen kern_view world ≡ first_world s)
 first-made (Ok w) s k controllers schedule state history places all acts is =
     first-seen s w
     (ap (λ (x : WorldOf Kernel). x.kernel.state) is ∙ state) (ap (λ (x : WorldOf Kernel). x.kernel.history) is ∙ history) (ap (λ (x : WorldOf Kernel). x.kernel.places) is ∙ places)

@@ -11,13 +11,14 @@ use Rattle.pr_run_laws.specs.ScenarioRanges.{IsScenarioInRange}
 use Rattle.pr_run_laws.specs.ScenarioRuns.{IsKept, first_world}
 use Rattle.pr_run_laws.proofs.KeptLemmas.{came-kept}
 use Rattle.pr_scen.specs.Scenarios.{Scenario}
-use Rattle.pr_scen.specs.declared.refusals.ScenFault.{ScenFault}
+use Rattle.pr_scen.specs.Refusals.{ScenFault}
 use Rattle.pr_world.specs.Runs.{CameFrom, IsTold}
 use Rattle.pr_world.specs.Worlds.{WorldState, all_finished, end_of, end_with, ended_as, goes_on, next_actor, quiet_end}
 use Rattle.pr_world.specs.declared.ends.End.{End}
 use Rattle.pr_world.proofs.RestLemmas.{all-rest, next-acts}
 use Rattle.pr_world.proofs.RunLemmas.{signalled-lawful}
 use Rattle.pr_serve.proofs.InputLemmas.{input-range}
+use Rattle.pr_serve.proofs.UnseenLemmas.{kept-unseen}
 use Rattle.pr_serve.proofs.OnwardLemmas.{HasEnd, first-end, led-end, led-places}
 use Rattle.pr_serve.proofs.ReadingLemmas.{taken}
 use Rattle.pr_serve.proofs.RunEndLemmas.{status_cases}
@@ -121,7 +122,9 @@ module _ (showing : Showing) where
 
   of_led : (old new input : Option (List ℕ)) (h : List Entry) → Took scenario_limit old new input → IsMadeByThreads input h → HistoryIsKept by_threads old new h
   of_led old new input h took made =
-      inr (record { input = input; took = took; made = made; kept = subst (λ (x : List Entry). IsKept made.scenario x) (sym made.led.is) (came-kept made.scenario made.led.world (input-range input made.scenario made.read) made.led.came) })
+      let range = input-range input made.scenario made.read in
+      let kept = subst (λ (x : List Entry). IsKept made.scenario x) (sym made.led.is) (came-kept made.scenario made.led.world range made.led.came) in
+      inr (record { input = input; took = took; made = made; kept = kept; hiders = kept-unseen made.scenario h range kept })
 
   of_read : (old new input : Option (List ℕ)) (s : Result Scenario ScenFault) (answer : Answer) (h : List Entry) → scenario_of_input input ≡ s → Took scenario_limit old new input → MayAnswerRead showing s answer → h ≡ answer.history → HistoryIsKept by_threads old new h
   unfolding refused_at

@@ -3,7 +3,11 @@ use Rattle.pr_core.specs.CoreBytes.{core_bytes}
 use Rattle.pr_core.specs.CoreRanges.{IsCore}
 use Rattle.pr_core.specs.CoreTools.{tool_over_core}
 use Rattle.pr_core.specs.Cores.{CoreState}
+use Rattle.pr_input.specs.Kinds.{kind_name}
+use Rattle.pr_hidden.specs.Hiders.{Hiders}
+use Rattle.pr_hidden.specs.HiddenSteps.{hidden_steps, hidden_trace}
 use Rattle.pr_judge.specs.Judgements.{first_illegal}
+use Rattle.pr_model.specs.State.{TracedState}
 use Rattle.pr_model.specs.UntracedSteps.{untraced_steps, untraced_trace}
 use Rattle.pr_model.specs.declared.events.Entry.{Entry}
 use Rattle.pr_model.specs.declared.tools.ToolKind.{ToolKind}
@@ -11,9 +15,7 @@ use Rattle.pr_num.specs.Programs.{Program}
 use Rattle.pr_output.specs.Output.{plain_run_text, refusal_text, run_text}
 use Rattle.pr_plain.specs.Generated.{generated_text}
 use Rattle.pr_run_laws.specs.ScenarioRuns.{first_state_of, first_world, run_of}
-use Rattle.pr_scen.specs.declared.refusals.ScenFault.{ScenFault}
-use Rattle.pr_scen.specs.declared.refusals.ScenKind.{ScenKind}
-use Rattle.pr_scen.specs.declared.refusals.ScenKind.TheVariants as kind
+use Rattle.pr_scen.specs.Refusals.{ScenFault}
 use Rattle.pr_scen.specs.Scenarios.{Scenario}
 use Rattle.pr_world.specs.Runs.{CameFrom, IsTold}
 use Rattle.pr_world.specs.Worlds.{WorldState, end_of, goes_on}
@@ -22,6 +24,7 @@ use Rattle.pr_world.specs.declared.ends.End.TheVariants as end
 use Rattle.pr_output.specs.declared.reports.Report.{Report}
 use Rattle.pr_serve.specs.Checks.{checked_of_input}
 use Rattle.pr_serve.specs.CoreInputs.{ReadCore, core_of_input}
+use Rattle.pr_serve.specs.Hidings.{hiders_in}
 use Rattle.pr_serve.specs.Inputs.{scenario_of_input}
 use Rattle.pr_serve.specs.Reports.{reports_of}
 use Rattle.pr_serve.specs.Statuses.{number}
@@ -42,18 +45,6 @@ pub record Answer : Type 0 where
   pub history : List Entry
   pub text : List ℕ
 
--- kinds of refusals by name
-unfoldable pub kind_name : ScenKind → List ℕ
-kind_name kind.TooLong = codes "TooLong"
-kind_name kind.NotAscii = codes "NotAscii"
-kind_name kind.UnknownWord = codes "UnknownWord"
-kind_name kind.BadOperand = codes "BadOperand"
-kind_name kind.UnknownName = codes "UnknownName"
-kind_name kind.Double = codes "Double"
-kind_name kind.TooMany = codes "TooMany"
-kind_name kind.TooBig = codes "TooBig"
-kind_name kind.NoEnd = codes "NoEnd"
-
 abbrev pub bad_history : List ℕ
 bad_history = codes "BadHistory"
 
@@ -73,18 +64,36 @@ end_status end.Stuck = Stuck
 
 -- ---- the commands `run` and `plain`
 
--- what a command writes of a run with this history and these reports that ended with this status
+-- what is written of a run with this history and these reports that ended with this status
 abbrev pub RunText : Type 0
 RunText = List Entry → List Report → ℕ → List ℕ
 
--- what `run` writes: the history, or not, the reports, and the status
+-- what a command writes of the run of a scenario
+abbrev pub CommandText : Type 0
+CommandText = Scenario → RunText
+
+-- what `run` writes, whatever the scenario is: the history, or not, the reports, and the status
 unfoldable pub run_shown : Showing → RunText
 run_shown Whole history reports status = run_text false history reports status
 run_shown Quiet history reports status = run_text true history reports status
 
--- what `plain` writes: the untraced steps of the history, its trace, and the status
-unfoldable pub plain_shown : RunText
-plain_shown history reports status = plain_run_text (untraced_steps history) (untraced_trace history) status
+abbrev pub run_text_of : Showing → CommandText
+run_text_of showing s = run_shown showing
+
+-- what programs see of a run from this state, where these controllers hide what they do: the steps of its history and its
+-- trace, each without what is hidden, and the status
+unfoldable pub seen_shown : Hiders → TracedState → RunText
+seen_shown who first history reports status =
+    plain_run_text (hidden_steps who first history) (hidden_trace who first history) status
+
+-- the same where nobody hides anything: all untraced steps of the history, its whole trace, and the status
+unfoldable pub untraced_shown : RunText
+untraced_shown history reports status = plain_run_text (untraced_steps history) (untraced_trace history) status
+
+-- what `plain` writes: what programs see of the run of the scenario, of which controllers hide their breakpoints and
+-- agents
+abbrev pub plain_shown : CommandText
+plain_shown s = seen_shown (hiders_in s) (first_state_of s)
 
 -- a run that ended so with this history and these reports, of which this is written
 unfoldable pub ran_so : RunText → End → List Entry → List Report → Answer
@@ -97,12 +106,12 @@ ran_so text end history reports = record {
 unfoldable pub ran : RunText → WorldState → Answer
 ran text w = ran_so text (end_of w) w.kernel.history (reports_of w)
 
-unfoldable pub answer_of : RunText → Result Scenario ScenFault → Answer
+unfoldable pub answer_of : CommandText → Result Scenario ScenFault → Answer
 answer_of text (Err fault) = refused_at fault.line (kind_name fault.kind)
-answer_of text (Ok s) = ran text (run_of s)
+answer_of text (Ok s) = ran (text s) (run_of s)
 
 -- the answer to an input; none: it had more bytes than it may have
-unfoldable pub answer_to : RunText → Option (List ℕ) → Answer
+unfoldable pub answer_to : CommandText → Option (List ℕ) → Answer
 answer_to text input = answer_of text (scenario_of_input input)
 
 -- ---- the command `run` on several threads

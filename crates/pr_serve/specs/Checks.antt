@@ -1,4 +1,6 @@
 use Rattle.std.specs.Prelude.{ℕ, List, Option, Some, None, Result, Ok, Err, length, nat_le, take, if◌then◌else◌}
+use Rattle.pr_input.specs.Marks.{line_below, mark_place, text_below}
+use Rattle.pr_input.specs.declared.marks.Mark.TheVariants.{History}
 use Rattle.pr_model.specs.HistoryViews.{HistoryView}
 use Rattle.pr_model.specs.declared.events.Entry.{Entry}
 use Rattle.pr_num.specs.Limits.{scenario_limit}
@@ -8,8 +10,7 @@ use Rattle.pr_scen.specs.Scenarios.{Scenario}
 use Rattle.pr_scen.specs.declared.refusals.ScenKind.{ScenKind}
 use Rattle.pr_scen.specs.declared.refusals.ScenKind.TheVariants.{NoEnd, TooLong}
 use Rattle.pr_serve.specs.Inputs.{too_long}
-use Rattle.pr_serve.specs.Marks.{Gives, both_read, line_below, mark_place, refused_as, text_below}
-use Rattle.pr_serve.specs.declared.marks.Mark.TheVariants.{History}
+use Rattle.pr_serve.specs.Parts.{Gives, both_read, refused_as}
 use Rattle.pr_serve.specs.declared.wrongs.Misread.{Misread}
 use Rattle.pr_serve.specs.declared.wrongs.Wrong.{Wrong}
 use Rattle.pr_serve.specs.declared.wrongs.Wrong.TheVariants as wrong

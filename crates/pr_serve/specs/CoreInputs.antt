@@ -2,12 +2,13 @@ use Rattle.std.specs.Prelude.{ℕ, List, Option, Some, None, Result, Ok, Err, ta
 use Rattle.pr_core.specs.CoreBytes.{core_bytes}
 use Rattle.pr_core.specs.Cores.{CoreState}
 use Rattle.pr_core_text.specs.CoreTexts.{core_of}
+use Rattle.pr_input.specs.Marks.{line_below, mark_place, text_below}
+use Rattle.pr_input.specs.declared.marks.Mark.TheVariants.{Core}
 use Rattle.pr_num.specs.Programs.{Program}
 use Rattle.pr_scen.specs.ProgramTexts.{programs_of}
 use Rattle.pr_scen.specs.declared.refusals.ScenKind.TheVariants.{NoEnd}
 use Rattle.pr_serve.specs.Inputs.{too_long}
-use Rattle.pr_serve.specs.Marks.{Gives, both_read, line_below, mark_place, refused_as, text_below}
-use Rattle.pr_serve.specs.declared.marks.Mark.TheVariants.{Core}
+use Rattle.pr_serve.specs.Parts.{Gives, both_read, refused_as}
 use Rattle.pr_serve.specs.declared.wrongs.Misread.{Misread}
 use Rattle.pr_serve.specs.declared.wrongs.Wrong.{Wrong}
 use Rattle.pr_serve.specs.declared.wrongs.Wrong.TheVariants as wrong

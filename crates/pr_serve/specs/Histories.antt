@@ -6,6 +6,7 @@ use Rattle.pr_run_laws.specs.ScenarioRuns.{IsKept, first_world, history_after, r
 use Rattle.pr_scen.specs.Scenarios.{Scenario}
 use Rattle.pr_world.specs.Runs.{CameFrom}
 use Rattle.pr_world.specs.Worlds.{WorldState}
+use Rattle.pr_serve.specs.Hidings.{AreUnseen}
 use Rattle.pr_serve.specs.Inputs.{Took, scenario_of_input}
 
 -- The histories that a call may leave.
@@ -55,12 +56,14 @@ pub record RanOutEarly (making : Making) (input : Option (List ℕ)) (history : 
 
 -- What the history of a call is where there is one: that of the run of the scenario that was read, after so many moves.
 -- It is kept: it is legal and follows the protocol, where it is passive, tracing is transparent in it, each truss has
--- shown the selected events, and what each tool shows stands so in one state.
+-- shown the selected events, what each tool shows stands so in one state, what gcore prints is the core of one, and
+-- apfiles puts back what it writes over. And those who hide are unseen in it, on their conditions.
 pub record IsHistoryOfRun (left_old left_new : Option (List ℕ)) (history : List Entry) : Type 0 where
   pub input : Option (List ℕ)
   pub took : Took scenario_limit left_old left_new input
   pub run : IsAfterMoves input history
   pub kept : IsKept run.scenario history
+  pub hiders : AreUnseen run.scenario history
 
 -- The same of a run by threads, which made the history.
 pub record IsHistoryOfThreads (left_old left_new : Option (List ℕ)) (history : List Entry) : Type 0 where
@@ -68,6 +71,7 @@ pub record IsHistoryOfThreads (left_old left_new : Option (List ℕ)) (history :
   pub took : Took scenario_limit left_old left_new input
   pub made : IsMadeByThreads input history
   pub kept : IsKept made.scenario history
+  pub hiders : AreUnseen made.scenario history
 
 abbrev pub HistoryIsKept : Making → Option (List ℕ) → Option (List ℕ) → List Entry → Type 0
 HistoryIsKept no_run left_old left_new history = history ≡ []

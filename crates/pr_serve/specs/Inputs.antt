@@ -2,7 +2,7 @@ use Rattle.std.specs.Prelude.{◌≤◌, ℕ, List, Option, Some, None, Result, 
 use Rattle.pr_io.specs.Reading.{ReadsAll, CameAbove}
 use Rattle.pr_scen.specs.Reading.{scenario_of}
 use Rattle.pr_scen.specs.Scenarios.{Scenario}
-use Rattle.pr_scen.specs.declared.refusals.ScenFault.{ScenFault}
+use Rattle.pr_scen.specs.Refusals.{ScenFault}
 use Rattle.pr_scen.specs.declared.refusals.ScenKind.TheVariants.{TooLong}
 
 -- What was read of a source.

@@ -4,10 +4,12 @@ pub mod Commands
 pub mod CoreInputs
 pub mod Ends
 pub mod Giving
+pub mod Hidings
 pub mod Histories
 pub mod Inputs
+pub mod Kept
 pub mod Made
-pub mod Marks
+pub mod Parts
 pub mod Reports
 pub mod Rows
 pub mod Statuses

@@ -8,7 +8,7 @@ use Rattle.pr_num.specs.Limits.{checked_limit, scenario_limit}
 use Rattle.pr_run_laws.specs.Prefixes.{IsPrefix}
 use Rattle.pr_run_laws.specs.ScenarioRuns.{first_state_of, run_of}
 use Rattle.pr_scen.specs.Scenarios.{Scenario}
-use Rattle.pr_serve.specs.Answers.{Answer, MayAnswer, MayShowCore, RunText, ShowsEnd, answer_to, check_of, explained, generated, judged, plain_shown, run_shown}
+use Rattle.pr_serve.specs.Answers.{Answer, CommandText, MayAnswer, MayShowCore, ShowsEnd, answer_to, check_of, explained, generated, judged, plain_shown, run_text_of}
 use Rattle.pr_serve.specs.Checks.{checked_of_input}
 use Rattle.pr_serve.specs.CoreInputs.{core_limit}
 use Rattle.pr_serve.specs.Ends.{EndsAs}
@@ -37,7 +37,7 @@ pub data Row : Type 0 where
 unfoldable pub row_of : Work → Row
 row_of Explains = says explained
 row_of (Generates children) = says (generated children)
-row_of (Runs showing) = reads scenario_limit (answer_to (run_shown showing)) in_rounds
+row_of (Runs showing) = reads scenario_limit (answer_to (run_text_of showing)) in_rounds
 row_of (Shares showing workers) = shares showing
 row_of Strips = reads scenario_limit (answer_to plain_shown) in_rounds
 row_of Checks = reads checked_limit check_of no_run
@@ -207,14 +207,14 @@ pub record TellsEnd (s : Scenario) (answer : Answer) (status : Status) : Type 0 
   pub answered : EndsAs s.turns (run_of s) answer.status
 
 -- An input that is a scenario: its run is made in rounds, and the status says how that ended.
-abbrev pub EndsRounds : RunText → Option (List ℕ) → Status → Type 0
+abbrev pub EndsRounds : CommandText → Option (List ℕ) → Status → Type 0
 EndsRounds text left status =
     IfSome left (λ input. IfOk (scenario_of_input (taken_of scenario_limit input)) (λ scenario. TellsEnd scenario (answer_to text (taken_of scenario_limit input)) status))
 
 -- What is done of an input, unless a read or a write failed or memory ran out: one that is a scenario is run, and the
 -- status says how that ended; one that is a scenario and a history is judged.
 abbrev pub DoesWork : Work → Ends → Ends → Status → List Entry → Type 0
-DoesWork (Runs showing) old new status history = EndsRounds (run_shown showing) old.left status
+DoesWork (Runs showing) old new status history = EndsRounds (run_text_of showing) old.left status
 DoesWork Strips old new status history = EndsRounds plain_shown old.left status
 DoesWork (Shares showing workers) old new status history =
     IfSome old.left (λ left. IfOk (scenario_of_input (taken_of scenario_limit left)) (λ scenario.

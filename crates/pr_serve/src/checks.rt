@@ -5,11 +5,11 @@ ghost use Rattle.pr_plain.specs.EntryReading.{history_of};
 ghost use Rattle.pr_scen.specs.Reading.{scenario_of};
 ghost use Rattle.pr_scen.specs.Scenarios.{IsWithinLimits};
 ghost use Rattle.pr_serve.specs.Checks.{ReadsHistory, checked_of, checked_of_input, parts_at, unmarked};
-ghost use Rattle.pr_serve.specs.Marks.{Gives, ReadsLines};
+ghost use Rattle.pr_serve.specs.Parts.{Gives, ReadsLines};
 
 use crate::inputs::TOO_LONG;
-use crate::marks::{Mark, lines_above};
 use crate::wrongs::{Misread, Wrong};
+use pr_input::{Mark, lines_above};
 use pr_model::History;
 use pr_num::Bytes;
 use pr_num::limits::SCENARIO_LIMIT;

@@ -22,8 +22,8 @@ pub enum Work {
     Runs { showing: Showing },
     /// It is made on several threads, of which so many share the processor, 1 to 16.
     Shares { showing: Showing, workers: u32 },
-    /// The run of the scenario of the input is made on one thread, and what the machine without controllers makes of it
-    /// is written.
+    /// The run of the scenario of the input is made on one thread, and what programs see of it is written: what the
+    /// machine without controllers makes of it.
     Strips,
     /// The history of the input is judged by the scenario above it.
     Checks,

@@ -5,14 +5,14 @@ ghost use Rattle.pr_core.specs.CoreRanges.{IsCore};
 ghost use Rattle.pr_core_text.specs.CoreTexts.{core_of};
 ghost use Rattle.pr_scen.specs.ProgramTexts.{programs_of};
 ghost use Rattle.pr_serve.specs.CoreInputs.{ReadsCore, core_input_of, core_limit, core_of_input, core_parts_at};
-ghost use Rattle.pr_serve.specs.Marks.{Gives, ReadsLines};
+ghost use Rattle.pr_serve.specs.Parts.{Gives, ReadsLines};
 
 use crate::inputs::TOO_LONG;
-use crate::marks::{Mark, lines_above};
 use crate::wrongs::{Misread, Wrong};
 use pr_asm::Program;
 use pr_core::Core;
 use pr_core_text::{CoreTextRefusal, read_core};
+use pr_input::{Mark, lines_above};
 use pr_num::Bytes;
 use pr_scen::{ScenFault, ScenKind, ScenRefusal, read_programs};
 use std::alloc::Global;

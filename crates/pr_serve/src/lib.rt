@@ -6,9 +6,9 @@ mod checks;
 mod commands;
 mod core_inputs;
 mod cores;
+mod hidings;
 mod inputs;
 mod judgements;
-mod marks;
 mod outcomes;
 mod reports;
 mod responses;
@@ -17,6 +17,7 @@ mod runs;
 mod serving;
 mod sharing;
 mod showings;
+mod stripping;
 mod wrongs;
 
 pub use outcomes::{Outcome, Status, number};

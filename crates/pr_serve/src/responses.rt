@@ -1,42 +1,27 @@
-//! What the commands `run` and `plain` answer to an input.
-ghost use Rattle.std.specs.Prelude.{◌≡◌, ◌≤◌, length, IfOk, IfSome, OnErr};
+//! What the command `run` answers to an input, and how a run is shown.
+ghost use Rattle.std.specs.Prelude.{◌≡◌, ◌≤◌, length, IfOk, IfSome, OnErr, OnOk};
+ghost use Rattle.pr_input.specs.Kinds.{kind_name};
 ghost use Rattle.pr_num.specs.Limits.{scenario_limit};
 ghost use Rattle.pr_run_laws.specs.ScenarioRuns.{run_of};
 ghost use Rattle.pr_scen.specs.Scenarios.{IsWithinLimits};
-ghost use Rattle.pr_serve.specs.Answers.{answer_to, kind_name, ran, ran_so, refused_at};
+ghost use Rattle.pr_serve.specs.Answers.{answer_to, ran, ran_so, refused_at, run_text_of};
 ghost use Rattle.pr_serve.specs.Giving.{Responds, StopsEarly};
 ghost use Rattle.pr_serve.specs.Histories.{RanOutEarly, in_rounds};
 ghost use Rattle.pr_serve.specs.Made.{LeftWith, StoppedRun};
 
 use crate::answers::status_after;
+use crate::commands::Showing;
 use crate::inputs::scenario_of_input;
 use crate::outcomes::{Ending, Status, end_status, number, out_of_memory, without_history};
 use crate::runs::{Made, Ran, make_run};
 use crate::showings::Shows;
+use pr_input::kind_name;
 use pr_io::Sink;
 use pr_model::History;
 use pr_num::Bytes;
 use pr_output::write_refusal;
-use pr_scen::{ScenFault, ScenKind, ScenRefusal, Scenario};
+use pr_scen::{ScenFault, ScenRefusal, Scenario};
 use std::alloc::Global;
-
-/// The name of a kind of refusal.
-#[tactic(auto, unfolding(crate::specs::Answers::kind_name))]
-fn kind_name(kind: ScenKind) -> &'static [u8]
-    ensures { result.now ≡ kind_name kind }
-{
-    match kind {
-        ScenKind::TooLong => b"TooLong",
-        ScenKind::NotAscii => b"NotAscii",
-        ScenKind::UnknownWord => b"UnknownWord",
-        ScenKind::BadOperand => b"BadOperand",
-        ScenKind::UnknownName => b"UnknownName",
-        ScenKind::Double => b"Double",
-        ScenKind::TooMany => b"TooMany",
-        ScenKind::TooBig => b"TooBig",
-        ScenKind::NoEnd => b"NoEnd",
-    }
-}
 
 /// Answers an input that is refused, at a line for a reason.
 pub fn refuse_input<K: Sink>(alloc: Global, line: u32, kind: &[u8], sink: &mut K) -> Ending
@@ -50,12 +35,13 @@ pub fn refuse_input<K: Sink>(alloc: Global, line: u32, kind: &[u8], sink: &mut K
 /// Shows a run that ended so.
 pub fn show_ran<W: Shows, K: Sink>(
     alloc: Global,
-    showing: &W,
+    showing: W,
     ran: Ran,
     history: History,
     sink: &mut K,
 ) -> Ending
-    ensures { Responds (ran_so (W.text showing.now) ran.end history.entries ran.reports.items) ⊥ result.status result.history.entries
+    requires { W.fits showing history.entries }
+    ensures { Responds (ran_so (W.text showing) ran.end history.entries ran.reports.items) ⊥ result.status result.history.entries
         (K.written sink.old) (K.written sink.new) (K.faults sink.old) (K.faults sink.new) }
 {
     let status = end_status(ran.end);
@@ -68,8 +54,9 @@ pub fn show_ran<W: Shows, K: Sink>(
 }
 
 /// Shows a run that was made, or leaves its history where memory ran out in it.
-fn show_made<W: Shows, K: Sink>(alloc: Global, showing: &W, made: Made, sink: &mut K) -> Ending
-    ensures shown { IfOk made.ran (λ run. Responds (ran_so (W.text showing.now) run.end made.history.entries run.reports.items) ⊥
+fn show_made<W: Shows, K: Sink>(alloc: Global, showing: W, made: Made, sink: &mut K) -> Ending
+    requires { OnOk made.ran (W.fits showing made.history.entries) }
+    ensures shown { IfOk made.ran (λ run. Responds (ran_so (W.text showing) run.end made.history.entries run.reports.items) ⊥
         result.status result.history.entries
         (K.written sink.old) (K.written sink.new) (K.faults sink.old) (K.faults sink.new)) }
     ensures stopped { OnErr made.ran (StopsEarly
@@ -83,15 +70,16 @@ fn show_made<W: Shows, K: Sink>(alloc: Global, showing: &W, made: Made, sink: &m
     }
 }
 
-/// Answers a scenario: its run is made, and written.
-fn run_scenario<W: Shows, K: Sink>(
+/// Answers a scenario: its run is made, and shown so.
+pub fn run_scenario<W: Shows, K: Sink>(
     alloc: Global,
-    showing: &W,
+    showing: W,
     scenario: Scenario,
     sink: &mut K,
 ) -> Ending
     requires limits { IsWithinLimits scenario }
-    ensures { Responds (ran (W.text showing.now) (run_of scenario))
+    requires fits { W.fits showing (run_of scenario).kernel.history }
+    ensures { Responds (ran (W.text showing) (run_of scenario))
         (StoppedRun scenario result.history.entries (K.written sink.old) (K.written sink.new))
         result.status result.history.entries
         (K.written sink.old) (K.written sink.new) (K.faults sink.old) (K.faults sink.new) }
@@ -109,14 +97,14 @@ pub fn refuse_at<K: Sink>(alloc: Global, fault: ScenFault, sink: &mut K) -> Endi
 }
 
 /// Answers an input: it is refused, or the run of its scenario is made, and shown so.
-pub fn respond<W: Shows, K: Sink>(
+pub fn respond<K: Sink>(
     alloc: Global,
-    showing: &W,
+    showing: Showing,
     input: Option<Bytes>,
     sink: &mut K,
 ) -> Ending
     requires { IfSome input (λ bytes. length bytes ≤ scenario_limit) }
-    ensures { Responds (answer_to (W.text showing.now) input)
+    ensures { Responds (answer_to (run_text_of showing) input)
         (RanOutEarly in_rounds input result.history.entries (K.written sink.old) (K.written sink.new))
         result.status result.history.entries
         (K.written sink.old) (K.written sink.new) (K.faults sink.old) (K.faults sink.new) }

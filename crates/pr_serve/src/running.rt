@@ -1,7 +1,7 @@
 //! Commands from a source to a sink.
 ghost use Rattle.std.specs.Prelude.{◌≡◌, ◌≤◌, [], true};
 ghost use Rattle.pr_num.specs.Limits.{checked_limit, scenario_limit, worker_limit};
-ghost use Rattle.pr_serve.specs.Answers.{MayAnswer, MayShowCore, answer_to, check_of};
+ghost use Rattle.pr_serve.specs.Answers.{MayAnswer, MayShowCore, answer_to, check_of, plain_shown, run_text_of};
 ghost use Rattle.pr_serve.specs.Commands.{HasWorkers};
 ghost use Rattle.pr_serve.specs.CoreInputs.{core_limit};
 ghost use Rattle.pr_serve.specs.Histories.{HistoryIsKept, by_threads, in_rounds, no_run};
@@ -16,7 +16,7 @@ use crate::judgements::judge_input;
 use crate::outcomes::{Ending, Status, without_history};
 use crate::responses::respond;
 use crate::sharing::share;
-use crate::showings::{Shows, Stripped};
+use crate::stripping::strip_input;
 use pr_io::{Gate, Sink, Source};
 use pr_model::ToolKind;
 use pr_num::limits::{CHECKED_LIMIT, SCENARIO_LIMIT};
@@ -38,19 +38,27 @@ fn without_input(alloc: Global, unread: Unread) -> Ending
 
 /// Reads a scenario, makes its run on one thread, and writes what is to be shown of it; or writes why the input is
 /// refused.
-fn run<W: Shows, S: Source, K: Sink>(
-    alloc: Global,
-    showing: &W,
-    source: &mut S,
-    sink: &mut K,
-) -> Ending
-    ensures { Reads scenario_limit (IsThe (answer_to (W.text showing.now))) in_rounds
+fn run<S: Source, K: Sink>(alloc: Global, showing: Showing, source: &mut S, sink: &mut K) -> Ending
+    ensures { Reads scenario_limit (IsThe (answer_to (run_text_of showing))) in_rounds
         (ends_of S.left S.faults K.written K.faults source.old sink.old)
         (ends_of S.left S.faults K.written K.faults source.new sink.new)
         result.status result.history.entries }
 {
     match take_input(alloc, source, SCENARIO_LIMIT) {
         Ok(input) => respond(alloc, showing, input, sink),
+        Err(unread) => without_input(alloc, unread),
+    }
+}
+
+/// Reads a scenario, makes its run on one thread, and writes what programs see of it; or writes why the input is refused.
+fn strip<S: Source, K: Sink>(alloc: Global, source: &mut S, sink: &mut K) -> Ending
+    ensures { Reads scenario_limit (IsThe (answer_to plain_shown)) in_rounds
+        (ends_of S.left S.faults K.written K.faults source.old sink.old)
+        (ends_of S.left S.faults K.written K.faults source.new sink.new)
+        result.status result.history.entries }
+{
+    match take_input(alloc, source, SCENARIO_LIMIT) {
+        Ok(input) => strip_input(alloc, input, sink),
         Err(unread) => without_input(alloc, unread),
     }
 }
@@ -135,11 +143,11 @@ pub fn carry_out<R: Threads + Wait + Sync, S: Source, K: Sink, G: Gate + Sync>(
     match work {
         Work::Explains => explain(alloc, sink),
         Work::Generates { children } => generate(alloc, children, sink),
-        Work::Runs { showing } => run(alloc, &showing, source, sink),
+        Work::Runs { showing } => run(alloc, showing, source, sink),
         Work::Shares { showing, workers } => {
             run_on_threads(rt, alloc, showing, workers, source, sink, gate)
         }
-        Work::Strips => run(alloc, &Stripped, source, sink),
+        Work::Strips => strip(alloc, source, sink),
         Work::Checks => check(alloc, source, sink),
         Work::ShowsCore { kind } => show_over_core(alloc, kind, source, sink),
     }

@@ -43,7 +43,7 @@ fn show_world<K: Sink>(
     let reports = reports_of(alloc, &world);
     let history = world.into_kernel().into_history();
     match reports {
-        Ok(reports) => show_ran(alloc, &showing, Ran { end, reports }, history, sink),
+        Ok(reports) => show_ran(alloc, showing, Ran { end, reports }, history, sink),
         Err(error) => out_of_memory(error, history),
     }
 }

@@ -1,32 +1,45 @@
 //! What the commands `run` and `plain` show of a run.
+ghost use Rattle.std.specs.Prelude.{List};
+ghost use Rattle.std.specs.List.{flat_map};
+ghost use Rattle.pr_hidden.specs.HiddenSteps.{hidden_steps, hidden_trace};
+ghost use Rattle.pr_hide.specs.Hidings.{hiders_of};
+ghost use Rattle.pr_model.specs.UntracedMachine.{traced_step};
 ghost use Rattle.pr_model.specs.UntracedSteps.{untraced_steps, untraced_trace};
+ghost use Rattle.pr_model.specs.declared.events.Entry.{Entry};
 ghost use Rattle.pr_output.specs.Output.{plain_run_text};
 ghost use Rattle.pr_output.specs.Puts.{Puts};
-ghost use Rattle.pr_serve.specs.Answers.{RunText, plain_shown, run_shown};
+ghost use Rattle.pr_serve.specs.Answers.{RunText, run_shown, untraced_shown};
+ghost use Rattle.pr_serve.specs.Kept.{CanPlay, kept_shown};
 
 use crate::commands::Showing;
+use crate::hidings::Hiding;
+use pr_hide::strip_hidden;
 use pr_io::Sink;
-use pr_model::History;
+use pr_model::{History, Steps};
 use pr_output::{Cut, Report, write_plain, write_run};
-use pr_strip::{strip, trace};
+use pr_strip::{strip, trace, trace_of_steps};
 use std::alloc::Global;
 
 /// What a command writes of a run that was made.
-pub trait Shows {
+pub trait Shows: Drop {
     /// The text, as a function of the history of the run, its reports and the number of its status.
     ghost text: { Self → RunText };
 
+    /// The histories of which it can be written.
+    ghost fits: { Self → List Entry → Type 0 } = { λ _ _. Unit {0} };
+
     /// Writes it.
     fn write<K: Sink>(
-        &self,
+        self,
         alloc: Global,
         history: &History,
         reports: &[Report],
         status: u8,
         sink: &mut K,
     ) -> Result<(), Cut>
+        requires { fits self history.now.entries }
         ensures { Puts result (K.written sink.old) (K.written sink.new) (K.faults sink.old) (K.faults sink.new)
-            (text self.now history.now.entries reports.now status) };
+            (text self history.now.entries reports.now status) };
 }
 
 /// The history, or not, the reports and the status.
@@ -35,7 +48,7 @@ impl Shows for Showing {
     ghost text = { run_shown };
 
     fn write<K: Sink>(
-        &self,
+        self,
         alloc: Global,
         history: &History,
         reports: &[Report],
@@ -53,12 +66,12 @@ impl Shows for Showing {
 #[derive(Clone, Copy)]
 pub struct Stripped;
 
-#[tactic(auto, unfolding(crate::specs::Answers::plain_shown))]
+#[tactic(auto, unfolding(crate::specs::Answers::untraced_shown))]
 impl Shows for Stripped {
-    ghost text = { λ _. plain_shown };
+    ghost text = { λ _. untraced_shown };
 
     fn write<K: Sink>(
-        &self,
+        self,
         alloc: Global,
         history: &History,
         _reports: &[Report],
@@ -66,6 +79,25 @@ impl Shows for Stripped {
         sink: &mut K,
     ) -> Result<(), Cut> {
         write_stripped(alloc, history, status, sink)
+    }
+}
+
+/// What programs see of the run.
+#[tactic(auto, unfolding(crate::specs::Answers::seen_shown))]
+impl Shows for Hiding {
+    ghost text = { kept_shown };
+
+    ghost fits = { CanPlay };
+
+    fn write<K: Sink>(
+        self,
+        alloc: Global,
+        history: &History,
+        _reports: &[Report],
+        status: u8,
+        sink: &mut K,
+    ) -> Result<(), Cut> {
+        write_seen(alloc, self, history, status, sink)
     }
 }
 
@@ -82,4 +114,35 @@ fn write_stripped<K: Sink>(
     let steps = strip(alloc, history)?;
     let trace = trace(alloc, history)?;
     write_plain(alloc, sink, steps.as_slice(), trace.as_slice(), status)
+}
+
+/// Writes steps, their trace, and a status.
+fn write_steps<K: Sink>(alloc: Global, steps: &Steps, status: u8, sink: &mut K) -> Result<(), Cut>
+    ensures { Puts result (K.written sink.old) (K.written sink.new) (K.faults sink.old) (K.faults sink.new)
+        (plain_run_text steps.now (flat_map traced_step steps.now) status) }
+{
+    let trace = trace_of_steps(alloc, steps)?;
+    write_plain(alloc, sink, steps.as_slice(), trace.as_slice(), status)
+}
+
+/// Writes the steps of a history and its trace without what is hidden, and a status.
+fn write_seen<K: Sink>(
+    alloc: Global,
+    hiding: Hiding,
+    history: &History,
+    status: u8,
+    sink: &mut K,
+) -> Result<(), Cut>
+    requires { CanPlay hiding history.now.entries }
+    ensures { Puts result (K.written sink.old) (K.written sink.new) (K.faults sink.old) (K.faults sink.new)
+        (plain_run_text (hidden_steps (hiders_of hiding.who.items) hiding.kern.state history.now.entries)
+        (hidden_trace (hiders_of hiding.who.items) hiding.kern.state history.now.entries) status) }
+{
+    let Hiding {
+        who,
+        kern,
+        controllers,
+    } = hiding;
+    let steps = strip_hidden(alloc, who.as_slice(), kern, controllers, history)?;
+    write_steps(alloc, &steps, status, sink)
 }

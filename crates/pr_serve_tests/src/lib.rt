@@ -5,6 +5,8 @@
 #[cfg(test)]
 mod calls;
 #[cfg(test)]
+mod each_end;
+#[cfg(test)]
 mod failures;
 #[cfg(test)]
 mod statuses;

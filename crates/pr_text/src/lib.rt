@@ -34,7 +34,7 @@ pub use number_words::{digit_of, id_of, number_of};
 pub use operands::{four, none, one, some, three, two};
 pub use quoted_words::quoted_bytes;
 pub use quotes::QUOTED_LIMIT;
-pub use refusals::Refused;
+pub use refusals::{LineFault, LineRefusal, Refused};
 pub use spans::{Word, Words};
 pub use splitting::{word_texts, words};
 pub use text_lines::split_lines;

@@ -13,6 +13,7 @@ use Rattle.pr_truss.specs.Printing.{printed}
 use Rattle.pr_truss.specs.Reports.{all_reports, pending_at, refusal_or_nothing, report_lines, report_text}
 use Rattle.pr_truss.specs.Trusses.{TrussState, first_of_program, first_truss, idle, opening_or}
 use Rattle.pr_truss.specs.declared.reports.Report.{Report}
+use Rattle.pr_truss.specs.declared.reports.Report.TheVariants as report
 use Rattle.pr_truss.specs.declared.stages.AfterClosing.{AfterClosing}
 use Rattle.pr_truss.specs.declared.stages.Stage.{Stage}
 use Rattle.pr_truss.specs.declared.stages.Stage.TheVariants.{ReadingText}
@@ -24,7 +25,7 @@ use Rattle.pr_truss_laws.proofs.OptionLemmas.{fed-options}
 use Rattle.pr_truss_laws.proofs.ReplySteps as step
 use Rattle.pr_truss_laws.proofs.ReplySteps.{Closes, GoesOn, Learns, Looks, Opens, ReplyStep, Returns, Settles, StopOver, Turns, on-staged, over-staged}
 use Rattle.pr_truss_laws.specs.Exchanges.{Exchange, truss_after}
-use Rattle.pr_truss_laws.specs.Lines.{BeginsWith, KeepsItsLines, StandsOnSelected, TellsSelected}
+use Rattle.pr_truss_laws.specs.Lines.{BeginsWith, KeepsItsLines, PrintsItsReports, StandsOnSelected, TellsSelected, line_of}
 
 -- What truss prints: selected events alone, and lines that stay.
 
@@ -208,4 +209,31 @@ keeps-lines o xs = record {
       let options = options-after before (first_truss o) ∙ (first-tells o).options in
       subst (λ (u : TrussState). BeginsWith (printed s) (printed u)) (sym same)
       (begins after s (ap (λ (p : Options). p.count) options ∙ lines) none);
+}
+
+-- ---- what stands in them
+
+line-is : (o : Options) (r : Report) → report_text o r ≡ line_of o r
+unfolding report_text
+line-is o (report.CannotStart program errno) = refl
+line-is o (report.CannotTrace pid errno) = refl
+line-is o (report.Event pid l text) = refl
+line-is o (report.Called pid lwp function arguments) = refl
+
+lines-are : (o : Options) (rs : List Report) → flat_map (report_text o) rs ≡ flat_map (line_of o) rs
+lines-are o [] = refl
+lines-are o (r ∷ rs) =
+    ap (λ line. line ++ flat_map (report_text o) rs) (line-is o r) ∙ ap (λ lines. line_of o r ++ lines) (lines-are o rs)
+
+told-lines : (s : TrussState) → report_lines s ≡ flat_map (line_of s.options) (all_reports s)
+unfolding report_lines
+told-lines s = lines-are s.options (all_reports s)
+
+pub prints-reports : (o : Options) (xs : List Exchange) → PrintsItsReports o xs
+prints-reports o xs = record {
+  is = λ lines.
+      let s = truss_after (first_truss o) xs in
+      let same = options-after xs (first_truss o) ∙ (first-tells o).options in
+      printed-lines s (ap (λ (p : Options). p.count) same ∙ lines) ∙ told-lines s
+      ∙ ap (λ (p : Options). flat_map (line_of p) (all_reports s)) same;
 }

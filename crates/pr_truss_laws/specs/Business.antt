@@ -23,7 +23,7 @@ use Rattle.pr_truss.specs.Trusses.{first_truss}
 use Rattle.pr_truss.specs.declared.reports.Report.{Report}
 use Rattle.pr_truss.specs.declared.reports.Report.TheVariants.{CannotStart, CannotTrace}
 use Rattle.pr_truss_laws.specs.Exchanges.{Closes, Exchange, errno_in, truss_after}
-use Rattle.pr_truss_laws.specs.Lines.{KeepsItsLines, TellsSelected}
+use Rattle.pr_truss_laws.specs.Lines.{KeepsItsLines, PrintsItsReports, TellsSelected}
 use Rattle.pr_truss_laws.specs.Sent.{SendsInOrder}
 use Rattle.pr_truss_laws.specs.Soon.{PollsSoon}
 
@@ -267,7 +267,8 @@ pub record ClosesWhatEnded (xs : List Exchange) : Type 0 where
 -- Truss makes its own calls alone, sends each message in its place, opens no process but those that it was given,
 -- made or was told of, and these right then, reports a refusal as such only where a call of that process was refused,
 -- waits soon for all that it holds, closes what has ended before it does anything else, and once it was interrupted
--- does nothing but leave its processes. It prints no event that is not selected, and its lines stay where they stand.
+-- does nothing but leave its processes. It prints no event that is not selected, one line for each report, and its lines
+-- stay where they stand.
 pub record DoesItsBusiness (o : Options) (xs : List Exchange) : Type 0 where
   pub calls : AreItsCalls o.program xs
   pub sends : SendsInOrder o xs
@@ -279,4 +280,5 @@ pub record DoesItsBusiness (o : Options) (xs : List Exchange) : Type 0 where
   pub leaves : LeavesOnInterrupt xs
   pub ended : ClosesWhatEnded xs
   pub events : All (TellsSelected o) (all_reports (truss_after (first_truss o) xs))
+  pub prints : PrintsItsReports o xs
   pub lines : KeepsItsLines o xs

@@ -1,17 +1,23 @@
-use Rattle.std.specs.Prelude.{◌≡◌, ℕ, true, false, List, [], ◌++◌, Some}
+use Rattle.std.specs.Prelude.{◌≡◌, ℕ, true, false, List, [], ◌∷◌, ◌++◌, Some, codes, decimal, slice_get}
+use Rattle.std.specs.List.{flat_map}
+use Rattle.pr_line.specs.EventLines.{event_text}
 use Rattle.pr_line.specs.Events.{event_of}
 use Rattle.pr_line.specs.Selections.{is_selected}
 use Rattle.pr_line.specs.declared.events.Event.{Event}
 use Rattle.pr_line.specs.declared.options.Options.{Options}
+use Rattle.pr_num.specs.Errnos.{errno_name}
+use Rattle.pr_num.specs.declared.errnos.Errno.{Errno}
 use Rattle.pr_rec.specs.declared.lwps.LwpStatus.{LwpStatus}
+use Rattle.pr_text.specs.TextLines.{newline}
 use Rattle.pr_truss.specs.Printing.{printed}
-use Rattle.pr_truss.specs.Reports.{pending_at}
+use Rattle.pr_truss.specs.Reports.{all_reports, call_line, pending_at}
 use Rattle.pr_truss.specs.Trusses.{first_truss}
 use Rattle.pr_truss.specs.declared.reports.Report.{Report}
 use Rattle.pr_truss.specs.declared.reports.Report.TheVariants as report
 use Rattle.pr_truss_laws.specs.Exchanges.{Exchange, truss_after}
 
--- What truss(1) prints: of events those alone that the options select, and lines that stay where they stand.
+-- What truss(1) prints: of events those alone that the options select, a line for each, and lines that stay where they
+-- stand.
 
 -- ---- the events
 
@@ -39,3 +45,23 @@ pub record KeepsItsLines (o : Options) (xs : List Exchange) : Type 0 where
   pub each : o.count ≡ false → (before after : List Exchange) → xs ≡ before ++ after
       → pending_at (truss_after (first_truss o) before) (truss_after (first_truss o) before).stage ≡ []
       → BeginsWith (printed (truss_after (first_truss o) before)) (printed (truss_after (first_truss o) xs))
+
+-- ---- what stands in them
+
+-- a refusal: what was refused, of what, and why
+abbrev pub refusal_line : List ℕ → List ℕ → Errno → List ℕ
+refusal_line what name errno =
+    codes "truss: cannot " ++ what ++ name ++ codes ": " ++ errno_name errno ++ newline ∷ []
+
+-- The line of a report. That of an event is its text, as the options ask for it, with the process, the lwp as it was
+-- read, and the memory that was read for it.
+abbrev pub line_of : Options → Report → List ℕ
+line_of o (report.CannotStart program errno) = refusal_line (codes "start ") program errno
+line_of o (report.CannotTrace pid errno) = refusal_line (codes "trace ") (decimal pid) errno
+line_of o (report.Event pid l text) = event_text o pid l text ++ newline ∷ []
+line_of o (report.Called pid lwp function arguments) = call_line o pid lwp arguments (slice_get o.functions function)
+
+-- Without -c truss prints one line for each report, in their order, and nothing else.
+pub record PrintsItsReports (o : Options) (xs : List Exchange) : Type 0 where
+  pub is : o.count ≡ false
+      → printed (truss_after (first_truss o) xs) ≡ flat_map (line_of o) (all_reports (truss_after (first_truss o) xs))

@@ -11,8 +11,8 @@ ghost use Rattle.pr_truss_laws.specs.Exchanges.{Exchange, Makes};
 /// call of its own for the process, and no interrupt. Each poll names all processes that it holds, and at least one;
 /// and it polls again, or has finished, after so many calls. What has ended it closes before it does anything else.
 /// Once a wait was interrupted it does nothing but leave its processes. The events that it reports are ones that the
-/// options select; and without -c what it would have printed before is the front of what it prints. This is so
-/// whatever it was replied.
+/// options select; and without -c it prints one line for each report, and what it would have printed before is the
+/// front of what it prints. This is so whatever it was replied.
 pub fn truss_does_its_own_business()
     ensures { (o : Options) (xs : List Exchange) → Makes (first_truss o) xs → DoesItsBusiness o xs }
 {}

@@ -214,7 +214,7 @@ module _ (w : WorldState) (lawful : IsLawful w.kernel) where
 
 -- ---- ends
 
-module _ {K : Type 0} (view : K → KernelView) (lawful : (k : K) → IsLawful (view k)) (w u : WorldOf K) (same : u ≡ w) (next : Option Actor) (is : next ≡ next_in_rounds (seen view w)) where
+module _ {K : Type 0} (view : K → KernelView) (lawful : (k : K) → IsLawful (view k)) (w : WorldOf K) (next : Option Actor) (is : next ≡ next_in_rounds (seen view w)) where
   somebody : is_some next ≡ true → is_some (next_actor (seen view w)) ≡ true
   somebody h = of next is h
     where
@@ -229,11 +229,10 @@ module _ {K : Type 0} (view : K → KernelView) (lawful : (k : K) → IsLawful (
       of None e h = next-none (seen view w) (lawful w.kernel) (sym e)
       of (Some a) e h = cc
 
-  pub ended-some : is_some next ≡ true → (end : Option End) → end ≡ cond (nat_lt (length (view u.kernel).history) (view u.kernel).places) None (Some Spent) → end ≡ ended_as (seen view w)
+  pub ended-some : is_some next ≡ true → (end : Option End) → end ≡ cond (nat_lt (length (view w.kernel).history) (view w.kernel).places) None (Some Spent) → end ≡ ended_as (seen view w)
   unfolding ended_as goes_on end_of
   ended-some h end e =
-      e ∙ ap (λ (x : WorldOf K). cond (nat_lt (length (view x.kernel).history) (view x.kernel).places) None (Some Spent)) same
-      ∙ of (nat_lt (length (view w.kernel).history) (view w.kernel).places) (next_actor (seen view w)) (somebody h)
+      e ∙ of (nat_lt (length (view w.kernel).history) (view w.kernel).places) (next_actor (seen view w)) (somebody h)
     where
       of : (b : Bool) (o : Option Actor) → is_some o ≡ true → cond b None (Some Spent) ≡ cond (b && is_some o) None (Some (end_with (seen view w) o))
       of b None h = cc
@@ -249,12 +248,8 @@ module _ {K : Type 0} (view : K → KernelView) (lawful : (k : K) → IsLawful (
       of false None h = refl
       of b (Some a) h = cc
 
-  finished : (all : Bool) → all ≡ all_finished u → all_finished (seen view w) ≡ all
-  unfolding all_finished
-  finished all e = sym (e ∙ ap (λ (x : WorldOf K). all_finished x) same)
+  pub ended-quiet : is_some next ≡ false → (all : Bool) → all ≡ all_finished (seen view w) → all ≡ true → Some Quiet ≡ ended_as (seen view w)
+  ended-quiet h all e yes_all = ap (λ (b : Bool). Some (quiet_end b)) (sym (sym e ∙ yes_all)) ∙ stuck h
 
-  pub ended-quiet : is_some next ≡ false → (all : Bool) → all ≡ all_finished u → all ≡ true → Some Quiet ≡ ended_as (seen view w)
-  ended-quiet h all e yes_all = ap (λ (b : Bool). Some (quiet_end b)) (sym (finished all e ∙ yes_all)) ∙ stuck h
-
-  pub ended-stuck : is_some next ≡ false → (all : Bool) → all ≡ all_finished u → all ≡ false → Some Stuck ≡ ended_as (seen view w)
-  ended-stuck h all e not_all = ap (λ (b : Bool). Some (quiet_end b)) (sym (finished all e ∙ not_all)) ∙ stuck h
+  pub ended-stuck : is_some next ≡ false → (all : Bool) → all ≡ all_finished (seen view w) → all ≡ false → Some Stuck ≡ ended_as (seen view w)
+  ended-stuck h all e not_all = ap (λ (b : Bool). Some (quiet_end b)) (sym (sym e ∙ not_all)) ∙ stuck h

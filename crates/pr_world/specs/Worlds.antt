@@ -12,18 +12,24 @@ use Rattle.pr_world.specs.declared.ends.End.TheVariants.{Quiet, Spent, Stuck}
 
 -- A world is a kernel and its controllers. Here stands who of them can move, who moves next, and how a world ends.
 
--- The kernel; the controllers by number; what is left of the schedule; and in the rounds that follow it the actor that
--- was picked last, if one was.
+-- The kernel, seen as every kernel is; the controllers by number; what is left of the schedule; and in the rounds that
+-- follow it the actor that was picked last, if one was.
+pub record WorldState : Type 0 where
+  pub kernel : KernelView
+  pub controllers : List ControllerState
+  pub schedule : List Actor
+  pub last : Option Actor
+
+-- The same of a kernel of any type, and whether the next call of each controller was made: then who can move, who moves
+-- next and how the world has ended is told without memory.
 pub record WorldOf (K : Type 0) : Type 0 where
   pub kernel : K
   pub controllers : List ControllerState
   pub schedule : List Actor
   pub last : Option Actor
+  pub made : Bool
 
--- a world of which the kernel is seen as every kernel is
-abbrev pub WorldState : Type 0
-WorldState = WorldOf KernelView
-
+-- what is seen of it where nobody asks for memory
 abbrev pub seen : {K : Type 0} → (K → KernelView) → WorldOf K → WorldState
 seen view w = record { kernel = view w.kernel; controllers = w.controllers; schedule = w.schedule; last = w.last }
 
@@ -113,18 +119,18 @@ unfoldable pub next_actor : WorldState → Option Actor
 next_actor w = option_map actor_of (next_pick w)
 
 -- the world in which an actor was picked
-unfoldable pub with_pick : {K : Type 0} → Pick → WorldOf K → WorldOf K
+unfoldable pub with_pick : Pick → WorldState → WorldState
 with_pick p w = record { kernel = w.kernel; controllers = w.controllers; schedule = p.schedule; last = p.last }
 
 -- the same, where one was
-abbrev pub picked : {K : Type 0} → Option Pick → WorldOf K → WorldOf K
+abbrev pub picked : Option Pick → WorldState → WorldState
 picked None w = w
 picked (Some p) w = with_pick p w
 
 -- ---- ends
 
 -- whether all controllers have finished
-unfoldable pub all_finished : {K : Type 0} → WorldOf K → Bool
+unfoldable pub all_finished : WorldState → Bool
 all_finished w = list_all has_finished w.controllers
 
 -- How a world stands: no actor can move, and all controllers have finished or some have not; or an actor can move
@@ -147,3 +153,12 @@ goes_on w = nat_lt (length w.kernel.history) w.kernel.places && is_some (next_ac
 -- how a world has ended; none where it goes on
 unfoldable pub ended_as : WorldState → Option End
 ended_as w = if goes_on w then None else Some (end_of w)
+
+-- ---- calls that are made
+
+-- whether all next calls are made after a move of an actor, where they were or were not before: a controller has got a
+-- reply, after which its next call is to be made
+abbrev pub made_after : Actor → Bool → Bool
+made_after (Controller k) made = false
+made_after (Lwp pid id) made = made
+made_after Clock made = made

@@ -2,6 +2,7 @@
 ghost use Rattle.std.specs.Prelude.{◌≡◌, ◌<◌, true, false, length, IfOk, IsOk, OnErr, OnOk};
 ghost use Rattle.pr_num.specs.Limits.{controller_limit};
 ghost use Rattle.pr_world.specs.Answered.{Answered};
+ghost use Rattle.pr_world.specs.Callers.{IsMade};
 ghost use Rattle.pr_world.specs.Controllers.{awaits_clock, has_finished, next_call, printed, wait_end_of};
 ghost use Rattle.pr_world.specs.ControllerStates.{state_of};
 ghost use Rattle.pr_world.specs.Worlds.{is_answered};
@@ -59,10 +60,10 @@ impl Caller {
     }
 
     /// Makes the next call and keeps it. Where it is made already, this takes no memory.
-    fn make_next(&mut self, alloc: Global) -> Result<(), NoMemory>
+    pub fn make_next(&mut self, alloc: Global) -> Result<(), NoMemory>
         ensures core { self.new.core ≡ self.old.core }
-        ensures made { OnOk result (self.new.made ≡ true) }
-        ensures sure { self.old.made ≡ true → IsOk result }
+        ensures made { OnOk result (IsMade self.new) }
+        ensures sure { IsMade self.old → IsOk result }
     {
         if self.next.is_none() {
             self.next = Some(self.controller.next_call(alloc)?);
@@ -72,56 +73,42 @@ impl Caller {
 
     /// The next call, which was made; `None` where the controller has finished.
     fn next(&self) -> &Option<Call>
-        requires { self.now.made ≡ true }
+        requires { IsMade self.now }
         ensures { result.now ≡ next_call self.now.core }
     {
         self.next.as_ref().unwrap()
     }
 
     /// Whether the controller makes a call that a kernel would answer now.
-    pub fn can_move<Q: Kernel>(
-        &mut self,
-        alloc: Global,
-        kern: &Q,
-        by: u32,
-    ) -> Result<bool, NoMemory>
-        ensures value { IfOk result (λ can. can ≡ is_answered (Q.view kern.now) by (next_call self.old.core)) }
-        ensures core { self.new.core ≡ self.old.core }
-        ensures made { OnOk result (self.new.made ≡ true) }
-        ensures sure { self.old.made ≡ true → IsOk result }
+    pub fn can_move<Q: Kernel>(&self, kern: &Q, by: u32) -> bool
+        requires { IsMade self.now }
+        ensures { result ≡ is_answered (Q.view kern.now) by (next_call self.now.core) }
     {
-        self.make_next(alloc)?;
         match self.next() {
-            Some(call) => Ok(kern.ready(by, call)),
-            None => Ok(false),
+            Some(call) => kern.ready(by, call),
+            None => false,
         }
     }
 
     /// Whether the controller waits for a moment that is still to come.
     #[tactic(auto, unfolding(crate::specs::Controllers::awaits_clock))]
-    pub fn awaits_clock(&mut self, alloc: Global, clock: u64) -> Result<bool, NoMemory>
-        ensures value { IfOk result (λ awaits. awaits ≡ awaits_clock clock self.old.core) }
-        ensures core { self.new.core ≡ self.old.core }
-        ensures made { OnOk result (self.new.made ≡ true) }
-        ensures sure { self.old.made ≡ true → IsOk result }
+    pub fn awaits_clock(&self, clock: u64) -> bool
+        requires { IsMade self.now }
+        ensures { result ≡ awaits_clock clock self.now.core }
     {
-        self.make_next(alloc)?;
         match self.next() {
-            Some(call) => Ok(clock < wait_end_of(call)),
-            None => Ok(false),
+            Some(call) => clock < wait_end_of(call),
+            None => false,
         }
     }
 
     /// Whether the controller has finished: it has no next call.
     #[tactic(auto, unfolding(crate::specs::Controllers::has_finished))]
-    pub fn has_finished(&mut self, alloc: Global) -> Result<bool, NoMemory>
-        ensures value { IfOk result (λ finished. finished ≡ has_finished self.old.core) }
-        ensures core { self.new.core ≡ self.old.core }
-        ensures made { OnOk result (self.new.made ≡ true) }
-        ensures sure { self.old.made ≡ true → IsOk result }
+    pub fn has_finished(&self) -> bool
+        requires { IsMade self.now }
+        ensures { result ≡ has_finished self.now.core }
     {
-        self.make_next(alloc)?;
-        Ok(self.next().is_none())
+        self.next().is_none()
     }
 
     /// Makes the controller's next call, which is ready, and hands it the reply. The kernel takes the call, and no copy

@@ -1,7 +1,7 @@
 //! Moves: each is one entry.
-ghost use Rattle.std.specs.Prelude.{◌≡◌, ◌<◌, true, length, OnOk, OnErr};
+ghost use Rattle.std.specs.Prelude.{◌≡◌, ◌<◌, true, false, length, OnOk, OnErr};
 ghost use Rattle.pr_world.specs.Moves.{Moves};
-ghost use Rattle.pr_world.specs.Worlds.{can_act, seen};
+ghost use Rattle.pr_world.specs.Worlds.{can_act, made_after, seen};
 
 use crate::World;
 use pr_api::Kernel;
@@ -9,14 +9,17 @@ use pr_model::Actor;
 use pr_num::NoMemory;
 
 impl<Q: Kernel> World<Q> {
-    /// Makes the next call of a controller, which gets the reply.
+    /// Makes the next call of a controller, which gets the reply. What it calls next is not made then; nor what it
+    /// called, where memory ran out.
     #[tactic(auto, using(crate::proofs::CallerLemmas::cores))]
     fn move_controller(&mut self, controller: u32) -> Result<(), NoMemory>
         requires acts { can_act (seen Q.view self.old) (Actor.Controller controller) ≡ true }
         requires place { length (Q.view self.old.kernel).history < (Q.view self.old.kernel).places }
         ensures ok { OnOk result (Moves (seen Q.view self.old) (Actor.Controller controller) (seen Q.view self.new)) }
-        ensures err { OnErr result (self.new ≡ self.old) }
+        ensures made { self.new.made ≡ false }
+        ensures err { OnErr result (self.new ≡ record self.old { made = false }) }
     {
+        self.made = false;
         self.callers[controller as usize].make_call(self.alloc, &mut self.kern, controller)?;
         Ok(())
     }
@@ -25,6 +28,7 @@ impl<Q: Kernel> World<Q> {
         requires acts { can_act (seen Q.view self.old) (Actor.Lwp pid lwp) ≡ true }
         requires place { length (Q.view self.old.kernel).history < (Q.view self.old.kernel).places }
         ensures ok { OnOk result (Moves (seen Q.view self.old) (Actor.Lwp pid lwp) (seen Q.view self.new)) }
+        ensures made { self.new.made ≡ self.old.made }
         ensures err { OnErr result (self.new ≡ self.old) }
     {
         self.kern.lwp_turn(pid, lwp)?;
@@ -34,17 +38,20 @@ impl<Q: Kernel> World<Q> {
     fn move_clock(&mut self)
         requires acts { can_act (seen Q.view self.old) Actor.Clock ≡ true }
         requires place { length (Q.view self.old.kernel).history < (Q.view self.old.kernel).places }
-        ensures { Moves (seen Q.view self.old) Actor.Clock (seen Q.view self.new) }
+        ensures moves { Moves (seen Q.view self.old) Actor.Clock (seen Q.view self.new) }
+        ensures made { self.new.made ≡ self.old.made }
     {
         self.kern.tick();
     }
 
-    /// Makes the move of an actor that can move, and adds its entry; where memory runs out, the world is as it was.
+    /// Makes the move of an actor that can move, and adds its entry; where memory runs out, the world is as it was, but
+    /// that a controller's call is to be made again.
     pub fn turn(&mut self, actor: Actor) -> Result<(), NoMemory>
         requires acts { can_act (seen Q.view self.old) actor ≡ true }
         requires place { length (Q.view self.old.kernel).history < (Q.view self.old.kernel).places }
         ensures ok { OnOk result (Moves (seen Q.view self.old) actor (seen Q.view self.new)) }
-        ensures err { OnErr result (self.new ≡ self.old) }
+        ensures made { self.new.made ≡ made_after actor self.old.made }
+        ensures err { OnErr result (self.new ≡ record self.old { made = made_after actor self.old.made }) }
     {
         match actor {
             Actor::Controller(controller) => self.move_controller(controller),

@@ -1,5 +1,5 @@
-//! Who moves next, and how a world ends.
-ghost use Rattle.std.specs.Prelude.{◌≡◌, ◌<◌, ◌+◌, [], None, Some, drop, length, nat_lt, slice_get, option_map, if◌then◌else◌, IfOk, OnOk, OnErr};
+//! Who moves next, and how a world ends. Once the next call of each controller is made, that is told without memory.
+ghost use Rattle.std.specs.Prelude.{◌≡◌, ◌<◌, ◌+◌, true, [], None, Some, drop, length, nat_lt, slice_get, option_map, if◌then◌else◌, IfOk, IsOk, OnOk, OnErr};
 ghost use Rattle.pr_world.specs.Worlds.{actor_of, clock_if_awaited, ended_as, first_controller, first_scheduled, from_controller, from_lwp, in_rounds, next_actor, next_in_round, next_in_rounds, next_pick, picked, seen};
 
 use crate::{End, World};
@@ -10,62 +10,62 @@ use pr_num::NoMemory;
 impl<Q: Kernel> World<Q> {
     /// The first controller from a number on that can move.
     #[tactic(auto, using(crate::proofs::SearchLemmas::searches), unfolding(crate::specs::Worlds::first_controller, crate::specs::Worlds::controller_acts, crate::specs::Worlds::can_act))]
-    fn first_controller(&mut self, from: u32) -> Result<Option<Actor>, NoMemory>
-        ensures value { IfOk result (λ first. first ≡ first_controller (seen Q.view self.old) from) }
-        ensures same { self.new ≡ self.old }
+    fn first_controller(&self, from: u32) -> Option<Actor>
+        requires { self.now.made ≡ true }
+        ensures { result ≡ first_controller (seen Q.view self.now) from }
     {
         for controller in from..self.controllers() {
-            if self.controller_acts(controller)? {
-                return Ok(Some(Actor::Controller(controller)));
+            if self.controller_acts(controller) {
+                return Some(Actor::Controller(controller));
             }
         }
-        Ok(None)
+        None
     }
 
     #[tactic(auto, unfolding(crate::specs::Worlds::clock_if_awaited))]
-    fn clock_if_awaited(&mut self) -> Result<Option<Actor>, NoMemory>
-        ensures value { IfOk result (λ next. next ≡ clock_if_awaited (seen Q.view self.old)) }
-        ensures same { self.new ≡ self.old }
+    fn clock_if_awaited(&self) -> Option<Actor>
+        requires { self.now.made ≡ true }
+        ensures { result ≡ clock_if_awaited (seen Q.view self.now) }
     {
-        if self.movable(Actor::Clock)? {
-            Ok(Some(Actor::Clock))
+        if self.can_act(Actor::Clock) {
+            Some(Actor::Clock)
         } else {
-            Ok(None)
+            None
         }
     }
 
     /// Who moves next in a round after an lwp, or from the first lwp on: an lwp, or the clock.
     #[tactic(auto, unfolding(crate::specs::Worlds::from_lwp, crate::specs::Worlds::first_lwp))]
-    pub fn from_lwp(&mut self, after: Option<(u32, u32)>) -> Result<Option<Actor>, NoMemory>
-        ensures value { IfOk result (λ next. next ≡ from_lwp (seen Q.view self.old) after) }
-        ensures same { self.new ≡ self.old }
+    pub fn from_lwp(&self, after: Option<(u32, u32)>) -> Option<Actor>
+        requires { self.now.made ≡ true }
+        ensures { result ≡ from_lwp (seen Q.view self.now) after }
     {
         match self.kern.next_lwp(after, true) {
-            Some((pid, lwp)) => Ok(Some(Actor::Lwp(pid, lwp))),
+            Some((pid, lwp)) => Some(Actor::Lwp(pid, lwp)),
             None => self.clock_if_awaited(),
         }
     }
 
     /// Who moves next in a round from a controller on.
     #[tactic(auto, unfolding(crate::specs::Worlds::from_controller))]
-    fn from_controller(&mut self, controller: u32) -> Result<Option<Actor>, NoMemory>
-        ensures value { IfOk result (λ next. next ≡ from_controller (seen Q.view self.old) controller) }
-        ensures same { self.new ≡ self.old }
+    fn from_controller(&self, controller: u32) -> Option<Actor>
+        requires { self.now.made ≡ true }
+        ensures { result ≡ from_controller (seen Q.view self.now) controller }
     {
-        match self.first_controller(controller)? {
-            Some(actor) => Ok(Some(actor)),
+        match self.first_controller(controller) {
+            Some(actor) => Some(actor),
             None => self.from_lwp(None),
         }
     }
 
     /// Who moves next in the round in which an actor was picked last.
     #[tactic(auto, using(crate::proofs::SearchLemmas::rounds), unfolding(crate::specs::Worlds::next_in_round))]
-    fn next_in_round(&mut self) -> Result<Option<Actor>, NoMemory>
-        ensures value { IfOk result (λ next. next ≡ next_in_round (seen Q.view self.old) self.old.last) }
-        ensures same { self.new ≡ self.old }
+    fn next_in_round(&self) -> Option<Actor>
+        requires { self.now.made ≡ true }
+        ensures { result ≡ next_in_round (seen Q.view self.now) self.now.last }
     {
         match self.last {
-            None | Some(Actor::Clock) => Ok(None),
+            None | Some(Actor::Clock) => None,
             Some(Actor::Controller(controller)) => match controller.checked_add(1) {
                 Some(next) => self.from_controller(next),
                 None => self.from_lwp(None),
@@ -76,75 +76,105 @@ impl<Q: Kernel> World<Q> {
 
     /// Who moves next in the rounds.
     #[tactic(auto, unfolding(crate::specs::Worlds::next_in_rounds))]
-    fn next_in_rounds(&mut self) -> Result<Option<Actor>, NoMemory>
-        ensures value { IfOk result (λ next. next ≡ next_in_rounds (seen Q.view self.old)) }
-        ensures same { self.new ≡ self.old }
+    fn next_in_rounds(&self) -> Option<Actor>
+        requires { self.now.made ≡ true }
+        ensures { result ≡ next_in_rounds (seen Q.view self.now) }
     {
-        match self.next_in_round()? {
-            Some(actor) => Ok(Some(actor)),
+        match self.next_in_round() {
+            Some(actor) => Some(actor),
             None => self.from_controller(0),
         }
     }
 
     /// Picks the first actor of the schedule that can move. It is spent then, and so are those before it.
     #[tactic(auto, using(crate::proofs::ScheduleLemmas::schedules), unfolding(crate::specs::Worlds::with_pick))]
-    fn pick_scheduled(&mut self) -> Result<Option<Actor>, NoMemory>
-        ensures value { IfOk result (λ next. next ≡ option_map actor_of (first_scheduled (seen Q.view self.old) self.old.schedule)) }
-        ensures place { OnOk result (self.new ≡ picked (first_scheduled (seen Q.view self.old) self.old.schedule) self.old) }
-        ensures err { OnErr result (self.new ≡ self.old) }
+    fn pick_scheduled(&mut self) -> Option<Actor>
+        requires { self.old.made ≡ true }
+        ensures value { result ≡ option_map actor_of (first_scheduled (seen Q.view self.old) self.old.schedule) }
+        ensures place { seen Q.view self.new ≡ picked (first_scheduled (seen Q.view self.old) self.old.schedule) (seen Q.view self.old) }
+        ensures kernel { self.new.kernel ≡ self.old.kernel }
+        ensures made { self.new.made ≡ true }
     {
         for place in 0..self.scheduled() {
             let actor = self.scheduled_at(place);
-            if self.movable(actor)? {
+            if self.can_act(actor) {
                 self.spend(place);
-                return Ok(Some(actor));
+                return Some(actor);
             }
         }
-        Ok(None)
+        None
     }
 
     /// Picks who moves next in the rounds. The schedule is at its end then.
     #[tactic(auto, unfolding(crate::specs::Worlds::with_pick))]
-    fn pick_in_rounds(&mut self) -> Result<Option<Actor>, NoMemory>
-        ensures value { IfOk result (λ next. next ≡ next_in_rounds (seen Q.view self.old)) }
-        ensures place { IfOk result (λ next. self.new ≡ picked (option_map in_rounds next) self.old) }
-        ensures err { OnErr result (self.new ≡ self.old) }
+    fn pick_in_rounds(&mut self) -> Option<Actor>
+        requires { self.old.made ≡ true }
+        ensures value { result ≡ next_in_rounds (seen Q.view self.old) }
+        ensures place { seen Q.view self.new ≡ picked (option_map in_rounds result) (seen Q.view self.old) }
+        ensures kernel { self.new.kernel ≡ self.old.kernel }
+        ensures made { self.new.made ≡ true }
     {
-        let next = self.next_in_rounds()?;
+        let next = self.next_in_rounds();
         if let Some(actor) = next {
             self.end_schedule(actor);
         }
-        Ok(next)
+        next
     }
 
     /// Picks who moves next, whose turn comes then: the first actor of the schedule that can move, where one is left,
     /// and then the next in the rounds. The place in the schedule, or in the round, moves on to that actor; where
     /// no actor can move it stays.
     #[tactic(auto, unfolding(crate::specs::Worlds::next_pick, crate::specs::Worlds::next_actor))]
-    pub fn pick(&mut self) -> Result<Option<Actor>, NoMemory>
-        ensures value { IfOk result (λ next. next ≡ next_actor (seen Q.view self.old)) }
-        ensures place { OnOk result (self.new ≡ picked (next_pick (seen Q.view self.old)) self.old) }
-        ensures err { OnErr result (self.new ≡ self.old) }
+    pub fn take_next(&mut self) -> Option<Actor>
+        requires { self.old.made ≡ true }
+        ensures value { result ≡ next_actor (seen Q.view self.old) }
+        ensures place { seen Q.view self.new ≡ picked (next_pick (seen Q.view self.old)) (seen Q.view self.old) }
+        ensures kernel { self.new.kernel ≡ self.old.kernel }
+        ensures made { self.new.made ≡ true }
     {
-        match self.pick_scheduled()? {
-            Some(actor) => Ok(Some(actor)),
+        match self.pick_scheduled() {
+            Some(actor) => Some(actor),
             None => self.pick_in_rounds(),
         }
     }
 
+    /// The same where calls are still to be made: it makes them first.
+    pub fn pick(&mut self) -> Result<Option<Actor>, NoMemory>
+        ensures value { IfOk result (λ next. next ≡ next_actor (seen Q.view self.old)) }
+        ensures place { OnOk result (seen Q.view self.new ≡ picked (next_pick (seen Q.view self.old)) (seen Q.view self.old)) }
+        ensures kernel { self.new.kernel ≡ self.old.kernel }
+        ensures made { OnOk result (self.new.made ≡ true) }
+        ensures err { OnErr result (self.new ≡ self.old) }
+        ensures sure { self.old.made ≡ true → IsOk result }
+    {
+        self.make_calls()?;
+        Ok(self.take_next())
+    }
+
     /// How the world has ended: `None` exactly where an actor can move and a place of the history is free.
+    pub fn end(&self) -> Option<End>
+        requires { self.now.made ≡ true }
+        ensures { result ≡ ended_as (seen Q.view self.now) }
+    {
+        if self.next_in_rounds().is_some() {
+            return self.spent_places();
+        }
+        if self.all_finished() {
+            Some(End::Quiet)
+        } else {
+            Some(End::Stuck)
+        }
+    }
+
+    /// The same where calls are still to be made: it makes them first.
     pub fn ended(&mut self) -> Result<Option<End>, NoMemory>
         ensures value { IfOk result (λ end. end ≡ ended_as (seen Q.view self.old)) }
-        ensures same { self.new ≡ self.old }
+        ensures made { OnOk result (self.new ≡ record self.old { made = true }) }
+        ensures err { OnErr result (self.new ≡ self.old) }
+        ensures sure { self.old.made ≡ true → IsOk result }
     {
-        if self.next_in_rounds()?.is_some() {
-            return Ok(self.spent_places());
-        }
-        if self.all_finished()? {
-            Ok(Some(End::Quiet))
-        } else {
-            Ok(Some(End::Stuck))
-        }
+        self.make_calls()?;
+        Ok(self.end())
     }
 
     /// How a world has ended in which an actor can move: all places are taken, or it goes on.

@@ -1,5 +1,5 @@
 //! A world: a kernel and its controllers.
-ghost use Rattle.std.specs.Prelude.{◌≡◌, ◌≤◌, ◌<◌, None, Some, length, map, slice_get, IfOk};
+ghost use Rattle.std.specs.Prelude.{◌≡◌, ◌≤◌, ◌<◌, false, None, Some, length, map, slice_get, IfOk};
 ghost use Rattle.std.specs.Option.{ForSome};
 ghost use Rattle.pr_num.specs.Limits.{controller_limit};
 ghost use Rattle.pr_world.specs.Callers.{core_in};
@@ -16,7 +16,7 @@ use std::marker::Model;
 
 /// A kernel and its controllers, at most 64. The actors of a schedule move first, and then all in rounds: controllers by
 /// number, lwps by process and lwp id, the clock. Contracts see a plain record of the kernel, the controllers, what is
-/// left of the schedule, and who was picked last in the rounds.
+/// left of the schedule, who was picked last in the rounds, and whether the next call of each controller was made.
 #[derive(Drop)]
 pub struct World<Q> {
     pub(crate) alloc: Global,
@@ -26,19 +26,21 @@ pub struct World<Q> {
     /// How many actors of the schedule are spent.
     pub(crate) spent: usize,
     pub(crate) last: Option<Actor>,
+    /// Whether the next call of each controller was made.
+    pub(crate) made: bool,
 }
 
 impl<Q> Model for World<Q> {
-    ghost use Rattle.std.specs.Prelude.{◌≤◌, drop, length, map};
+    ghost use Rattle.std.specs.Prelude.{◌≡◌, ◌≤◌, true, All, drop, length, map};
     ghost use Rattle.pr_num.specs.Limits.{controller_limit};
-    ghost use Rattle.pr_world.specs.Callers.{core_in};
+    ghost use Rattle.pr_world.specs.Callers.{IsMade, core_in};
     ghost use Rattle.pr_world.specs.Worlds.{WorldOf};
 
     ghost Value = { WorldOf Q };
 
-    ghost view = { λ a. record { kernel = a.kern; controllers = map core_in a.callers.items; schedule = drop a.spent a.schedule.items; last = a.last } };
+    ghost view = { λ a. record { kernel = a.kern; controllers = map core_in a.callers.items; schedule = drop a.spent a.schedule.items; last = a.last; made = a.made } };
 
-    ghost invariant = { λ a. length a.callers.items ≤ controller_limit };
+    ghost invariant = { λ a. (length a.callers.items ≤ controller_limit) × (a.made ≡ true → All IsMade a.callers.items) };
 }
 
 /// The controllers, of which no call was made yet.
@@ -54,7 +56,7 @@ fn callers_of(alloc: Global, controllers: Vec<Controller>) -> Result<Vec<Caller>
 }
 
 impl<Q> World<Q> {
-    /// A world in which no actor has moved.
+    /// A world in which no actor has moved, and of which no call was made yet.
     pub fn new(
         alloc: Global,
         kernel: Q,
@@ -64,7 +66,7 @@ impl<Q> World<Q> {
     where
         Q: Drop,
         requires { length controllers.items ≤ controller_limit }
-        ensures { IfOk result (λ world. world ≡ record { kernel = kernel; controllers = map state_of controllers.items; schedule = schedule.items; last = None }) }
+        ensures { IfOk result (λ world. world ≡ record { kernel = kernel; controllers = map state_of controllers.items; schedule = schedule.items; last = None; made = false }) }
     {
         let callers = callers_of(alloc, controllers)?;
         Ok(World {
@@ -74,6 +76,7 @@ impl<Q> World<Q> {
             schedule,
             spent: 0,
             last: None,
+            made: false,
         })
     }
 

@@ -10,8 +10,8 @@ loop-program-preserved c =
     let listed = c.in_ok-listing.field-0 in
     let steps : into_iter_items at.program-iterator ≡ p ∷ into_iter_items c.next.new.self = c.in-Some.ensures.steps.0 in
     record {
-      told = listings_of-next p _ _ at.rest.now c.behind-rest.result.now at.listings.items c.push.new.self.items _ listed
-          steps (search rules) (search rules) (search rules) at.invariant.told;
+      told = listings_of-next p _ _ at.rest.now c.behind-rest.result.now at.listings.items c.push.new.self.items _
+          listed steps (search rules) (search rules) (search rules) at.invariant.told;
       left =
           let was = at.invariant.left in
           let gone = c.in-Some.ensures.steps.1 in

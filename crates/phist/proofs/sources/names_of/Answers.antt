@@ -1,8 +1,13 @@
-use Rattle.std.proofs.Common.{◌≡◌, ◌≤◌, IfOk, List, ℕ, length, sym, subst}
+use Rattle.std.proofs.Common.{◌≡◌, ◌≤◌, IfOk, List, ℕ, Ok, Result, Err, length, sym, subst}
+use Rattle.std.specs.List.{All}
+use Rattle.pr_hist.specs.Names.{Names}
 use Rattle.pr_hist.specs.News.{known_at_start}
 use Rattle.pr_num.specs.Limits.{spawn_limit}
+use Rattle.pr_num.specs.declared.memory.NoMemory.{NoMemory}
+use Rattle.pr_scen.specs.Reading.{scenario_of}
 use Rattle.pr_scen.specs.Scenarios.{IsWithinLimits, Scenario}
-use Rattle.phist.specs.Sources.{code_lines, listings_of, names_of}
+use Rattle.phist.proofs.LineLemmas.{programs-have-their-lines}
+use Rattle.phist.specs.Sources.{HasItsLines, code_lines, listings_of, names_of}
 use Rattle.phist.proofs.sources.names_of.Goals as goal
 
 pub names_from-requires-clause-spawns : goal.names_from-requires-clause-spawns
@@ -10,9 +15,9 @@ names_from-requires-clause-spawns c =
     let limits = subst IsWithinLimits (sym c.scenario.view_is) c.requires.limits in
     subst (λ (spawns : List ℕ). length spawns ≤ spawn_limit) (sym c.as_slice.ensures.value) limits.spawns
 
-pub returns : goal.returns
+pub returns-clause-names : goal.returns-clause-names
 unfolding names_of
-returns c =
+returns-clause-names c =
     let parts = c.scenario.inside in
     let text = c.args.text.now in
     let told = c.names_from.ensures in
@@ -20,3 +25,16 @@ returns c =
     (subst (λ (spawns : List ℕ). IfOk c.names_from.result
     (λ names. names ≡ known_at_start (listings_of parts.programs.items (code_lines text)) spawns))
     c.as_slice.ensures.value told)
+
+-- names that were made of a scenario have its programs, each with its lines
+have-lines : (result : Result Names NoMemory) (s : Scenario) (text : List ℕ)
+    → IfOk result (λ names. names ≡ names_of s text) → scenario_of text ≡ Ok s
+    → IfOk result (λ names. All HasItsLines names.listings)
+unfolding names_of
+have-lines (Ok names) s text is read =
+    subst (λ (n : Names). All HasItsLines n.listings) (sym is) (programs-have-their-lines text s read)
+have-lines (Err error) s text is read = tt
+
+pub returns-clause-lines : goal.returns-clause-lines
+returns-clause-lines c read =
+    have-lines c.names_from.result c.args.scenario c.args.text.now (returns-clause-names c) read

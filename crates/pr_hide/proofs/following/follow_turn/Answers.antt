@@ -1,12 +1,18 @@
 use Rattle.std.proofs.Common.{◌∙◌, sym}
 use Rattle.pr_hide.specs.Hidings.{hiders_of}
-use Rattle.pr_hide.proofs.BareLemmas.{agent-ended, agent-goes, lwp-turned}
+use Rattle.pr_hide.proofs.BareLemmas.{agent-ended, agent-goes, lwp-turned, memory-replaced}
 use Rattle.pr_hide.proofs.following.follow_turn.Goals as goal
 
-pub returns-then-keeps_lwp : goal.returns-then-keeps_lwp
-returns-then-keeps_lwp c =
+pub returns-then-replaces_memory : goal.returns-then-replaces_memory
+returns-then-replaces_memory c =
+    c.finish.ensures
+    ∙ memory-replaced c.args.table.now.agents c.args.table.now.patches (hiders_of c.args.who.now) c.args.machine.now c.args.pid c.args.lwp c.args.did
+    (sym c.if-keeps_lwp.ensures) (sym c.if-replaces_memory.ensures)
+
+pub returns-else-replaces_memory : goal.returns-else-replaces_memory
+returns-else-replaces_memory c =
     lwp-turned c.args.table.now.agents c.args.table.now.patches (hiders_of c.args.who.now) c.args.machine.now c.args.pid c.args.lwp c.args.did
-    (sym c.if-keeps_lwp.ensures)
+    (sym c.if-keeps_lwp.ensures) (sym c.if-replaces_memory.ensures)
 
 pub returns-then-exits : goal.returns-then-exits
 returns-then-exits c =

@@ -57,8 +57,8 @@ returns g c =
         made = grown.made;
       };
       last = grown.last;
-      done = done-left first p n old new w v c.take_turn-progress.result c.leave.new.seat c.take_turn-progress.ensures.made lawful came c.leave.ensures.seen
-          (λ ended. c.leave.ensures.over ∙ ended-over view shared ended);
+      done = done-left first p n old new w v c.take_turn-progress.result shared.world.made c.leave.new.seat c.take_turn-progress.ensures.made c.take_turn-progress.ensures.asked lawful came c.leave.ensures.seen
+          (λ asked ended. c.leave.ensures.over ∙ ended-over view shared asked ended);
       refused = on-refused c.take_turn-progress.result _ (saw_over c.leave.new.seat ≡ true) c.take_turn-progress.ensures.refused
           (λ refused. c.leave.ensures.over ∙ refused-over view shared refused.0);
     }

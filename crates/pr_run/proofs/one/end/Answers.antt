@@ -3,4 +3,4 @@ use Rattle.pr_run.proofs.OneLemmas.{ended-is}
 use Rattle.pr_run.proofs.one.end.Goals as goal
 
 pub unwrap-requires : goal.unwrap-requires
-unwrap-requires g c = ended-is (seen g.Q.Kernel.view c.args.world.now) c.in_ok-ended.field-0 c.in_ok-ended.ensures.value c.requires
+unwrap-requires g c = ended-is (seen g.Q.Kernel.view c.args.world.now) c.end.result c.end.ensures c.requires.ended

@@ -10,7 +10,7 @@ use Rattle.pr_serve.proofs.responses.show_ran.Goals as goal
 pub returns : goal.returns
 unfolding ran_so
 returns g c =
-    let text = g.W.Shows.text c.args.showing.now in
+    let text = g.W.Shows.text c.args.showing in
     let written = c.write-written in
     let code = c.number.ensures ∙ ap number c.end_status-status.ensures in
     gives written.result (ran_so text c.args.ran.end c.args.history.entries c.args.ran.reports.items) c.status_after.result c.args.history.entries _ _ _ _

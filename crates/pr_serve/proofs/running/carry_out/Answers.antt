@@ -44,14 +44,14 @@ returns-in-Runs-clause-kept g c = rw c.in-Runs.is (history-kept _ _ _ _ _ c.run.
 
 pub returns-in-Strips-clause-ends : goal.returns-in-Strips-clause-ends
 unfolding row_of
-returns-in-Strips-clause-ends g c = rw c.in-Strips.is c.run-in-Strips.ensures
+returns-in-Strips-clause-ends g c = rw c.in-Strips.is c.strip.ensures
 
 pub returns-in-Strips-clause-does_work : goal.returns-in-Strips-clause-does_work
-returns-in-Strips-clause-does_work g c = rw c.in-Strips.is (runs-scenario _ _ _ _ _ c.run-in-Strips.ensures)
+returns-in-Strips-clause-does_work g c = rw c.in-Strips.is (runs-scenario _ _ _ _ _ c.strip.ensures)
 
 pub returns-in-Strips-clause-kept : goal.returns-in-Strips-clause-kept
 unfolding row_of
-returns-in-Strips-clause-kept g c = rw c.in-Strips.is (history-kept _ _ _ _ _ c.run-in-Strips.ensures)
+returns-in-Strips-clause-kept g c = rw c.in-Strips.is (history-kept _ _ _ _ _ c.strip.ensures)
 
 pub returns-in-Checks-clause-ends : goal.returns-in-Checks-clause-ends
 unfolding row_of

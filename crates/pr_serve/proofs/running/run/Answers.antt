@@ -1,6 +1,6 @@
 use Rattle.std.proofs.Common.{refl}
 use Rattle.pr_num.specs.Limits.{scenario_limit}
-use Rattle.pr_serve.specs.Answers.{answer_to}
+use Rattle.pr_serve.specs.Answers.{answer_to, run_text_of}
 use Rattle.pr_serve.specs.Histories.{in_rounds}
 use Rattle.pr_serve.specs.Rows.{IsThe}
 use Rattle.pr_serve.proofs.ReadingLemmas.{reads-answered}
@@ -8,4 +8,4 @@ use Rattle.pr_serve.proofs.running.run.Goals as goal
 
 pub returns-in-Ok : goal.returns-in-Ok
 returns-in-Ok g c =
-    reads-answered scenario_limit (IsThe (answer_to (g.W.Shows.text c.args.showing.now))) in_rounds _ _ _ _ c.in-Ok.input (answer_to (g.W.Shows.text c.args.showing.now) c.in-Ok.input) c.in-Ok.ensures.took (c.in-Ok.ensures.no_fault (λ is. cc)) refl c.respond.ensures
+    reads-answered scenario_limit (IsThe (answer_to (run_text_of c.args.showing))) in_rounds _ _ _ _ c.in-Ok.input (answer_to (run_text_of c.args.showing) c.in-Ok.input) c.in-Ok.ensures.took (c.in-Ok.ensures.no_fault (λ is. cc)) refl c.respond.ensures

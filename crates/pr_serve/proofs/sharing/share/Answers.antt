@@ -1,7 +1,8 @@
 use Rattle.std.proofs.Common.{◌≡◌, refl, sym, subst, Result, Err}
-use Rattle.pr_scen.specs.declared.refusals.ScenFault.{ScenFault}
+use Rattle.pr_scen.specs.Refusals.{ScenFault}
+use Rattle.pr_input.specs.Kinds.{kind_name}
 use Rattle.pr_scen.specs.Scenarios.{Scenario}
-use Rattle.pr_serve.specs.Answers.{MayAnswer, MayAnswerRead, ShowsEnd, kind_name, refused_at}
+use Rattle.pr_serve.specs.Answers.{MayAnswer, MayAnswerRead, ShowsEnd, refused_at}
 use Rattle.pr_serve.specs.Giving.{Responds}
 use Rattle.pr_serve.specs.Inputs.{scenario_of_input}
 use Rattle.pr_serve.proofs.SharedLemmas.{one-answer, one-else, threads-left}

@@ -4,9 +4,6 @@ use Rattle.pr_world.specs.Callers.{core_in}
 use Rattle.pr_world.specs.Controllers.{has_finished}
 use Rattle.pr_world.proofs.questions.all_finished.Given as goal
 
--- all controllers so far have finished, and all cores are as they were
+-- all controllers so far have finished
 abbrev pub invariant-loop-caller : goal.invariant-loop-caller
-invariant-loop-caller l = record {
-  done : list_all has_finished (drop l.caller-index (map core_in l.fn.callers)) ≡ list_all has_finished (map core_in l.fn.callers);
-  cores : map core_in l.callers ≡ map core_in l.fn.callers;
-}
+invariant-loop-caller l = list_all has_finished (drop l.caller-index (map core_in l.callers)) ≡ list_all has_finished (map core_in l.callers)

@@ -4,9 +4,6 @@ use Rattle.pr_world.specs.Callers.{core_in}
 use Rattle.pr_world.specs.Controllers.{awaits_clock}
 use Rattle.pr_world.proofs.questions.some_awaits_clock.Given as goal
 
--- none of the controllers so far waits, and all cores are as they were
+-- none of the controllers so far waits
 abbrev pub invariant-loop-caller : goal.invariant-loop-caller
-invariant-loop-caller l = record {
-  none : list_any (awaits_clock l.clock) (drop l.caller-index (map core_in l.fn.callers)) ≡ list_any (awaits_clock l.clock) (map core_in l.fn.callers);
-  cores : map core_in l.callers ≡ map core_in l.fn.callers;
-}
+invariant-loop-caller l = list_any (awaits_clock l.clock) (drop l.caller-index (map core_in l.callers)) ≡ list_any (awaits_clock l.clock) (map core_in l.callers)

@@ -1,6 +1,6 @@
 use Rattle.std.proofs.Common.{refl, sym, ap, ◌∙◌}
 use Rattle.pr_num.specs.ById.{put_under, under}
-use Rattle.pr_proc.proofs.MarkLemmas.{marked-but, marks-changed}
+use Rattle.pr_proc.proofs.MarkLemmas.{marks-changed}
 use Rattle.pr_proc.proofs.TotalLemmas.{total-changed}
 use Rattle.pr_proc.proofs.processes.Processes.get_mut.Goals as goal
 
@@ -10,9 +10,8 @@ get_mut-requires c = rw c.self.view_is c.requires
 pub invariant_of-self-lent : goal.invariant_of-self-lent
 invariant_of-self-lent c =
     λ w. record {
-      total = total-changed c.all_but-self-inside.result c.args.id w c.self.inside.table c.all_but-self-inside.ensures;
-      marks =
-          marks-changed c.args.id w _ c.self.inside.table (marked-but c.args.id _ c.self.inside.table c.settle.ensures);
+      total = total-changed c.leave_out-self-inside.result c.args.id w c.self.inside.table c.leave_out-self-inside.ensures.total;
+      marks = marks-changed c.args.id w _ c.self.inside.table c.leave_out-self-inside.ensures.marks;
     }
 
 pub returns : goal.returns

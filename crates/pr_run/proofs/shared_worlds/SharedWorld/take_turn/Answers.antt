@@ -1,7 +1,7 @@
 use Rattle.std.proofs.Common.{sym, subst}
 use Rattle.pr_world.specs.Runs.{CameFrom}
-use Rattle.pr_world.specs.Worlds.{WorldOf, seen}
-use Rattle.pr_run.proofs.ManyLemmas.{made-turn, over-on, turn-came, turn-stays}
+use Rattle.pr_world.specs.Worlds.{seen}
+use Rattle.pr_run.proofs.ManyLemmas.{made-turn, over-stays, turn-came}
 use Rattle.pr_run.proofs.shared_worlds.SharedWorld.take_turn.Goals as goal
 
 pub returns-in-Ok-clause-turn : goal.returns-in-Ok-clause-turn
@@ -19,9 +19,8 @@ pub returns-in-Ok-clause-stays : goal.returns-in-Ok-clause-stays
 returns-in-Ok-clause-stays g c =
     let w = c.args.self.now.world in
     let v = c.make_turn.new.world in
-    let turn = made-turn c.args.worker.processors c.args.worker.number c.args.last.now c.make_turn.new.last (seen g.Q.Kernel.view w) (seen g.Q.Kernel.view v) c.in-Ok.progress c.in-Ok.ensures.ok in
-    over-on c.args.self.now.refusal (seen g.Q.Kernel.view w) (seen g.Q.Kernel.view v)
-    (turn-stays c.args.worker.processors c.args.worker.number c.args.last.now c.make_turn.new.last (seen g.Q.Kernel.view w) (seen g.Q.Kernel.view v) (g.met.Q.Kernel.lawful w.kernel) turn)
+    over-stays c.args.worker.processors c.args.worker.number c.args.last.now c.make_turn.new.last (seen g.Q.Kernel.view w) (seen g.Q.Kernel.view v) c.in-Ok.progress c.args.self.now.refusal w.made v.made
+    (g.met.Q.Kernel.lawful w.kernel) c.in-Ok.ensures.ok c.in-Ok.ensures.asked
 
 pub returns-in-Err-clause-came : goal.returns-in-Err-clause-came
-returns-in-Err-clause-came g c = λ first came. subst (λ (w : WorldOf _). CameFrom first (seen g.Q.Kernel.view w)) (sym c.in-Err.ensures.err) came
+returns-in-Err-clause-came g c = λ first came. subst (CameFrom first) (sym c.in-Err.ensures.err) came

@@ -11,7 +11,7 @@ index_mut-requires g c =
 pub make_call-requires-clause-by : goal.make_call-requires-clause-by
 make_call-requires-clause-by g c =
     let within = acts-within g.Q.Kernel.view g.met.Q.Kernel.lawful c.args.self.now _ c.self.view_is c.args.controller c.requires.acts in
-    omega (arith, within, cores-length c.self.inside.callers.items, c.self.invariant)
+    omega (arith, within, cores-length c.self.inside.callers.items, c.self.invariant.0)
 
 pub make_call-requires-clause-ready : goal.make_call-requires-clause-ready
 make_call-requires-clause-ready g c =

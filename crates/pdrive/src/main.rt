@@ -1,0 +1,40 @@
+//! The program `pdrive`: a kernel with the controllers of a scenario, driven by calls on standard input, each answered on
+//! standard output before the next one is read.
+#![tactic(auto)]
+
+ghost use Rattle.std.specs.Prelude.{◌≡◌, drop, IfOk};
+ghost use Rattle.std.specs.Vec.Iter.{into_iter_items};
+
+use pr_drive::{Status, Work, number, serve, work_of};
+use pr_io::{StdSink, StdSource};
+use std::alloc::{AllocError, Global};
+use std::env::Args;
+use std::io::ErrorKind;
+use std::process::ExitCode;
+use std::{env, io};
+
+// The words after the program's name, in their order.
+fn words_after_name(alloc: Global, arguments: Args) -> Result<Vec<String>, AllocError>
+    ensures { IfOk result (λ words. words.items ≡ drop 1 (into_iter_items arguments)) }
+{
+    arguments.skip(1).collect(alloc)
+}
+
+// What a program is asked for that was given these arguments, or was not for this error; `None` where memory ran out.
+// An argument that is no text asks for nothing.
+fn work_for(alloc: Global, given: io::Result<Args>) -> Option<Work> {
+    match given {
+        Ok(arguments) => Some(work_of(&words_after_name(alloc, arguments).ok()?)),
+        Err(error) if error.kind() == ErrorKind::OutOfMemory => None,
+        Err(_) => Some(Work::Explains),
+    }
+}
+
+fn main(rt: HostRuntime) -> ExitCode {
+    let Some(work) = work_for(rt.alloc(), env::args(&rt)) else {
+        return ExitCode::from(number(Status::OutOfMemory));
+    };
+    let mut source = StdSource::new(rt.stdin());
+    let mut sink = StdSink::new(rt.stdout());
+    ExitCode::from(number(serve(rt.alloc(), work, &mut source, &mut sink)))
+}

@@ -1,0 +1,4 @@
+pub mod Asks
+pub mod Calls
+pub mod Messages
+pub mod Replies

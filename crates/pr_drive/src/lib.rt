@@ -1,0 +1,17 @@
+//! Debuggers from outside: a kernel with the controllers of a scenario, driven line by line by one more controller, whose
+//! calls come from a source and whose replies go to a sink.
+#![tactic(auto)]
+
+mod commands;
+mod ends;
+mod openings;
+mod reports;
+mod rounds;
+mod seats;
+mod serving;
+mod sessions;
+mod waits;
+
+pub use commands::{Work, work_of};
+pub use ends::{Status, number};
+pub use serving::serve;

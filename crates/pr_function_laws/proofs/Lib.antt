@@ -1,0 +1,4 @@
+pub mod CallLemmas
+pub mod HaltingSteps
+pub mod OtherSteps
+pub mod StepLemmas

@@ -1,0 +1,4 @@
+pub mod MemoryMessages
+pub mod ProbeCalls
+pub mod ProbeLaw
+pub mod ProbeStages

@@ -1,0 +1,143 @@
+//! What no clause says: each read and each write of a run in turn, where just this one fails.
+use crate::calls::{ALONE, call, source, text_of};
+use pr_io::{MemSink, OpenGate};
+use pr_num::NoMemory;
+use std::alloc::Global;
+use std::sync::Wait;
+use std::test::Fail;
+use std::thread::Threads;
+
+/// A process that makes more moves than a block of lines has room for.
+const LONG: &str = "turns 5500\nprogram p\nagain:\njmp again\nend\nspawn p\n";
+
+/// A scenario that is refused.
+const REFUSED: &str = "turns 5\nprogram p\nsys getpit\nend\n";
+
+/// A line that says nothing.
+const REMARK: &str = "# A process that ends at once.\n";
+
+/// Room for the text of each of them.
+const ROOM: usize = 131_072;
+
+/// A run whose ends are sound: what it writes, in how many writes, and the text of its history; and how many reads it
+/// makes.
+#[derive(Drop)]
+struct Whole {
+    text: Vec<u8>,
+    writes: u64,
+    history: Vec<u8>,
+    reads: u64,
+}
+
+fn whole_run<R: Threads + Wait + Sync>(
+    rt: &R,
+    alloc: Global,
+    input: &[u8],
+) -> Result<Whole, NoMemory> {
+    let mut source = source(alloc, input, &[])?;
+    let mut sink = MemSink::new(alloc, ROOM, Vec::new(alloc))?;
+    let outcome = call(rt, alloc, &["run"], &mut source, &mut sink, &OpenGate)?;
+    Ok(Whole {
+        text: sink.bytes().to_vec(alloc)?,
+        writes: sink.calls(),
+        history: text_of(alloc, &outcome.history)?,
+        reads: source.calls(),
+    })
+}
+
+/// Whether a run whose write of this number fails ends with 6 and writes no more, what it has written is the front of
+/// the whole text, and the history is whole.
+fn ends_at_write<R: Threads + Wait + Sync>(
+    rt: &R,
+    alloc: Global,
+    input: &[u8],
+    failing: u64,
+    whole: &Whole,
+) -> Result<bool, NoMemory> {
+    let mut source = source(alloc, input, &[])?;
+    let mut sink = MemSink::new(alloc, ROOM, [failing].to_vec(alloc)?)?;
+    let outcome = call(rt, alloc, &["run"], &mut source, &mut sink, &OpenGate)?;
+    let history = text_of(alloc, &outcome.history)?;
+    Ok(
+        outcome.status == 6
+            && sink.calls() == failing.saturating_add(1)
+            && sink.bytes().len() < whole.text.len()
+            && whole.text.as_slice().starts_with(sink.bytes())
+            && history.as_slice() == whole.history.as_slice(),
+    )
+}
+
+/// Whether a run whose read of this number fails ends with 5, has written nothing, and keeps no history.
+fn ends_at_read<R: Threads + Wait + Sync>(
+    rt: &R,
+    alloc: Global,
+    input: &[u8],
+    failing: u64,
+) -> Result<bool, NoMemory> {
+    let mut source = source(alloc, input, &[failing])?;
+    let mut sink = MemSink::new(alloc, ROOM, Vec::new(alloc))?;
+    let outcome = call(rt, alloc, &["run"], &mut source, &mut sink, &OpenGate)?;
+    Ok(
+        outcome.status == 5
+            && source.calls() == failing.saturating_add(1)
+            && sink.calls() == 0
+            && outcome.history.len() == 0,
+    )
+}
+
+/// How many writes of a run end it as they should where they fail, one after another from the first on; and how many
+/// there are.
+fn sound_writes<R: Threads + Wait + Sync>(
+    rt: &R,
+    alloc: Global,
+    input: &[u8],
+) -> Result<(u64, u64), NoMemory> {
+    let whole = whole_run(rt, alloc, input)?;
+    for failing in 0..whole.writes {
+        if !ends_at_write(rt, alloc, input, failing, &whole)? {
+            return Ok((failing, whole.writes));
+        }
+    }
+    Ok((whole.writes, whole.writes))
+}
+
+/// The same of its reads.
+fn sound_reads<R: Threads + Wait + Sync>(
+    rt: &R,
+    alloc: Global,
+    input: &[u8],
+) -> Result<(u64, u64), NoMemory> {
+    let reads = whole_run(rt, alloc, input)?.reads;
+    for failing in 0..reads {
+        if !ends_at_read(rt, alloc, input, failing)? {
+            return Ok((failing, reads));
+        }
+    }
+    Ok((reads, reads))
+}
+
+// A heading, the block of the lines and the status; the line of a refusal; and two blocks.
+#[test]
+fn each_write_may_fail(rt: HostRuntime) -> Result<(), Fail> {
+    let alloc = rt.alloc();
+    for (input, least) in [(ALONE, 3), (REFUSED, 1), (LONG, 4)] {
+        let (sound, writes) = sound_writes(&rt, alloc, input.as_bytes())?;
+        assert_eq!(rt; sound, writes, "{input}");
+        assert!(rt; least <= writes, "{input}");
+    }
+    Ok(())
+}
+
+// An input of three pieces, and the end of it.
+#[test]
+fn each_read_may_fail(rt: HostRuntime) -> Result<(), Fail> {
+    let alloc = rt.alloc();
+    let mut input = ALONE.as_bytes().to_vec(alloc)?;
+    for _ in 0..5_000 {
+        input.extend_from_slice(REMARK.as_bytes())?;
+    }
+    let (sound, reads) = sound_reads(&rt, alloc, input.as_slice())?;
+    assert_eq!(rt; sound, reads);
+    assert_eq!(rt; reads, 4);
+    Ok(())
+}
