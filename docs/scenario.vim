@@ -33,7 +33,8 @@ syn match scenarioRegister "\<r[0-7]\>"
 " calls of a script; the first words of its lines
 syn match scenarioCall "^[ \t,]*\%(open\|close\|read\|poll\|write\|interrupt\|kill\|until\|list\)\>"
 
-" messages, after `write V`; `read`, `write`, `kill` and `run` are messages too
+" messages, after `write V`; `read`, `write` and `kill` are messages there, and calls elsewhere
+syn match scenarioMessage "\%(^[ \t,]*write[ \t,]\+[^ \t,]\+[ \t,].*\)\@<=\<\%(read\|write\|kill\)\>"
 syn keyword scenarioMessage stop dstop wstop csig cfault twstop ssig unkill svaddr run shold strace sfault sentry sexit
 syn keyword scenarioMessage unset sreg agent watch raw prcsig prcfault prstep prsabort prstop held
 

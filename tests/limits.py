@@ -179,7 +179,7 @@ def large_histories(checks, program):
         for size in sizes:
             data = make(size)
             entries = size + 3 if name == "long lines" else size
-            most = 4 if name == "long lines" else 16    # an entry takes some 170 bytes, however short its line is
+            most = 4 if name == "long lines" else 16    # an entry takes 88 bytes, however short its line is, and stands in two histories
             times.append(judged(checks, program, name, data, 0, "legal %d\n" % entries, most))
         checks.check("the time of check, " + name, times[2] > 6 * times[0] and "more than linear", "ratio %.2f of 4" % (times[2] / times[0]))
 

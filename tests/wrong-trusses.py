@@ -7,8 +7,10 @@ of the first of the two that are not proved: where a patch changes what replies 
 of those that are true of such a truss. It is no part of the gate: a truss takes some minutes.
 
 Words name patches, or the fronts of their names; without words all are tried. --in FOLDER keeps the copy, with what was
-proved and what rt said, and a later call begins there. The last line is 'N passed, M failed'. It needs rt and patch;
-what this checkout has built of the crates below is copied.
+proved and what rt said, and a later call begins there. --laws leaves the functions of pr_truss out of the copy: then it
+is only tried whether the laws refuse the definitions, in some two minutes a truss, and not whether a truss can be so.
+The last line is 'N passed, M failed'. It needs rt and patch; what this checkout has built of the crates below is
+copied.
 """
 import argparse
 import os
@@ -68,13 +70,65 @@ def files_of(folder):
     return found
 
 
-def renew(room, patch):
-    """Puts pr_truss into the copy, with a patch or without one. What stays as it was is not touched."""
+def after_function(lines, at):
+    """The place behind the function whose first line is at this one."""
+    depth, begun = 0, False
+    while True:
+        line = lines[at].strip()
+        at += 1
+        if begun or line in ("{", "{}") or re.search(r"\) (-> .*)?\{$", line):
+            begun = True
+            depth += line.count("{") - line.count("}")
+            if depth == 0:
+                return at
+
+
+def without_functions(text):
+    """A file of code without its functions, and without the names of functions that it takes from other files."""
+    lines, kept, head, at = text.split("\n"), [], [], 0
+    while at < len(lines):
+        line = lines[at].strip()
+        if line.startswith(("///", "#[")):
+            head.append(lines[at])
+            at += 1
+        elif re.match(r"(pub(\(crate\))? )?fn ", line):
+            head, at = [], after_function(lines, at)
+        else:
+            kept += head + [lines[at]]
+            head, at = [], at + 1
+    text = re.sub(r"(?m)^impl \w+ \{\s*\}$", "", "\n".join(kept))
+    return re.sub(r"(?m)^use (crate::[\w:]+?)::(\{[^}]*\}|\w+);", types_used, text)
+
+
+def types_used(use):
+    """The types of an import."""
+    names = [name for name in re.findall(r"\w+", use.group(2)) if name[0].isupper()]
+    return "use %s::{%s};" % (use.group(1), ", ".join(names)) if names else ""
+
+
+def leave_out_functions(crate):
+    """Takes the functions and their proofs out of a crate."""
+    for path, _, names in os.walk(os.path.join(crate, "src")):
+        for name in names:
+            with open(os.path.join(path, name)) as file:
+                text = without_functions(file.read())
+            with open(os.path.join(path, name), "w") as file:
+                file.write(text)
+    for entry in os.scandir(os.path.join(crate, "proofs")):
+        if entry.is_dir():
+            shutil.rmtree(entry.path)
+
+
+def renew(room, patch, laws):
+    """Puts pr_truss into the copy, with a patch or without one, and whole or for the laws alone. What stays as it was
+    is not touched."""
     work = tempfile.mkdtemp(dir=room)
     for part in PARTS:
         shutil.copytree(os.path.join(TOP, TRUSS, part), os.path.join(work, TRUSS, part))
     if patch:
         subprocess.run(["patch", "-s", "-p1", "-d", work, "-i", patch], check=True)
+    if laws:
+        leave_out_functions(os.path.join(work, TRUSS))
     new, old = os.path.join(work, TRUSS), os.path.join(room, TRUSS)
     for file in files_of(old) - files_of(new):
         os.remove(os.path.join(old, file))
@@ -105,9 +159,9 @@ def refused_in(said):
     return sorted(set(re.findall(r"^fn \w+::([\w:]+): (?:not proved|no proof)", said, re.MULTILINE)))
 
 
-def try_truss(room, name):
+def try_truss(room, name, laws):
     """What is wrong with a patch, and what refused it."""
-    renew(room, os.path.join(PATCHES, name + ".patch"))
+    renew(room, os.path.join(PATCHES, name + ".patch"), laws)
     proved, _ = prove(room, "pr_truss", "lib", name)
     if not proved:
         return "pr_truss does not meet its own definitions", ""
@@ -121,6 +175,7 @@ def try_truss(room, name):
 def main():
     words = argparse.ArgumentParser()
     words.add_argument("--in", dest="room")
+    words.add_argument("--laws", action="store_true")
     words.add_argument("names", nargs="*")
     asked = words.parse_args()
     room = os.path.abspath(asked.room or tempfile.mkdtemp())
@@ -130,9 +185,9 @@ def main():
     for name in sorted(file[: -len(".patch")] for file in os.listdir(PATCHES)):
         if not asked.names or any(name.startswith(front) for front in asked.names):
             head = head_of(os.path.join(PATCHES, name + ".patch"))
-            wrong, refused = try_truss(room, name)
+            wrong, refused = try_truss(room, name, asked.laws)
             checks.check("%s, as %s" % (name, head["does"]), wrong, refused)
-    renew(room, None)
+    renew(room, None, asked.laws)
     if not asked.room:
         shutil.rmtree(room)
     checks.end()

@@ -611,9 +611,15 @@ class Process:
 # ---- sessions
 
 def find_program() -> List[str]:
-    """The command of pdrive: what PDRIVE names, or the script of this repository."""
+    """The command of pdrive: what PDRIVE names, or the program that this repository has built. One that is not built
+    reads its input to the end before it answers, so that a client would wait for ever: it is a FileNotFoundError."""
     named = os.environ.get("PDRIVE")
-    return [named] if named else [str(Path(__file__).resolve().parents[2] / "pdrive")]
+    if named:
+        return [named]
+    built = Path(__file__).resolve().parents[2] / "crates" / "pdrive" / "out" / "pdrive"
+    if not os.access(built, os.X_OK):
+        raise FileNotFoundError("pdrive is not built: run ./build, or let PDRIVE name a program")
+    return [str(built)]
 
 
 class Session:

@@ -31,7 +31,7 @@ class Tables(unittest.TestCase):
 
     def test_flags(self) -> None:
         for name, bit in pdrive.MODES.items():
-            self.assertEqual(told(f"PCSET PR_{name}"), pdrive.message("PCSET", bit), name)
+            self.assertEqual(told(f"PCSET {name}"), pdrive.message("PCSET", bit), name)
         for name, bit in pdrive.RUN_FLAGS.items():
             self.assertEqual(told(f"PCRUN {name}"), pdrive.message("PCRUN", bit), name)
 

@@ -1,1 +1,12 @@
+mod BesideLemmas
+mod EndLemmas
+mod EntryLemmas
+mod KeptLemmas
+mod MoveLemmas
+mod ReadLemmas
+mod ReportLemmas
+mod RoundLemmas
 mod SeatLemmas
+mod ServeLemmas
+mod SessionLemmas
+mod WriteLemmas

@@ -1,2 +1,11 @@
+pub mod Beside
+pub mod Commands
+pub mod Exchanges
 pub mod Going
+pub mod Reports
+pub mod Rounds
+pub mod Served
+pub mod Sessions
+pub mod Starts
 pub mod Statuses
+pub mod WholeWrites

@@ -1,4 +1,6 @@
 //! What the words after the program's name ask for.
+ghost use Rattle.std.specs.Prelude.{◌≡◌, map, string_bytes};
+ghost use Rattle.pr_drive.specs.Commands.{of_one_word, work_of};
 
 /// What a call of the program does.
 #[derive(Clone, Copy, Debug, PartialEq, Eq)]
@@ -10,10 +12,23 @@ pub enum Work {
 }
 
 /// What these words ask for.
-pub fn work_of(words: &[String]) -> Work {
+#[tactic(auto, unfolding(crate::specs::Commands::work_of))]
+pub fn work_of(words: &[String]) -> Work
+    ensures { result ≡ work_of (map string_bytes words.now) }
+{
     match words {
         [] => Work::Drives { quiet: false },
-        [word] if word.as_str() == "-q" => Work::Drives { quiet: true },
+        [word] => of_one_word(word.as_str()),
+        _ => Work::Explains,
+    }
+}
+
+#[tactic(auto, unfolding(crate::specs::Commands::of_one_word))]
+fn of_one_word(word: &str) -> Work
+    ensures { result ≡ of_one_word word.now }
+{
+    match word {
+        "-q" => Work::Drives { quiet: true },
         _ => Work::Explains,
     }
 }

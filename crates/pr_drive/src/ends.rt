@@ -1,6 +1,6 @@
 //! How a session ends.
 ghost use Rattle.std.specs.Prelude.{◌≡◌};
-ghost use Rattle.pr_drive.specs.Statuses.{number};
+ghost use Rattle.pr_drive.specs.Statuses.{number, status_of};
 
 use pr_io::{Failed, ReadEnd};
 use pr_num::NoMemory;
@@ -44,18 +44,33 @@ pub enum CutOff {
 }
 
 impl From<NoMemory> for CutOff {
+    ghost use Rattle.std.specs.Prelude.{◌≡◌};
+    ghost use Rattle.pr_drive.specs.declared.ends.CutOff.TheVariants as variants;
+
+    ghost from_gives = { λ _ e. e ≡ variants.NoMemory };
+
     fn from(_error: NoMemory) -> CutOff {
         CutOff::NoMemory
     }
 }
 
 impl From<Failed> for CutOff {
+    ghost use Rattle.std.specs.Prelude.{◌≡◌};
+    ghost use Rattle.pr_drive.specs.declared.ends.CutOff.TheVariants as variants;
+
+    ghost from_gives = { λ _ e. e ≡ variants.WriteFailed };
+
     fn from(_failed: Failed) -> CutOff {
         CutOff::WriteFailed
     }
 }
 
 impl From<Cut> for CutOff {
+    ghost use Rattle.std.specs.Prelude.{◌≡◌};
+    ghost use Rattle.pr_drive.specs.Statuses.{cut_off};
+
+    ghost from_gives = { λ cut e. e ≡ cut_off cut };
+
     fn from(cut: Cut) -> CutOff {
         match cut {
             Cut::WriteFailed => CutOff::WriteFailed,
@@ -65,16 +80,25 @@ impl From<Cut> for CutOff {
 }
 
 impl From<ReadEnd> for CutOff {
+    ghost use Rattle.std.specs.Prelude.{◌≡◌};
+    ghost use Rattle.pr_drive.specs.Statuses.{read_off};
+
+    ghost from_gives = { λ end e. e ≡ read_off end };
+
     fn from(end: ReadEnd) -> CutOff {
         match end {
-            ReadEnd::Failed | ReadEnd::TooLong => CutOff::ReadFailed,
-            ReadEnd::NoMemory => CutOff::NoMemory,
+            ReadEnd::Failed => CutOff::ReadFailed,
+            // No memory holds a line with more bytes than can be counted.
+            ReadEnd::TooLong | ReadEnd::NoMemory => CutOff::NoMemory,
         }
     }
 }
 
 /// The status of what was cut off.
-pub fn status_of(cut: CutOff) -> Status {
+#[tactic(auto, unfolding(crate::specs::Statuses::status_of))]
+pub fn status_of(cut: CutOff) -> Status
+    ensures { result ≡ status_of cut }
+{
     match cut {
         CutOff::ReadFailed => Status::ReadFailed,
         CutOff::WriteFailed => Status::WriteFailed,

@@ -2,9 +2,13 @@
 //! calls come from a source and whose replies go to a sink.
 #![tactic(auto)]
 
+mod answers;
 mod commands;
 mod ends;
+mod moves;
 mod openings;
+mod places;
+mod readings;
 mod reports;
 mod rounds;
 mod seats;

@@ -1,5 +1,8 @@
 //! The controllers of a scenario, before their first calls.
-ghost use Rattle.std.specs.Prelude.{◌≡◌, length, IfOk};
+ghost use Rattle.std.specs.Prelude.{◌≡◌, map, IfOk};
+ghost use Rattle.pr_run_laws.specs.ScenarioRuns.{controller_of, truss_of};
+ghost use Rattle.pr_truss.specs.Marks.{has_functions};
+ghost use Rattle.pr_world.specs.ControllerStates.{state_of};
 
 use pr_bpt::FnTruss;
 use pr_core::Gcore;
@@ -13,7 +16,10 @@ use pr_world::Controller;
 use std::alloc::Global;
 
 /// A truss before its first call, which shows calls of functions where there are some.
-fn truss_of(alloc: Global, options: Options) -> Result<Controller, NoMemory> {
+#[tactic(auto, unfolding(pr_world::specs::ControllerStates::state_of))]
+fn truss_of(alloc: Global, options: Options) -> Result<Controller, NoMemory>
+    ensures { IfOk result (λ controller. state_of controller ≡ truss_of options (has_functions options)) }
+{
     Ok(if options.functions.is_empty() {
         Controller::Truss(Truss::new(alloc, options)?)
     } else {
@@ -22,7 +28,10 @@ fn truss_of(alloc: Global, options: Options) -> Result<Controller, NoMemory> {
 }
 
 /// The controller of a plan before its first call.
-fn controller_of(alloc: Global, plan: Plan) -> Result<Controller, NoMemory> {
+#[tactic(auto, unfolding(pr_run_laws::specs::ScenarioRuns::controller_of, pr_world::specs::ControllerStates::state_of))]
+fn controller_of(alloc: Global, plan: Plan) -> Result<Controller, NoMemory>
+    ensures { IfOk result (λ controller. state_of controller ≡ controller_of plan) }
+{
     Ok(match plan {
         Plan::Script(script) => Controller::Script(script),
         Plan::Truss(options) => truss_of(alloc, options)?,
@@ -34,7 +43,7 @@ fn controller_of(alloc: Global, plan: Plan) -> Result<Controller, NoMemory> {
 
 /// The controllers of plans before their first calls.
 pub fn controllers_of(alloc: Global, plans: Vec<Plan>) -> Result<Vec<Controller>, NoMemory>
-    ensures { IfOk result (λ controllers. length controllers.items ≡ length plans.items) }
+    ensures { IfOk result (λ controllers. map state_of controllers.items ≡ map controller_of plans.items) }
 {
     let mut controllers = Vec::with_capacity(alloc, plans.len())?;
     for plan in plans {

@@ -1,24 +1,17 @@
 //! Who moves next beside the outside. The rounds are those of a run: controllers by number, lwps by process and lwp, the
 //! clock. The outside has its turn after the controllers of the scenario, so others come in the order: lwps, the clock,
 //! controllers; and then it is the outside's turn.
-ghost use Rattle.std.specs.Prelude.{◌≡◌};
+ghost use Rattle.std.specs.Prelude.{◌≡◌, ◌<◌, true, false, length, IfOk, OnOk};
+ghost use Rattle.pr_drive.specs.Going.{Goes, NoneCanMove, SomeCanMove};
+ghost use Rattle.pr_drive.specs.Rounds.{GoesOnIf, IsAtRest, Rests, StepsIf};
 
+use crate::places::{Place, place_behind};
 use crate::seats::Seats;
 use pr_model::Actor;
 use pr_num::NoMemory;
 use std::marker::Model;
 
-/// Who is asked next in a round.
-#[derive(Clone, Copy)]
-pub enum Place {
-    /// The lwps after this one, or all of them.
-    Lwps(Option<(u32, u32)>),
-    Clock,
-    /// The controllers from a number on.
-    Controllers(u32),
-}
-
-/// The kernel with the scenario's controllers, which contracts see, and who is asked next.
+/// The kernel with the scenario's controllers, and who is asked next.
 #[derive(Drop)]
 pub struct Rounds {
     pub(crate) seats: Seats,
@@ -26,34 +19,17 @@ pub struct Rounds {
 }
 
 impl Model for Rounds {
-    ghost use Rattle.pr_drive.specs.Going.{SeatsState};
+    ghost use Rattle.pr_drive.specs.Rounds.{RoundsState};
 
-    ghost Value = { SeatsState };
+    ghost Value = { RoundsState };
 
-    ghost view = { λ a. a.seats };
-}
-
-/// Where lwps are asked next, the lwp after which, if there is one.
-fn lwps_at(place: Place) -> Option<Option<(u32, u32)>> {
-    match place {
-        Place::Lwps(after) => Some(after),
-        Place::Clock | Place::Controllers(_) => None,
-    }
-}
-
-/// Who comes behind the lwp that was found, or where none was.
-fn place_behind(found: Option<(u32, u32)>) -> Place {
-    if found.is_some() {
-        Place::Lwps(found)
-    } else {
-        Place::Clock
-    }
+    ghost view = { λ a. record { seats = a.seats; place = a.place } };
 }
 
 impl Rounds {
     /// Before the first move: the controllers come first.
     pub fn new(seats: Seats) -> Rounds
-        ensures { result ≡ seats }
+        ensures { result.seats ≡ seats }
     {
         Rounds {
             seats,
@@ -62,71 +38,43 @@ impl Rounds {
     }
 
     /// The actors of a schedule move, each if it can.
-    pub fn follow(&mut self, schedule: &[Actor]) -> Result<(), NoMemory> {
+    pub fn follow(&mut self, schedule: &[Actor]) -> Result<(), NoMemory>
+        ensures { OnOk result (Goes 0 self.old.seats self.new.seats) }
+    {
         for actor in schedule {
             self.seats.move_actor(*actor, 0)?;
         }
         Ok(())
     }
 
-    /// An lwp that was found moves. Says whether there was one.
-    fn move_found(&mut self, found: Option<(u32, u32)>) -> Result<bool, NoMemory> {
-        let Some((pid, lwp)) = found else {
-            return Ok(false);
-        };
-        self.seats.move_lwp(pid, lwp)
-    }
-
-    /// The next lwp of the round moves. Says whether there was one.
-    fn step_lwp(&mut self) -> Result<bool, NoMemory> {
-        let Some(after) = lwps_at(self.place) else {
-            return Ok(false);
-        };
-        let found = self.seats.kern.next_lwp(after, true);
-        self.place = place_behind(found);
-        self.move_found(found)
-    }
-
-    /// The clock moves, where it is its turn. Says whether it did.
-    fn step_clock(&mut self, until: u64) -> Result<bool, NoMemory> {
-        match self.place {
-            Place::Clock => {
-                self.place = Place::Controllers(0);
-                self.seats.move_clock(until)
-            }
-            Place::Lwps(_) | Place::Controllers(_) => Ok(false),
-        }
-    }
-
-    /// The next controller of the round that can move does. Says whether there was one.
-    fn step_controllers(&mut self) -> Result<bool, NoMemory> {
-        let Place::Controllers(from) = self.place else {
-            return Ok(false);
-        };
-        for number in from..self.seats.outside() {
-            self.place = Place::Controllers(number.saturating_add(1));
-            if self.seats.move_controller(number)? {
-                return Ok(true);
-            }
-        }
-        Ok(false)
-    }
-
     /// Who is next in the round moves, and where nobody is left in it, nobody: then it is the outside's turn. Says whether
     /// somebody moved. The outside waits until a moment, or 0.
-    pub fn step(&mut self, until: u64) -> Result<bool, NoMemory> {
-        if self.step_lwp()? || self.step_clock(until)? || self.step_controllers()? {
-            return Ok(true);
+    pub fn step(&mut self, until: u64) -> Result<bool, NoMemory>
+        ensures { IfOk result (λ moved. StepsIf moved until self.old self.new) }
+    {
+        if !self.seats.has_place() {
+            return Ok(false);
         }
-        self.place = Place::Lwps(None);
-        Ok(false)
+        let next = self.seats.next_from(self.place, until)?;
+        let Some(actor) = next else {
+            self.place = Place::Lwps(None);
+            return Ok(false);
+        };
+        self.place = place_behind(actor);
+        self.seats.turn(actor)?;
+        Ok(true)
     }
 
     /// What is left of the round, up to the outside's turn. Says whether somebody moved.
-    pub fn finish_round(&mut self, until: u64) -> Result<bool, NoMemory> {
+    pub fn finish_round(&mut self, until: u64) -> Result<bool, NoMemory>
+        ensures goes { OnOk result (Goes until self.old.seats self.new.seats) }
+        ensures more { IfOk result (λ moved. moved ≡ true → length self.old.seats.kernel.history < length self.new.seats.kernel.history) }
+        ensures rests { IfOk result (λ moved. moved ≡ false → Rests until self.old self.new) }
+    {
         let mut moved = false;
-        for _ in self.seats.kern.entries()..self.seats.kern.places() {
-            if !self.step(until)? {
+        for _at in self.seats.entries()..self.seats.places() {
+            let stepped = self.step(until)?;
+            if !stepped {
                 return Ok(moved);
             }
             moved = true;
@@ -134,8 +82,39 @@ impl Rounds {
         Ok(moved)
     }
 
-    /// Who is next moves, also past the outside's turn. Says whether somebody did.
-    pub fn step_on(&mut self, until: u64) -> Result<bool, NoMemory> {
-        Ok(self.step(until)? || self.step(until)?)
+    /// What is left of the round, or where nobody in it can move, a whole one. Says whether somebody moved; else nobody
+    /// can.
+    pub fn go_round(&mut self, until: u64) -> Result<bool, NoMemory>
+        ensures goes { OnOk result (Goes until self.old.seats self.new.seats) }
+        ensures more { IfOk result (λ moved. moved ≡ true → length self.old.seats.kernel.history < length self.new.seats.kernel.history) }
+        ensures rests { IfOk result (λ moved. moved ≡ false → IsAtRest until self.old.seats self.new.seats) }
+    {
+        let moved = self.finish_round(until)?;
+        if moved {
+            return Ok(true);
+        }
+        let again = self.finish_round(until)?;
+        Ok(again)
+    }
+
+    /// Who is next moves, also past the outside's turn. Says whether somebody did; else nobody can.
+    pub fn step_on(&mut self, until: u64) -> Result<bool, NoMemory>
+        ensures { IfOk result (λ moved. GoesOnIf moved until self.old.seats self.new.seats) }
+    {
+        let moved = self.step(until)?;
+        if moved {
+            return Ok(true);
+        }
+        let again = self.step(until)?;
+        Ok(again)
+    }
+
+    /// Whether one of the others can move, were there a place for the entry.
+    pub fn some_can_move(&self) -> Result<bool, NoMemory>
+        ensures some { IfOk result (λ some. some ≡ true → SomeCanMove 0 self.now.seats) }
+        ensures none { IfOk result (λ some. some ≡ false → NoneCanMove 0 self.now.seats) }
+    {
+        let next = self.seats.next_from(Place::Lwps(None), 0)?;
+        Ok(next.is_some())
     }
 }

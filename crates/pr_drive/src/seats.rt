@@ -1,16 +1,21 @@
-//! A kernel with the controllers of a scenario, beside which the outside has the number after theirs: what each of them
-//! does in its move, if it can move.
-ghost use Rattle.std.specs.Prelude.{◌≡◌, ◌<◌, [], Ok, Some, false, true, is_some, length, nat_lt, IfOk, IfSome, OnOk};
+//! A kernel with the controllers of a scenario, beside which the outside has the number after theirs; and who of them can
+//! move.
+ghost use Rattle.std.specs.Prelude.{◌≡◌, ◌<◌, ◌≤◌, ℕ, [], Some, true, false, is_some, length, map, slice_get, IfOk, IfSome};
+ghost use Rattle.std.specs.List.{list_all, list_any};
 ghost use Rattle.std.specs.Option.{option_copied};
 ghost use Rattle.pr_api.specs.Entries.{last_reply_of};
-ghost use Rattle.pr_drive.specs.Going.{outside_of};
-ghost use Rattle.pr_kern.specs.Starts.{stored};
+ghost use Rattle.pr_drive.specs.Going.{can_move, has_place, outside_of, world_of};
+ghost use Rattle.pr_drive.specs.Rounds.{HasNumber, from_clock, from_lwps, next_from};
+ghost use Rattle.pr_drive.specs.Starts.{first_seats};
 ghost use Rattle.pr_model.specs.Calls.{answer_to};
-ghost use Rattle.pr_model.specs.FirstState.{first_state};
-ghost use Rattle.pr_num.specs.Limits.{clock_limit, controller_limit};
+ghost use Rattle.pr_num.specs.Limits.{controller_limit};
 ghost use Rattle.pr_scen.specs.Scenarios.{IsWithinLimits};
+ghost use Rattle.pr_world.specs.ControllerStates.{state_of};
+ghost use Rattle.pr_world.specs.Controllers.{awaits_clock, call_by, has_finished};
+ghost use Rattle.pr_world.specs.Worlds.{first_controller};
 
 use crate::openings::controllers_of;
+use crate::places::Place;
 use crate::waits::wait_end_of;
 use pr_asm::Program;
 use pr_kern::Kern;
@@ -44,14 +49,11 @@ impl Model for Seats {
 }
 
 /// The kernel and the controllers of a scenario before the first move, and who is to move first.
-#[tactic(auto, using(crate::proofs::SeatLemmas::scenarios))]
+#[tactic(auto, using(crate::proofs::SeatLemmas::scenarios), unfolding(crate::specs::Starts::first_seats))]
 pub fn seats_of(alloc: Global, scenario: Scenario) -> Result<(Seats, Vec<Actor>), NoMemory>
     requires limits { IsWithinLimits scenario }
     requires few { length scenario.controllers < controller_limit }
-    ensures state { IfOk result (λ made. made.0.kernel.state ≡ first_state scenario.programs (stored scenario.files) scenario.spawns) }
-    ensures history { IfOk result (λ made. made.0.kernel.history ≡ []) }
-    ensures places { IfOk result (λ made. made.0.kernel.places ≡ scenario.turns) }
-    ensures controllers { IfOk result (λ made. outside_of made.0 ≡ length scenario.controllers) }
+    ensures seats { IfOk result (λ made. made.0 ≡ first_seats scenario) }
     ensures schedule { IfOk result (λ made. made.1.items ≡ scenario.schedule) }
 {
     let Scenario {
@@ -72,27 +74,54 @@ pub fn seats_of(alloc: Global, scenario: Scenario) -> Result<(Seats, Vec<Actor>)
     Ok((seats, schedule))
 }
 
-/// A controller makes a call that is ready, and gets the reply.
-fn call_of_controller(
-    kern: &mut Kern,
-    controller: &mut Controller,
-    by: u32,
-    call: Call,
-) -> Result<(), NoMemory>
-    requires by { by < controller_limit }
-    requires ready { is_some (answer_to kern.old.state by call) ≡ true }
-    requires place { length kern.old.history < kern.old.places }
+/// Whether a controller waits for a moment that is still to come.
+#[tactic(auto, unfolding(pr_world::specs::Controllers::awaits_clock))]
+fn awaits_clock(alloc: Global, controller: &Controller, clock: u64) -> Result<bool, NoMemory>
+    ensures { IfOk result (λ awaits. awaits ≡ awaits_clock clock (state_of controller.now)) }
 {
-    controller.prepare()?;
-    kern.call(by, call)?;
-    if let Some(reply) = kern.last_reply() {
-        controller.feed(reply);
+    match controller.next_call(alloc)? {
+        Some(call) => Ok(clock < wait_end_of(&call)),
+        None => Ok(false),
     }
-    Ok(())
+}
+
+/// Whether a controller has finished: it makes no call any more.
+#[tactic(auto, unfolding(pr_world::specs::Controllers::has_finished))]
+fn has_finished(alloc: Global, controller: &Controller) -> Result<bool, NoMemory>
+    ensures { IfOk result (λ finished. finished ≡ has_finished (state_of controller.now)) }
+{
+    Ok(controller.next_call(alloc)?.is_none())
+}
+
+/// Whether one of these controllers waits for a moment that is still to come.
+#[tactic(auto, using(crate::proofs::SeatLemmas::seats))]
+fn some_awaits(alloc: Global, controllers: &[Controller], clock: u64) -> Result<bool, NoMemory>
+    ensures { IfOk result (λ some. some ≡ list_any (awaits_clock clock) (map state_of controllers.now)) }
+{
+    for controller in controllers {
+        if awaits_clock(alloc, controller, clock)? {
+            return Ok(true);
+        }
+    }
+    Ok(false)
+}
+
+/// Whether all of these controllers have finished.
+#[tactic(auto, using(crate::proofs::SeatLemmas::seats))]
+fn have_finished(alloc: Global, controllers: &[Controller]) -> Result<bool, NoMemory>
+    ensures { IfOk result (λ all. all ≡ list_all has_finished (map state_of controllers.now)) }
+{
+    for controller in controllers {
+        if !has_finished(alloc, controller)? {
+            return Ok(false);
+        }
+    }
+    Ok(true)
 }
 
 impl Seats {
     /// The number of the outside, which counts from 0 as theirs do.
+    #[tactic(auto, using(crate::proofs::SeatLemmas::seats))]
     pub fn outside(&self) -> u32
         ensures number { result ≡ outside_of self.now }
         ensures few { result < controller_limit }
@@ -102,117 +131,154 @@ impl Seats {
 
     /// Whether the history has a place for one more entry.
     pub fn has_place(&self) -> bool
-        ensures { result ≡ nat_lt (length self.now.kernel.history) self.now.kernel.places }
+        ensures { result ≡ has_place self.now }
     {
         self.kern.entries() < self.kern.places()
     }
 
-    /// The call that a controller makes next, if it makes one that is ready.
-    fn ready_call(&self, number: u32) -> Result<Option<Call>, NoMemory>
-        ensures ready { IfOk result (λ found. IfSome found (λ call. is_some (answer_to self.now.kernel.state number call) ≡ true)) }
-        ensures among { IfOk result (λ found. IfSome found (λ call. number < outside_of self.now)) }
+    // ---- who can move
+
+    /// The call that the controller of a number makes next, if there is such a controller and it makes one.
+    #[tactic(auto, using(crate::proofs::SeatLemmas::seats), unfolding(pr_world::specs::Controllers::call_by))]
+    pub(crate) fn next_call(&self, number: u32) -> Result<Option<Call>, NoMemory>
+        ensures { IfOk result (λ call. call ≡ call_by self.now.controllers number) }
     {
-        let Some(controller) = self.controllers.get(number as usize) else {
+        if number as usize >= self.controllers.len() {
             return Ok(None);
-        };
-        match controller.next_call(self.alloc)? {
-            Some(call) if self.kern.ready(number, &call) => Ok(Some(call)),
-            _ => Ok(None),
         }
+        self.controllers[number as usize].next_call(self.alloc)
     }
 
-    /// Makes the next call of a controller, which is ready and gets the reply.
-    fn call_by(&mut self, number: u32, call: Call) -> Result<(), NoMemory>
-        requires among { number < outside_of self.old }
-        requires ready { is_some (answer_to self.old.kernel.state number call) ≡ true }
-        requires place { length self.old.kernel.history < self.old.kernel.places }
+    /// Whether a controller can move: it makes a call that is ready.
+    #[tactic(auto, using(crate::proofs::SeatLemmas::asked), unfolding(crate::specs::Going::can_move))]
+    fn controller_can_move(&self, number: u32) -> Result<bool, NoMemory>
+        ensures { (until : ℕ) → IfOk result (λ can. can ≡ can_move until self.now (Actor.Controller number)) }
     {
-        call_of_controller(
-            &mut self.kern,
-            &mut self.controllers[number as usize],
-            number,
-            call,
-        )
-    }
-
-    /// Makes the next call of a controller, which gets the reply. Says whether it could.
-    pub fn move_controller(&mut self, number: u32) -> Result<bool, NoMemory> {
-        let Some(call) = self.ready_call(number)? else {
-            return Ok(false);
-        };
-        if !self.has_place() {
-            return Ok(false);
+        match self.next_call(number)? {
+            Some(call) => Ok(self.kern.ready(number, &call)),
+            None => Ok(false),
         }
-        self.call_by(number, call)?;
-        Ok(true)
-    }
-
-    /// Gives an lwp a turn. Says whether it could.
-    pub fn move_lwp(&mut self, pid: u32, lwp: u32) -> Result<bool, NoMemory> {
-        if !self.has_place() || !self.kern.lwp_movable(pid, lwp) {
-            return Ok(false);
-        }
-        self.kern.lwp_turn(pid, lwp)?;
-        Ok(true)
-    }
-
-    /// Whether a controller waits for a moment that is still to come.
-    fn some_awaits(&self, clock: u64) -> Result<bool, NoMemory> {
-        for controller in self.controllers.iter() {
-            if let Some(call) = controller.next_call(self.alloc)? {
-                if clock < wait_end_of(&call) {
-                    return Ok(true);
-                }
-            }
-        }
-        Ok(false)
     }
 
     /// Whether the clock can go on: an lwp sleeps, a controller waits for it, or the outside waits until a moment (0: it
     /// does not).
-    fn is_clock_awaited(&self, until: u64) -> Result<bool, NoMemory>
-        ensures { result ≡ Ok true → self.now.kernel.state.system.clock < clock_limit }
+    #[tactic(auto, using(crate::proofs::SeatLemmas::clocks))]
+    fn clock_can_move(&self, until: u64) -> Result<bool, NoMemory>
+        ensures { IfOk result (λ can. can ≡ can_move until self.now Actor.Clock) }
     {
         let clock = self.kern.clock();
         if clock >= CLOCK_LIMIT {
             return Ok(false);
         }
-        Ok(clock < until || self.kern.sleeper() || self.some_awaits(clock)?)
-    }
-
-    /// Gives the clock a tick, where somebody waits for it, the outside perhaps, until this moment. Says whether it could.
-    pub fn move_clock(&mut self, until: u64) -> Result<bool, NoMemory> {
-        if !self.has_place() || !self.is_clock_awaited(until)? {
-            return Ok(false);
+        if clock < until {
+            return Ok(true);
         }
-        self.kern.tick();
-        Ok(true)
+        if self.kern.sleeper() {
+            return Ok(true);
+        }
+        some_awaits(self.alloc, self.controllers.as_slice(), clock)
     }
 
-    /// The move of an actor. Says whether it could; the outside cannot in this way.
-    pub fn move_actor(&mut self, actor: Actor, until: u64) -> Result<bool, NoMemory> {
+    /// Whether an actor can move, while the outside waits until a moment, or 0. The outside cannot in this way.
+    pub fn can_move(&self, actor: Actor, until: u64) -> Result<bool, NoMemory>
+        ensures { IfOk result (λ can. can ≡ can_move until self.now actor) }
+    {
         match actor {
-            Actor::Controller(number) => self.move_controller(number),
-            Actor::Lwp(pid, lwp) => self.move_lwp(pid, lwp),
-            Actor::Clock => self.move_clock(until),
+            Actor::Controller(number) => self.controller_can_move(number),
+            Actor::Lwp(pid, lwp) => Ok(self.lwp_can_move(pid, lwp)),
+            Actor::Clock => self.clock_can_move(until),
         }
     }
+
+    /// Whether an lwp can have a turn.
+    #[tactic(auto, using(crate::proofs::SeatLemmas::lwps))]
+    fn lwp_can_move(&self, pid: u32, lwp: u32) -> bool
+        ensures { (until : ℕ) → result ≡ can_move until self.now (Actor.Lwp pid lwp) }
+    {
+        self.kern.lwp_movable(pid, lwp)
+    }
+
+    // ---- who moves next in a round
+
+    /// The first controller from a number on that can move.
+    fn first_controller(&self, from: u32) -> Result<Option<Actor>, NoMemory>
+        ensures first { (until : ℕ) → IfOk result (λ next. next ≡ first_controller (world_of until self.now) from) }
+        ensures number { IfOk result (λ next. IfSome next HasNumber) }
+    {
+        for number in from..self.outside() {
+            let can = self.controller_can_move(number)?;
+            if can {
+                return Ok(Some(Actor::Controller(number)));
+            }
+        }
+        Ok(None)
+    }
+
+    /// Who moves next in a round from the clock on: the clock, or a controller.
+    fn next_from_clock(&self, until: u64) -> Result<Option<Actor>, NoMemory>
+        ensures next { IfOk result (λ next. next ≡ from_clock (world_of until self.now)) }
+        ensures number { IfOk result (λ next. IfSome next HasNumber) }
+    {
+        let can = self.clock_can_move(until)?;
+        if can {
+            return Ok(Some(Actor::Clock));
+        }
+        self.first_controller(0)
+    }
+
+    /// Who moves next in a round after an lwp, or from the first lwp on.
+    fn next_from_lwps(
+        &self,
+        after: Option<(u32, u32)>,
+        until: u64,
+    ) -> Result<Option<Actor>, NoMemory>
+        ensures next { IfOk result (λ next. next ≡ from_lwps (world_of until self.now) after) }
+        ensures number { IfOk result (λ next. IfSome next HasNumber) }
+    {
+        match self.kern.next_lwp(after, true) {
+            Some((pid, lwp)) => Ok(Some(Actor::Lwp(pid, lwp))),
+            None => self.next_from_clock(until),
+        }
+    }
+
+    /// Who moves next in a round from a place on.
+    #[tactic(auto, unfolding(crate::specs::Rounds::next_from))]
+    pub fn next_from(&self, place: Place, until: u64) -> Result<Option<Actor>, NoMemory>
+        ensures next { IfOk result (λ next. next ≡ next_from (world_of until self.now) place) }
+        ensures number { IfOk result (λ next. IfSome next HasNumber) }
+    {
+        match place {
+            Place::Lwps(after) => self.next_from_lwps(after, until),
+            Place::Clock => self.next_from_clock(until),
+            Place::Controllers(from) => self.first_controller(from),
+        }
+    }
+
+    // ---- what else is asked
 
     /// Whether a call of the outside would be answered now, and there is a place for its entry.
     pub fn is_answered(&self, call: &Call) -> bool
         ensures place { result ≡ true → length self.now.kernel.history < self.now.kernel.places }
         ensures ready { result ≡ true → is_some (answer_to self.now.kernel.state (outside_of self.now) call.now) ≡ true }
+        ensures not_ready { result ≡ false → has_place self.now ≡ true → is_some (answer_to self.now.kernel.state (outside_of self.now) call.now) ≡ false }
     {
         self.has_place() && self.kern.ready(self.outside(), call)
     }
 
-    /// Makes a call of the outside, which is ready. The reply is the last one.
-    pub fn call(&mut self, call: Call) -> Result<(), NoMemory>
-        requires place { length self.old.kernel.history < self.old.kernel.places }
-        requires ready { is_some (answer_to self.old.kernel.state (outside_of self.old) call) ≡ true }
+    /// Whether every controller of the scenario has finished: it makes no call any more.
+    pub fn all_finished(&self) -> Result<bool, NoMemory>
+        ensures { IfOk result (λ all. all ≡ list_all has_finished self.now.controllers) }
     {
-        let outside = self.outside();
-        self.kern.call(outside, call)
+        have_finished(self.alloc, self.controllers.as_slice())
+    }
+
+    /// The controller of a number.
+    #[tactic(auto, using(crate::proofs::SeatLemmas::seats))]
+    pub fn controller(&self, number: u32) -> &Controller
+        requires { number < length self.now.controllers }
+        ensures { slice_get self.now.controllers number ≡ Some (state_of result.now) }
+    {
+        &self.controllers[number as usize]
     }
 
     /// The reply of the last entry, if that is a call.
@@ -224,9 +290,17 @@ impl Seats {
 
     /// How many entries there are.
     pub fn entries(&self) -> u32
-        ensures { result ≡ length self.now.kernel.history }
+        ensures value { result ≡ length self.now.kernel.history }
+        ensures places { result ≤ self.now.kernel.places }
     {
         self.kern.entries()
+    }
+
+    /// How many entries there are places for in all.
+    pub fn places(&self) -> u32
+        ensures { result ≡ self.now.kernel.places }
+    {
+        self.kern.places()
     }
 
     /// The entries so far.
@@ -241,25 +315,5 @@ impl Seats {
         ensures { result.now ≡ self.now.kernel.state.system.programs }
     {
         self.kern.programs()
-    }
-
-    /// Whether a controller, an lwp or the clock can move, were there a place for the entry.
-    pub fn some_can_move(&self) -> Result<bool, NoMemory> {
-        for number in 0..self.outside() {
-            if self.ready_call(number)?.is_some() {
-                return Ok(true);
-            }
-        }
-        Ok(self.kern.next_lwp(None, true).is_some() || self.is_clock_awaited(0)?)
-    }
-
-    /// Whether every controller of the scenario has finished: it makes no call any more.
-    pub fn all_finished(&self) -> Result<bool, NoMemory> {
-        for controller in self.controllers.iter() {
-            if controller.next_call(self.alloc)?.is_some() {
-                return Ok(false);
-            }
-        }
-        Ok(true)
     }
 }

@@ -1,7 +1,15 @@
 //! A session: what the outside asks for is done, and the reply is written into a buffer.
-ghost use Rattle.std.specs.Prelude.{◌≡◌, ◌<◌, Ok, true, is_some, length};
-ghost use Rattle.pr_drive.specs.Going.{outside_of};
+ghost use Rattle.std.specs.Prelude.{◌≡◌, ◌<◌, ◌++◌, ◌⊎◌, Ok, true, false, drop, is_some, length, IfOk, OnOk};
+ghost use Rattle.std.specs.Option.{ForSome};
+ghost use Rattle.pr_api.specs.Entries.{last_reply_of};
+ghost use Rattle.pr_asks.specs.Replies.{count_line, reply_line};
+ghost use Rattle.pr_drive.specs.Exchanges.{Answers, AnswersCall, AnswersMessages, AnswersNext, GoesFor, GoesUntil, HasReady, IsNever, MakesIf, MovesNot, MovesOne, MovesOthers, RunsOthers, Writes, wait_of};
+ghost use Rattle.pr_drive.specs.Going.{Goes, SomeCanMove, outside_of};
+ghost use Rattle.pr_drive.specs.Statuses.{EndsAs};
 ghost use Rattle.pr_model.specs.Calls.{answer_to};
+ghost use Rattle.pr_plain.specs.HistoryText.{entries_text};
+ghost use Rattle.pr_scen.specs.Scripts.{fed, next_call_of};
+ghost use Rattle.pr_world.specs.Controllers.{wait_end_of};
 
 use crate::ends::Status;
 use crate::rounds::Rounds;
@@ -27,7 +35,7 @@ impl Model for Session {
 
     ghost Value = { SeatsState };
 
-    ghost view = { λ a. a.rounds };
+    ghost view = { λ a. a.rounds.seats };
 }
 
 /// The handle that a call closes.
@@ -41,7 +49,7 @@ fn closed_by(call: &Call) -> Option<u32> {
 impl Session {
     /// A session of which nothing was asked yet.
     pub fn new(alloc: Global, rounds: Rounds) -> Session
-        ensures { result ≡ rounds }
+        ensures { result ≡ rounds.seats }
     {
         Session {
             alloc,
@@ -50,17 +58,22 @@ impl Session {
         }
     }
 
+    // ---- calls
+
     /// Others move until a call is ready. Says whether it is; else nobody can move any more.
     fn wait_for(&mut self, call: &Call) -> Result<bool, NoMemory>
+        ensures goes { OnOk result (Goes (wait_end_of call.now) self.old self.new) }
         ensures place { result ≡ Ok true → length self.new.kernel.history < self.new.kernel.places }
         ensures ready { result ≡ Ok true → is_some (answer_to self.new.kernel.state (outside_of self.new) call.now) ≡ true }
+        ensures never { result ≡ Ok false → IsNever call.now self.new }
     {
         let until = wait_end_of(call);
-        for _ in self.rounds.seats.kern.entries()..self.rounds.seats.kern.places() {
+        for _at in self.rounds.seats.entries()..self.rounds.seats.places() {
             if self.rounds.seats.is_answered(call) {
                 return Ok(true);
             }
-            if !self.rounds.finish_round(until)? {
+            let moved = self.rounds.go_round(until)?;
+            if !moved {
                 return Ok(false);
             }
         }
@@ -68,7 +81,9 @@ impl Session {
     }
 
     /// Notes which handles are open after a call.
-    fn note(&mut self, closed: Option<u32>) -> Result<(), NoMemory> {
+    fn note(&mut self, closed: Option<u32>) -> Result<(), NoMemory>
+        ensures { self.new ≡ self.old }
+    {
         let Some(reply) = self.rounds.seats.last_reply() else {
             return Ok(());
         };
@@ -82,8 +97,11 @@ impl Session {
     }
 
     /// Makes a call, after a wait where it is not ready. Says whether it was made.
-    fn make_call(&mut self, call: Call) -> Result<bool, NoMemory> {
-        if !self.wait_for(&call)? {
+    fn make_call(&mut self, call: Call) -> Result<bool, NoMemory>
+        ensures { IfOk result (λ made. MakesIf made call self.old self.new) }
+    {
+        let ready = self.wait_for(&call)?;
+        if !ready {
             return Ok(false);
         }
         let closed = closed_by(&call);
@@ -92,100 +110,172 @@ impl Session {
         Ok(true)
     }
 
+    /// Writes the reply of the last entry, if that is a call.
+    fn write_last(&self, out: &mut Vec<u8>) -> Result<(), NoMemory>
+        ensures { OnOk result (ForSome (last_reply_of self.now.kernel.history) (λ reply. out.new.items ≡ out.old.items ++ reply_line reply)) }
+    {
+        match self.rounds.seats.last_reply() {
+            Some(reply) => write_reply(self.alloc, out, reply),
+            None => Ok(()),
+        }
+    }
+
     /// Makes a call, and writes its reply; or `never` where it is never ready. Says whether it was made.
-    fn answer_call(&mut self, call: Call, out: &mut Vec<u8>) -> Result<bool, NoMemory> {
-        if !self.make_call(call)? {
+    fn answer_call(&mut self, call: Call, out: &mut Vec<u8>) -> Result<bool, NoMemory>
+        ensures { IfOk result (λ made. Writes out.old.items out.new.items (AnswersCall made call self.old self.new)) }
+    {
+        let made = self.make_call(call)?;
+        if !made {
             out.extend_from_slice(b"never\n")?;
             return Ok(false);
         }
-        if let Some(reply) = self.rounds.seats.last_reply() {
-            write_reply(self.alloc, out, reply)?;
-        }
+        self.write_last(out)?;
         Ok(true)
     }
 
-    /// Makes the next call of a script that writes messages. Says whether it made one.
-    fn answer_message(&mut self, script: &mut Script, out: &mut Vec<u8>) -> Result<bool, NoMemory> {
-        let Some(call) = script.next_call(self.alloc)? else {
-            return Ok(false);
-        };
-        if !self.answer_call(call, out)? {
-            return Ok(false);
-        }
+    // ---- messages by words
+
+    /// A script gets the reply of the last entry, if that is a call.
+    fn feed_last(&self, script: &mut Script)
+        ensures { ForSome (last_reply_of self.now.kernel.history) (λ reply. script.new ≡ fed script.old reply) }
+    {
         if let Some(reply) = self.rounds.seats.last_reply() {
             script.feed(reply);
         }
+    }
+
+    /// Makes the next call of a script that writes messages, which gets the reply. Says whether it made one.
+    fn answer_message(&mut self, script: &mut Script, out: &mut Vec<u8>) -> Result<bool, NoMemory>
+        ensures { IfOk result (λ made. Writes out.old.items out.new.items (AnswersNext made script.old script.new self.old self.new)) }
+    {
+        let next = script.next_call(self.alloc)?;
+        let Some(call) = next else {
+            return Ok(false);
+        };
+        let made = self.answer_call(call, out)?;
+        if !made {
+            return Ok(false);
+        }
+        self.feed_last(script);
         Ok(true)
     }
 
-    /// Makes the calls of a script that writes messages, each in a turn of its own, and writes their replies.
-    fn answer_messages(&mut self, mut script: Script, out: &mut Vec<u8>) -> Result<(), NoMemory> {
-        for _ in self.rounds.seats.kern.entries()..=self.rounds.seats.kern.places() {
-            if !self.answer_message(&mut script, out)? {
-                return Ok(());
-            }
-            let until = self.next_wait(&script)?;
-            self.rounds.finish_round(until)?;
-        }
-        Ok(())
-    }
-
     /// The moment until which the next call of a script waits; 0 where it makes none, or waits for no moment.
-    fn next_wait(&self, script: &Script) -> Result<u64, NoMemory> {
+    fn next_wait(&self, script: &Script) -> Result<u64, NoMemory>
+        ensures { IfOk result (λ until. until ≡ wait_of (next_call_of script.now)) }
+    {
         match script.next_call(self.alloc)? {
             Some(call) => Ok(wait_end_of(&call)),
             None => Ok(0),
         }
     }
 
+    /// Makes the calls of a script that writes messages, each in a turn of its own, and writes their replies.
+    fn answer_messages(&mut self, mut script: Script, out: &mut Vec<u8>) -> Result<(), NoMemory>
+        ensures { OnOk result (Writes out.old.items out.new.items (AnswersMessages script self.old self.new)) }
+    {
+        for _at in self.rounds.seats.entries()..self.rounds.seats.places() {
+            let made = self.answer_message(&mut script, out)?;
+            if !made {
+                return Ok(());
+            }
+            let until = self.next_wait(&script)?;
+            self.rounds.finish_round(until)?;
+        }
+        // There is no place for one more.
+        self.answer_message(&mut script, out)?;
+        Ok(())
+    }
+
+    // ---- moves of others
+
     /// Writes the entries that came, and how many there are.
-    fn tell_moves(&self, from: u32, out: &mut Vec<u8>) -> Result<(), NoMemory> {
+    fn tell_moves(&self, from: u32, out: &mut Vec<u8>) -> Result<(), NoMemory>
+        ensures { OnOk result (out.new.items ≡ out.old.items ++ (entries_text from (drop from self.now.kernel.history) ++ count_line (length self.now.kernel.history))) }
+    {
         write_entries(out, self.rounds.seats.history(), from as usize)?;
         write_count(out, self.rounds.seats.entries())
     }
 
     /// Others move so many times, or until nobody can.
-    fn move_others(&mut self, times: u64, out: &mut Vec<u8>) -> Result<(), NoMemory> {
-        let from = self.rounds.seats.entries();
-        for _ in 0..times {
-            if !self.rounds.step_on(0)? {
-                break;
+    fn go_for(&mut self, times: u64) -> Result<(), NoMemory>
+        ensures { OnOk result (GoesFor times self.old self.new) }
+    {
+        for _at in 0..times {
+            let moved = self.rounds.step_on(0)?;
+            if !moved {
+                return Ok(());
             }
         }
+        Ok(())
+    }
+
+    /// The same, and it is told.
+    fn move_others(&mut self, times: u64, out: &mut Vec<u8>) -> Result<(), NoMemory>
+        ensures { OnOk result (Writes out.old.items out.new.items (MovesOthers times self.old self.new)) }
+    {
+        let from = self.rounds.seats.entries();
+        self.go_for(times)?;
         self.tell_moves(from, out)
     }
 
     /// One actor moves, if it can.
-    fn move_one(&mut self, actor: Actor, out: &mut Vec<u8>) -> Result<(), NoMemory> {
+    fn move_one(&mut self, actor: Actor, out: &mut Vec<u8>) -> Result<(), NoMemory>
+        ensures { OnOk result (Writes out.old.items out.new.items (λ text. MovesOne actor self.old self.new text ⊎ MovesNot actor self.old self.new text)) }
+    {
         let from = self.rounds.seats.entries();
-        if self.rounds.seats.move_actor(actor, 0)? {
-            self.tell_moves(from, out)
-        } else {
-            Ok(out.extend_from_slice(b"no\n")?)
+        let moved = self.rounds.seats.move_actor(actor, 0)?;
+        if moved {
+            return self.tell_moves(from, out);
         }
+        Ok(out.extend_from_slice(b"no\n")?)
     }
 
     /// Whether a poll of the open handles is ready; not where none is open.
-    fn is_ready(&self, poll: &Call) -> bool {
-        !self.handles.is_empty() && self.rounds.seats.is_answered(poll)
-    }
-
-    /// Others move until a poll of the open handles is ready, or nobody can.
-    fn run_others(&mut self, out: &mut Vec<u8>) -> Result<(), NoMemory> {
-        let from = self.rounds.seats.entries();
+    fn has_ready(&self) -> Result<bool, NoMemory>
+        ensures { IfOk result (λ ready. ready ≡ true → HasReady self.now) }
+    {
+        if self.handles.is_empty() {
+            return Ok(false);
+        }
         let poll = Call::Poll {
             handles: Handles::from_vec(Vec::from_slice(self.alloc, &self.handles)?),
         };
-        for _ in self.rounds.seats.kern.entries()..self.rounds.seats.kern.places() {
-            if self.is_ready(&poll) || !self.rounds.step_on(0)? {
-                break;
+        Ok(self.rounds.seats.is_answered(&poll))
+    }
+
+    /// Others move until a poll of the open handles is ready, or nobody can.
+    fn go_until_ready(&mut self) -> Result<(), NoMemory>
+        ensures { OnOk result (GoesUntil self.old self.new) }
+    {
+        for _at in self.rounds.seats.entries()..self.rounds.seats.places() {
+            let ready = self.has_ready()?;
+            if ready {
+                return Ok(());
+            }
+            let moved = self.rounds.step_on(0)?;
+            if !moved {
+                return Ok(());
             }
         }
+        Ok(())
+    }
+
+    /// The same, and it is told.
+    fn run_others(&mut self, out: &mut Vec<u8>) -> Result<(), NoMemory>
+        ensures { OnOk result (Writes out.old.items out.new.items (RunsOthers self.old self.new)) }
+    {
+        let from = self.rounds.seats.entries();
+        self.go_until_ready()?;
         self.tell_moves(from, out)
     }
 
+    // ---- lines
+
     /// Does what a line asks for, and writes the reply. Says whether the outside's turn is over.
-    pub fn answer(&mut self, ask: Ask, out: &mut Vec<u8>) -> Result<bool, NoMemory> {
+    pub fn answer(&mut self, ask: Ask, out: &mut Vec<u8>) -> Result<bool, NoMemory>
+        ensures { IfOk result (λ over. Writes out.old.items out.new.items (Answers ask over self.old self.new)) }
+    {
         match ask {
             Ask::Call(call) => self.answer_call(call, out),
             Ask::Messages(script) => {
@@ -209,24 +299,38 @@ impl Session {
     }
 
     /// Others move up to the outside's turn.
-    pub fn pass_turn(&mut self) -> Result<(), NoMemory> {
+    pub fn pass_turn(&mut self) -> Result<(), NoMemory>
+        ensures { OnOk result (Goes 0 self.old self.new) }
+    {
         self.rounds.finish_round(0)?;
         Ok(())
     }
 
     /// How the session has ended: as a run does, but that others may still be able to move.
-    pub fn status(&mut self) -> Result<Status, NoMemory> {
-        if self.rounds.seats.some_can_move()? {
-            return Ok(if self.rounds.seats.has_place() {
-                Status::Done
-            } else {
-                Status::Spent
-            });
+    pub fn status(&self) -> Result<Status, NoMemory>
+        ensures { IfOk result (λ status. EndsAs self.now status) }
+    {
+        let some = self.rounds.some_can_move()?;
+        if some {
+            return Ok(self.status_in_mid_run());
         }
-        if self.rounds.seats.all_finished()? {
+        let all = self.rounds.seats.all_finished()?;
+        if all {
             Ok(Status::Done)
         } else {
             Ok(Status::Stuck)
+        }
+    }
+
+    /// How it has ended where one of the others can move still.
+    fn status_in_mid_run(&self) -> Status
+        requires { SomeCanMove 0 self.now }
+        ensures { EndsAs self.now result }
+    {
+        if self.rounds.seats.has_place() {
+            Status::Done
+        } else {
+            Status::Spent
         }
     }
 }

@@ -47,7 +47,7 @@ use Rattle.pr_truss.specs.Stops.{text_of}
 use Rattle.pr_truss.specs.Trusses.{first_of_program, first_truss, idle, nobody}
 use Rattle.pr_truss.specs.declared.marks.Marks.{Marks}
 use Rattle.pr_truss.specs.declared.reports.Report.{Report}
-use Rattle.pr_truss.specs.declared.reports.Report.TheVariants.{CannotStart, CannotTrace, Called, Event as Shown}
+use Rattle.pr_truss.specs.declared.reports.Report.TheVariants.{CannotTrace, Called, Event as Shown}
 use Rattle.pr_truss_laws.proofs.FedSteps.{fed-step}
 use Rattle.pr_truss_laws.proofs.FunctionOptionLemmas.{fed_functions-options}
 use Rattle.pr_truss_laws.proofs.ReplySteps as row

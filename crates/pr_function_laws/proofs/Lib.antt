@@ -1,4 +1,15 @@
+pub mod AwayLemmas
+pub mod BreakpointLemmas
 pub mod CallLemmas
+pub mod FaultLemmas
 pub mod HaltingSteps
+pub mod LiftLemmas
+pub mod MarkLemmas
+pub mod MetLemmas
 pub mod OtherSteps
+pub mod ReturnLemmas
+pub mod SoonLemmas
+pub mod SoundLemmas
 pub mod StepLemmas
+pub mod StretchLemmas
+pub mod ToldLemmas

@@ -7,12 +7,13 @@ use Rattle.pr_num.specs.ById.{under}
 use Rattle.pr_model.specs.Lawful.{IsLawful}
 use Rattle.pr_model.specs.Legal.{IsLegalEntry, after, after_turn}
 use Rattle.pr_model.specs.LwpTurns.{LwpTurn, turn_of}
-use Rattle.pr_model.specs.State.{TracedLwp, TracedProcess, TracedState, TracedSystem, live_process, lwp_of}
+use Rattle.pr_model.specs.State.{TracedLwp, TracedProcess, TracedState, live_process, lwp_of}
 use Rattle.pr_model.specs.declared.events.Act.{Act}
 use Rattle.pr_model.specs.declared.events.Act.TheVariants as act
 use Rattle.pr_model.specs.declared.events.Actor.{Actor}
 use Rattle.pr_model.specs.declared.events.Actor.TheVariants.{Controller, Lwp, Clock}
 use Rattle.pr_model.specs.declared.events.Entry.{Entry}
+use Rattle.pr_reached.specs.Fits.{IsFitProcess}
 use Rattle.pr_truss_laws.proofs.OutlastLemmas as outlast
 use Rattle.pr_truss_laws.proofs.OutlastLemmas.{Outlasts, others-entry}
 use Rattle.pr_truss_laws.specs.Handles.{HasNoOtherWriter}
@@ -24,7 +25,7 @@ use Rattle.pr_function_laws.proofs.StepLemmas.{other-leaves, other-stays, step-a
 -- A step of one lwp goes on, whatever others do and whatever comes of its own process, until its own turn.
 
 -- the lwp is there still in a process that was left alone
-stays-there : (p q : TracedProcess) (id : ℕ) (l : TracedLwp) → IsUndisturbed p q → lwp_of p id ≡ Some l
+pub stays-there : (p q : TracedProcess) (id : ℕ) (l : TracedLwp) → IsUndisturbed p q → lwp_of p id ≡ Some l
     → (k : TracedLwp) × (lwp_of q id ≡ Some k)
 stays-there p q id l alone there =
     found (lwp_of q id) refl
@@ -38,7 +39,7 @@ stays-there p q id l alone there =
 
 module _ (n : ℕ) (s : TracedState) (k pid id : ℕ) (lawful : IsLawful s) (sole : HasNoOtherWriter k pid s.opens)
     (p : TracedProcess) (l : TracedLwp) (live : live_process s.system pid ≡ Some p) (stepped : IsStepped p id l)
-    (all : StopsAtAll p.control) (no_call : RunsNoCall p l) where
+    (all : StopsAtAll p.control) (no_call : RunsNoCall p l) (fit : IsFitProcess p) where
   elsewhere : (e : Entry) → IsLegalEntry n s e → ((other : ℕ) → e.actor ≢ Lwp pid other) → e.actor ≢ Controller k
       → StepGoesOn pid id (after s e).system
   elsewhere e legal apart other = by (others-entry n s k pid e p lawful sole legal apart other live)
@@ -57,7 +58,7 @@ module _ (n : ℕ) (s : TracedState) (k pid id : ℕ) (lawful : IsLawful s) (sol
           → StepGoesOn pid id t.system
       halted own None later = ends later
       halted own (Some q) later =
-          halts q later (step-halts s.system pid p id l t live stepped all no_call own lawful.system q later)
+          halts q later (step-halts s.system pid p id l t live stepped all no_call fit own lawful.system q later)
 
       by : (other ≡ id) ⊎ (other ≢ id) → StepGoesOn pid id t.system
       by (inl same) =

@@ -1,17 +1,17 @@
-use Rattle.std.proofs.Common.{◌≡◌, ◌≢◌, ◌==◌, ◌||◌, ◌&&◌, ◌+◌, ℕ, Bool, true, false, cond, None, Some, Option, refl, sym, subst, ap, ◌∙◌, inl, inr}
+use Rattle.std.proofs.Common.{◌≡◌, ◌≢◌, ◌==◌, ◌||◌, ◌+◌, ℕ, Bool, true, false, cond, None, Some, Option, refl, sym, subst, ap, ◌∙◌, inl, inr}
 use Rattle.std.proofs.lemmas.Bool.{cases_Bool, eqb-true, eqb-false}
 use Rattle.std.proofs.lemmas.Option.{same_Some, none-some}
 use Rattle.std.specs.Option.{option_map}
 use Rattle.pr_num.proofs.ByIdLaws.{under-change_under, under-change_under_other}
 use Rattle.pr_num.specs.ById.{IsRising, change_under, under}
-use Rattle.pr_num.specs.Control.{abort_call, clear_fault, clear_signal, has_flags, single_step, stop_again}
+use Rattle.pr_num.specs.Control.{clear_fault, has_flags, single_step, stop_again}
 use Rattle.pr_num.specs.Sets.{common_word}
 use Rattle.pr_num.specs.declared.faults.Flt.{Flt}
 use Rattle.pr_laws.proofs.RunLemmas.{representative-stands}
 use Rattle.pr_model.specs.LwpTurns.{LwpTurn, is_held_back, turn_of, settled, with_counted}
 use Rattle.pr_model.specs.Machines.{stopped_as_directed}
 use Rattle.pr_model.specs.Rows.{requested_row, row_for}
-use Rattle.pr_model.specs.Running.{let_go, run_lwp, runs_one, with_all_run, with_cleared, with_aborted, with_one_run, with_run, with_step, without_fault}
+use Rattle.pr_model.specs.Running.{let_go, run_lwp, with_all_run, with_cleared, with_aborted, with_one_run, with_run, with_step, without_fault}
 use Rattle.pr_model.specs.State.{TracedLwp, TracedProcess, TracedSystem, live_process, lwp_of, with_lwp}
 use Rattle.pr_model.specs.Stops.{has_event_stop, representative}
 use Rattle.pr_model.specs.declared.events.Did.TheVariants.{Stopped}

@@ -1,7 +1,10 @@
 -- An lwp that is stepped alone, as truss(1) steps one over the first instruction of a function (-u).
-use Rattle.std.specs.Prelude.{◌≡◌, ◌≢◌, ℕ, true, false, List, Option, Some, None}
+use Rattle.std.specs.Prelude.{◌≡◌, ◌≢◌, ℕ, true, false, List, Some, None}
 use Rattle.pr_num.specs.Control.{async_mode, has_flags}
 use Rattle.pr_num.specs.Limits.{all_faults, all_signals}
+use Rattle.pr_num.specs.Sets.{without_number}
+use Rattle.pr_num.specs.Signals.{signal_number}
+use Rattle.pr_num.specs.declared.signals.Sig.TheVariants.{Kill}
 use Rattle.pr_num.specs.declared.syscalls.Sysno.{Sysno}
 use Rattle.pr_model.specs.InstructionEffects.{calls, instruction_effect}
 use Rattle.pr_model.specs.State.{TracedControl, TracedLwp, TracedProcess, TracedSystem, live_process, lwp_of}
@@ -18,9 +21,10 @@ pub record IsStepped (p : TracedProcess) (id : ℕ) (l : TracedLwp) : Type 0 whe
   pub no_current : l.current ≡ None
   pub others : (other : ℕ) (k : TracedLwp) → other ≢ id → lwp_of p other ≡ Some k → will_stop k ≡ true
 
--- An lwp of a process stops at every signal and at every fault, and then directs all other lwps to stop.
+-- An lwp of a process stops at every signal but SIGKILL, which no process can stop at, and at every fault, and then
+-- directs all other lwps to stop.
 pub record StopsAtAll (c : TracedControl) : Type 0 where
-  pub signals : c.traced_signals ≡ all_signals
+  pub signals : c.traced_signals ≡ without_number all_signals (signal_number Kill)
   pub faults : c.traced_faults ≡ all_faults
   pub directs : has_flags c.modes async_mode ≡ false
 

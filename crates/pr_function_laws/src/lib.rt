@@ -2,12 +2,24 @@
 //! nothing.
 #![tactic(auto)]
 
+mod lifted;
 mod lines;
+mod met;
+mod returns;
+mod soon;
 mod steps;
+mod stretches;
 
+pub use lifted::a_breakpoint_is_lifted_for_one_lwp_alone;
 pub use lines::{each_reply_tells_at_most_one_call, the_calls_reported_are_those_told};
+pub use met::{each_call_told_was_met_at_its_breakpoint, the_calls_reported_were_met};
+pub use returns::a_breakpoint_is_planted_again_first;
+pub use soon::what_a_poll_named_is_soon_run_or_closed;
 pub use steps::{
     a_step_goes_on_until_its_own_turn, a_step_runs_the_representative_alone,
     a_step_that_is_left_alone_goes_on, a_stepped_lwp_halts_at_one_event,
     beside_a_step_other_lwps_only_stop,
+};
+pub use stretches::{
+    a_process_that_is_stopped_on_an_event_is_frozen, no_other_lwp_begins_an_instruction,
 };

@@ -1,12 +1,14 @@
 ghost use Rattle.std.specs.Prelude.{◌≡◌, ◌≢◌, ◌+◌, ℕ, true, false, Some, None};
-ghost use Rattle.pr_num.specs.Control.{clear_fault, has_flags, single_step};
+ghost use Rattle.pr_num.specs.Control.{async_mode, clear_fault, has_flags, single_step};
 ghost use Rattle.pr_num.specs.ById.{IsRising};
+ghost use Rattle.pr_num.specs.Limits.{all_faults, all_signals};
 ghost use Rattle.pr_num.specs.declared.faults.Flt.{Flt as AnyFault};
 ghost use Rattle.pr_model.specs.Lawful.{IsLawful, IsLawfulSystem};
 ghost use Rattle.pr_model.specs.Legal.{IsLegalEntry, after};
 ghost use Rattle.pr_model.specs.LwpTurns.{LwpTurn, turn_of};
+ghost use Rattle.pr_model.specs.Messages.{tracing_faults, tracing_signals};
 ghost use Rattle.pr_model.specs.Running.{run_lwp, with_run};
-ghost use Rattle.pr_model.specs.State.{TracedLwp, TracedProcess, TracedState, TracedSystem, live_process, lwp_of, with_lwp};
+ghost use Rattle.pr_model.specs.State.{TracedControl, TracedLwp, TracedProcess, TracedState, TracedSystem, live_process, lwp_of, with_lwp};
 ghost use Rattle.pr_model.specs.Stops.{representative};
 ghost use Rattle.pr_model.specs.declared.events.Actor.TheVariants.{Controller};
 ghost use Rattle.pr_model.specs.declared.events.Did.TheVariants.{Stopped};
@@ -14,6 +16,7 @@ ghost use Rattle.pr_model.specs.declared.events.Entry.{Entry};
 ghost use Rattle.pr_model.specs.declared.lwps.Phase.TheVariants.{Faulted as AtFault};
 ghost use Rattle.pr_truss_laws.specs.Handles.{HasNoOtherWriter};
 ghost use Rattle.pr_truss_laws.specs.Stills.{IsHalting, IsUndisturbed, with_lwp_stopped};
+ghost use Rattle.pr_reached.specs.Fits.{IsFitProcess};
 ghost use Rattle.pr_function_laws.specs.Steps.{IsStepped, RunsNoCall, StepGoesOn, StopsAtAll};
 
 /// PCRUN with PRSTEP on a process runs the representative alone, and leaves each other lwp as it is. Where that one
@@ -49,17 +52,26 @@ pub fn a_step_that_is_left_alone_goes_on()
         → lwp_of q id ≡ Some k → IsStepped q id k }
 {}
 
-/// The next turn of an lwp that is stepped alone, in a process that stops at every signal and at every fault, and of
-/// which the next instruction is no system call, stops it on an event; and from then on each lwp of the process stands
-/// still or is directed to stop.
+/// A process of which PCSTRACE set all signals to be traced, and PCSFAULT all faults, stops at all of them, and directs
+/// the other lwps to stop unless PR_ASYNC is set.
+#[tactic(auto, using(crate::proofs::HaltingSteps::traces))]
+pub fn tracing_all_makes_a_process_stop_at_all()
+    ensures { (c : TracedControl) → has_flags c.modes async_mode ≡ false
+        → StopsAtAll (tracing_faults all_faults (tracing_signals all_signals c)) }
+{}
+
+/// The next turn of an lwp that is stepped alone, in a process that stops at every signal but SIGKILL and at every
+/// fault, and of which the next instruction is no system call, stops it on an event; and from then on each lwp of the
+/// process stands still or is directed to stop. SIGKILL pends for no process that the machine reaches.
 #[tactic(auto, using(crate::proofs::HaltingSteps::halts))]
 pub fn a_stepped_lwp_halts_at_one_event()
     ensures stops { (s : TracedSystem) (pid : ℕ) (p : TracedProcess) (id : ℕ) (l : TracedLwp) (t : LwpTurn)
-        → live_process s pid ≡ Some p → IsStepped p id l → StopsAtAll p.control → RunsNoCall p l
+        → live_process s pid ≡ Some p → IsStepped p id l → StopsAtAll p.control → RunsNoCall p l → IsFitProcess p
         → turn_of s pid id ≡ Some t → t.turned.stop ≡ true }
     ensures halts { (s : TracedSystem) (pid : ℕ) (p : TracedProcess) (id : ℕ) (l : TracedLwp) (t : LwpTurn)
         → IsLawfulSystem s → live_process s pid ≡ Some p → IsStepped p id l → StopsAtAll p.control → RunsNoCall p l
-        → turn_of s pid id ≡ Some t → (q : TracedProcess) → live_process t.system pid ≡ Some q → IsHalting q }
+        → IsFitProcess p → turn_of s pid id ≡ Some t → (q : TracedProcess)
+        → live_process t.system pid ≡ Some q → IsHalting q }
 {}
 
 /// While an lwp of a process is stepped alone, an entry of a history that is not of the one controller that has the
@@ -69,6 +81,6 @@ pub fn a_stepped_lwp_halts_at_one_event()
 pub fn a_step_goes_on_until_its_own_turn()
     ensures { (n : ℕ) (s : TracedState) (k pid id : ℕ) (p : TracedProcess) (l : TracedLwp) (e : Entry) → IsLawful s
         → HasNoOtherWriter k pid s.opens → live_process s.system pid ≡ Some p → IsStepped p id l
-        → StopsAtAll p.control → RunsNoCall p l → IsLegalEntry n s e → e.actor ≢ Controller k
+        → StopsAtAll p.control → RunsNoCall p l → IsFitProcess p → IsLegalEntry n s e → e.actor ≢ Controller k
         → StepGoesOn pid id (after s e).system }
 {}

@@ -26,10 +26,10 @@ fn is_hold(who: &[Hider], pid: u32, held: Option<Held>) -> bool
     ensures { result ≡ is_hold (hiders_of who.now) pid held }
 {
     match held {
-        None => false,
-        Some(held) => {
-            held.pid == pid && (is_ctl(held.file) && has_functions(who, held.controller))
+        Some(held) if held.pid == pid => {
+            is_ctl(held.file) && has_functions(who, held.controller)
         }
+        _ => false,
     }
 }
 

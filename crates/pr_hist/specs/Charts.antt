@@ -1,8 +1,7 @@
 -- Charts of a history: a row an entry, in it a cell a lane, and between cells the messages and the births. A row of
 -- lanes is a line of text; the picture is in Pictures.
 use Rattle.std.specs.Prelude.{ℕ, ◌==◌, ◌+◌, ◌-◌, ◌/◌, ◌&&◌, ◌||◌, not, Bool, true, false, Option, Some, None, List, [], ◌∷◌, ◌++◌, codes, decimal, length, max, min, replicate, take, if◌then◌else◌}
-use Rattle.std.specs.Char.{is_ascii_whitespace}
-use Rattle.std.specs.List.{list_any, suffix_len}
+use Rattle.std.specs.List.{list_any}
 use Rattle.pr_num.specs.ById.{under}
 use Rattle.pr_model.specs.declared.calls.Call.{Call}
 use Rattle.pr_model.specs.declared.calls.Call.TheVariants as call
@@ -19,6 +18,7 @@ use Rattle.pr_hist.specs.Entries.{words_of}
 use Rattle.pr_hist.specs.Lanes.{born, is_lane_of, is_lwp_of, is_same, is_some_same}
 use Rattle.pr_hist.specs.Names.{Names}
 use Rattle.pr_hist.specs.Pictures.{picture_cell, picture_foot, picture_head, picture_name, picture_row}
+use Rattle.pr_hist.specs.Texts.{trimmed}
 use Rattle.pr_hist.specs.declared.charts.Chart.{Chart}
 use Rattle.pr_hist.specs.declared.charts.Chart.TheVariants as chart
 use Rattle.pr_hist.specs.declared.charts.Marks.{Marks}
@@ -154,10 +154,6 @@ name_cells sheet [] = []
 name_cells sheet (lane ∷ rest) = first_name sheet (lane ∷ rest) ++ name_cells sheet rest
 
 -- ---- rows
-
--- a text without the blanks at its end
-unfoldable pub trimmed : List ℕ → List ℕ
-trimmed t = take (length t - suffix_len is_ascii_whitespace t) t
 
 unfoldable pub line_text : List ℕ → List ℕ → List ℕ
 line_text number t = trimmed (fitted 32 8 number ++ t) ++ codes "\n"

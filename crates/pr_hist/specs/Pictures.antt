@@ -11,22 +11,25 @@ use Rattle.pr_hist.specs.declared.pictures.Piece.TheVariants as piece
 
 -- the fixed texts between what is drawn, each under a name
 unfoldable pub piece_text : Piece → List ℕ
-piece_text piece.Open = codes "<svg xmlns='http://www.w3.org/2000/svg' version='1.1' width='"
+piece_text piece.Open = codes "<svg class='phist' xmlns='http://www.w3.org/2000/svg' version='1.1' width='"
 piece_text piece.Height = codes "' height='"
 piece_text piece.Font = codes "' font-family='monospace' font-size='11'>\n<style>\n"
-piece_text piece.StyleText = codes "text,circle{fill:#222}path{fill:none}.t{fill:#2d6a4f}\n"
-piece_text piece.StyleRuns = codes ".r,.n{stroke:#8a8f98;stroke-width:2}.n{stroke-dasharray:2 3}\n"
-piece_text piece.StyleStops = codes ".e{stroke:#c0392b;stroke-width:8}.q{stroke:#e09f1f;stroke-width:8}\n"
-piece_text piece.StyleOthers = codes ".j{stroke:#7d3c98;stroke-width:8}.s{stroke:#3f7fbf;stroke-width:4;stroke-dasharray:3}\n"
-piece_text piece.StyleEnds = codes ".x{stroke:#222;stroke-width:5;stroke-dasharray:2 2}.m{stroke:#2d6a4f}\n</style>\n"
+piece_text piece.StyleText = codes ".phist text,.phist circle{fill:#222}path.t{fill:#2d6a4f}\n"
+piece_text piece.StyleRuns = codes "path.r,path.n{stroke:#8a8f98;stroke-width:2}path.n{stroke-dasharray:2 3}\n"
+piece_text piece.StyleStops = codes "path.e{stroke:#c0392b;stroke-width:8}path.q{stroke:#e09f1f;stroke-width:8}\n"
+piece_text piece.StyleOthers =
+    codes "path.j{stroke:#7d3c98;stroke-width:8}path.s{stroke:#3f7fbf;stroke-width:4;stroke-dasharray:3}\n"
+piece_text piece.StyleEnds =
+    codes "path.x{stroke:#222;stroke-width:5;stroke-dasharray:2 2}path.m{stroke:#2d6a4f}\n</style>\n"
 piece_text piece.Page = codes "<rect width='100%' height='100%' fill='#fdfcf8'/>\n"
 piece_text piece.LegendRuns = codes "<path class='r' d='M12 10v18'/><text x='22' y='23'>runs</text>\n"
 piece_text piece.LegendNew = codes "<path class='n' d='M72 10v18'/><text x='82' y='23'>made, no turn yet</text>\n"
-piece_text piece.LegendEvent = codes "<path class='e' d='M212 10v18'/><text x='222' y='23'>stopped on an event</text>\n"
-piece_text piece.LegendRequested = codes "<path class='q' d='M372 10v18'/><text x='382' y='23'>on request</text>\n"
-piece_text piece.LegendAsleep = codes "<path class='s' d='M532 10v18'/><text x='542' y='23'>asleep</text>\n"
-piece_text piece.LegendJob = codes "<path class='j' d='M602 10v18'/><text x='612' y='23'>stopped by a signal</text>\n"
-piece_text piece.LegendEnds = codes "<path class='x' d='M762 10v18'/><text x='772' y='23'>ends</text>\n"
+piece_text piece.LegendEvent = codes "<path class='e' d='M208 10v18'/><text x='218' y='23'>stopped on an event</text>\n"
+piece_text piece.LegendRequested =
+    codes "<path class='q' d='M364 10v18'/><text x='374' y='23'>stopped on request</text>\n"
+piece_text piece.LegendAsleep = codes "<path class='s' d='M514 10v18'/><text x='524' y='23'>asleep</text>\n"
+piece_text piece.LegendJob = codes "<path class='j' d='M586 10v18'/><text x='596' y='23'>stopped by a signal</text>\n"
+piece_text piece.LegendEnds = codes "<path class='x' d='M742 10v18'/><text x='752' y='23'>ends</text>\n"
 piece_text piece.Close = codes "</svg>\n"
 piece_text piece.RowTitle = codes "<g><title>"
 piece_text piece.RowNumber = codes "</title><text x='8' dy='4' y='"
@@ -41,7 +44,7 @@ piece_text piece.Head = codes "m176 0l-9-4v8z'/>"
 piece_text piece.Dot = codes "<circle r='4' cx='"
 piece_text piece.DotRow = codes "' cy='"
 piece_text piece.Shut = codes "'/>"
-piece_text piece.Label = codes "<text dx='9' dy='-4' x='"
+piece_text piece.Label = codes "<text dx='9' dy='-6' x='"
 piece_text piece.LabelRow = codes "' y='"
 piece_text piece.TextOpen = codes "'>"
 piece_text piece.TextEnd = codes "</text>"
@@ -137,33 +140,18 @@ unfoldable pub picture_name : ℕ → List ℕ → List ℕ
 picture_name column name =
     piece_text piece.Name ++ (across column ++ (piece_text piece.TextOpen ++ (name ++ piece_text piece.TextEnd)))
 
-unfoldable pub styles : List ℕ
-styles =
-    piece_text piece.StyleText ++ (piece_text piece.StyleRuns ++ (piece_text piece.StyleStops
-    ++ (piece_text piece.StyleOthers ++ piece_text piece.StyleEnds)))
-
-unfoldable pub legend_front : List ℕ
-legend_front =
-    piece_text piece.LegendRuns ++ (piece_text piece.LegendNew ++ (piece_text piece.LegendEvent
-    ++ piece_text piece.LegendRequested))
-
-unfoldable pub legend_back : List ℕ
-legend_back =
-    piece_text piece.LegendAsleep ++ (piece_text piece.LegendJob ++ piece_text piece.LegendEnds)
-
-unfoldable pub picture_legend : List ℕ
-picture_legend = legend_front ++ legend_back
+-- what stands behind the size of a picture: its styles, its ground and the legend
+abbrev pub page : List Piece
+page =
+    piece.Font ∷ piece.StyleText ∷ piece.StyleRuns ∷ piece.StyleStops ∷ piece.StyleOthers ∷ piece.StyleEnds ∷ piece.Page
+    ∷ piece.LegendRuns ∷ piece.LegendNew ∷ piece.LegendEvent ∷ piece.LegendRequested ∷ piece.LegendAsleep
+    ∷ piece.LegendJob ∷ piece.LegendEnds ∷ []
 
 -- the head of a picture of so many rows and lanes
-unfoldable pub picture_size : ℕ → ℕ → List ℕ
-picture_size rows lanes =
-    piece_text piece.Open ++ (across (max lanes 4) ++ (piece_text piece.Height ++ down rows))
-
-unfoldable pub picture_page : List ℕ
-picture_page = piece_text piece.Font ++ (styles ++ (piece_text piece.Page ++ picture_legend))
-
 unfoldable pub picture_head : ℕ → ℕ → List ℕ
-picture_head rows lanes = picture_size rows lanes ++ picture_page
+picture_head rows lanes =
+    piece_text piece.Open
+    ++ (across (max lanes 4) ++ (piece_text piece.Height ++ (down rows ++ flat_map piece_text page)))
 
 unfoldable pub picture_foot : List ℕ
 picture_foot = piece_text piece.Close

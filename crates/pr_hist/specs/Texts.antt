@@ -1,6 +1,7 @@
 -- Numbers and bytes in words.
-use Rattle.std.specs.Prelude.{ℕ, ◌==◌, List, [], ◌∷◌, ◌++◌, codes, decimal, length, take, nat_lt, false, if◌then◌else◌}
-use Rattle.std.specs.List.{before_first, flat_map}
+use Rattle.std.specs.Prelude.{ℕ, ◌==◌, ◌-◌, List, [], ◌∷◌, ◌++◌, codes, decimal, length, take, nat_lt, false, if◌then◌else◌}
+use Rattle.std.specs.Char.{is_ascii_whitespace}
+use Rattle.std.specs.List.{before_first, flat_map, suffix_len}
 use Rattle.pr_num.specs.Limits.{shown_limit}
 use Rattle.pr_num.specs.Padding.{is_zero}
 use Rattle.pr_text.specs.HexWords.{digits_of_bytes}
@@ -30,6 +31,10 @@ plus_as_blank b = if b == 43 then 32 ∷ [] else b ∷ []
 
 unfoldable pub spaced_text : List ℕ → List ℕ
 spaced_text word = codes " " ++ flat_map plus_as_blank word
+
+-- a text without the blanks at its end
+unfoldable pub trimmed : List ℕ → List ℕ
+trimmed t = take (length t - suffix_len is_ascii_whitespace t) t
 
 -- a name in its 32 bytes: those up to the first zero
 unfoldable pub name_in : List ℕ → List ℕ

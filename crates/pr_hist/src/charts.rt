@@ -1,7 +1,9 @@
 //! Charts of a history: a row an entry, in it a cell a lane, and between cells the messages and the births.
-ghost use Rattle.std.specs.Prelude.{◌≡◌, ◌++◌, ◌+◌, ◌≤◌, ◌<◌, ◌^◌, false, decimal, drop, replicate, OnOk};
+ghost use Rattle.std.specs.Prelude.{◌≡◌, ◌++◌, ◌+◌, ◌-◌, ◌≤◌, ◌<◌, ◌^◌, [], false, decimal, drop, OnOk};
 ghost use Rattle.std.specs.List.{list_any};
-ghost use Rattle.pr_hist.specs.Charts.{act_aims, call_aims, cell, cell_width, cells, fill, first_cell, first_name, fitted, foot_text, has_passed, head_text, is_absent, is_first_target, is_refusal, is_target, known_aims, label_text, lanes_cell, legend, line_text, mark, marks_above, marks_besides, marks_of, name_cell, name_cells, row_text, tip, trimmed};
+ghost use Rattle.pr_hist.specs.Charts.{act_aims, call_aims, cell, cell_width, cells, fill, first_cell, first_name, fitted, foot_text, has_passed, head_text, is_absent, is_first_target, is_refusal, is_target, known_aims, label_text, lanes_cell, legend, line_text, mark, marks_above, marks_besides, marks_of, name_cell, name_cells, row_text, tip};
+ghost use Rattle.pr_hist.specs.Entries.{words_of};
+ghost use Rattle.pr_hist.specs.Pictures.{picture_row};
 
 use crate::briefs::write_brief;
 use crate::entries::{words_of, write_actor};
@@ -26,7 +28,7 @@ pub enum Chart {
 }
 
 /// A row of a chart: its number, and how many lanes it has.
-#[derive(Clone, Copy, Debug, PartialEq, Eq)]
+#[derive(Clone, Copy)]
 pub struct Sheet {
     pub chart: Chart,
     pub row: u64,
@@ -34,7 +36,7 @@ pub struct Sheet {
 }
 
 /// What a cell has besides how its lane stands.
-#[derive(Clone, Copy, Debug, PartialEq, Eq)]
+#[derive(Clone, Copy)]
 pub struct Marks {
     /// The words of the entry.
     pub acts: bool,
@@ -155,22 +157,14 @@ fn mark(stand: Stand) -> &'static [u8]
     }
 }
 
-fn write_times(text: &mut Text, byte: u8, count: u64) -> Result<(), NoMemory>
-    ensures { OnOk result (text.new ≡ text.old ++ replicate count byte) }
-{
-    for _ in 0..count {
-        text.text(&[byte])?;
-    }
-    Ok(())
-}
-
 /// A text in so many columns: cut, or with a byte behind it as often as needed.
 #[tactic(auto, unfolding(crate::specs::Charts::fitted))]
 fn write_fitted(text: &mut Text, fill: u8, width: usize, bytes: &[u8]) -> Result<(), NoMemory>
+    requires { width < 2 ^ 63 }
     ensures { OnOk result (text.new ≡ text.old ++ fitted fill width bytes.now) }
 {
     text.text(front(bytes, width))?;
-    write_times(text, fill, width.saturating_sub(bytes.len()) as u64)
+    text.times(fill, width.saturating_sub(bytes.len()))
 }
 
 /// How wide a cell is where so many lanes share a line.
@@ -220,30 +214,38 @@ fn write_label(text: &mut Text, width: usize, marks: Marks, label: &[u8]) -> Res
     text.text(b" ")
 }
 
+/// The words of the entry, and what fills the cell behind them.
+#[tactic(auto, using(crate::proofs::LineLemmas::filled))]
+fn write_filled(text: &mut Text, width: usize, marks: Marks, label: &[u8]) -> Result<(), NoMemory>
+    requires { (8 ≤ width) × (width < 2 ^ 63) }
+    ensures { OnOk result (text.new ≡ text.old ++ fitted (fill marks) (width - 2) (label_text width marks label.now)) }
+{
+    let start = text.len();
+    write_label(text, width, marks, label)?;
+    let room = (width - 2).saturating_sub(text.len() - start);
+    text.times(fill(marks), room)
+}
+
 /// A cell of a line.
 #[tactic(auto, unfolding(crate::specs::Charts::lanes_cell))]
 fn write_lanes_cell(
-    alloc: Global,
     text: &mut Text,
     width: usize,
     marks: Marks,
     stand: Stand,
     label: &[u8],
 ) -> Result<(), NoMemory>
-    requires { 8 ≤ width }
+    requires { (8 ≤ width) × (width < 2 ^ 63) }
     ensures { OnOk result (text.new ≡ text.old ++ lanes_cell width marks stand label.now) }
 {
-    let mut words = Text::new(alloc)?;
-    write_label(&mut words, width, marks, label)?;
     text.text(mark(stand))?;
-    write_fitted(text, fill(marks), width - 2, words.as_slice())?;
+    write_filled(text, width, marks, label)?;
     text.text(tip(marks))
 }
 
 /// A cell, by the kind of chart.
 #[tactic(auto, unfolding(crate::specs::Charts::cell))]
 fn write_cell(
-    alloc: Global,
     text: &mut Text,
     sheet: Sheet,
     marks: Marks,
@@ -257,7 +259,7 @@ fn write_cell(
     match sheet.chart {
         Chart::Lanes(width) => {
             let width = cell_width(width, sheet.lanes);
-            write_lanes_cell(alloc, text, width, marks, lane.stand, label)
+            write_lanes_cell(text, width, marks, lane.stand, label)
         }
         Chart::Picture => {
             let column = sheet.lanes.saturating_sub(behind as u64 + 1);
@@ -269,7 +271,6 @@ fn write_cell(
 /// The cell of the first of these lanes; `passed`: the lane of who acted stands before them.
 #[tactic(auto, unfolding(crate::specs::Charts::first_cell))]
 fn write_first_cell(
-    alloc: Global,
     text: &mut Text,
     sheet: Sheet,
     names: &Names,
@@ -285,7 +286,7 @@ fn write_first_cell(
         [] => Ok(()),
         [lane, rest @ ..] => {
             let marks = marks_of(names, entry, passed, lane, rest);
-            write_cell(alloc, text, sheet, marks, lane, rest.len(), label)
+            write_cell(text, sheet, marks, lane, rest.len(), label)
         }
     }
 }
@@ -311,7 +312,6 @@ fn lanes_from(lanes: &[Lane], place: usize) -> &[Lane]
 
 /// The cells of lanes.
 fn write_cells(
-    alloc: Global,
     text: &mut Text,
     sheet: Sheet,
     names: &Names,
@@ -324,7 +324,7 @@ fn write_cells(
     let mut passed = false;
     for at in 0..lanes.len() {
         let left = lanes_from(lanes, at);
-        write_first_cell(alloc, text, sheet, names, entry, label, passed, left)?;
+        write_first_cell(text, sheet, names, entry, label, passed, left)?;
         passed = has_passed(entry, passed, left);
     }
     Ok(())
@@ -381,38 +381,54 @@ fn write_names(alloc: Global, text: &mut Text, sheet: Sheet, lanes: &[Lane]) -> 
     Ok(())
 }
 
-/// A text without the blanks at its end.
-#[tactic(auto, unfolding(crate::specs::Charts::trimmed))]
-fn trimmed(bytes: &[u8]) -> &[u8]
-    ensures { result.now ≡ trimmed bytes.now }
+/// The row of an entry as a line.
+#[tactic(auto, using(crate::proofs::LineLemmas::ended))]
+fn write_lanes_row(
+    text: &mut Text,
+    sheet: Sheet,
+    number: usize,
+    names: &Names,
+    lanes: &[Lane],
+    entry: &Entry,
+    label: &[u8],
+) -> Result<(), NoMemory>
+    ensures { OnOk result (text.new ≡ text.old
+        ++ line_text (decimal number) (cells sheet names.now entry.now label.now false lanes.now)) }
 {
-    bytes.trim_ascii_end()
+    let start = text.len();
+    let mut digits = itoa::Buffer::new();
+    write_fitted(text, b' ', 8, digits.format(number as u64).as_bytes())?;
+    write_cells(text, sheet, names, entry, label, lanes)?;
+    text.end_line(start)
 }
 
-/// A line: its number and its cells.
-#[tactic(auto, unfolding(crate::specs::Charts::line_text))]
-fn write_line(alloc: Global, text: &mut Text, number: &[u8], drawn: &[u8]) -> Result<(), NoMemory>
-    ensures { OnOk result (text.new ≡ text.old ++ line_text number.now drawn.now) }
-{
-    let mut line = Text::new(alloc)?;
-    write_fitted(&mut line, b' ', 8, number)?;
-    line.text(drawn)?;
-    text.text(trimmed(line.as_slice()))?;
-    text.text(b"\n")
-}
-
-/// A line of the entry of a number.
-fn write_numbered(
+/// The row of an entry in a picture.
+fn write_drawn_row(
     alloc: Global,
     text: &mut Text,
+    sheet: Sheet,
+    full: bool,
     number: usize,
-    drawn: &[u8],
+    names: &Names,
+    lanes: &[Lane],
+    entry: &Entry,
+    label: &[u8],
 ) -> Result<(), NoMemory>
-    ensures { OnOk result (text.new ≡ text.old ++ line_text (decimal number) drawn.now) }
+    ensures { OnOk result (text.new ≡ text.old
+        ++ picture_row sheet.row number (words_of full number names.now entry.now)
+        (cells sheet names.now entry.now label.now false lanes.now)) }
 {
-    let mut digits = Text::new(alloc)?;
-    digits.decimal(number as u64)?;
-    write_line(alloc, text, digits.as_slice(), drawn)
+    let mut words = Text::new(alloc)?;
+    words_of(&mut words, full, names, number, entry)?;
+    let mut drawn = Text::new(alloc)?;
+    write_cells(&mut drawn, sheet, names, entry, label, lanes)?;
+    write_picture_row(
+        text,
+        sheet.row,
+        number as u64,
+        words.as_slice(),
+        drawn.as_slice(),
+    )
 }
 
 /// The row of the entry of a number.
@@ -431,28 +447,11 @@ pub fn write_row(
 {
     let mut label = Text::new(alloc)?;
     write_brief(&mut label, names, &entry.act)?;
-    let mut drawn = Text::new(alloc)?;
-    write_cells(
-        alloc,
-        &mut drawn,
-        sheet,
-        names,
-        entry,
-        label.as_slice(),
-        lanes,
-    )?;
+    let label = label.as_slice();
     match sheet.chart {
-        Chart::Lanes(_) => write_numbered(alloc, text, number, drawn.as_slice()),
+        Chart::Lanes(_) => write_lanes_row(text, sheet, number, names, lanes, entry, label),
         Chart::Picture => {
-            let mut words = Text::new(alloc)?;
-            words_of(&mut words, full, names, number, entry)?;
-            write_picture_row(
-                text,
-                sheet.row,
-                number as u64,
-                words.as_slice(),
-                drawn.as_slice(),
-            )
+            write_drawn_row(alloc, text, sheet, full, number, names, lanes, entry, label)
         }
     }
 }
@@ -479,6 +478,22 @@ fn write_legend(text: &mut Text) -> Result<(), NoMemory>
     text.text(marks_besides())
 }
 
+/// The names of lanes as a line.
+#[tactic(auto, using(crate::proofs::LineLemmas::ended))]
+fn write_names_line(
+    alloc: Global,
+    text: &mut Text,
+    sheet: Sheet,
+    lanes: &[Lane],
+) -> Result<(), NoMemory>
+    ensures { OnOk result (text.new ≡ text.old ++ line_text [] (name_cells sheet lanes.now)) }
+{
+    let start = text.len();
+    write_fitted(text, b' ', 8, b"")?;
+    write_names(alloc, text, sheet, lanes)?;
+    text.end_line(start)
+}
+
 /// What stands above the rows, of which there are so many.
 #[tactic(auto, unfolding(crate::specs::Charts::head_text))]
 pub fn write_head(
@@ -489,16 +504,14 @@ pub fn write_head(
 ) -> Result<(), NoMemory>
     ensures { OnOk result (text.new ≡ text.old ++ head_text sheet lanes.now) }
 {
-    let mut names = Text::new(alloc)?;
-    write_names(alloc, &mut names, sheet, lanes)?;
     match sheet.chart {
         Chart::Lanes(_) => {
             write_legend(text)?;
-            write_line(alloc, text, b"", names.as_slice())
+            write_names_line(alloc, text, sheet, lanes)
         }
         Chart::Picture => {
             write_picture_head(text, sheet.row, sheet.lanes)?;
-            text.text(names.as_slice())
+            write_names(alloc, text, sheet, lanes)
         }
     }
 }

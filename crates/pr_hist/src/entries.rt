@@ -11,7 +11,7 @@ use pr_model::{Act, Actor, Entry};
 use pr_num::NoMemory;
 
 /// Who acted.
-#[tactic(auto, unfolding(pr_plain::specs::HistoryText::actor_text, pr_text::specs::LwpWords::lwp_text))]
+#[tactic(auto, unfolding(pr_plain::specs::HistoryText::actor_text))]
 pub fn write_actor(text: &mut Text, actor: Actor) -> Result<(), NoMemory>
     ensures { OnOk result (text.new ≡ text.old ++ actor_text actor) }
 {
@@ -20,11 +20,7 @@ pub fn write_actor(text: &mut Text, actor: Actor) -> Result<(), NoMemory>
             text.text(b"c")?;
             text.decimal(u64::from(k))
         }
-        Actor::Lwp(pid, lwp) => {
-            text.decimal(u64::from(pid))?;
-            text.text(b"/")?;
-            text.decimal(u64::from(lwp))
-        }
+        Actor::Lwp(pid, lwp) => text.lwp(pid, lwp),
         Actor::Clock => text.text(b"clock"),
     }
 }

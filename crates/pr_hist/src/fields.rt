@@ -6,7 +6,7 @@ use pr_model::File;
 use pr_num::Sig;
 
 /// What a word of a record holds.
-#[derive(Clone, Copy, Debug, PartialEq, Eq)]
+#[derive(Clone, Copy)]
 pub enum Kind {
     /// A number in decimal.
     Count,
@@ -63,7 +63,7 @@ pub enum Kind {
 }
 
 /// What a record is of.
-#[derive(Clone, Copy, Debug, PartialEq, Eq)]
+#[derive(Clone, Copy)]
 pub enum Layout {
     Status,
     Lstatus,

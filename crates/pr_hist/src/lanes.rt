@@ -9,7 +9,7 @@ use pr_num::{AGENT, NoMemory, Sysno};
 use std::alloc::Global;
 
 /// How the lwp of a lane stands.
-#[derive(Clone, Copy, Debug, PartialEq, Eq)]
+#[derive(Clone, Copy)]
 pub enum Stand {
     /// It is not there: not made yet, or ended.
     Absent,
@@ -29,7 +29,7 @@ pub enum Stand {
 }
 
 /// A lane: whose it is, and how that stands.
-#[derive(Clone, Copy, Debug, PartialEq, Eq)]
+#[derive(Clone, Copy)]
 pub struct Lane {
     pub actor: Actor,
     pub stand: Stand,

@@ -166,16 +166,15 @@ fn mode_words(mode: Mode) -> &'static [u8]
 }
 
 /// Whose a file is.
-#[tactic(auto, unfolding(pr_plain::specs::HistoryText::target_text, pr_text::specs::LwpWords::lwp_text))]
+#[tactic(auto, unfolding(pr_plain::specs::HistoryText::target_text))]
 fn write_target(text: &mut Text, pid: u32, lwp: u32) -> Result<(), NoMemory>
     ensures { OnOk result (text.new ≡ text.old ++ target_text pid lwp) }
 {
     if lwp == 0 {
-        return text.decimal(u64::from(pid));
+        text.decimal(u64::from(pid))
+    } else {
+        text.lwp(pid, lwp)
     }
-    text.decimal(u64::from(pid))?;
-    text.text(b"/")?;
-    text.decimal(u64::from(lwp))
 }
 
 /// An open file.

@@ -12,7 +12,7 @@ use pr_model::{Act, Actor, Call, Did, Entry, File, Reply, Res};
 use pr_num::{ById, Sysno};
 
 /// What an entry tells of a process.
-#[derive(Clone, Copy, Debug, PartialEq, Eq)]
+#[derive(Clone, Copy)]
 pub struct News {
     pub pid: u32,
     /// The place of the listing of the program that it runs now; `None`: that program has none.

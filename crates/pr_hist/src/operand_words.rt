@@ -75,7 +75,7 @@ fn signal_word(word: &[u8]) -> Option<u64>
 {
     match number_of(word) {
         Some(n) => Some(n),
-        None => Sig::from_name(word).map(|signal| signal.number()),
+        None => Some(Sig::from_name(word)?.number()),
     }
 }
 

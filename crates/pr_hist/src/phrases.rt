@@ -6,7 +6,7 @@ use crate::texts::Text;
 use pr_num::NoMemory;
 
 /// A phrase, by what it says.
-#[derive(Clone, Copy, Debug, PartialEq, Eq)]
+#[derive(Clone, Copy)]
 pub enum Phrase {
     AndStops,
     LastMoved,

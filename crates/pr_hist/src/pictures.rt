@@ -1,6 +1,7 @@
 //! The picture of a history in SVG 1.1.
 ghost use Rattle.std.specs.Prelude.{◌≡◌, ◌++◌, OnOk};
-ghost use Rattle.pr_hist.specs.Pictures.{across, act_if, arrow, arrow_if, arrow_tip, bar, bar_kind, bar_of, dot, down, escaped, escaped_byte, label, label_place, label_words, legend_back, legend_front, picture_cell, picture_foot, picture_head, picture_legend, picture_name, picture_page, picture_row, picture_size, piece_text, point, row_number, row_title, styles};
+ghost use Rattle.std.specs.List.{flat_map};
+ghost use Rattle.pr_hist.specs.Pictures.{across, act_if, arrow, arrow_if, arrow_tip, bar, bar_kind, bar_of, dot, down, escaped, escaped_byte, label, label_place, label_words, picture_cell, picture_foot, picture_head, picture_name, picture_row, piece_text, point, row_number, row_title};
 
 use crate::charts::Marks;
 use crate::lanes::Stand;
@@ -8,7 +9,7 @@ use crate::texts::{Text, front};
 use pr_num::NoMemory;
 
 /// A fixed text between what is drawn, by its name.
-#[derive(Clone, Copy, Debug, PartialEq, Eq)]
+#[derive(Clone, Copy)]
 pub enum Piece {
     Open,
     Height,
@@ -52,30 +53,32 @@ fn bytes_of(piece: Piece) -> &'static [u8]
     ensures { result.now ≡ piece_text piece }
 {
     match piece {
-        Piece::Open => b"<svg xmlns='http://www.w3.org/2000/svg' version='1.1' width='",
+        Piece::Open =>
+            b"<svg class='phist' xmlns='http://www.w3.org/2000/svg' version='1.1' width='",
         Piece::Height => b"' height='",
         Piece::Font => b"' font-family='monospace' font-size='11'>\n<style>\n",
-        Piece::StyleText => b"text,circle{fill:#222}path{fill:none}.t{fill:#2d6a4f}\n",
-        Piece::StyleRuns => b".r,.n{stroke:#8a8f98;stroke-width:2}.n{stroke-dasharray:2 3}\n",
+        Piece::StyleText => b".phist text,.phist circle{fill:#222}path.t{fill:#2d6a4f}\n",
+        Piece::StyleRuns =>
+            b"path.r,path.n{stroke:#8a8f98;stroke-width:2}path.n{stroke-dasharray:2 3}\n",
         Piece::StyleStops =>
-            b".e{stroke:#c0392b;stroke-width:8}.q{stroke:#e09f1f;stroke-width:8}\n",
+            b"path.e{stroke:#c0392b;stroke-width:8}path.q{stroke:#e09f1f;stroke-width:8}\n",
         Piece::StyleOthers =>
-            b".j{stroke:#7d3c98;stroke-width:8}.s{stroke:#3f7fbf;stroke-width:4;stroke-dasharray:3}\n",
+            b"path.j{stroke:#7d3c98;stroke-width:8}path.s{stroke:#3f7fbf;stroke-width:4;stroke-dasharray:3}\n",
         Piece::StyleEnds =>
-            b".x{stroke:#222;stroke-width:5;stroke-dasharray:2 2}.m{stroke:#2d6a4f}\n</style>\n",
+            b"path.x{stroke:#222;stroke-width:5;stroke-dasharray:2 2}path.m{stroke:#2d6a4f}\n</style>\n",
         Piece::Page => b"<rect width='100%' height='100%' fill='#fdfcf8'/>\n",
         Piece::LegendRuns => b"<path class='r' d='M12 10v18'/><text x='22' y='23'>runs</text>\n",
         Piece::LegendNew =>
             b"<path class='n' d='M72 10v18'/><text x='82' y='23'>made, no turn yet</text>\n",
         Piece::LegendEvent =>
-            b"<path class='e' d='M212 10v18'/><text x='222' y='23'>stopped on an event</text>\n",
+            b"<path class='e' d='M208 10v18'/><text x='218' y='23'>stopped on an event</text>\n",
         Piece::LegendRequested =>
-            b"<path class='q' d='M372 10v18'/><text x='382' y='23'>on request</text>\n",
+            b"<path class='q' d='M364 10v18'/><text x='374' y='23'>stopped on request</text>\n",
         Piece::LegendAsleep =>
-            b"<path class='s' d='M532 10v18'/><text x='542' y='23'>asleep</text>\n",
+            b"<path class='s' d='M514 10v18'/><text x='524' y='23'>asleep</text>\n",
         Piece::LegendJob =>
-            b"<path class='j' d='M602 10v18'/><text x='612' y='23'>stopped by a signal</text>\n",
-        Piece::LegendEnds => b"<path class='x' d='M762 10v18'/><text x='772' y='23'>ends</text>\n",
+            b"<path class='j' d='M586 10v18'/><text x='596' y='23'>stopped by a signal</text>\n",
+        Piece::LegendEnds => b"<path class='x' d='M742 10v18'/><text x='752' y='23'>ends</text>\n",
         Piece::Close => b"</svg>\n",
         Piece::RowTitle => b"<g><title>",
         Piece::RowNumber => b"</title><text x='8' dy='4' y='",
@@ -90,7 +93,7 @@ fn bytes_of(piece: Piece) -> &'static [u8]
         Piece::Dot => b"<circle r='4' cx='",
         Piece::DotRow => b"' cy='",
         Piece::Shut => b"'/>",
-        Piece::Label => b"<text dx='9' dy='-4' x='",
+        Piece::Label => b"<text dx='9' dy='-6' x='",
         Piece::LabelRow => b"' y='",
         Piece::TextOpen => b"'>",
         Piece::TextEnd => b"</text>",
@@ -351,62 +354,32 @@ pub fn write_picture_name(text: &mut Text, column: u64, name: &[u8]) -> Result<(
     text.piece(Piece::TextEnd)
 }
 
-#[tactic(auto, unfolding(crate::specs::Pictures::styles))]
-fn write_styles(text: &mut Text) -> Result<(), NoMemory>
-    ensures { OnOk result (text.new ≡ text.old ++ styles) }
-{
-    text.piece(Piece::StyleText)?;
-    text.piece(Piece::StyleRuns)?;
-    text.piece(Piece::StyleStops)?;
-    text.piece(Piece::StyleOthers)?;
-    text.piece(Piece::StyleEnds)
-}
+/// What stands behind the size of a picture: its styles, its ground and the legend.
+const PAGE: [Piece; 14] = [
+    Piece::Font,
+    Piece::StyleText,
+    Piece::StyleRuns,
+    Piece::StyleStops,
+    Piece::StyleOthers,
+    Piece::StyleEnds,
+    Piece::Page,
+    Piece::LegendRuns,
+    Piece::LegendNew,
+    Piece::LegendEvent,
+    Piece::LegendRequested,
+    Piece::LegendAsleep,
+    Piece::LegendJob,
+    Piece::LegendEnds,
+];
 
-#[tactic(auto, unfolding(crate::specs::Pictures::legend_front))]
-fn write_legend_front(text: &mut Text) -> Result<(), NoMemory>
-    ensures { OnOk result (text.new ≡ text.old ++ legend_front) }
+/// Fixed texts, one after another.
+fn write_pieces(text: &mut Text, pieces: &[Piece]) -> Result<(), NoMemory>
+    ensures { OnOk result (text.new ≡ text.old ++ flat_map piece_text pieces.now) }
 {
-    text.piece(Piece::LegendRuns)?;
-    text.piece(Piece::LegendNew)?;
-    text.piece(Piece::LegendEvent)?;
-    text.piece(Piece::LegendRequested)
-}
-
-#[tactic(auto, unfolding(crate::specs::Pictures::legend_back))]
-fn write_legend_back(text: &mut Text) -> Result<(), NoMemory>
-    ensures { OnOk result (text.new ≡ text.old ++ legend_back) }
-{
-    text.piece(Piece::LegendAsleep)?;
-    text.piece(Piece::LegendJob)?;
-    text.piece(Piece::LegendEnds)
-}
-
-#[tactic(auto, unfolding(crate::specs::Pictures::picture_legend))]
-fn write_legend(text: &mut Text) -> Result<(), NoMemory>
-    ensures { OnOk result (text.new ≡ text.old ++ picture_legend) }
-{
-    write_legend_front(text)?;
-    write_legend_back(text)
-}
-
-#[tactic(auto, unfolding(crate::specs::Pictures::picture_size))]
-fn write_size(text: &mut Text, rows: u64, lanes: u64) -> Result<(), NoMemory>
-    ensures { OnOk result (text.new ≡ text.old ++ picture_size rows lanes) }
-{
-    text.piece(Piece::Open)?;
-    text.across(lanes.max(4))?;
-    text.piece(Piece::Height)?;
-    text.down(rows)
-}
-
-#[tactic(auto, unfolding(crate::specs::Pictures::picture_page))]
-fn write_page(text: &mut Text) -> Result<(), NoMemory>
-    ensures { OnOk result (text.new ≡ text.old ++ picture_page) }
-{
-    text.piece(Piece::Font)?;
-    write_styles(text)?;
-    text.piece(Piece::Page)?;
-    write_legend(text)
+    for piece in pieces {
+        text.piece(*piece)?;
+    }
+    Ok(())
 }
 
 /// The head of a picture of so many rows and lanes.
@@ -414,8 +387,11 @@ fn write_page(text: &mut Text) -> Result<(), NoMemory>
 pub fn write_picture_head(text: &mut Text, rows: u64, lanes: u64) -> Result<(), NoMemory>
     ensures { OnOk result (text.new ≡ text.old ++ picture_head rows lanes) }
 {
-    write_size(text, rows, lanes)?;
-    write_page(text)
+    text.piece(Piece::Open)?;
+    text.across(lanes.max(4))?;
+    text.piece(Piece::Height)?;
+    text.down(rows)?;
+    write_pieces(text, &PAGE)
 }
 
 #[tactic(auto, unfolding(crate::specs::Pictures::picture_foot))]

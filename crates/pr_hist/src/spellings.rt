@@ -81,63 +81,74 @@ fn with_operands(form: &Message, ops: &[&[u8]]) -> Option<Message>
         Message::Stop => alone(ops, Message::Stop),
         Message::Dstop => alone(ops, Message::Dstop),
         Message::Wstop => alone(ops, Message::Wstop),
-        Message::Twstop { .. } => numbered(
-            1,
-            ops,
-            Message::Twstop {
-                ms: number_at(ops, 0),
-            },
-        ),
-        Message::Run { .. } => run_flags_of(ops).map(|flags| Message::Run { flags }),
+        Message::Twstop { .. } => {
+            let ms = number_at(ops, 0);
+            numbered(1, ops, Message::Twstop { ms })
+        }
+        Message::Run { .. } => {
+            let flags = run_flags_of(ops)?;
+            Some(Message::Run { flags })
+        }
         Message::Csig => alone(ops, Message::Csig),
         Message::Cfault => alone(ops, Message::Cfault),
-        Message::Ssig { .. } => signal_of(ops).map(|signal| Message::Ssig { signal }),
-        Message::Kill { .. } => signal_of(ops).map(|signal| Message::Kill { signal }),
-        Message::Unkill { .. } => signal_of(ops).map(|signal| Message::Unkill { signal }),
-        Message::Shold { .. } => set_of::<Sig>(ops).map(|set| Message::Shold {
-            signals: set.word(),
-        }),
-        Message::Strace { .. } => set_of::<Sig>(ops).map(|set| Message::Strace {
-            signals: set.word(),
-        }),
-        Message::Sfault { .. } => set_of::<Flt>(ops).map(|set| Message::Sfault {
-            faults: set.word(),
-        }),
-        Message::Sentry { .. } => set_of::<Sysno>(ops).map(|set| Message::Sentry {
-            calls: set.word(),
-        }),
-        Message::Sexit { .. } => set_of::<Sysno>(ops).map(|set| Message::Sexit {
-            calls: set.word(),
-        }),
-        Message::Set { .. } => modes_of(ops).map(|modes| Message::Set { modes }),
-        Message::Unset { .. } => modes_of(ops).map(|modes| Message::Unset { modes }),
-        Message::Sreg { .. } => numbered(
-            11,
-            ops,
-            Message::Sreg {
-                regs: registers_of(ops),
-            },
-        ),
-        Message::Svaddr { .. } => numbered(
-            1,
-            ops,
-            Message::Svaddr {
-                pc: number_at(ops, 0),
-            },
-        ),
+        Message::Ssig { .. } => {
+            let signal = signal_of(ops)?;
+            Some(Message::Ssig { signal })
+        }
+        Message::Kill { .. } => {
+            let signal = signal_of(ops)?;
+            Some(Message::Kill { signal })
+        }
+        Message::Unkill { .. } => {
+            let signal = signal_of(ops)?;
+            Some(Message::Unkill { signal })
+        }
+        Message::Shold { .. } => {
+            let signals = set_of::<Sig>(ops)?.word();
+            Some(Message::Shold { signals })
+        }
+        Message::Strace { .. } => {
+            let signals = set_of::<Sig>(ops)?.word();
+            Some(Message::Strace { signals })
+        }
+        Message::Sfault { .. } => {
+            let faults = set_of::<Flt>(ops)?.word();
+            Some(Message::Sfault { faults })
+        }
+        Message::Sentry { .. } => {
+            let calls = set_of::<Sysno>(ops)?.word();
+            Some(Message::Sentry { calls })
+        }
+        Message::Sexit { .. } => {
+            let calls = set_of::<Sysno>(ops)?.word();
+            Some(Message::Sexit { calls })
+        }
+        Message::Set { .. } => {
+            let modes = modes_of(ops)?;
+            Some(Message::Set { modes })
+        }
+        Message::Unset { .. } => {
+            let modes = modes_of(ops)?;
+            Some(Message::Unset { modes })
+        }
+        Message::Sreg { .. } => {
+            let regs = registers_of(ops);
+            numbered(11, ops, Message::Sreg { regs })
+        }
+        Message::Svaddr { .. } => {
+            let pc = number_at(ops, 0);
+            numbered(1, ops, Message::Svaddr { pc })
+        }
         Message::Watch { .. } => {
             let at = number_at(ops, 0);
             let size = number_at(ops, 1);
             let flags = number_at(ops, 2);
             numbered(3, ops, Message::Watch { at, size, flags })
         }
-        Message::Agent { .. } => numbered(
-            11,
-            ops,
-            Message::Agent {
-                regs: registers_of(ops),
-            },
-        ),
+        Message::Agent { .. } => {
+            let regs = registers_of(ops);
+            numbered(11, ops, Message::Agent { regs })
+        }
         Message::Read { .. } => {
             let at = number_at(ops, 0);
             let len = number_at(ops, 1);

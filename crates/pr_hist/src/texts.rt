@@ -1,12 +1,13 @@
 //! A text that is being written.
-ghost use Rattle.std.specs.Prelude.{◌≡◌, ◌++◌, [], false, decimal, drop, take, IfOk, OnOk};
+ghost use Rattle.std.specs.Prelude.{◌≡◌, ◌++◌, ◌<◌, ◌≤◌, ◌^◌, [], codes, false, decimal, drop, length, replicate, take, IfOk, OnOk};
 ghost use Rattle.std.specs.List.{before_first, flat_map};
 ghost use Rattle.pr_num.specs.Limits.{shown_limit};
 ghost use Rattle.pr_num.specs.Padding.{is_zero};
 ghost use Rattle.pr_text.specs.HexWords.{byte_digits, digits_of_bytes};
+ghost use Rattle.pr_text.specs.LwpWords.{lwp_text};
 ghost use Rattle.pr_text.specs.Numerals.{hex_text};
 ghost use Rattle.pr_text.specs.Quotes.{quoted_text};
-ghost use Rattle.pr_hist.specs.Texts.{bytes_text, digits_text, name_in, number_text, plus_as_blank, size_text, spaced_text, time_text};
+ghost use Rattle.pr_hist.specs.Texts.{bytes_text, digits_text, name_in, number_text, plus_as_blank, size_text, spaced_text, time_text, trimmed};
 
 use pr_num::limits::SHOWN_LIMIT;
 use pr_num::{Bytes, NoMemory, zero_in};
@@ -67,6 +68,14 @@ pub fn name_in(bytes: &[u8]) -> &[u8]
     before_zero(front(bytes, 32))
 }
 
+/// Bytes without the blanks at their end.
+#[tactic(auto, unfolding(crate::specs::Texts::trimmed))]
+fn trimmed(bytes: &[u8]) -> &[u8]
+    ensures { result.now ≡ trimmed bytes.now }
+{
+    bytes.trim_ascii_end()
+}
+
 /// The first bytes, as many as a quoted text shows.
 fn shown(bytes: &[u8]) -> &[u8]
     ensures { result.now ≡ take shown_limit bytes.now }
@@ -100,12 +109,38 @@ impl Text {
         &self.bytes
     }
 
+    /// How many bytes there are so far.
+    pub fn len(&self) -> usize
+        ensures { result ≡ length self.now }
+    {
+        self.bytes.len()
+    }
+
     /// Appends bytes as they are.
     pub fn text(&mut self, bytes: &[u8]) -> Result<(), NoMemory>
         ensures { OnOk result (self.new ≡ self.old ++ bytes.now) }
     {
         self.bytes.extend_from_slice(bytes)?;
         Ok(())
+    }
+
+    /// Appends a byte, so many times.
+    pub fn times(&mut self, byte: u8, count: usize) -> Result<(), NoMemory>
+        requires { count < 2 ^ 63 }
+        ensures { OnOk result (self.new ≡ self.old ++ replicate count byte) }
+    {
+        self.bytes.resize(self.bytes.len() + count, byte)?;
+        Ok(())
+    }
+
+    /// Ends the line that begins at a place, without the blanks at its end.
+    pub fn end_line(&mut self, start: usize) -> Result<(), NoMemory>
+        requires { start ≤ length self.old }
+        ensures { OnOk result (self.new ≡ take start self.old ++ (trimmed (drop start self.old) ++ codes "\n")) }
+    {
+        let kept = trimmed(behind(&self.bytes, start)).len();
+        self.bytes.truncate(start + kept);
+        self.text(b"\n")
     }
 
     /// Appends a number in decimal.
@@ -160,6 +195,16 @@ impl Text {
     {
         self.decimal(n)?;
         self.text(b" ms")
+    }
+
+    /// Appends an lwp, by its process and its own id.
+    #[tactic(auto, unfolding(pr_text::specs::LwpWords::lwp_text))]
+    pub fn lwp(&mut self, pid: u32, lwp: u32) -> Result<(), NoMemory>
+        ensures { OnOk result (self.new ≡ self.old ++ lwp_text pid lwp) }
+    {
+        self.decimal(u64::from(pid))?;
+        self.text(b"/")?;
+        self.decimal(u64::from(lwp))
     }
 
     /// Appends how many bytes there are.

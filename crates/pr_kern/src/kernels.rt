@@ -17,13 +17,13 @@ use crate::calls::{answer, ready};
 use crate::faults::fault_pc;
 use crate::following::{around_call, call_changes_files};
 use crate::starts::{first_machine, keep_limits};
-use crate::turns::{CanMove, next_movable};
+use crate::turns::{CanMove, first_ready, make_turn, next_movable};
 use pr_asm::Program;
 use pr_model::{Act, Actor, Call, Entry, History, Reply, Turned};
 use pr_num::{Bytes, Name, NoMemory};
 use pr_proc::next_lwp;
-use pr_ready::{Ready, after_call, after_tick, after_turn, around_lwp, some_sleeper};
-use pr_turn::{movable, turn};
+use pr_ready::{Ready, after_call, after_tick, some_sleeper};
+use pr_turn::movable;
 use std::alloc::Global;
 use std::marker::Model;
 
@@ -77,7 +77,7 @@ impl Kern {
         let state = first_machine(alloc, programs, files, spawns)?;
         let mut history = History::new(alloc);
         history.reserve(places as usize)?;
-        let ready = Ready::all(state.system.made);
+        let ready = first_ready(&state.system);
         Ok(Kern {
             alloc,
             state,
@@ -159,10 +159,8 @@ impl Kern {
         ensures err { OnErr result (self.new ≡ self.old) }
         ensures sure { may_take_memory self.old.state.system pid lwp ≡ false → IsOk result }
     {
-        let around = around_lwp(&self.state.system, pid, lwp);
-        let turned = turn(self.alloc, &mut self.state.system, pid, lwp)?;
-        let sys = &self.state.system;
-        after_turn(&mut self.ready, sys, pid, around, turned.did, &CanMove(sys));
+        let sys = &mut self.state.system;
+        let turned = make_turn(self.alloc, sys, &mut self.ready, pid, lwp)?;
         self.history.push(Entry {
             actor: Actor::Lwp(pid, lwp),
             act: Act::Turn(turned),

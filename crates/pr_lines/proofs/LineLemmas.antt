@@ -1,4 +1,4 @@
-use Rattle.std.proofs.Common.{◌≡◌, ◌+◌, ◌-◌, ◌<◌, ◌||◌, ◌==◌, ℕ, zero, suc, Bool, true, false, not, cond, ltb, List, [], ◌∷◌, ◌++◌, Option, Some, None, take, drop, length, inl, inr, refl, sym, ◌∙◌, ap, subst, arith, append_assoc}
+use Rattle.std.proofs.Common.{◌≡◌, ◌+◌, ◌-◌, ◌<◌, ◌≤◌, ◌||◌, ◌==◌, ℕ, zero, suc, Bool, true, false, not, cond, ltb, List, [], ◌∷◌, ◌++◌, Option, Some, None, take, drop, length, inl, inr, refl, sym, ◌∙◌, ap, subst, arith, append_assoc, length-append}
 use Rattle.std.proofs.Math.Seq.{drop-length}
 use Rattle.std.proofs.lemmas.Bool.{cases_Bool, eqb-true}
 use Rattle.std.proofs.lemmas.Bool.Decides.{nat_tests}
@@ -8,9 +8,10 @@ use Rattle.std.specs.Io.KnownBytes.{IsAtEnd}
 use Rattle.std.specs.List.{list_any, position, position_or_len}
 use Rattle.pr_io.proofs.Known.{with_front-nil, with_front-with_front}
 use Rattle.pr_io.specs.Known.{with_front}
+use Rattle.pr_io.specs.Reading.{CameAbove}
 use Rattle.pr_num.proofs.NumberLemmas.{one_more}
 use Rattle.pr_num.proofs.TableLemmas.{list_any-no_place, position-within}
-use Rattle.pr_lines.specs.Lines.{IsFrontOf, TakenSoFar, TakesLine, TookHeld, TookLine, kept_of, line_bytes}
+use Rattle.pr_lines.specs.Lines.{TakenSoFar, TakesLine, TookHeld, TookLine, kept_of, line_bytes}
 use Rattle.pr_text.specs.TextLines.{is_newline, newline}
 
 -- ---- the first newline
@@ -120,9 +121,17 @@ none-kept : (n : ℕ) (xs : List ℕ) → [] ≡ take (suc n) xs → xs ≡ []
 none-kept n [] none = refl
 none-kept n (x ∷ xs) none = cc
 
+-- of what is empty nothing is kept
+some-kept : (n b : ℕ) (line xs : List ℕ) → b ∷ line ≡ take (suc n) xs → 0 < length xs
+some-kept n b line [] some = cc
+some-kept n b line (x ∷ xs) some = omega arith
+
 -- the source is at its end: what was taken is the last line, or nothing was to come
 pub last-line : (b : ℕ) (line : List ℕ) (old now : Option (List ℕ)) → TakenSoFar (b ∷ line) old now → IsAtEnd now → TookLine (b ∷ line) old now
-last-line b line old now far end = record { whole = far.whole; plain = far.plain; kept = far.kept; front = inr (far.front, end) }
+last-line b line old now far end =
+    let number : line_bytes + 1 ≡ suc line_bytes = omega arith in
+    let some : 0 < length far.whole = some-kept line_bytes b line far.whole (far.kept ∙ ap (λ (n : ℕ). take n far.whole) number) in
+    record { whole = far.whole; plain = far.plain; kept = far.kept; front = inr (far.front, (end, some)) }
 
 pub no-line : (old now : Option (List ℕ)) → TakenSoFar [] old now → now ≡ old
 no-line old now far =
@@ -168,3 +177,29 @@ over-so b (x ∷ xs) held old now is none far end =
 -- what is to come once more was read
 pub refilled : (line held : List ℕ) (old before now : Option (List ℕ)) → before ≡ with_front held now → TakenSoFar line old before → TakenSoFar line old (with_front held now)
 refilled line held old before now came far = subst (λ (x : Option (List ℕ)). TakenSoFar line old x) came far
+
+-- ---- how many bytes came
+
+-- so many bytes came at least
+pub record HasCome (n : ℕ) (old new : Option (List ℕ)) : Type 0 where
+  pub bytes : List ℕ
+  pub front : old ≡ with_front bytes new
+  pub many : n ≤ length bytes
+
+pub come-begun : (held : List ℕ) (now : Option (List ℕ)) → HasCome 0 (with_front held now) now
+come-begun held now = record { bytes = held; front = refl; many = omega arith }
+
+pub come-more : (n : ℕ) (held : List ℕ) (old before now : Option (List ℕ)) → before ≡ with_front held now → 0 < length held
+    → HasCome n old before → HasCome (n + 1) old now
+come-more n held old before now came some has = record {
+  bytes = has.bytes ++ held;
+  front = has.front ∙ ap (with_front has.bytes) came ∙ with_front-with_front has.bytes held now;
+  many = let both = length-append has.bytes held in let many = has.many in omega (arith, both, many, some);
+}
+
+pub come-above : (n limit : ℕ) (old now : Option (List ℕ)) → limit < n → HasCome n old now → CameAbove limit old now
+come-above n limit old now above has = record {
+  bytes = has.bytes;
+  front = has.front;
+  above = let many = has.many in omega (arith, many, above);
+}

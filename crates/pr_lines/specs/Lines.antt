@@ -1,4 +1,4 @@
-use Rattle.std.specs.Prelude.{◌≡◌, ◌+◌, ◌-◌, ◌⊎◌, ◌++◌, ℕ, Bool, true, false, List, [], ◌∷◌, Option, length, take}
+use Rattle.std.specs.Prelude.{◌≡◌, ◌<◌, ◌+◌, ◌-◌, ◌⊎◌, ◌++◌, ℕ, Bool, true, false, List, [], ◌∷◌, Option, length, take}
 use Rattle.std.specs.Io.KnownBytes.{IsAtEnd}
 use Rattle.std.specs.List.{list_any}
 use Rattle.pr_io.specs.Known.{with_front}
@@ -41,12 +41,13 @@ pub record TakenSoFar (line : List ℕ) (old now : Option (List ℕ)) : Type 0 w
   pub kept : line ≡ kept_of whole
   pub front : old ≡ with_front whole now
 
--- The next line: with its newline, or as the last one, at the end of the source.
+-- The next line: with its newline, or as the last one, at the end of the source. A last one without its newline has a byte
+-- at least, so that there is no line behind the last newline.
 pub record TookLine (line : List ℕ) (old new : Option (List ℕ)) : Type 0 where
   pub whole : List ℕ
   pub plain : list_any is_newline whole ≡ false
   pub kept : line ≡ kept_of whole
-  pub front : (old ≡ with_front (whole ++ newline ∷ []) new) ⊎ ((old ≡ with_front whole new) × IsAtEnd new)
+  pub front : (old ≡ with_front (whole ++ newline ∷ []) new) ⊎ ((old ≡ with_front whole new) × (IsAtEnd new × (0 < length whole)))
 
 -- the next line was taken, or there was none: nothing is to come
 abbrev pub TakesLine : Bool → List ℕ → Option (List ℕ) → Option (List ℕ) → Type 0

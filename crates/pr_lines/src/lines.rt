@@ -1,8 +1,9 @@
-ghost use Rattle.std.specs.Prelude.{◌≡◌, ◌≢◌, ◌+◌, ◌-◌, ◌++◌, ◌<◌, ◌≤◌, [], length, drop, take, true, false, Err, IfOk, IfSome, IsErrOf, OnOk};
+ghost use Rattle.std.specs.Prelude.{◌≡◌, ◌≢◌, ◌+◌, ◌-◌, ◌^◌, ◌++◌, ◌<◌, ◌≤◌, [], length, drop, take, true, false, Err, IfOk, IfSome, IsErrOf, OnOk};
 ghost use Rattle.std.specs.Io.KnownBytes.{IsAtEnd};
 ghost use Rattle.std.specs.List.{list_any, position};
 ghost use Rattle.pr_io.specs.Faults.{Rose};
 ghost use Rattle.pr_io.specs.Known.{with_front};
+ghost use Rattle.pr_io.specs.Reading.{CameAbove};
 ghost use Rattle.pr_lines.specs.Lines.{TakesLine, TookHeld, line_bytes};
 ghost use Rattle.pr_text.specs.TextLines.{is_newline};
 
@@ -124,10 +125,12 @@ impl Lines {
     fn refill<S: Source>(&mut self, source: &mut S) -> Result<bool, ReadEnd>
         requires { self.old.held ≡ [] }
         ensures came { OnOk result (S.left source.old ≡ with_front self.new.held (S.left source.new)) }
+        ensures some { IfOk result (λ more. more ≡ true → 0 < length self.new.held) }
         ensures none { IfOk result (λ more. more ≡ false → self.new.held ≡ []) }
         ensures end { IfOk result (λ more. more ≡ false → IsAtEnd (S.left source.new)) }
         ensures failed { IsErrOf result ReadEnd.Failed → Rose (S.faults source.old) (S.faults source.new) }
         ensures no_fault { result ≢ Err ReadEnd.Failed → S.faults source.new ≡ S.faults source.old }
+        ensures short { result ≢ Err ReadEnd.TooLong }
     {
         let count = source.read(self.piece.as_mut_slice())?;
         replace(&mut self.bytes, &self.piece[..count])?;
@@ -141,6 +144,9 @@ impl Lines {
         ensures takes { IfOk result (λ there. TakesLine there line.new.items
             (with_front self.old.held (S.left source.old)) (with_front self.new.held (S.left source.new))) }
         ensures unread { list_any is_newline self.old.held ≡ true → source.new ≡ source.old }
+        // More bytes came than can be counted.
+        ensures long { IsErrOf result ReadEnd.TooLong
+            → CameAbove (2 ^ 64 - 2) (with_front self.old.held (S.left source.old)) (S.left source.new) }
         ensures failed { IsErrOf result ReadEnd.Failed → Rose (S.faults source.old) (S.faults source.new) }
         ensures no_fault { result ≢ Err ReadEnd.Failed → S.faults source.new ≡ S.faults source.old }
     {

@@ -131,7 +131,7 @@ stack-written bytes size =
 module _ (s : TracedState) (k c pid : ℕ) (a : Answer) (stands : handle_of s.opens k c ≡ Some (writer_of k pid))
     (granted : (e : Errno) → a.reply ≢ reply.Fail e) where
   -- a message is refused where the process is gone
-  gone : (bytes : List ℕ) → answer_to s k (call.Ctl c bytes) ≡ Some a → live_process s.system pid ≡ None → ⊥
+  pub gone : (bytes : List ℕ) → answer_to s k (call.Ctl c bytes) ≡ Some a → live_process s.system pid ≡ None → ⊥
   gone bytes given none =
       granted Noent
       (ap (λ (x : Answer). x.reply) (ctl-is s k c (writer_of k pid) stands refl bytes a given)

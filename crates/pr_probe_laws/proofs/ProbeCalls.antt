@@ -62,8 +62,8 @@ granted now r counts none e is =
     absurd (let both : false ≡ true = sym (counts e) ∙ over in cc)
 
 -- after a descriptor comes the next one, or the way of the agent to its end
-asked-next : (P : ProbeStage → Type 0) → ((d : ℕ) (step : AskingStep) → P (stage.Asking d step)) → P stage.UntraceExits
-    → (d : ℕ) → P (stage_asked d)
+pub asked-next : (P : ProbeStage → Type 0) → ((d : ℕ) (step : AskingStep) → P (stage.Asking d step))
+    → P stage.UntraceExits → (d : ℕ) → P (stage_asked d)
 unfolding stage_asked
 asked-next P asks out d = by (nat_lt d (descriptor_limit - 1))
   where

@@ -1,1 +1,3 @@
 pub mod PutBack
+pub mod SetsBack
+pub mod ShownDescriptors

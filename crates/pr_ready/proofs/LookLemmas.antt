@@ -7,6 +7,7 @@ use Rattle.pr_model.specs.State.{TracedLwp, TracedSystem}
 use Rattle.pr_model.specs.declared.lwps.Phase.TheVariants.{User}
 use Rattle.pr_ready.specs.Around.{is_around}
 use Rattle.pr_ready.specs.Ready.{Covers, CoversEach, Grows, GrowsBut, IsWoken, ReadySets, is_at_pipe, is_dozing, is_woken}
+use Rattle.pr_ready_laws.specs.Reach.{Reach, changes_files, itself, reaches_around}
 use Rattle.pr_ready_laws.specs.Left.{dozes, sleeps_at_pipe, wakes_between}
 use Rattle.pr_ready.specs.Steps.{Follows}
 use Rattle.pr_ready.specs.declared.around.Around.{Around}
@@ -29,6 +30,23 @@ but-next which a b d one two = record {
   at_pipes = λ pid apart has. two.at_pipes pid (one.at_pipes pid apart has);
   dozing = λ pid apart has. two.dozing pid (one.dozing pid apart has);
   moments = λ pid moment due. two.moments pid moment (one.moments pid moment due);
+}
+
+pub grows-same : (a : ReadySets) → Grows a a
+grows-same a = record {
+  movable = λ pid has. has;
+  at_pipes = λ pid has. has;
+  dozing = λ pid has. has;
+  moments = λ pid moment due. due;
+}
+
+-- sets that grow leave nobody out
+pub grows-but : (which : ℕ) (a b : ReadySets) → Grows a b → GrowsBut which a b
+grows-but which a b it = record {
+  movable = λ pid apart has. it.movable pid has;
+  at_pipes = λ pid apart has. it.at_pipes pid has;
+  dozing = λ pid apart has. it.dozing pid has;
+  moments = it.moments;
 }
 
 module _ (answer : ℕ × ℕ → Bool) (s : TracedSystem) where
@@ -112,6 +130,16 @@ module _ (answer : ℕ × ℕ → Bool) (s : TracedSystem) where
         by_clock = λ may pid spared small due said. absurd (false≢true may);
         moments = λ pid moment spared small due wakes. last.moments pid moment (before.moments pid moment due);
       }
+
+  -- a process alone, which was looked at
+  pub follows-alone : (which : ℕ) (old new : ReadySets) (reach : Reach) → (which < process_limit → Covers answer s new which)
+      → GrowsBut which old new → reach ≡ itself → (around : Around)
+      → Follows (λ other. eqb which other || (reaches_around reach && is_around around other)) (changes_files reach) false
+      answer s old new
+  follows-alone which old new reach covers first own around =
+      follows-turn (changes_files reach) old new new (λ may. absurd (false≢true (sym (ap changes_files own) ∙ may)))
+      (grows-same new) which around (reaches_around reach) new covers first
+      (λ wide. absurd (false≢true (sym (ap reaches_around own) ∙ wide))) (grows-same new)
 
 -- ---- a process with one lwp
 

@@ -1,5 +1,5 @@
 //! How processes that a step touched are looked at again.
-ghost use Rattle.std.specs.Prelude.{◌≡◌, ◌<◌, ◌==◌, ℕ, true, false};
+ghost use Rattle.std.specs.Prelude.{◌≡◌, ◌<◌, ◌==◌, ℕ, true, false, Some};
 ghost use Rattle.std.specs.List.{list_any};
 ghost use Rattle.std.specs.Option.{option_copied};
 ghost use Rattle.pr_model.specs.Lives.{is_id};
@@ -88,7 +88,22 @@ fn runs_alone(process: &Proc) -> bool
     process.job_stop.is_none() && process.borrower.is_none() && is_running(lwp)
 }
 
+/// Looks at each lwp of a live process.
+#[inline(never)]
+fn look_at_each<Q: Question>(ready: &mut Ready, sys: &Sys, pid: u32, process: &Proc, question: &Q)
+    requires { live_process sys.now pid ≡ Some process.now }
+    ensures covers { pid < process_limit → Covers (Q.answer question.now) sys.now ready.new pid }
+    ensures grows { Grows ready.old ready.new }
+{
+    let lwps = process.lwps.as_slice();
+    put_if(&mut ready.movable, pid, some_answer(question, pid, lwps));
+    put_if(&mut ready.at_pipes, pid, some_at_pipe(lwps));
+    put_if(&mut ready.dozing, pid, some_dozing(lwps));
+    note_next(&mut ready.moments, sys.clock, pid, lwps);
+}
+
 /// Looks at a process: it comes into each set in which it has to be, and leaves none.
+#[inline]
 pub fn look<Q: Question>(ready: &mut Ready, sys: &Sys, pid: u32, question: &Q)
     ensures covers { pid < process_limit → Covers (Q.answer question.now) sys.now ready.new pid }
     ensures grows { Grows ready.old ready.new }
@@ -100,11 +115,7 @@ pub fn look<Q: Question>(ready: &mut Ready, sys: &Sys, pid: u32, question: &Q)
         put_if(&mut ready.movable, pid, true);
         return;
     }
-    let lwps = process.lwps.as_slice();
-    put_if(&mut ready.movable, pid, some_answer(question, pid, lwps));
-    put_if(&mut ready.at_pipes, pid, some_at_pipe(lwps));
-    put_if(&mut ready.dozing, pid, some_dozing(lwps));
-    note_next(&mut ready.moments, sys.clock, pid, lwps);
+    look_at_each(ready, sys, pid, process, question);
 }
 
 /// The process of an id leaves every set. The moments stay: the clock does not know whose they are.

@@ -3,10 +3,10 @@ ghost use Rattle.std.specs.Prelude.{◌≡◌, ◌==◌, ◌||◌, ◌&&◌, tru
 ghost use Rattle.pr_ready.specs.Around.{is_around};
 ghost use Rattle.pr_ready.specs.Ready.{CoversEach, Grows, IsWoken};
 ghost use Rattle.pr_ready.specs.Steps.{Follows};
-ghost use Rattle.pr_ready_laws.specs.Reach.{changes_files, reach_of, reach_of_call, reaches_around};
+ghost use Rattle.pr_ready_laws.specs.Reach.{changes_files, itself, reach_of, reach_of_call, reaches_around};
 
 use crate::around::Around;
-use crate::looks::{look_around, renew};
+use crate::looks::{look, look_around, renew};
 use crate::ready::Ready;
 use crate::ticks::wake_due;
 use crate::wakes::wake;
@@ -104,6 +104,24 @@ pub fn after_turn<Q: Question>(
     renew(ready, sys, pid, question);
     look_around_if(ready, sys, reaches_around(did), around, question);
     wake_at_pipes_if(ready, sys, changes_files(did), question);
+}
+
+/// After a turn of an lwp of a process that reaches no further than that process, as one that runs an instruction: the
+/// process is looked at. Where the lwp only ran, it was looked for before, and no set has to be left.
+pub fn after_instruction<Q: Question>(
+    ready: &mut Ready,
+    sys: &Sys,
+    pid: u32,
+    did: Did,
+    question: &Q,
+)
+    requires { reach_of did ≡ itself }
+    ensures { (around : Around) → Follows (λ other. (pid == other) || (reaches_around (reach_of did) && is_around around other)) (changes_files (reach_of did)) false (Q.answer question.now) sys.now ready.old ready.new }
+{
+    match did {
+        Did::Ran => look(ready, sys, pid, question),
+        _ => renew(ready, sys, pid, question),
+    }
 }
 
 /// After a call of a controller: what it may have touched is looked at. `files`: files may differ.

@@ -8,7 +8,9 @@ pub mod UnopenedChildren
 pub mod Holding
 pub mod FollowedChildren
 pub mod NewbornChildren
+pub mod OwnFiles
 pub mod Reading
 pub mod Releasing
 pub mod SeenChildren
 pub mod ToldForks
+pub mod Asking

@@ -3,6 +3,7 @@
 #![tactic(auto)]
 
 mod attachments;
+mod business;
 mod children;
 mod follows;
 mod grips;
@@ -20,6 +21,12 @@ mod unfollowing;
 pub use attachments::{
     a_watched_process_is_let_go_for_a_reason, an_opened_process_is_watched,
     no_process_is_watched_at_first_or_at_last, only_an_opened_process_is_watched,
+};
+pub use business::{
+    truss_calls_files_that_it_has_open, truss_closes_all_that_it_has_of_what_has_ended,
+    truss_prints_what_it_has_counted, truss_reads_memory_for_its_lines,
+    truss_shows_what_it_reads_right_then_and_once, truss_tells_no_refusal_of_what_it_has_hold_of,
+    truss_traces_writes_and_asks_for_no_more_than_it_is_asked,
 };
 pub use children::no_child_is_left;
 pub use follows::{
@@ -47,7 +54,10 @@ pub use lineages::{
 pub use memories::{
     the_text_of_an_event_is_that_of_its_moment, the_text_of_an_event_is_what_stood_in_memory,
 };
-pub use named::what_a_poll_named_is_run_or_closed_within_twelve_calls;
+pub use named::{
+    truss_looks_at_what_a_poll_named, truss_runs_what_a_poll_has_named,
+    what_a_poll_named_is_run_or_closed_within_twelve_calls,
+};
 pub use newborns::{a_followed_child_does_nothing_before_it_is_watched, no_process_is_made_twice};
 pub use positions::a_process_stands_in_one_of_four_ways_with_truss;
 pub use reads::{

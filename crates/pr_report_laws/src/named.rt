@@ -2,7 +2,10 @@ ghost use Rattle.std.specs.Prelude.{ℕ, List};
 ghost use Rattle.pr_line.specs.declared.options.Options.{Options};
 ghost use Rattle.pr_model.specs.State.{TracedState};
 ghost use Rattle.pr_model.specs.declared.events.Entry.{Entry};
-ghost use Rattle.pr_report_laws.specs.Named.{IsSoonDone};
+ghost use Rattle.pr_report_laws.specs.Named.{IsSoonDone, LooksAtWhatIsNamed};
+ghost use Rattle.pr_report_laws.specs.RunsNamed.{RunsWhatWasNamed};
+ghost use Rattle.pr_truss.specs.Trusses.{first_truss};
+ghost use Rattle.pr_truss_laws.specs.Exchanges.{Exchange, Makes};
 ghost use Rattle.pr_truss_laws.specs.Runs.{IsTrussRun};
 
 /// In a legal history of a lawful state, in which a truss with nothing open makes its calls: when a poll of it has
@@ -11,4 +14,18 @@ ghost use Rattle.pr_truss_laws.specs.Runs.{IsTrussRun};
 #[tactic(auto, using(crate::proofs::Watching::NamedSoon::soon))]
 pub fn what_a_poll_named_is_run_or_closed_within_twelve_calls()
     ensures { (n k : ℕ) (o : Options) (s : TracedState) (h : List Entry) → IsTrussRun n k o s h → IsSoonDone k s h }
+{}
+
+/// Truss runs no other process than the one that a poll has named last, but where it ends an opening. This is so
+/// whatever it was replied.
+#[tactic(auto, using(crate::proofs::Asking::NamedRuns::named_runs))]
+pub fn truss_runs_what_a_poll_has_named()
+    ensures { (o : Options) (xs : List Exchange) → Makes (first_truss o) xs → RunsWhatWasNamed o xs }
+{}
+
+/// In such a history truss reads the status of a process right after a poll has named it.
+#[tactic(auto, using(crate::proofs::Watching::NamedSoon::soon))]
+pub fn truss_looks_at_what_a_poll_named()
+    ensures { (n k : ℕ) (o : Options) (s : TracedState) (h : List Entry) → IsTrussRun n k o s h
+        → LooksAtWhatIsNamed k s h }
 {}

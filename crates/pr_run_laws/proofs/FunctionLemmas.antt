@@ -1,11 +1,13 @@
-use Rattle.std.proofs.Common.{◌≡◌, ◌==◌, ℕ, Bool, true, false, None, Some, List, [], ◌∷◌, cond, sym, subst, ap, ◌∙◌, refl}
-use Rattle.std.specs.List.{cons_option, slice_get}
+use Rattle.std.proofs.Common.{◌≡◌, ◌==◌, ℕ, Bool, true, false, Option, None, Some, List, [], ◌∷◌, cond, sym, subst, ap, ◌∙◌, refl}
+use Rattle.std.proofs.lemmas.List.Elements.{All-cons, All-nil}
+use Rattle.std.specs.List.{All, cons_option, slice_get}
 use Rattle.std.specs.Option.{option_and_then}
 use Rattle.std.proofs.lemmas.Bool.{eqb-false, eqb-true}
 use Rattle.pr_line.specs.declared.options.Options.{Options}
-use Rattle.pr_model.specs.Legal.{after}
+use Rattle.pr_model.specs.Legal.{IsLegal, IsLegalEntry, after}
 use Rattle.pr_model.specs.State.{TracedState}
 use Rattle.pr_model.specs.declared.calls.Call.{Call}
+use Rattle.pr_model.specs.declared.calls.Call.TheVariants as call
 use Rattle.pr_model.specs.declared.calls.Reply.{Reply}
 use Rattle.pr_model.specs.declared.events.Act.{Act}
 use Rattle.pr_model.specs.declared.events.Act.TheVariants as act
@@ -21,7 +23,17 @@ use Rattle.pr_world.specs.Controllers.{after_reply, call_by, next_call, with_fed
 use Rattle.pr_world.specs.ControllerStates.{ControllerState, FnTruss}
 use Rattle.pr_world.specs.Protocol.{Follows, FollowsAt, controllers_after, controllers_at}
 use Rattle.pr_run_laws.proofs.TrussLemmas.{exchanges-cons, exchanges-none}
-use Rattle.pr_run_laws.specs.FunctionRuns.{IsFunctionTrussKept, MakesCalls, functions_after}
+use Rattle.pr_truss.specs.Marks.{has_functions}
+use Rattle.pr_truss.specs.Replies.{answer_of}
+use Rattle.pr_truss.specs.declared.replies.Answer.TheVariants.{Interrupted}
+use Rattle.pr_truss_laws.specs.Exchanges.{exchange_of}
+use Rattle.pr_report_laws.proofs.Files.KeepLemmas.{can_wait}
+use Rattle.pr_report_laws.proofs.Files.WatchHistories.{answered-calm, exchange-answered}
+use Rattle.pr_function_laws.proofs.MetLemmas.{tells-calls}
+use Rattle.pr_function_laws.proofs.SoonLemmas.{soon-done}
+use Rattle.pr_function_laws.specs.Runs.{MakesCalls, functions_after, replies_in}
+use Rattle.pr_function_laws.specs.Soon.{IsCalm, may_wait}
+use Rattle.pr_run_laws.specs.FunctionRuns.{IsFunctionTrussKept}
 
 -- A truss that shows calls of functions among the controllers of a run.
 
@@ -88,9 +100,46 @@ function-stays (e ∷ h) controllers s k t at follows =
     subst (Stays controllers (e ∷ h) k t) (sym (exchanges-cons k e h))
     (entry-stays controllers s h k t e.actor e.act (exchanges k h) at follows.0 rest)
 
-pub function-kept : (controllers : List ControllerState) (s : TracedState) (h : List Entry) (k : ℕ) (o : Options)
-    → slice_get controllers k ≡ Some (FnTruss (first_truss o)) → Follows controllers s h
-    → IsFunctionTrussKept controllers h k o
-function-kept controllers s h k o at follows =
+-- ---- a legal history
+
+-- the calls that wait, in the words of both
+waits-alike : (c : Call) → may_wait c ≡ false → can_wait c ≡ false
+waits-alike (call.Until moment) is = is
+waits-alike (call.Poll handles) is = is
+waits-alike (call.CtlWait handle until bytes) is = is
+waits-alike _ is = refl
+
+-- only a call that waits is interrupted in it
+call-calm : (n : ℕ) (s : TracedState) (k : ℕ) (e : Entry) (x : Exchange) → IsLegalEntry n s e
+    → exchange_of k e ≡ Some x → IsCalm x
+unfolding answer_of
+call-calm n s k e x legal own =
+    record { waits = λ interrupted. by (may_wait x.call) refl (ap answer_of interrupted) }
+  where
+    by : (waits : Bool) → may_wait x.call ≡ waits → answer_of x.reply ≡ Interrupted → may_wait x.call ≡ true
+    by true is interrupted = is
+    by false is interrupted =
+        absurd (answered-calm k s x (exchange-answered n k s e x legal own) (waits-alike x.call is) interrupted)
+
+all-calm : (h : List Entry) (n : ℕ) (s : TracedState) (k : ℕ) → IsLegal n s h → All IsCalm (exchanges k h)
+all-calm [] n s k legal = subst (All IsCalm) (sym (exchanges-none k)) (All-nil IsCalm)
+all-calm (e ∷ h) n s k legal =
+    subst (All IsCalm) (sym (exchanges-cons k e h))
+    (by (exchange_of k e) (λ x own. call-calm n s k e x legal.0 own) (all-calm h n (after s e) k legal.1))
+  where
+    by : (x : Option Exchange) → ((y : Exchange) → x ≡ Some y → IsCalm y) → All IsCalm (exchanges k h)
+        → All IsCalm (cons_option x (exchanges k h))
+    by None calm rest = rest
+    by (Some x) calm rest = All-cons IsCalm x (exchanges k h) (calm x refl) rest
+
+pub function-kept : (controllers : List ControllerState) (n : ℕ) (s : TracedState) (h : List Entry) (k : ℕ)
+    (o : Options) → slice_get controllers k ≡ Some (FnTruss (first_truss o)) → has_functions o ≡ true → IsLegal n s h
+    → Follows controllers s h → IsFunctionTrussKept controllers h k o
+function-kept controllers n s h k o at has legal follows =
     let stays = function-stays h controllers s k (first_truss o) at follows in
-    record { makes = stays.0; truss = stays.1 }
+    record {
+      makes = stays.0;
+      truss = stays.1;
+      calls = tells-calls o (replies_in (exchanges k h)) has;
+      soon = soon-done o (exchanges k h) has stays.0 (all-calm h n s k legal);
+    }

@@ -14,9 +14,11 @@ use Rattle.pr_model.specs.FirstState.{first_state}
 use Rattle.pr_model.specs.Legal.{IsLegal}
 use Rattle.pr_model.specs.declared.events.Entry.{Entry}
 use Rattle.pr_model.specs.declared.tools.ToolKind.{ToolKind}
-use Rattle.pr_model.specs.declared.tools.ToolKind.TheVariants.{Pstack}
+use Rattle.pr_model.specs.declared.tools.ToolKind.TheVariants.{Prun, Pstack, Pstop}
 use Rattle.pr_probe.specs.Probes.{first_probe}
 use Rattle.pr_probe_laws.proofs.ProbeLaw.{puts-back}
+use Rattle.pr_probe_laws.proofs.SetLaw.{sets-back}
+use Rattle.pr_probe_laws.proofs.TextLaw.{shows-one}
 use Rattle.pr_reached.proofs.ReachedLemmas.{first-reached}
 use Rattle.pr_reached.specs.Reached.{IsReached}
 use Rattle.pr_scen.specs.Scenarios.{Scenario, probe_in, probes_of, script_in, scripts_of, shown_functions, shown_in}
@@ -25,7 +27,13 @@ use Rattle.pr_scen.specs.declared.plans.Plan.TheVariants as plan
 use Rattle.pr_truss.specs.Marks.{has_functions}
 use Rattle.pr_truss_laws.specs.Handles.{HasNothingOpen}
 use Rattle.pr_world.proofs.RunLemmas.{moves-led}
+use Rattle.pr_tool_laws.proofs.HandleLemmas.{tool-holds}
+use Rattle.pr_tool_laws.proofs.NothingOpenLemmas.{tool-closes}
 use Rattle.pr_tool_laws.proofs.ProgramLemmas.{first-same}
+use Rattle.pr_tool_laws.proofs.ReadsOnlyLemmas.{tool-leaves}
+use Rattle.pr_tool_laws.proofs.RequestLemmas.{takes-back}
+use Rattle.pr_tool_laws.proofs.RunAgainLemmas.{runs-again}
+use Rattle.pr_tool_laws.proofs.SentLaw.{prun-runs, pstop-stops}
 use Rattle.pr_tool_laws.proofs.StackLaw.{shows-one-stack}
 use Rattle.pr_tool_laws.proofs.WholeLemmas.{tool-shows}
 use Rattle.pr_tools.specs.Tools.{first_tool}
@@ -125,11 +133,13 @@ trusses-kept s h range legal follows k o at bare =
     follows)
     (truss-plan s k o false at bare) (first-held s k) legal follows
 
-functions-kept : (s : Scenario) (h : List Entry) → Follows (controllers_of s) (first_state_of s) h → (k : ℕ)
+functions-kept : (s : Scenario) (h : List Entry) → IsLegal (length (controllers_of s)) (first_state_of s) h
+    → Follows (controllers_of s) (first_state_of s) h → (k : ℕ)
     (o : Options) → slice_get s.controllers k ≡ Some (plan.Truss o) → has_functions o ≡ true
     → IsFunctionTrussKept (controllers_of s) h k o
-functions-kept s h follows k o at some =
-    function-kept (controllers_of s) (first_state_of s) h k o (truss-plan s k o true at some) follows
+functions-kept s h legal follows k o at some =
+    function-kept (controllers_of s) (length (controllers_of s)) (first_state_of s) h k o
+    (truss-plan s k o true at some) some legal follows
 
 -- ---- tools
 
@@ -137,6 +147,12 @@ tool-first : (s : Scenario) (k : ℕ) (kind : ToolKind) (pid : ℕ) → slice_ge
     pid) → slice_get (controllers_of s) k ≡ Some (Tool (first_tool kind pid))
 unfolding controller_of
 tool-first s k kind pid at = slice_get-map controller_of s.controllers k ∙ ap (option_map controller_of) at
+
+-- where it is of this kind
+kind-first : (s : Scenario) (k : ℕ) (kind which : ToolKind) (pid : ℕ) → slice_get s.controllers k ≡ Some (plan.Tool kind
+    pid) → kind ≡ which → slice_get (controllers_of s) k ≡ Some (Tool (first_tool which pid))
+kind-first s k kind which pid at same =
+    tool-first s k kind pid at ∙ ap (λ (x : ToolKind). Some (Tool (first_tool x pid))) same
 
 tools-kept : (s : Scenario) (h : List Entry) → IsScenarioInRange s → IsLegal (length (controllers_of s))
     (first_state_of s) h → Follows (controllers_of s) (first_state_of s) h → (k : ℕ) (kind : ToolKind) (pid : ℕ) →
@@ -152,11 +168,33 @@ tools-kept s h range legal follows k kind pid at = record {
   stack = λ t programs ends ended accepted same.
       let n = length (controllers_of s) in
       let reached = state-reached s range in
-      let begins : slice_get (controllers_of s) k ≡ Some (Tool (first_tool Pstack pid)) = tool-first s k kind pid at ∙
-      ap (λ (which : ToolKind). Some (Tool (first_tool which pid))) same in
       shows-one-stack (controllers_of s) n k pid (first_state_of s) h t programs reached.lawful reached.in_range
-      (follows-bytes (controllers_of s) n (first_state_of s) h reached range.bytes legal follows) begins legal follows ends
-      ended accepted;
+      (follows-bytes (controllers_of s) n (first_state_of s) h reached range.bytes legal follows)
+      (kind-first s k kind Pstack pid at same) legal follows ends ended accepted;
+  runs_again = λ t ends ended accepted same.
+      let reached = state-reached s range in
+      runs-again (controllers_of s) (length (controllers_of s)) k pid (first_state_of s) h t reached.lawful
+      (kind-first s k kind Pstack pid at same) legal follows ends ended accepted;
+  takes_back = λ t ends ended was same.
+      takes-back (length (controllers_of s)) k pid (first_state_of s) (controllers_of s) h t
+      (kind-first s k kind Pstack pid at same) legal follows ends ended was;
+  stops = λ t ends ended accepted same.
+      let reached = state-reached s range in
+      pstop-stops (controllers_of s) (length (controllers_of s)) k pid (first_state_of s) h t reached.lawful
+      (kind-first s k kind Pstop pid at same) legal follows ends ended accepted;
+  runs = λ t ends ended accepted same.
+      let reached = state-reached s range in
+      prun-runs (controllers_of s) (length (controllers_of s)) k pid (first_state_of s) h t reached.lawful
+      (kind-first s k kind Prun pid at same) legal follows ends ended accepted;
+  opens = λ t ends.
+      tool-holds (length (controllers_of s)) k kind pid (first_state_of s) (controllers_of s) h t (first-held s k)
+      (tool-first s k kind pid at) legal follows ends;
+  closes = λ t ends ended.
+      tool-closes (length (controllers_of s)) k kind pid (first_state_of s) (controllers_of s) h t (first-held s k)
+      (tool-first s k kind pid at) legal follows ends ended;
+  leaves = λ t ends once.
+      tool-leaves (length (controllers_of s)) k kind pid once (first_state_of s) (controllers_of s) h t (first-held s k)
+      (tool-first s k kind pid at) legal follows ends;
 }
 
 -- ---- cores
@@ -185,14 +223,26 @@ probe-first : (s : Scenario) (k pid : ℕ) → slice_get s.controllers k ≡ Som
 unfolding controller_of
 probe-first s k pid at = slice_get-map controller_of s.controllers k ∙ ap (option_map controller_of) at
 
-probes-kept : (s : Scenario) (h : List Entry) → IsLegal (length (controllers_of s)) (first_state_of s) h
-    → Follows (controllers_of s) (first_state_of s) h → (k pid : ℕ)
+probes-kept : (s : Scenario) (h : List Entry) → IsScenarioInRange s → IsLegal (length (controllers_of s))
+    (first_state_of s) h → Follows (controllers_of s) (first_state_of s) h → (k pid : ℕ)
     → slice_get s.controllers k ≡ Some (plan.Probe pid) → IsProbeKept (controllers_of s) (first_state_of s) h k pid
-probes-kept s h legal follows k pid at = record {
+probes-kept s h range legal follows k pid at = record {
   puts_back =
       λ p ends ended accepted.
       puts-back (controllers_of s) (length (controllers_of s)) k pid (first_state_of s) h p (probe-first s k pid at)
       legal follows ends ended accepted;
+  sets_back = λ p ends ended accepted.
+      let n = length (controllers_of s) in
+      let reached = state-reached s range in
+      sets-back (controllers_of s) n k pid (first_state_of s) h p reached.lawful reached.in_range
+      (follows-bytes (controllers_of s) n (first_state_of s) h reached range.bytes legal follows)
+      (probe-first s k pid at) legal follows ends ended accepted;
+  shows = λ p ends ended accepted.
+      let n = length (controllers_of s) in
+      let reached = state-reached s range in
+      shows-one (controllers_of s) n k pid (first_state_of s) h p reached
+      (follows-bytes (controllers_of s) n (first_state_of s) h reached range.bytes legal follows)
+      (probe-first s k pid at) legal follows ends ended accepted;
 }
 
 -- ---- runs
@@ -217,10 +267,10 @@ led-kept s w range led =
           run.legal;
       transparent_without_scripts = transparent-tracers s led.entries run.legal run.follows;
       trusses = trusses-kept s led.entries range run.legal run.follows;
-      functions = functions-kept s led.entries run.follows;
+      functions = functions-kept s led.entries run.legal run.follows;
       tools = tools-kept s led.entries range run.legal run.follows;
       cores = gcores-kept s led.entries range run.legal run.follows;
-      probes = probes-kept s led.entries run.legal run.follows;
+      probes = probes-kept s led.entries range run.legal run.follows;
       programs = first-same (length (controllers_of s)) s.programs (files_of s) s.spawns led.entries range.start
           run.legal;
     } in

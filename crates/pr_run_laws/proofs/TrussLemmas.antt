@@ -22,6 +22,16 @@ use Rattle.pr_model.specs.declared.events.Entry.{Entry}
 use Rattle.pr_model.specs.declared.handles.Held.{Held}
 use Rattle.pr_reached.specs.ByteHistories.{HasBytes}
 use Rattle.pr_reached.specs.Reached.{IsReached}
+use Rattle.pr_report_laws.proofs.Asking.AskedLaws.{asks-lines, one-message, reads-replies, what-traces}
+use Rattle.pr_report_laws.proofs.Asking.CountLaws.{prints-counts}
+use Rattle.pr_report_laws.proofs.Asking.HeldRefused.{tells-no-refusal}
+use Rattle.pr_report_laws.proofs.Asking.MemoryAsked.{reads-lines}
+use Rattle.pr_report_laws.proofs.Asking.NamedRuns.{runs-named}
+use Rattle.pr_report_laws.proofs.Asking.OnceShown.{shows-stops-once}
+use Rattle.pr_report_laws.proofs.Asking.ReadShown.{shows-what-is-new}
+use Rattle.pr_report_laws.proofs.Asking.ShownLaws.{shows-read}
+use Rattle.pr_report_laws.proofs.OwnFiles.CalledFiles.{calls-files}
+use Rattle.pr_report_laws.proofs.OwnFiles.EndedFiles.{closes-ended}
 use Rattle.pr_report_laws.proofs.Watching.BeginLaws.{finished-watches-none}
 use Rattle.pr_report_laws.proofs.Watching.EndLaws.{watched-let}
 use Rattle.pr_report_laws.proofs.UnopenedChildren.LeftChildren.{left-front}
@@ -39,7 +49,7 @@ use Rattle.pr_truss.specs.Trusses.{TrussState, first_truss}
 use Rattle.pr_truss_laws.proofs.GivenLemmas.{given-handled, handled-so-far}
 use Rattle.pr_truss_laws.proofs.OwnLemmas.{nothing-open}
 use Rattle.pr_truss_laws.proofs.BusinessLemmas.{does-business}
-use Rattle.pr_report_laws.proofs.Watching.NamedSoon.{soon-done}
+use Rattle.pr_report_laws.proofs.Watching.NamedSoon.{looks-at-named, soon-done}
 use Rattle.pr_report_laws.proofs.Holding.HeldLaws.{cares-for-children, gripped-once, lets-go-for-reason, moments-while-held, read-while-held, shown-while-held}
 use Rattle.pr_report_laws.proofs.Holding.HoldPlaces.{gets-off, hold-watched, unwatched-hold}
 use Rattle.pr_report_laws.proofs.Holding.SetReleases.{grants-release, holds-control, releases-held, releases-set}
@@ -311,13 +321,26 @@ truss-kept controllers n first h k o reached bytes at none legal follows =
       makes = stays.0;
       truss = stays.1;
       business = does-business o (exchanges k h) stays.0;
+      keeps = record {
+        traces = what-traces o;
+        writes = one-message;
+        asks = asks-lines o;
+        replies = reads-replies;
+        counts = prints-counts o (exchanges k h) stays.0;
+      };
       opens = record {
         handled = handled-so-far o (exchanges k h) stays.0;
         grips = λ pid. gripped-once n k o pid first h reached run bytes;
+        calls = calls-files n k o first h run;
+        refusals = tells-no-refusal n k o first h run;
       };
       shows = record {
         reads = λ pid of. read-while-held n k o pid first h reached run bytes of;
         shows = λ pid of. shown-while-held n k o pid first h reached run bytes of;
+        answers = shows-read n k o first h run;
+        once = shows-stops-once n k o first h run;
+        new = shows-what-is-new n k o first h run;
+        asks = reads-lines n k o first h run;
         texts = read-texts n k o first h run;
         moments = λ pid of. moments-while-held n k o pid first h reached run bytes of;
       };
@@ -328,9 +351,12 @@ truss-kept controllers n first h k o reached bytes at none legal follows =
       };
       lets_go = record {
         soon = soon-done n k o first h run;
+        looks = looks-at-named n k o first h run;
+        runs = runs-named o (exchanges k h) stays.0;
         unfollows = λ before later e pid is left.
             left-unfollowed n k o pid first before e (entry-run n k o first h run before later e is) left;
         lets_go = let-go n k o first h run;
+        ended = closes-ended n k o first h run;
       };
       releases = record {
         releases = λ before later is. releases n k o first before (front-run n k o first h run before later is);

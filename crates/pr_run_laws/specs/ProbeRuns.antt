@@ -1,16 +1,24 @@
 use Rattle.std.specs.Prelude.{◌≡◌, ℕ, true, List, None, Some, slice_get}
 use Rattle.pr_model.specs.State.{TracedState}
 use Rattle.pr_model.specs.declared.events.Entry.{Entry}
+use Rattle.pr_probe.specs.ProbeText.{printed}
 use Rattle.pr_probe.specs.Probes.{ProbeState, has_ended}
 use Rattle.pr_probe_laws.specs.PutBack.{PutsBack}
+use Rattle.pr_probe_laws.specs.SetsBack.{SetsBack}
+use Rattle.pr_probe_laws.specs.ShownDescriptors.{ShowsOneState}
 use Rattle.pr_world.specs.ControllerStates.{ControllerState, Probe}
 use Rattle.pr_world.specs.Protocol.{controllers_at}
 
 -- What a run keeps of each apfiles.
 
 -- The controller of a number is an apfiles of this process. When it has finished, and was not refused, it has put back
--- what it wrote over in the memory of the process.
+-- what it wrote over in the memory of the process, has set the four traced sets back, on the conditions of SetsBack, and
+-- its text is that of one state, on the conditions of ShowsOneState.
 pub record IsProbeKept (controllers : List ControllerState) (first : TracedState) (h : List Entry) (k pid : ℕ)
     : Type 0 where
   pub puts_back : (p : ProbeState) → slice_get (controllers_at controllers h) k ≡ Some (Probe p) → has_ended p ≡ true
       → p.refusal ≡ None → PutsBack k pid first h
+  pub sets_back : (p : ProbeState) → slice_get (controllers_at controllers h) k ≡ Some (Probe p) → has_ended p ≡ true
+      → p.refusal ≡ None → SetsBack k pid first h
+  pub shows : (p : ProbeState) → slice_get (controllers_at controllers h) k ≡ Some (Probe p) → has_ended p ≡ true
+      → p.refusal ≡ None → ShowsOneState k pid first h (printed p)

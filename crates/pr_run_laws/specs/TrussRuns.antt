@@ -22,6 +22,11 @@ use Rattle.pr_truss.specs.NextCalls.{next_call_of}
 use Rattle.pr_truss.specs.Trusses.{first_truss}
 use Rattle.pr_truss.specs.declared.reports.Report.{Report}
 use Rattle.pr_report_laws.specs.AsChildren.{IsNeverOpenedAsChild}
+use Rattle.pr_report_laws.specs.Asked.{AsksForItsLines, ReadsItsReplies, TracesWhatIsAsked, WritesOneMessage}
+use Rattle.pr_report_laws.specs.Counted.{PrintsItsCounts}
+use Rattle.pr_report_laws.specs.LineReads.{ReadsForItsLines}
+use Rattle.pr_report_laws.specs.OwnFiles.{CallsItsFiles, ClosesAllThatEnded}
+use Rattle.pr_report_laws.specs.ShownOnce.{ShowsStopsOnce, ShowsWhatIsNew, ShowsWhatItReads}
 use Rattle.pr_report_laws.specs.Lineages.{IsLeftToTruss}
 use Rattle.pr_report_laws.specs.Follows.{IsLeftChild}
 use Rattle.pr_report_laws.specs.Freed.{IsInterruptedFreeing}
@@ -31,9 +36,11 @@ use Rattle.pr_report_laws.specs.HeldEvents.{DiedHeld, IsUnanswered, ReadsHeld, S
 use Rattle.pr_report_laws.specs.HeldForks.{CaresForChildren}
 use Rattle.pr_report_laws.specs.HeldGrips.{HasOneGrip}
 use Rattle.pr_report_laws.specs.HeldMemories.{StandAtTheirEvents}
+use Rattle.pr_report_laws.specs.HeldRefusals.{TellsNoRefusalOfWhatItHolds}
 use Rattle.pr_report_laws.specs.Holds.{CameHeld, HasHold, LetsGoIn}
 use Rattle.pr_report_laws.specs.Memories.{HaveTheirTexts}
 use Rattle.pr_report_laws.specs.Newborn.{IsNoTurnOf, WasForked, WasSpawned}
+use Rattle.pr_report_laws.specs.RunsNamed.{RunsWhatWasNamed}
 use Rattle.pr_report_laws.specs.SetModes.{HasSetRelease}
 use Rattle.pr_report_laws.specs.Shown.{selected, LwpEvent, shown}
 use Rattle.pr_report_laws.specs.ToldForks.{FollowsChild, FreesChild, ReadsChild, ReadsLastChild}
@@ -42,7 +49,7 @@ use Rattle.pr_truss_laws.specs.Given.{IsHandled, IsHandledSoFar}
 use Rattle.pr_truss_laws.specs.Handles.{HasNothingOpen}
 use Rattle.pr_truss_laws.specs.Business.{DoesItsBusiness}
 use Rattle.pr_report_laws.specs.Grips.{GetsHold, IsLeftIn}
-use Rattle.pr_report_laws.specs.Named.{IsSoonDone}
+use Rattle.pr_report_laws.specs.Named.{IsSoonDone, LooksAtWhatIsNamed}
 use Rattle.pr_world.specs.ControllerStates.{ControllerState, Truss}
 use Rattle.pr_world.specs.Protocol.{controllers_at}
 
@@ -135,10 +142,13 @@ pub record Releases (k : ℕ) (o : Options) (first : TracedState) (h : List Entr
 
 -- Truss opens, in their order, the processes that it was given, as far as it has come: each is attached, or its refusal
 -- is reported. It gets hold of a process by the whole opening of it, at most once, and from the wait of the opening on
--- the process does nothing until truss has hold of it.
+-- the process does nothing until truss has hold of it. It calls no file but those that it has open, and does not say of
+-- a process of which it has hold that it cannot trace it.
 pub record OpensItsOwn (k : ℕ) (o : Options) (first : TracedState) (h : List Entry) : Type 0 where
   pub handled : IsHandledSoFar o (next_call_of (truss_at k o h)) o.program (truss_at k o h).reports (exchanges k h)
   pub grips : (pid : ℕ) → HasOneGrip k o pid first h
+  pub calls : CallsItsFiles k first h
+  pub refusals : TellsNoRefusalOfWhatItHolds k o first h
 
 -- ---- what it shows
 
@@ -146,11 +156,17 @@ pub record OpensItsOwn (k : ℕ) (o : Options) (first : TracedState) (h : List E
 -- read of its own, and has shown those of them that the options select. Where it follows children, this is said only of
 -- a process that it never opened as the child of a fork, or that is left to truss: of this process, and of those that it
 -- descends from, no other controller was granted a handle for writing between the fork that made it and its opening.
--- The memory that stands in the line of an event is that of the state in which truss read it, and on the same condition
--- that of the state right after the event, unless SIGKILL ended the process before truss read.
+-- What it shows of a process, whichever it is, it reads right then, and it runs the process before it shows more of it;
+-- and what it reads and the options select it shows, once no stop is left that stood before truss came.
+-- It reads memory for its lines alone. What stands in the line of an event is that of the state in which truss read it,
+-- and on the same condition that of the state right after the event, unless SIGKILL ended the process before truss read.
 pub record ShowsItsEvents (k : ℕ) (o : Options) (first : TracedState) (h : List Entry) : Type 0 where
   pub reads : (pid : ℕ) → IsLeftToTruss k o pid first h ⊎ IsNeverOpenedAsChild k pid h → ReadsHeld k o pid first h
   pub shows : (pid : ℕ) → IsLeftToTruss k o pid first h ⊎ IsNeverOpenedAsChild k pid h → ShowsHeld k o pid first h
+  pub answers : ShowsWhatItReads k o first h
+  pub once : ShowsStopsOnce k o first h
+  pub new : ShowsWhatIsNew k o first h
+  pub asks : ReadsForItsLines k o first h
   pub texts : HaveTheirTexts k o first h (truss_at k o h).reports
   pub moments : (pid : ℕ) → IsLeftToTruss k o pid first h ⊎ IsNeverOpenedAsChild k pid h
       → StandAtTheirEvents k o pid first h (truss_at k o h).reports
@@ -169,15 +185,20 @@ pub record FollowsItsChildren (k : ℕ) (o : Options) (first : TracedState) (h :
 
 -- ---- what it runs and lets go
 
--- At most twelve calls after a poll has named a process truss runs it, or closes a file of it. Where it lets a process
--- go, the process has ended, or truss was interrupted. Before its last look at a process that it leaves it has the
--- children of that process followed no more.
+-- Right after a poll has named a process truss reads its status, and at most twelve calls after the poll it runs the
+-- process, or closes a file of it. Where it does not end an opening it runs just what the last poll has named. Where it
+-- lets a process go, the process has ended, or truss was interrupted. Before its last look at a process that it leaves
+-- it has the children of that process followed no more. Of what has ended it closes all its files before it calls
+-- anything else.
 pub record LetsItsProcessesGo (k : ℕ) (o : Options) (first : TracedState) (h : List Entry) : Type 0 where
   pub soon : IsSoonDone k first h
+  pub looks : LooksAtWhatIsNamed k first h
+  pub runs : RunsWhatWasNamed o (exchanges k h)
   pub unfollows : (before later : List Entry) (e : Entry) (pid : ℕ) → h ≡ before ++ e ∷ later
       → IsLeftIn k pid first before e → HasUnfollowed k pid (state_after first before) before
   pub lets_go : (before later : List Entry) (e : Entry) (pid : ℕ) → h ≡ before ++ e ∷ later
       → HasHold k o pid first before → LetsGoIn k pid first before e → IsLetGo k pid first before e
+  pub ended : ClosesAllThatEnded k first h
 
 -- ---- what it releases
 
@@ -192,16 +213,28 @@ pub record ReleasesItsProcesses (k : ℕ) (o : Options) (first : TracedState) (h
       → handle_of (state_after first before).opens k number ≡ Some held → held.file ≡ Ctl
       → live_process (state_after first before).system held.pid ≡ Some p → held.pid ≢ 0 → errno_in reply ≡ None
 
+-- ---- what its options say
+
+-- Truss has traced what its options choose, and with -f the calls that make a child. Each write of it to a control file
+-- is one message. It asks for the memory of its lines alone; and with -c it prints what was refused, and its counts.
+pub record KeepsToItsOptions (o : Options) (xs : List Exchange) : Type 0 where
+  pub traces : TracesWhatIsAsked o
+  pub writes : WritesOneMessage
+  pub asks : AsksForItsLines o
+  pub replies : ReadsItsReplies
+  pub counts : PrintsItsCounts o xs
+
 -- ---- all of it
 
 -- The controller of a number is a truss with these options, whose calls are those that it makes after the replies that
--- it got: its own business alone. It opens, shows, follows, lets go and releases its processes as these say; and once it
--- has finished nothing is left to do.
+-- it got: its own business alone, as its options say. It opens, shows, follows, lets go and releases its processes as
+-- these say; and once it has finished nothing is left to do.
 pub record IsTrussKept (controllers : List ControllerState) (first : TracedState) (h : List Entry)
     (k : ℕ) (o : Options) : Type 0 where
   pub makes : Makes (first_truss o) (exchanges k h)
   pub truss : slice_get (controllers_at controllers h) k ≡ Some (Truss (truss_at k o h))
   pub business : DoesItsBusiness o (exchanges k h)
+  pub keeps : KeepsToItsOptions o (exchanges k h)
   pub opens : OpensItsOwn k o first h
   pub shows : ShowsItsEvents k o first h
   pub follows : FollowsItsChildren k o first h

@@ -30,11 +30,10 @@ use std::alloc::Global;
 fn truss_of(alloc: Global, options: Options) -> Result<Controller, NoMemory>
     ensures { IfOk result (λ controller. state_of controller ≡ truss_of options (has_functions options)) }
 {
-    Ok(if options.functions.is_empty() {
-        Controller::Truss(Truss::new(alloc, options)?)
-    } else {
-        Controller::FnTruss(FnTruss::new(alloc, options)?)
-    })
+    if options.functions.is_empty() {
+        return Ok(Controller::Truss(Truss::new(alloc, options)?));
+    }
+    Ok(Controller::FnTruss(FnTruss::new(alloc, options)?))
 }
 
 /// The controller of a plan before its first call.

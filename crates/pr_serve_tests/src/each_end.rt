@@ -45,6 +45,11 @@ fn whole_run<R: Threads + Wait + Sync>(
     })
 }
 
+/// Whether bytes are the front of a text, and not all of it.
+fn is_cut_short(bytes: &[u8], text: &[u8]) -> bool {
+    bytes.len() < text.len() && text.starts_with(bytes)
+}
+
 /// Whether a run whose write of this number fails ends with 6 and writes no more, what it has written is the front of
 /// the whole text, and the history is whole.
 fn ends_at_write<R: Threads + Wait + Sync>(
@@ -61,8 +66,7 @@ fn ends_at_write<R: Threads + Wait + Sync>(
     Ok(
         outcome.status == 6
             && sink.calls() == failing.saturating_add(1)
-            && sink.bytes().len() < whole.text.len()
-            && whole.text.as_slice().starts_with(sink.bytes())
+            && is_cut_short(sink.bytes(), whole.text.as_slice())
             && history.as_slice() == whole.history.as_slice(),
     )
 }

@@ -3,7 +3,11 @@ use crate::calls::{
     ALONE, ALONE_HISTORY, CUT, CUT_HISTORY, MUCH, STUCK, call, is_made_of, source, text_of,
 };
 use pr_io::{MemSink, OpenGate};
+use std::alloc::Global;
+use std::process::Abort;
+use std::sync::Wait;
 use std::test::Fail;
+use std::thread::Threads;
 
 const STUCK_HISTORY: &str = "history 4
 0 c0 open 1 ctl w -> handle 0
@@ -18,6 +22,26 @@ const JUDGED: &str =
 const MISJUDGED: &str = "%history\nhistory 2\n0 clock 1\n1 clock 3\n";
 
 const USAGE: &str = "usage: proclab run [-q] [-j N] | check | plain | gen N | core TOOL\n";
+
+/// Sees that a call with these words on this input has this status, and this text in two parts, and keeps this history.
+fn sees<R: Threads + Wait + Sync + Abort>(
+    rt: &R,
+    alloc: Global,
+    words: &[&str],
+    input: &str,
+    status: u8,
+    text: (&str, &str),
+    history: &str,
+) -> Result<(), Fail> {
+    let mut source = source(alloc, input.as_bytes(), &[])?;
+    let mut sink = MemSink::new(alloc, MUCH, Vec::new(alloc))?;
+    let outcome = call(rt, alloc, words, &mut source, &mut sink, &OpenGate)?;
+    assert_eq!(rt; outcome.status, status, "{input}");
+    assert!(rt; is_made_of(sink.bytes(), text.0, text.1), "{input}");
+    let kept = text_of(alloc, &outcome.history)?;
+    assert_eq!(rt; kept.as_slice(), history.as_bytes(), "{input}");
+    Ok(())
+}
 
 // A run keeps its history, whether that is written or not; other calls have none.
 #[test]
@@ -84,16 +108,7 @@ fn each_status_comes_with_its_text_and_its_history(rt: HostRuntime) -> Result<()
         (["core", "ptree"].as_slice(), "%core\n", 1, USAGE, "", ""),
         (["frob"].as_slice(), ALONE, 1, USAGE, "", ""),
     ] {
-        let mut source = source(alloc, input.as_bytes(), &[])?;
-        let mut sink = MemSink::new(alloc, MUCH, Vec::new(alloc))?;
-        let outcome = call(&rt, alloc, words, &mut source, &mut sink, &OpenGate)?;
-        assert_eq!(rt; outcome.status, status, "{input}");
-        assert!(rt; is_made_of(sink.bytes(), first, second), "{input}");
-        assert_eq!(rt;
-            text_of(alloc, &outcome.history)?.as_slice(),
-            history.as_bytes(),
-            "{input}"
-        );
+        sees(&rt, alloc, words, input, status, (first, second), history)?;
     }
     Ok(())
 }

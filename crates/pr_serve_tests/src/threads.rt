@@ -1,9 +1,10 @@
 //! What no clause says: that several workers make a run with `-j`, each at the gate that `serve` was given.
 use crate::calls::{MUCH, call, is_made_of, source, text_of};
 use pr_io::{Gate, MemSink, OpenGate};
-use pr_model::{Actor, History};
+use pr_model::{Actor, Entry, History};
 use pr_num::NoMemory;
 use std::alloc::Global;
+use std::process::Abort;
 use std::sync::Wait;
 use std::sync::atomic::{AtomicU64, Ordering};
 use std::test::Fail;
@@ -166,16 +167,20 @@ impl Gate for Meeting {
     }
 }
 
+/// The controller whose entry it is, if it is one's.
+fn controller_of(entry: &Entry) -> Option<u32> {
+    match entry.actor {
+        Actor::Controller(number) => Some(number),
+        _ => None,
+    }
+}
+
 /// How many entries are of a controller, or of all else where there is no number.
 fn entries_of(history: &History, controller: Option<u32>) -> u64 {
     let mut count = 0u64;
     for place in 0..history.len() {
         if let Some(entry) = history.get(place) {
-            let by = match entry.actor {
-                Actor::Controller(number) => Some(number),
-                _ => None,
-            };
-            if by == controller {
+            if controller_of(entry) == controller {
                 count = count.saturating_add(1);
             }
         }
@@ -199,30 +204,44 @@ fn is_legal<R: Threads + Wait + Sync>(
     Ok(outcome.status == 0)
 }
 
-// All workers are at the gate at one time, so as many threads make the run; and each move was made after a pass of the
-// worker to which it falls.
+/// Sees that each move was made after a pass of the worker to which it falls.
+fn sees_passes(rt: &impl Abort, gate: &Meeting, history: &History, processors: u32) {
+    for controller in 0..CONTROLLERS {
+        let entries = entries_of(history, Some(controller));
+        let passes = gate.passes_of(processors.saturating_add(controller));
+        assert!(rt; 0 < entries && entries <= passes);
+    }
+    let entries = entries_of(history, None);
+    let passes = gate.passes_of_first(processors);
+    assert!(rt; 0 < entries && entries <= passes);
+}
+
+/// Sees that all workers of a run on so many processors meet, and that the run is a legal one.
+fn sees_meeting<R: Threads + Wait + Sync + Abort>(
+    rt: &R,
+    alloc: Global,
+    number: &str,
+    processors: u32,
+) -> Result<(), Fail> {
+    let workers = processors.saturating_add(CONTROLLERS);
+    let gate = Meeting::new(alloc, workers)?;
+    let mut source = source(alloc, BUSY.as_bytes(), &[])?;
+    let mut sink = MemSink::new(alloc, MUCH, Vec::new(alloc))?;
+    let words = ["run", "-q", "-j", number];
+    let outcome = call(rt, alloc, &words, &mut source, &mut sink, &gate)?;
+    assert_eq!(rt; outcome.status, 0);
+    assert!(rt; is_made_of(sink.bytes(), FIRST_COUNTS, SECOND_COUNTS));
+    assert_eq!(rt; gate.met.load(Ordering::SeqCst), workers as u64);
+    sees_passes(rt, &gate, &outcome.history, processors);
+    assert!(rt; is_legal(rt, alloc, BUSY, &outcome.history)?);
+    Ok(())
+}
+
+// All workers are at the gate at one time, so as many threads make the run.
 #[test]
 fn all_workers_meet_at_the_gate(rt: HostRuntime) -> Result<(), Fail> {
-    let alloc = rt.alloc();
     for (number, processors) in [("1", 1u32), ("2", 2), ("16", 16)] {
-        let workers = processors.saturating_add(CONTROLLERS);
-        let gate = Meeting::new(alloc, workers)?;
-        let mut source = source(alloc, BUSY.as_bytes(), &[])?;
-        let mut sink = MemSink::new(alloc, MUCH, Vec::new(alloc))?;
-        let words = ["run", "-q", "-j", number];
-        let outcome = call(&rt, alloc, &words, &mut source, &mut sink, &gate)?;
-        assert_eq!(rt; outcome.status, 0);
-        assert!(rt; is_made_of(sink.bytes(), FIRST_COUNTS, SECOND_COUNTS));
-        assert_eq!(rt; gate.met.load(Ordering::SeqCst), workers as u64);
-        for controller in 0..CONTROLLERS {
-            let entries = entries_of(&outcome.history, Some(controller));
-            let passes = gate.passes_of(processors.saturating_add(controller));
-            assert!(rt; 0 < entries && entries <= passes);
-        }
-        let entries = entries_of(&outcome.history, None);
-        let passes = gate.passes_of_first(processors);
-        assert!(rt; 0 < entries && entries <= passes);
-        assert!(rt; is_legal(&rt, alloc, BUSY, &outcome.history)?);
+        sees_meeting(&rt, rt.alloc(), number, processors)?;
     }
     Ok(())
 }

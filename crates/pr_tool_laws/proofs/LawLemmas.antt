@@ -59,7 +59,7 @@ module _ (n k : ℕ) (first : TracedState) (Q : List Entry → ToolState → Typ
   calls-core h (Tool t) c a next given q = by_calls h t c a next given q
   calls-core h _ c a next given q = absurd q
 
-  tool-keeps : (controllers : List ControllerState) (h : List Entry) (t u : ToolState) → IsLegal n first h
+  pub tool-keeps : (controllers : List ControllerState) (h : List Entry) (t u : ToolState) → IsLegal n first h
       → Follows controllers first h → slice_get controllers k ≡ Some (Tool t)
       → slice_get (controllers_at controllers h) k ≡ Some (Tool u) → Q [] t → Q h u
   unfolding P

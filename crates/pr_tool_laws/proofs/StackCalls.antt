@@ -35,6 +35,7 @@ use Rattle.pr_tools.specs.declared.stacks.CallFrame.{CallFrame}
 use Rattle.pr_tools.specs.declared.stacks.Walk.{Walk}
 use Rattle.pr_tools.specs.declared.steps.Step.{Step}
 use Rattle.pr_tools.specs.declared.steps.Step.TheVariants as step
+use Rattle.pr_tool_laws.proofs.KindLemmas.{refused-still}
 use Rattle.pr_tool_laws.proofs.StackHalts.{HaltsWith}
 use Rattle.pr_tool_laws.proofs.StackReads.{control_of, halts-here, memory-gone, memory-there, memory_of, new-stands, old-stands, own-seen, read-answer, status-gone, status-there, status-whole, status_of, stop-halts}
 use Rattle.pr_tool_laws.proofs.StackStages.{HasFrames, HasReadAll, Holds, Reads, Seen, So, StackStage, Walks, at_first, goes, has_control, has_read, has_status, refused, seen-here, seen-still, still-read}
@@ -548,4 +549,4 @@ module _ (n k pid : ℕ) (first : TracedState) (h : List Entry) (c : Call) (a : 
       let Q : ToolState → Type 0 = λ u. next_call_of u ≡ Some c → Next (fed u a.reply) in
       subst Q (sym g.is) (going-stage g.control g.status g.memory g.holds g.notes g.next g.so) next
   called-stage t next (has_read all) = read-stage t all
-  called-stage t next (refused was) = refused (steps.refused-still t a.reply was)
+  called-stage t next (refused was) = refused (refused-still t a.reply was)

@@ -25,7 +25,7 @@ use Rattle.pr_tool_laws.specs.Stacks.{ShowsOneStack}
 -- pstack prints the stacks of one state.
 
 -- every entry leads from a lawful state to a lawful one
-entry-lawful : (n : ℕ) (s : TracedState) (e : Entry) → IsLawful s → IsLegalEntry n s e → IsLawful (after s e)
+pub entry-lawful : (n : ℕ) (s : TracedState) (e : Entry) → IsLawful s → IsLegalEntry n s e → IsLawful (after s e)
 entry-lawful n s e lawful legal = history-state n s (e ∷ []) lawful (legal, tt)
 
 module _ (n k pid : ℕ) (first : TracedState) where

@@ -1,4 +1,4 @@
-use Rattle.std.proofs.Common.{◌≡◌, ◌≢◌, ◌⊎◌, ◌||◌, ◌∷◌, ◌≤◌, ℕ, Bool, true, false, cond, List, [], Option, Some, None, IsSome, length, nat_le, take, refl, sym, subst, inl, inr, arith}
+use Rattle.std.proofs.Common.{◌≡◌, ◌≢◌, ◌⊎◌, ◌||◌, ◌∷◌, ◌≤◌, ℕ, Bool, true, false, cond, List, [], Option, Some, None, IsSome, length, nat_le, take, refl, inl, inr, arith}
 use Rattle.std.proofs.lemmas.Bool.{leb-true}
 use Rattle.pr_api.specs.Shapes.{has_shape}
 use Rattle.pr_model.specs.Reads.{unless_none}
@@ -17,7 +17,7 @@ use Rattle.pr_tools.specs.Replies.{bytes_read, is_passed_over, is_unmapped, refu
 use Rattle.pr_tools.specs.Stacks.{process_stands, walk_after, walk_in, with_frame}
 use Rattle.pr_tools.specs.Steps.{after, after_in_pstack, control_place, ctl_mode_of, file_of, first_step, frame_room, memory_place, record_place, record_room}
 use Rattle.pr_tools.specs.Calls.{short_read, stop_bytes}
-use Rattle.pr_tools.specs.Tools.{ToolState, accepted, advanced, answered, at_step, call_of, fed, first_tool, next_call_of, refused, with_answer, with_closed, with_first, with_next, with_record, with_run_next, with_walk}
+use Rattle.pr_tools.specs.Tools.{ToolState, accepted, advanced, at_step, call_of, fed, first_tool, next_call_of, refused, with_answer, with_closed, with_first, with_next, with_record, with_run_next, with_walk}
 use Rattle.pr_tools.specs.declared.handles.Opened.{Opened}
 use Rattle.pr_tools.specs.declared.stacks.CallFrame.{CallFrame}
 use Rattle.pr_tools.specs.declared.stacks.Walk.{Walk}
@@ -83,49 +83,6 @@ unless-refused t _ counts = inr ((λ e same. cc), refl)
 pub refused-now : (t : ToolState) (e : Errno) → is_passed_over t.step e ≡ false → IsSome (fed t (reply.Fail e)).refusal
 unfolding fed refusal_in refused
 refused-now t e counts = rw counts refl
-
--- no reply makes a refusal undone
-run_next-refusal : (t : ToolState) → (with_run_next t).refusal ≡ t.refusal
-unfolding with_run_next
-run_next-refusal t = of t.stood
-  where
-    of : (b : Bool) → (cond b (at_step t step.Close) (at_step t step.Run)).refusal ≡ t.refusal
-    of true = refl
-    of false = refl
-
-walk-refusal : (t : ToolState) (w : Option Walk) → (with_walk t w).refusal ≡ t.refusal
-unfolding with_walk
-walk-refusal t None = run_next-refusal (record t { walk = None })
-walk-refusal t (Some w) = refl
-
-next-refusal : (t : ToolState) (p : Step) → (with_next t p).refusal ≡ t.refusal
-unfolding with_next
-next-refusal t step.ReadFrame = walk-refusal t _
-next-refusal t step.Run = run_next-refusal t
-next-refusal t _ = refl
-
-advanced-refusal : (t : ToolState) → (advanced t).refusal ≡ t.refusal
-unfolding advanced
-advanced-refusal t = next-refusal t (after t.kind t.step)
-
-answer-refusal : (t : ToolState) (bytes : List ℕ) (w : Option Walk) → (with_answer t bytes w).refusal ≡ t.refusal
-unfolding with_answer
-answer-refusal t bytes None = run_next-refusal t
-answer-refusal t bytes (Some w) = walk-refusal _ _
-
-accepted-refusal : (t : ToolState) (r : Reply) (p : Step) → (accepted t r p).refusal ≡ t.refusal
-unfolding accepted with_record with_first with_closed
-accepted-refusal t r step.ReadFrame = answer-refusal t _ t.walk
-accepted-refusal t r step.Close = refl
-accepted-refusal t r _ = advanced-refusal _
-
-pub refused-still : (t : ToolState) (r : Reply) → IsSome t.refusal → IsSome (fed t r).refusal
-unfolding fed refused
-refused-still t r was = of (refusal_in t.step r)
-  where
-    of : (o : Option Errno) → IsSome (answered t r o).refusal
-    of None = subst IsSome (sym (accepted-refusal t r t.step)) was
-    of (Some e) = refl
 
 module _ (pid : ℕ) where
   -- ---- its calls

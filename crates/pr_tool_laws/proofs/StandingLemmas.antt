@@ -26,22 +26,28 @@ turn-keeps : (s : TracedState) (o : Option LwpTurn) → (after_turn s o).opens �
 turn-keeps s None = refl
 turn-keeps s (Some t) = refl
 
--- what others do leaves it
+-- what others do leaves the handles of a controller
+pub others-handles : (n k number : ℕ) (s : TracedState) (actor : Actor) (it : Act)
+    → IsLegalEntry n s (record { actor = actor; act = it }) → IsOther k actor it
+    → handle_of (after s (record { actor = actor; act = it })).opens k number ≡ handle_of s.opens k number
+unfolding IsLegalEntry after
+others-handles n k number s (Controller j) (act.Call c r) legal other =
+    let a : Answer = record { state = legal.1.0; reply = r } in
+    let is : answer_to s j c ≡ Some a = legal.1.1 in
+    ap (λ o. handle_of (after_call s o).opens k number) is ∙ foreign-call s j k c a other is number
+others-handles n k number s (Lwp pid id) (act.Turn t) legal other =
+    ap (λ opens. handle_of opens k number) (turn-keeps s (turn_of s.system pid id))
+others-handles n k number s Clock (act.Tick m) legal other = refl
+others-handles n k number s (Controller j) (act.Turn t) legal other = absurd legal
+others-handles n k number s (Controller j) (act.Tick m) legal other = absurd legal
+others-handles n k number s (Lwp pid id) (act.Call c r) legal other = absurd legal
+others-handles n k number s (Lwp pid id) (act.Tick m) legal other = absurd legal
+others-handles n k number s Clock (act.Call c r) legal other = absurd legal
+others-handles n k number s Clock (act.Turn t) legal other = absurd legal
+
+-- and so an open one
 pub others-keep : (number : ℕ) (h : Held) (n : ℕ) (s : TracedState) (actor : Actor) (it : Act)
     → IsLegalEntry n s (record { actor = actor; act = it }) → IsOther h.controller actor it → Stands s.opens number h
     → Stands (after s (record { actor = actor; act = it })).opens number h
-unfolding IsLegalEntry after
-others-keep number h n s (Controller j) (act.Call c r) legal other stands =
-    let a : Answer = record { state = legal.1.0; reply = r } in
-    let is : answer_to s j c ≡ Some a = legal.1.1 in
-    ap (λ o. handle_of (after_call s o).opens h.controller number) is
-    ∙ foreign-call s j h.controller c a other is number ∙ stands
-others-keep number h n s (Lwp pid id) (act.Turn t) legal other stands =
-    ap (λ opens. handle_of opens h.controller number) (turn-keeps s (turn_of s.system pid id)) ∙ stands
-others-keep number h n s Clock (act.Tick m) legal other stands = stands
-others-keep number h n s (Controller j) (act.Turn t) legal other stands = absurd legal
-others-keep number h n s (Controller j) (act.Tick m) legal other stands = absurd legal
-others-keep number h n s (Lwp pid id) (act.Call c r) legal other stands = absurd legal
-others-keep number h n s (Lwp pid id) (act.Tick m) legal other stands = absurd legal
-others-keep number h n s Clock (act.Call c r) legal other stands = absurd legal
-others-keep number h n s Clock (act.Turn t) legal other stands = absurd legal
+others-keep number h n s actor it legal other stands =
+    others-handles n h.controller number s actor it legal other ∙ stands

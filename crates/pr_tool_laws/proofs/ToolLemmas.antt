@@ -15,8 +15,9 @@ use Rattle.pr_num.specs.declared.errnos.Errno.{Errno}
 use Rattle.pr_tools.specs.Handles.{without_last}
 use Rattle.pr_tools.specs.Replies.{is_passed_over, refusal_in}
 use Rattle.pr_tools.specs.Steps.{way_out}
-use Rattle.pr_tools.specs.Tools.{ToolState, accepted, fed, first_tool, has_ended, next_call_of, printed, refused, text_of, with_closed}
+use Rattle.pr_tools.specs.Tools.{ToolState, accepted, call_of, fed, first_tool, has_ended, next_call_of, printed, refused, text_of, with_closed}
 use Rattle.pr_tools.specs.declared.handles.Opened.{Opened}
+use Rattle.pr_tools.specs.declared.steps.Step.{Step}
 use Rattle.pr_tools.specs.declared.steps.Step.TheVariants as step
 use Rattle.pr_tool_laws.specs.OneState.{IsOfOneState, IsReadBack}
 use Rattle.pr_tool_laws.specs.Reads.{IsToolRead, bytes_shown, text_read}
@@ -34,13 +35,35 @@ pub still-going : (t : ToolState) (c : Call) → next_call_of t ≡ Some c → h
 unfolding has_ended
 still-going t c next ended = absurd (false≢true (sym (ap is_none next) ∙ ended))
 
+-- who has finished is at its closes
+pub ended-closes : (t : ToolState) → has_ended t ≡ true → t.step ≡ step.Close
+unfolding next_call_of call_of
+ended-closes t ended = by t.step refl
+  where
+    by : (p : Step) → t.step ≡ p → p ≡ step.Close
+    by step.Close at = refl
+    by step.OpenCtl at = absurd (still-going t _ (ap (call_of t) at) ended)
+    by step.OpenFile at = absurd (still-going t _ (ap (call_of t) at) ended)
+    by step.OpenMemory at = absurd (still-going t _ (ap (call_of t) at) ended)
+    by step.ReadFirst at = absurd (still-going t _ (ap (call_of t) at) ended)
+    by step.Stop at = absurd (still-going t _ (ap (call_of t) at) ended)
+    by step.AwaitStop at = absurd (still-going t _ (ap (call_of t) at) ended)
+    by step.Direct at = absurd (still-going t _ (ap (call_of t) at) ended)
+    by step.AwaitEnd at = absurd (still-going t _ (ap (call_of t) at) ended)
+    by step.ReadFile at = absurd (still-going t _ (ap (call_of t) at) ended)
+    by step.ReadText at = absurd (still-going t _ (ap (call_of t) at) ended)
+    by step.ReadFrame at = absurd (still-going t _ (ap (call_of t) at) ended)
+    by step.Run at = absurd (still-going t _ (ap (call_of t) at) ended)
+    by step.List at = absurd (still-going t _ (ap (call_of t) at) ended)
+    by step.Release at = absurd (still-going t _ (ap (call_of t) at) ended)
+
 -- a tool that was refused, and closes
 pub record WasRefused (t : ToolState) : Type 0 where
   pub closing : t.step ≡ step.Close
   pub refusal : IsSome t.refusal
 
 -- no reply refuses a close
-close-passes : (r : Reply) → refusal_in step.Close r ≡ None
+pub close-passes : (r : Reply) → refusal_in step.Close r ≡ None
 unfolding refusal_in is_passed_over
 close-passes (reply.Fail e) = refl
 close-passes _ = refl

@@ -1,6 +1,9 @@
 pub mod OneState
 pub mod Reads
+pub mod Requests
+pub mod SentMessages
 pub mod ShownStates
 pub mod Stacks
 pub mod TextsOfRecords
+pub mod ToolHandles
 pub mod ToolTexts

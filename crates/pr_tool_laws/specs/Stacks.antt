@@ -1,4 +1,4 @@
-use Rattle.std.specs.Prelude.{◌≡◌, ℕ, List, ◌∷◌, ◌++◌, Option, None, Some, option_map}
+use Rattle.std.specs.Prelude.{◌≡◌, ℕ, Bool, false, List, ◌∷◌, ◌++◌, Option, None, Some, option_map}
 use Rattle.pr_api.specs.Entries.{call_entry}
 use Rattle.pr_model.specs.Handles.{handle_of}
 use Rattle.pr_model.specs.Legal.{state_after}
@@ -14,9 +14,12 @@ use Rattle.pr_model.specs.declared.events.Entry.{Entry}
 use Rattle.pr_model.specs.declared.handles.Held.{Held}
 use Rattle.pr_model.specs.declared.tools.ToolKind.TheVariants.{Pstack}
 use Rattle.pr_num.specs.Programs.{Program}
-use Rattle.pr_tools.specs.Calls.{stop_bytes}
+use Rattle.pr_tools.specs.Calls.{run_bytes, stop_bytes}
+use Rattle.pr_tools.specs.Replies.{bytes_read}
 use Rattle.pr_tools.specs.SpaceStacks.{lwps_stacks}
+use Rattle.pr_tools.specs.Stacks.{process_stands}
 use Rattle.pr_tool_laws.specs.Reads.{IsToolRead}
+use Rattle.pr_tool_laws.specs.SentMessages.{HasSent, IsSetGoing}
 use Rattle.pr_truss_laws.specs.Stills.{IsHalting}
 
 -- The text of pstack(1) as a function of one state of the machine.
@@ -61,3 +64,22 @@ pub record ShowsOneStack (k pid : ℕ) (programs : List Program) (first : Traced
   pub lives : live_process (state_after first before).system pid ≡ Some process
   pub still : IsHalting process
   pub shown : process.borrower ≡ None → stacks_in pid programs (state_after first before).system ≡ Some text
+
+-- ---- what it leaves
+
+-- pstack has read the status of all lwps, and has noted whether every lwp stood there: on an event of interest, or
+-- suspended.
+pub record HasLooked (k pid : ℕ) (stood : Bool) (first : TracedState) (h : List Entry) : Type 0 where
+  pub before : List Entry
+  pub call : Call
+  pub reply : Reply
+  pub after : List Entry
+  pub place : h ≡ before ++ call_entry k call reply ∷ after
+  pub reads : IsToolRead Pstack k pid (state_after first before) call
+  pub noted : process_stands (bytes_read reply) ≡ stood
+
+-- Where not every lwp stood when it came, it has run the process.
+pub record RunsAgain (k pid : ℕ) (first : TracedState) (h : List Entry) : Type 0 where
+  pub stood : Bool
+  pub looked : HasLooked k pid stood first h
+  pub runs : stood ≡ false → HasSent k pid run_bytes IsSetGoing first h

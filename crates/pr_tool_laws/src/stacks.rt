@@ -1,4 +1,4 @@
-ghost use Rattle.std.specs.Prelude.{◌≡◌, ℕ, List, None, Some, slice_get, true};
+ghost use Rattle.std.specs.Prelude.{◌≡◌, ℕ, IsSome, List, None, Some, false, slice_get, true};
 ghost use Rattle.pr_lawful.specs.Starts.{IsStart};
 ghost use Rattle.pr_model.specs.FirstState.{first_state};
 ghost use Rattle.pr_model.specs.Lawful.{IsLawful};
@@ -10,8 +10,10 @@ ghost use Rattle.pr_num.specs.Programs.{Program};
 ghost use Rattle.pr_num.specs.declared.files.StoredFile.{StoredFile};
 ghost use Rattle.pr_reached.specs.ByteHistories.{HasBytes};
 ghost use Rattle.pr_reached.specs.InRange.{IsInRange, IsStartInRange};
-ghost use Rattle.pr_tool_laws.specs.Stacks.{ShowsOneStack};
+ghost use Rattle.pr_tool_laws.specs.Requests.{asks_still};
+ghost use Rattle.pr_tool_laws.specs.Stacks.{RunsAgain, ShowsOneStack};
 ghost use Rattle.pr_tools.specs.Tools.{ToolState, first_tool, has_ended, printed};
+ghost use Rattle.pr_truss_laws.specs.Exchanges.{exchanges};
 ghost use Rattle.pr_world.specs.ControllerStates.{ControllerState};
 ghost use Rattle.pr_world.specs.ControllerStates as cores;
 ghost use Rattle.pr_world.specs.Protocol.{Follows, controllers_at};
@@ -36,4 +38,24 @@ pub fn pstack_shows_one_state()
         → IsLegal n (first_state programs files spawns) h → Follows controllers (first_state programs files spawns) h
         → slice_get (controllers_at controllers h) k ≡ Some (cores.Tool t) → has_ended t ≡ true → t.refusal ≡ None
         → ShowsOneStack k pid labels (first_state programs files spawns) h (printed t labels) }
+{}
+
+/// In a legal history that follows the protocol of its controllers, from a lawful state, a pstack that has finished,
+/// and was not refused, has run its process again by PCRUN, unless it noted that every lwp stood when it came.
+pub fn pstack_runs_its_process_again()
+    ensures { (controllers : List ControllerState) (n k pid : ℕ) (s : TracedState) (h : List Entry) (t : ToolState)
+        → IsLawful s → slice_get controllers k ≡ Some (cores.Tool (first_tool Pstack pid)) → IsLegal n s h
+        → Follows controllers s h
+        → slice_get (controllers_at controllers h) k ≡ Some (cores.Tool t) → has_ended t ≡ true → t.refusal ≡ None
+        → RunsAgain k pid s h }
+{}
+
+/// In a legal history that follows the protocol of its controllers, a pstack that has finished and was refused has no
+/// request to stop left that was not refused: after PCSTOP it has sent PCRUN.
+pub fn a_refused_pstack_takes_back_its_request()
+    ensures { (controllers : List ControllerState) (n k pid : ℕ) (s : TracedState) (h : List Entry) (t : ToolState)
+        → slice_get controllers k ≡ Some (cores.Tool (first_tool Pstack pid)) → IsLegal n s h
+        → Follows controllers s h
+        → slice_get (controllers_at controllers h) k ≡ Some (cores.Tool t) → has_ended t ≡ true → IsSome t.refusal
+        → asks_still false (exchanges k h) ≡ false }
 {}

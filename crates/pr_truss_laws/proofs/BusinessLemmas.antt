@@ -7,7 +7,7 @@ use Rattle.pr_truss_laws.proofs.EndedLemmas.{closes-ended}
 use Rattle.pr_truss_laws.proofs.ExchangeLemmas.{makes-front, makes-rest}
 use Rattle.pr_truss_laws.proofs.InterruptLemmas.{leaves-interrupted}
 use Rattle.pr_truss_laws.proofs.KnownLemmas.{after-knows, first-knows, opens-known}
-use Rattle.pr_truss_laws.proofs.LineLemmas.{keeps-lines, prints-reports, tells-selected}
+use Rattle.pr_truss_laws.proofs.LineLemmas.{keeps-lines, prints-reports, prints-what-it-reports, tells-selected}
 use Rattle.pr_truss_laws.proofs.OpenTimes.{opens-in-time}
 use Rattle.pr_truss_laws.proofs.PollsLemmas.{polls-own}
 use Rattle.pr_truss_laws.proofs.RefusalLemmas.{tells-refusals}
@@ -42,5 +42,6 @@ does-business o xs makes = record {
   ended = closes-ended o xs makes;
   events = tells-selected o xs;
   prints = prints-reports o xs;
+  reports = prints-what-it-reports o xs;
   lines = keeps-lines o xs;
 }

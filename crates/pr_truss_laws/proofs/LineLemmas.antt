@@ -1,4 +1,4 @@
-use Rattle.std.proofs.Common.{◌≡◌, ℕ, Bool, true, false, cond, Option, Some, None, List, [], ◌∷◌, ◌++◌, refl, sym, subst, ap, ◌∙◌, append_assoc}
+use Rattle.std.proofs.Common.{◌≡◌, ◌+◌, ℕ, Bool, true, false, cond, Option, Some, None, List, [], ◌∷◌, ◌++◌, refl, sym, subst, ap, ◌∙◌, arith, append_assoc, length, length-append}
 use Rattle.std.proofs.lemmas.Grind.{flat_map-append}
 use Rattle.std.proofs.lemmas.List.{append-nil}
 use Rattle.std.proofs.lemmas.List.Elements.{All-nil, All-cons, All-append}
@@ -11,7 +11,7 @@ use Rattle.pr_truss.specs.Counts.{counts_text}
 use Rattle.pr_truss.specs.Feeding.{fed}
 use Rattle.pr_truss.specs.Printing.{printed}
 use Rattle.pr_truss.specs.Reports.{all_reports, pending_at, refusal_or_nothing, report_lines, report_text}
-use Rattle.pr_truss.specs.Trusses.{TrussState, first_of_program, first_truss, idle, opening_or}
+use Rattle.pr_truss.specs.Trusses.{TrussState, first_of_program, first_truss, idle, opening_or, traced_at}
 use Rattle.pr_truss.specs.declared.reports.Report.{Report}
 use Rattle.pr_truss.specs.declared.reports.Report.TheVariants as report
 use Rattle.pr_truss.specs.declared.stages.AfterClosing.{AfterClosing}
@@ -25,7 +25,7 @@ use Rattle.pr_truss_laws.proofs.OptionLemmas.{fed-options}
 use Rattle.pr_truss_laws.proofs.ReplySteps as step
 use Rattle.pr_truss_laws.proofs.ReplySteps.{Closes, GoesOn, Learns, Looks, Opens, ReplyStep, Returns, Settles, StopOver, Turns, on-staged, over-staged}
 use Rattle.pr_truss_laws.specs.Exchanges.{Exchange, truss_after}
-use Rattle.pr_truss_laws.specs.Lines.{BeginsWith, KeepsItsLines, PrintsItsReports, StandsOnSelected, TellsSelected, line_of}
+use Rattle.pr_truss_laws.specs.Lines.{BeginsWith, KeepsItsLines, PrintsItsReports, PrintsWhatItReports, ReportsNoOther, StandsOnSelected, TellsSelected, all_told, line_of, one_more}
 
 -- What truss prints: selected events alone, and lines that stay.
 
@@ -200,6 +200,30 @@ begins xs s lines none =
           ∙ ap (λ text. text ++ more) (sym (printed-lines s lines ∙ settled-lines s none));
     }
 
+-- what is added to a list, and makes no other of it, is nothing
+nothing-added : {A : Type 0} (xs ys : List A) → xs ++ ys ≡ xs → ys ≡ []
+nothing-added xs [] is = refl
+nothing-added xs (y ∷ ys) is =
+    let both = length-append xs (y ∷ ys) in
+    let same : length (xs ++ y ∷ ys) ≡ length xs = ap length is in
+    absurd (omega (arith, both, same))
+
+nothing-pending : (s : TrussState) → all_reports s ≡ s.reports → pending_at s s.stage ≡ []
+unfolding all_reports
+nothing-pending s is = nothing-added s.reports (pending_at s s.stage) is
+
+-- what is printed behind what was reported
+reports-at : (s : TrussState) (stage : Stage) → all_reports s ≡ s.reports ++ pending_at s stage → ReportsNoOther s
+reports-at s (ReadingText place l from len) is = one_more (traced_at s place).pid l is
+reports-at s _ is = all_told (is ∙ append-nil s.reports)
+
+no-other : (s : TrussState) → ReportsNoOther s
+unfolding all_reports
+no-other s = reports-at s s.stage refl
+
+pub prints-what-it-reports : (o : Options) (xs : List Exchange) → PrintsWhatItReports o xs
+prints-what-it-reports o xs = record { each = λ before after is. no-other (truss_after (first_truss o) before) }
+
 pub keeps-lines : (o : Options) (xs : List Exchange) → KeepsItsLines o xs
 keeps-lines o xs = record {
   each = λ lines before after is none.
@@ -208,7 +232,7 @@ keeps-lines o xs = record {
       ap (truss_after (first_truss o)) is ∙ after-append (first_truss o) before after in
       let options = options-after before (first_truss o) ∙ (first-tells o).options in
       subst (λ (u : TrussState). BeginsWith (printed s) (printed u)) (sym same)
-      (begins after s (ap (λ (p : Options). p.count) options ∙ lines) none);
+      (begins after s (ap (λ (p : Options). p.count) options ∙ lines) (nothing-pending s none));
 }
 
 -- ---- what stands in them

@@ -44,10 +44,10 @@ module _ (o : Options) (r : Reply) (t : Traced) where
   abbrev Follows : OpeningStep → OpeningStep → Type 0
   Follows now to = Comes o (opening_call o t now) (Some (opening_call o (learnt t r now) to))
 
-  last-step : (b : Bool) → Follows opening.TraceExits (cond b opening.Follow opening.Start)
+  last-step : (b : Bool) → o.follow ≡ b → Follows opening.TraceExits (cond b opening.Follow opening.Start)
   unfolding opening_call learnt
-  last-step true = λ sent. opens follows
-  last-step false = λ sent. runs
+  last-step true is = λ sent. opens (follows is)
+  last-step false is = λ sent. runs
 
   opening-follows : (now next : OpeningStep) → step_after o r now ≡ Some next → Follows now next
   unfolding opening_call learnt step_after
@@ -72,7 +72,7 @@ module _ (o : Options) (r : Reply) (t : Traced) where
   opening-follows opening.TraceEntries to is =
       subst (Follows opening.TraceEntries) (same_Some _ to is) (λ sent. opens traces_exits)
   opening-follows opening.TraceExits to is =
-      subst (Follows opening.TraceExits) (same_Some _ to is) (last-step o.follow)
+      subst (Follows opening.TraceExits) (same_Some _ to is) (last-step o.follow refl)
   opening-follows opening.Follow to is = subst (Follows opening.Follow) (same_Some _ to is) (λ sent. runs)
   opening-follows opening.Start to is = absurd (none-some to is)
 

@@ -23,7 +23,7 @@ use Rattle.pr_truss.specs.Trusses.{first_truss}
 use Rattle.pr_truss.specs.declared.reports.Report.{Report}
 use Rattle.pr_truss.specs.declared.reports.Report.TheVariants.{CannotStart, CannotTrace}
 use Rattle.pr_truss_laws.specs.Exchanges.{Closes, Exchange, errno_in, truss_after}
-use Rattle.pr_truss_laws.specs.Lines.{KeepsItsLines, PrintsItsReports, TellsSelected}
+use Rattle.pr_truss_laws.specs.Lines.{KeepsItsLines, PrintsItsReports, PrintsWhatItReports, TellsSelected}
 use Rattle.pr_truss_laws.specs.Sent.{SendsInOrder}
 use Rattle.pr_truss_laws.specs.Soon.{PollsSoon}
 
@@ -281,4 +281,5 @@ pub record DoesItsBusiness (o : Options) (xs : List Exchange) : Type 0 where
   pub ended : ClosesWhatEnded xs
   pub events : All (TellsSelected o) (all_reports (truss_after (first_truss o) xs))
   pub prints : PrintsItsReports o xs
+  pub reports : PrintsWhatItReports o xs
   pub lines : KeepsItsLines o xs

@@ -1,4 +1,4 @@
-use Rattle.std.specs.Prelude.{◌≡◌, ℕ, true, false, List, [], ◌∷◌, ◌++◌, Some, codes, decimal, slice_get}
+use Rattle.std.specs.Prelude.{◌≡◌, ℕ, true, false, List, [], ◌∷◌, ◌++◌, None, Some, codes, decimal, slice_get}
 use Rattle.std.specs.List.{flat_map}
 use Rattle.pr_line.specs.EventLines.{event_text}
 use Rattle.pr_line.specs.Events.{event_of}
@@ -10,8 +10,8 @@ use Rattle.pr_num.specs.declared.errnos.Errno.{Errno}
 use Rattle.pr_rec.specs.declared.lwps.LwpStatus.{LwpStatus}
 use Rattle.pr_text.specs.TextLines.{newline}
 use Rattle.pr_truss.specs.Printing.{printed}
-use Rattle.pr_truss.specs.Reports.{all_reports, call_line, pending_at}
-use Rattle.pr_truss.specs.Trusses.{first_truss}
+use Rattle.pr_truss.specs.Reports.{all_reports, call_line}
+use Rattle.pr_truss.specs.Trusses.{TrussState, first_truss}
 use Rattle.pr_truss.specs.declared.reports.Report.{Report}
 use Rattle.pr_truss.specs.declared.reports.Report.TheVariants as report
 use Rattle.pr_truss_laws.specs.Exchanges.{Exchange, truss_after}
@@ -27,10 +27,21 @@ pub record StandsOnSelected (o : Options) (l : LwpStatus) : Type 0 where
   pub tells : event_of l ≡ Some event
   pub selected : is_selected o event ≡ true
 
--- Where a report is one of an event, the lwp in it stands on one that the options select.
+-- A report is a refusal, or one of an event, and then the lwp in it stands on one that the options select. Of calls of
+-- functions a truss without -u reports none.
 abbrev pub TellsSelected : Options → Report → Type 0
 TellsSelected o (report.Event pid l text) = StandsOnSelected o l
-TellsSelected o _ = Unit {0}
+TellsSelected o (report.CannotStart program errno) = Unit {0}
+TellsSelected o (report.CannotTrace pid errno) = Unit {0}
+TellsSelected o (report.Called pid lwp function arguments) = ⊥
+
+-- What is printed is what was reported, and behind that at most one event of which the memory is still to be read.
+pub data ReportsNoOther (s : TrussState) : Type 0 where
+  all_told : all_reports s ≡ s.reports → ReportsNoOther s
+  one_more : (pid : ℕ) (l : LwpStatus) → all_reports s ≡ s.reports ++ report.Event pid l None ∷ [] → ReportsNoOther s
+
+pub record PrintsWhatItReports (o : Options) (xs : List Exchange) : Type 0 where
+  pub each : (before after : List Exchange) → xs ≡ before ++ after → ReportsNoOther (truss_after (first_truss o) before)
 
 -- ---- the lines
 
@@ -43,7 +54,7 @@ pub record BeginsWith (front text : List ℕ) : Type 0 where
 -- memory to read for a line then. So its lines stand in the order in which it learnt them. With -c it prints counts.
 pub record KeepsItsLines (o : Options) (xs : List Exchange) : Type 0 where
   pub each : o.count ≡ false → (before after : List Exchange) → xs ≡ before ++ after
-      → pending_at (truss_after (first_truss o) before) (truss_after (first_truss o) before).stage ≡ []
+      → all_reports (truss_after (first_truss o) before) ≡ (truss_after (first_truss o) before).reports
       → BeginsWith (printed (truss_after (first_truss o) before)) (printed (truss_after (first_truss o) xs))
 
 -- ---- what stands in them

@@ -14,7 +14,8 @@ use Rattle.pr_truss_laws.specs.Exchanges.{Exchange}
 -- message right after the call that comes before it there.
 
 -- The call that comes right before a message of an opening, or before the wait for the stop. The process was opened, or
--- the child of a fork. Where a process is opened whole, `WasOpened` and its like say more.
+-- the child of a fork. Only where truss follows children does it have them traced. Where a process is opened whole,
+-- `WasOpened` and its like say more.
 pub data Precedes (o : Options) : Call → Call → Type 0 where
   clears : {pid control : ℕ} → Precedes o (call.Open pid 0 Mem Read) (message_call control (message.Unset all_modes))
   releases : {control : ℕ}
@@ -33,7 +34,7 @@ pub data Precedes (o : Options) : Call → Call → Type 0 where
       (message_call control (message.Sentry (traced_entries o)))
   traces_exits : {control : ℕ} → Precedes o (message_call control (message.Sentry (traced_entries o)))
       (message_call control (message.Sexit (traced_exits o)))
-  follows : {control : ℕ} → Precedes o (message_call control (message.Sexit (traced_exits o)))
+  follows : {control : ℕ} → o.follow ≡ true → Precedes o (message_call control (message.Sexit (traced_exits o)))
       (message_call control (message.Set fork_mode))
 
 -- What may be sent right after this call.

@@ -1,15 +1,20 @@
-use Rattle.std.proofs.Common.{◌≡◌, ℕ, Bool, true, false, Some, None, List, refl, sym, ap, ◌∙◌, subst}
+use Rattle.std.proofs.Common.{◌≡◌, ℕ, Bool, true, false, Option, Some, None, List, refl, sym, ap, ◌∙◌, subst}
+use Rattle.std.specs.Option.{option_or}
 use Rattle.std.proofs.lemmas.Option.{same_Some}
 use Rattle.pr_num.specs.declared.faults.Flt.{Flt}
 use Rattle.pr_num.specs.declared.syscalls.Sysno.{Sysno}
-use Rattle.pr_num.specs.Signals.{signal_number}
+use Rattle.pr_num.specs.Sets.{minus_word}
+use Rattle.pr_num.specs.Signals.{least_signal, signal_number}
+use Rattle.pr_num.specs.declared.signals.Sig.{Sig}
+use Rattle.pr_parts.specs.PendingSignals.{pending_set}
+use Rattle.pr_parts.specs.SignalRules.{takeable_signal}
 use Rattle.pr_parts.specs.declared.actions.Action.TheVariants as act
 use Rattle.pr_call.specs.Requests.{request_in}
 use Rattle.pr_call.specs.declared.requests.Request.{Request}
 use Rattle.pr_model.specs.CallEffects.{call_effect}
 use Rattle.pr_model.specs.Registers.{arguments}
 use Rattle.pr_model.specs.Rows.{Row, acted_row, call_row, caught_row, interrupted_row, performed_row, posted_row, posted_row_or, row_for, row_in, signal_row_or, taken_or}
-use Rattle.pr_model.specs.Signals.{action_for, own_takeable, shared_takeable}
+use Rattle.pr_model.specs.Signals.{action_for, own_takeable, shared_takeable, takeable}
 use Rattle.pr_model.specs.State.{TracedLwp, TracedProcess, TracedSystem}
 use Rattle.pr_model.specs.Transitions.{died}
 use Rattle.pr_model.specs.declared.events.Did.TheVariants.{Acted}
@@ -60,11 +65,30 @@ module _ (s : TracedSystem) (pid : ℕ) (p : TracedProcess) (id : ℕ) (l : Trac
   unfolding row_for
   row-phase r off none current e = e ∙ rw (off, current) (unposted l.phase _ none)
 
+  -- no signal can be taken
+  none-takeable : takeable p l ≡ None → (own_takeable l ≡ None) × (shared_takeable p l ≡ None)
+  unfolding takeable own_takeable shared_takeable takeable_signal
+  none-takeable none =
+      by (least_signal (minus_word (pending_set l.pending) l.held)) (least_signal (minus_word (pending_set p.pending) l.held))
+      none
+    where
+      by : (own shared : Option Sig) → option_or own shared ≡ None → (own ≡ None) × (shared ≡ None)
+      by None shared e = (refl, e)
+      by (Some g) shared e = absurd (cc)
+
   -- ---- what each phase decides, where no signal is taken
 
   pub in-user : (r : Row) → l.phase ≡ phase.User → r ≡ taken_or s pid p id l (own_takeable l) (shared_takeable p l) (row_of p l Executed) → r ≡ signal_row_or s pid p id l l.phase (row_in s pid p id l l.phase)
   unfolding row_of signal_row_or row_in
   in-user r at e = subst (λ ph. r ≡ signal_row_or s pid p id l ph (row_in s pid p id l ph)) (sym at) e
+
+  -- one in its program that is directed to nothing, and has no signal to act on or to take
+  pub row-runs : l.phase ≡ phase.User → l.control.directed ≡ false → l.current ≡ None → takeable p l ≡ None
+      → row_of p l Executed ≡ row_for s pid p id l
+  row-runs at off current none =
+      let parts = none-takeable none in
+      row-phase (row_of p l Executed) off (ap unposted_fault at) current
+      (in-user (row_of p l Executed) at (rw (parts.0, parts.1) refl))
 
   pub in-entered : (r : Row) (call : Sysno) → l.phase ≡ phase.Entered call → r ≡ call_row s pid p id l false call (arguments l.regs) s.clock → r ≡ signal_row_or s pid p id l l.phase (row_in s pid p id l l.phase)
   unfolding row_of signal_row_or row_in
@@ -118,5 +142,7 @@ pub ruleset performing = (row-aborted, row-performed)
 pub ruleset rows = (row-directed, row-posted, row-current, row-phase)
 
 pub ruleset acting = (acted-ignored, acted-stopped, acted-died, acted-caught)
+
+pub ruleset running = (row-runs)
 
 pub ruleset phases = (in-user, in-entered, in-asleep, in-exiting, in-faulted)

@@ -92,6 +92,36 @@ module _ (s : TracedSystem) (pid id : ℕ) where
   pub is-next : (p : TracedProcess) (l : TracedLwp) (next : NextTurn) → live_process s pid ≡ Some p → lwp_of p id ≡ Some l → can_move s pid id ≡ true → row_of_turn s pid p id l next ≡ row_for s pid p id l → turn_fits l next ≡ true → Asks s.clock pid id l next → IsNext s pid id next
   is-next p l next found stands can row room asks = record { process = p; lwp = l; found = found; stands = stands; may = can_move-may p l found stands can; fits = room; asks = asks; row = row }
 
+  -- so its process stands, and it in it
+  pub can_move-found : can_move s pid id ≡ true → IsSome (under pid s.processes)
+  can_move-found can =
+      elim (live_process s pid) as (λ o. o ≡ live_process s pid → IsSome o → IsSome (under pid s.processes)) [
+        | None ↦ λ e some. absurd (cc)
+        | Some q ↦ λ e some. ap is_some (live_process-found s pid q (sym e))
+      ] refl (can_move-live can)
+
+  module _ (p : TracedProcess) (there : under pid s.processes ≡ Some p) (can : can_move s pid id ≡ true) where
+    found-live : live_process s pid ≡ Some p
+    found-live =
+        elim (live_process s pid) as (λ o. o ≡ live_process s pid → IsSome o → live_process s pid ≡ Some p) [
+          | None ↦ λ e some. absurd (cc)
+          | Some q ↦ λ e some.
+              let same : q ≡ p = same_Some q p (sym (live_process-found s pid q (sym e)) ∙ there) in
+              sym e ∙ ap Some same
+        ] refl (can_move-live can)
+
+    pub can_move-there : IsSome (lwp_of p id)
+    can_move-there = can_move-stands p found-live can
+
+    -- one that has nothing else to do runs an instruction
+    pub runs-next : ((l : TracedLwp) → lwp_of p id ≡ Some l → row_of p l Executed ≡ row_for s pid p id l)
+        → IsNext s pid id (ThisRow Executed)
+    runs-next rows =
+        elim (lwp_of p id) as (λ o. o ≡ lwp_of p id → IsSome o → IsNext s pid id (ThisRow Executed)) [
+          | None ↦ λ e some. absurd (cc)
+          | Some l ↦ λ e some. is-next p l (ThisRow Executed) found-live (sym e) can (rows l (sym e)) refl tt
+        ] refl can_move-there
+
 pub ruleset turn_laws = (can_move-live, can_move-stands, is-next)
 
 -- a process that came back as it was

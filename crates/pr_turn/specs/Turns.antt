@@ -1,10 +1,12 @@
-use Rattle.std.specs.Prelude.{◌≡◌, ℕ, Bool, true, Some}
+use Rattle.std.specs.Prelude.{◌≡◌, ℕ, Bool, true, false, Some}
 use Rattle.pr_model.specs.LwpTurns.{may_turn, with_counted}
 use Rattle.pr_model.specs.Machines.{traced}
 use Rattle.pr_model.specs.Points.{after_meeting, meets}
 use Rattle.pr_model.specs.Rows.{row_for}
 use Rattle.pr_model.specs.State.{TracedSystem, TracedProcess, TracedLwp, live_process, lwp_of, with_process}
 use Rattle.pr_model.specs.Transitions.{after_transition}
+use Rattle.pr_model.specs.declared.events.Did.{Did}
+use Rattle.pr_model.specs.declared.events.Did.TheVariants.{Ran, Entered, Faulted}
 use Rattle.pr_model.specs.declared.events.Turned.{Turned}
 use Rattle.pr_turn.specs.CallTurns.{Asks}
 use Rattle.pr_turn.specs.Making.{of_row}
@@ -46,3 +48,10 @@ pub record IsTurned (s new : TracedSystem) (pid id : ℕ) (turned : Turned) : Ty
   pub makes : TurnMakes s after pid id did stop
   pub settled : new ≡ with_process pid (after_meeting did.point id) (with_process pid (with_counted did.did did.begun) after)
   pub told : turned ≡ record { did = did.did; stop = stop }
+
+-- whether an instruction can have done this: it ran, or came to a system call or to a fault
+abbrev pub is_of_instruction : Did → Bool
+is_of_instruction Ran = true
+is_of_instruction (Entered call) = true
+is_of_instruction (Faulted f) = true
+is_of_instruction _ = false

@@ -2,10 +2,12 @@
 #![tactic(auto)]
 
 mod calls;
+mod instructions;
 mod making;
 mod moving;
 mod next;
 mod turns;
 
+pub use instructions::run_instruction;
 pub use next::{Next, NextTurn};
 pub use turns::{movable, turn};

@@ -171,6 +171,41 @@ fn stop_by_job(process: &mut Proc, id: u32, signal: Sig)
     drop_current_under(&mut process.lwps, id);
 }
 
+/// Runs the instruction at pc of the lwp of an id in a process, and answers what it did. Only one that stores bytes takes
+/// memory; where that runs out nothing is changed.
+#[tactic(auto, using(crate::proofs::MakeLemmas::making, crate::proofs::TakingLemmas::taking))]
+#[inline]
+fn execute(process: &mut Proc, id: u32) -> Result<Made, NoMemory>
+    requires { IsSome (lwp_of process.old id) }
+    ensures process { OnOk result (ForSome (lwp_of process.old id) (λ l. process.new ≡ process_after id (row_of process.old l Next.Executed).transition process.old)) }
+    ensures made { IfOk result (λ made. ForSome (lwp_of process.old id) (λ l. made ≡ of_row (row_of process.old l Next.Executed))) }
+    ensures memory { OnErr result (ForSome (lwp_of process.old id) (λ l. row_takes (row_of process.old l Next.Executed) ≡ true)) }
+    ensures err { OnErr result (process.new ≡ process.old) }
+{
+    execute_under(
+        &mut process.lwps,
+        id,
+        &mut process.space,
+        &process.control.areas,
+    )
+}
+
+/// The same, and whether the process traces what the instruction met.
+#[tactic(auto, using(crate::proofs::MakeLemmas::controls))]
+#[inline]
+pub fn execute_and_ask(process: &mut Proc, id: u32) -> Result<(Made, bool), NoMemory>
+    requires { IsSome (lwp_of process.old id) }
+    ensures process { OnOk result (ForSome (lwp_of process.old id) (λ l. process.new ≡ process_after id (row_of process.old l Next.Executed).transition process.old)) }
+    ensures made { IfOk result (λ made. ForSome (lwp_of process.old id) (λ l. made.0 ≡ of_row (row_of process.old l Next.Executed))) }
+    ensures stop { IfOk result (λ made. ForSome (lwp_of process.old id) (λ l. made.1 ≡ meets process.old.control (row_of process.old l Next.Executed).point)) }
+    ensures memory { OnErr result (ForSome (lwp_of process.old id) (λ l. row_takes (row_of process.old l Next.Executed) ≡ true)) }
+    ensures err { OnErr result (process.new ≡ process.old) }
+{
+    let made = execute(process, id)?;
+    let stop = meets(&process.control, made.point);
+    Ok((made, stop))
+}
+
 /// What a row makes of a process, and what it did; a row that ends its process makes nothing of it. Only an instruction
 /// that stores bytes takes memory; where that runs out nothing is changed.
 #[tactic(auto, using(crate::proofs::MakeLemmas::making, crate::proofs::TakingLemmas::taking))]
@@ -184,12 +219,7 @@ pub fn make(process: &mut Proc, id: u32, next: Next) -> Result<Made, NoMemory>
     ensures err { OnErr result (process.new ≡ process.old) }
 {
     match next {
-        Next::Executed => execute_under(
-            &mut process.lwps,
-            id,
-            &mut process.space,
-            &process.control.areas,
-        ),
+        Next::Executed => execute(process, id),
         Next::TookShared(signal) => {
             take_shared(process, id, signal);
             Ok(at_point(Did::Took(signal), Point::Signal(signal)))

@@ -84,7 +84,7 @@ fn meet(process: &mut Proc, id: u32, point: Option<Point>)
 }
 
 /// What a turn leaves of its process, once it is made: it is counted, and the lwp stops at what it met.
-fn settle(process: &mut Proc, id: u32, made: Made)
+pub fn settle(process: &mut Proc, id: u32, made: Made)
     requires { UsedAtMost (2 ^ 64 - 2) process.old.control.usage }
     ensures { process.new ≡ after_meeting made.point id (with_counted made.did made.begun process.old) }
 {
@@ -95,6 +95,7 @@ fn settle(process: &mut Proc, id: u32, made: Made)
 /// Whether an lwp that is asleep in a call goes on: it is directed to stop, has a signal to act on or to take, or its
 /// call was aborted or is ready.
 #[tactic(auto, using(crate::proofs::TurnLemmas::wake_laws))]
+#[inline(never)]
 fn may_wake(sys: &Sys, process: &Proc, lwp: &Lwp, request: &Request) -> bool
     ensures { result ≡ may_wake sys.now request.now.pid process.now request.now.lwp lwp.now request.now.since request.now.call request.now.args }
 {
@@ -114,6 +115,7 @@ fn may_wake(sys: &Sys, process: &Proc, lwp: &Lwp, request: &Request) -> bool
 }
 
 /// Whether an lwp may go on; only one that is asleep may not.
+#[inline]
 fn may_go_on(sys: &Sys, pid: u32, process: &Proc, id: u32, lwp: &Lwp) -> bool
     ensures { result ≡ may_go_on sys.now pid process.now id lwp.now lwp.now.phase }
 {
@@ -137,6 +139,7 @@ fn may_go_on(sys: &Sys, pid: u32, process: &Proc, id: u32, lwp: &Lwp) -> bool
 
 /// Whether an lwp, with its id, may have a turn: it is not held back, and it may go on.
 #[tactic(auto, unfolding(pr_model::specs::LwpTurns::may_turn))]
+#[inline]
 fn may_turn(sys: &Sys, pid: u32, process: &Proc, id: u32, lwp: &Lwp) -> bool
     ensures { result ≡ may_turn sys.now pid process.now id lwp.now }
 {
@@ -145,6 +148,7 @@ fn may_turn(sys: &Sys, pid: u32, process: &Proc, id: u32, lwp: &Lwp) -> bool
 
 /// Whether an lwp can have a turn: its process is live, and it is not held back and may go on.
 #[tactic(auto, unfolding(pr_model::specs::LwpTurns::can_move))]
+#[inline(always)]
 pub fn movable(sys: &Sys, pid: u32, lwp: u32) -> bool
     ensures { result ≡ can_move sys.now pid lwp }
 {

@@ -44,6 +44,16 @@ fn has_its_instructions_as_its_text(rt: HostRuntime) -> Result<(), Fail> {
     Ok(())
 }
 
+// Sees that a line is one instruction of these bytes.
+fn sees_form(rt: &(impl Abort + Alloc<A = Global>), text: &[u8], head: [u8; 3], immediate: u64) {
+    let program = program(rt, text);
+    let mut want = [0; 16];
+    want[..3].copy_from_slice(&head);
+    want[8..].copy_from_slice(&immediate.to_le_bytes());
+    assert_eq!(rt; program.code().len(), 1);
+    assert_eq!(rt; program.encode(0), want);
+}
+
 // Each form once: operation code, two register bytes, immediate.
 #[test]
 fn reads_each_form(rt: HostRuntime) {
@@ -70,12 +80,7 @@ fn reads_each_form(rt: HostRuntime) {
         (b"sys lwp_create", [19, 0, 0], 25),
     ];
     for (text, head, immediate) in rows {
-        let program = program(&rt, text);
-        let mut want = [0; 16];
-        want[..3].copy_from_slice(&head);
-        want[8..].copy_from_slice(&immediate.to_le_bytes());
-        assert_eq!(rt; program.code().len(), 1);
-        assert_eq!(rt; program.encode(0), want);
+        sees_form(&rt, text, head, immediate);
     }
 }
 

@@ -211,7 +211,7 @@ fn mapping() -> MapEntry {
 }
 
 #[test]
-fn other_records_are_their_words(rt: HostRuntime) -> Result<(), Fail> {
+fn a_usage_is_its_words(rt: HostRuntime) -> Result<(), Fail> {
     let usage = Usage {
         id: 3,
         calls: 4,
@@ -222,6 +222,11 @@ fn other_records_are_their_words(rt: HostRuntime) -> Result<(), Fail> {
     let bytes = bytes_of(rt.alloc(), &[3, 4, 5, 6, u64::MAX])?;
     assert_eq!(rt; usage.encode().as_slice(), bytes.as_slice());
     assert_eq!(rt; Usage::decode(&bytes), Ok(usage));
+    Ok(())
+}
+
+#[test]
+fn what_is_said_of_a_process_is_its_words(rt: HostRuntime) -> Result<(), Fail> {
     let [a, b, c, d] = NAME_WORDS;
     let psinfo = Psinfo {
         id: 3,
@@ -237,9 +242,13 @@ fn other_records_are_their_words(rt: HostRuntime) -> Result<(), Fail> {
     let bytes = bytes_of(rt.alloc(), &[3, 1, 2, 1, 0x100, 8_192, 50, 24, a, b, c, d])?;
     assert_eq!(rt; psinfo.encode().as_slice(), bytes.as_slice());
     assert_eq!(rt; Psinfo::decode(&bytes), Ok(psinfo));
+    Ok(())
+}
+
+#[test]
+fn a_mapping_is_its_bytes(rt: HostRuntime) {
     assert_eq!(rt; mapping().encode(), MAPPING);
     assert_eq!(rt; MapEntry::decode(&MAPPING), Ok(mapping()));
-    Ok(())
 }
 
 #[test]

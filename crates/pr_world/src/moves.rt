@@ -12,6 +12,7 @@ impl<Q: Kernel> World<Q> {
     /// Makes the next call of a controller, which gets the reply. What it calls next is not made then; nor what it
     /// called, where memory ran out.
     #[tactic(auto, using(crate::proofs::CallerLemmas::cores))]
+    #[inline(never)]
     fn move_controller(&mut self, controller: u32) -> Result<(), NoMemory>
         requires acts { can_act (seen Q.view self.old) (Actor.Controller controller) ≡ true }
         requires place { length (Q.view self.old.kernel).history < (Q.view self.old.kernel).places }
@@ -46,6 +47,7 @@ impl<Q: Kernel> World<Q> {
 
     /// Makes the move of an actor that can move, and adds its entry; where memory runs out, the world is as it was, but
     /// that a controller's call is to be made again.
+    #[inline]
     pub fn turn(&mut self, actor: Actor) -> Result<(), NoMemory>
         requires acts { can_act (seen Q.view self.old) actor ≡ true }
         requires place { length (Q.view self.old.kernel).history < (Q.view self.old.kernel).places }

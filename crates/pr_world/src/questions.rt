@@ -107,7 +107,7 @@ impl<Q: Kernel> World<Q> {
 
     /// Whether an actor waits for the clock: an lwp in the call sleep, or a controller.
     #[tactic(auto, unfolding(crate::specs::Controllers::is_clock_awaited))]
-    fn is_clock_awaited(&self) -> bool
+    pub(crate) fn is_clock_awaited(&self) -> bool
         requires { self.now.made ≡ true }
         ensures { result ≡ is_clock_awaited (Q.view self.now.kernel).clock (Q.view self.now.kernel).has_sleeper self.now.controllers }
     {

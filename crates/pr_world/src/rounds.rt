@@ -22,12 +22,12 @@ impl<Q: Kernel> World<Q> {
         None
     }
 
-    #[tactic(auto, unfolding(crate::specs::Worlds::clock_if_awaited))]
+    #[tactic(auto, unfolding(crate::specs::Worlds::clock_if_awaited, crate::specs::Worlds::can_act))]
     fn clock_if_awaited(&self) -> Option<Actor>
         requires { self.now.made ≡ true }
         ensures { result ≡ clock_if_awaited (seen Q.view self.now) }
     {
-        if self.can_act(Actor::Clock) {
+        if self.is_clock_awaited() {
             Some(Actor::Clock)
         } else {
             None
@@ -36,6 +36,7 @@ impl<Q: Kernel> World<Q> {
 
     /// Who moves next in a round after an lwp, or from the first lwp on: an lwp, or the clock.
     #[tactic(auto, unfolding(crate::specs::Worlds::from_lwp, crate::specs::Worlds::first_lwp))]
+    #[inline]
     pub fn from_lwp(&self, after: Option<(u32, u32)>) -> Option<Actor>
         requires { self.now.made ≡ true }
         ensures { result ≡ from_lwp (seen Q.view self.now) after }

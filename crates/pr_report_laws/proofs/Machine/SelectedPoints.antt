@@ -25,12 +25,12 @@ no-line false false true is = is
 no-line false false false is = refl
 
 -- the calls that never return are those that end their lwp
-ends-its-lwp : (c : Sysno) → has_number ending_calls (syscall_number c) ≡ never_returns c
+pub ends-its-lwp : (c : Sysno) → has_number ending_calls (syscall_number c) ≡ never_returns c
 unfolding ending_calls syscall_number never_returns has_number with_number union_word
 ends-its-lwp call.Exit = refl
 ends-its-lwp _ = refl
 
-ending_calls-small : ending_calls < 2 ^ 64
+pub ending_calls-small : ending_calls < 2 ^ 64
 unfolding ending_calls syscall_number with_number union_word
 ending_calls-small = lit≤ tt
 

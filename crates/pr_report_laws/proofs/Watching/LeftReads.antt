@@ -98,10 +98,10 @@ module _ (t : TrussState) (handle from len : ℕ) (on : t.leaving ≡ true) wher
 -- ---- after the read
 
 -- the first process is left
-record IsAway (t v : TrussState) : Type 0 where
-  within : 0 < length v.traced
-  pid : (traced_at v 0).pid ≡ (traced_at t 0).pid
-  away : is_away v.leaving v.stage 0 ≡ true
+pub record IsAway (t v : TrussState) : Type 0 where
+  pub within : 0 < length v.traced
+  pub pid : (traced_at v 0).pid ≡ (traced_at t 0).pid
+  pub away : is_away v.leaving v.stage 0 ≡ true
 
 module _ (t : TrussState) (on : t.leaving ≡ true) (some : 0 < length t.traced) where
   alike-away : (u : TrussState) (stage : Stage) → Alike t u → is_away u.leaving stage 0 ≡ true
@@ -136,7 +136,7 @@ module _ (t : TrussState) (on : t.leaving ≡ true) (some : 0 < length t.traced)
   read-away : (o : Option LwpStatus) → IsAway t (with_stop_read t 0 o)
   read-away o = stop-read (IsAway t) t 0 over-away child-away text-away some o
 
-  lwps-away : (bytes : List ℕ) → t.stage ≡ ReadingLwps → IsAway t (fed t (reply.Bytes bytes))
+  pub lwps-away : (bytes : List ℕ) → t.stage ≡ ReadingLwps → IsAway t (fed t (reply.Bytes bytes))
   unfolding fed with_reply with_lwps_answered answer_of
   lwps-away bytes is =
       subst (IsAway t) (sym (ap (with_reply t (reply.Bytes bytes)) is))

@@ -5,6 +5,7 @@ use Rattle.std.specs.List.{cons_option, slice_get}
 use Rattle.pr_line.specs.declared.options.Options.{Options}
 use Rattle.pr_model.specs.Handles.{handle_of}
 use Rattle.pr_model.specs.Legal.{IsLegal, IsLegalEntry, after, state_after}
+use Rattle.pr_model.specs.Replies.{number_of}
 use Rattle.pr_model.specs.State.{TracedState}
 use Rattle.pr_model.specs.declared.calls.Call.{Call}
 use Rattle.pr_model.specs.declared.calls.Call.TheVariants as call
@@ -15,6 +16,7 @@ use Rattle.pr_model.specs.declared.calls.Mode.TheVariants.{WriteExcl}
 use Rattle.pr_model.specs.declared.calls.Reply.TheVariants as reply
 use Rattle.pr_model.specs.declared.events.Entry.{Entry}
 use Rattle.pr_model.specs.declared.handles.Held.{Held}
+use Rattle.pr_num.specs.Limits.{read_limit}
 use Rattle.pr_truss.specs.Feeding.{fed}
 use Rattle.pr_truss.specs.NextCalls.{call_of, child_call, freeing_call, next_call_of, opening_call}
 use Rattle.pr_truss.specs.Stops.{has_control}
@@ -30,22 +32,23 @@ use Rattle.pr_truss.specs.declared.stages.OpeningStep.TheVariants as opening
 use Rattle.pr_truss.specs.declared.stages.Stage.{Stage}
 use Rattle.pr_truss.specs.declared.stages.Stage.TheVariants.{Spawning, Opening, Polling, ReadingStatus, ReadingText, OpeningChildControl, OpeningChild, Running, Closing, FreeingChild}
 use Rattle.pr_truss_laws.proofs.HeldLemmas.{at_place}
+use Rattle.pr_truss_laws.proofs.OwnLemmas.{Owns}
 use Rattle.pr_truss_laws.proofs.LeavingLemmas as leaving
 use Rattle.pr_truss_laws.proofs.PolledLemmas.{Near, Nears, fed-near, leaves, named-near, named-read, nearer}
-use Rattle.pr_truss_laws.specs.Exchanges.{Exchange, Makes, exchange_of, exchanges, truss_at}
+use Rattle.pr_truss_laws.specs.Exchanges.{Exchange, Makes, exchange_of, exchanges, truss_after, truss_at}
 use Rattle.pr_truss_laws.specs.Polled.{IsNoEndOf, PollNames}
 use Rattle.pr_truss_laws.specs.Runs.{IsTrussRun}
 use Rattle.pr_report_laws.proofs.Files.FileLaws.{HasFiles, IsFileOf}
 use Rattle.pr_report_laws.proofs.Files.FileSteps.{MakesNext, makes-next}
-use Rattle.pr_report_laws.proofs.Files.FileUses.{polled-place, standing}
+use Rattle.pr_report_laws.proofs.Files.FileUses.{polled-place, standing, status-read}
 use Rattle.pr_report_laws.proofs.Files.KeepLemmas.{can_wait}
-use Rattle.pr_report_laws.proofs.Files.WatchHistories.{IsAnswered, Reaches, answered-calm, cons-exchanges, entry-reaches, exchange-answered, no-exchanges, run-reaches}
+use Rattle.pr_report_laws.proofs.Files.WatchHistories.{IsAnswered, Reaches, after-cons, answered-calm, cons-exchanges, entry-reaches, exchange-answered, no-exchanges, run-reaches}
 use Rattle.pr_report_laws.proofs.Invariant.StandLemmas.{Stands}
 use Rattle.pr_report_laws.proofs.Machine.PollLaws.{poll-named}
 use Rattle.pr_report_laws.proofs.Memory.WatchMemory.{reached-comes}
 use Rattle.pr_report_laws.proofs.Watching.BeginsOnlyLaws.{child-waits}
 use Rattle.pr_report_laws.proofs.Watching.HistoryParts.{front-run, rest-legal, rest-makes}
-use Rattle.pr_report_laws.specs.Named.{IsNamedIn, IsRunOrClosedIn, IsSoonDone, IsWaitedFor, closes, runs}
+use Rattle.pr_report_laws.specs.Named.{IsNamedIn, IsRunOrClosedIn, IsSoonDone, IsWaitedFor, LooksAtWhatIsNamed, ReadsStatusFirst, closes, runs}
 use Rattle.pr_report_laws.specs.Watching.{told_of, with_exchange}
 
 -- In a legal history truss makes at most twelve calls between a poll that named a process and the end of its look at
@@ -76,7 +79,7 @@ next-calm t k n c near is = near-calm t k n t.stage c near is
 
 module _ (n k pid : ℕ) (p : Traced) (own : p.pid ≡ pid) (place : ℕ) where
   -- a call that neither runs the process nor closes a file of it, in the words of the machine and in those of truss
-  no-end : (t : TrussState) (s : TracedState) (e : Entry) (x : Exchange) → HasFiles k t s → leaving.Stands p t place
+  pub no-end : (t : TrussState) (s : TracedState) (e : Entry) (x : Exchange) → HasFiles k t s → leaving.Stands p t place
       → exchange_of k e ≡ Some x → (IsRunOrClosedIn k pid p.control s e → ⊥) → IsNoEndOf p x
   no-end t s e x files here its none = record {
     not_run = λ is. none (runs x.reply (its ∙ ap (λ (c : Call). Some (record { call = c; reply = x.reply })) is));
@@ -99,7 +102,7 @@ module _ (n k pid : ℕ) (p : Traced) (own : p.pid ≡ pid) (place : ℕ) where
           (here.same.pid ∙ own))
 
   -- one call of truss
-  nearer-by : (t : TrussState) (s : TracedState) (e : Entry) (x : Exchange) (m : ℕ) → Reaches k t s
+  pub nearer-by : (t : TrussState) (s : TracedState) (e : Entry) (x : Exchange) (m : ℕ) → Reaches k t s
       → Near p place m t → IsLegalEntry n s e → exchange_of k e ≡ Some x → next_call_of t ≡ Some x.call
       → IsNoEndOf p x → (left : ℕ) × ((left < m) × Near p place left (fed t x.reply))
   nearer-by t s e x m g near legal its next none =
@@ -115,7 +118,7 @@ module _ (n k pid : ℕ) (p : Traced) (own : p.pid ≡ pid) (place : ℕ) where
             ]
       ]
 
-  later-waits : (s : TracedState) (e : Entry) (h : List Entry) → IsWaitedFor k pid p.control s (e ∷ h)
+  pub later-waits : (s : TracedState) (e : Entry) (h : List Entry) → IsWaitedFor k pid p.control s (e ∷ h)
       → IsWaitedFor k pid p.control (after s e) h
   later-waits s e h w = record {
     none = λ before later f is done. w.none (e ∷ before) later f (ap (λ (es : List Entry). e ∷ es) is) done;
@@ -141,6 +144,39 @@ module _ (n k pid : ℕ) (p : Traced) (own : p.pid ≡ pid) (place : ℕ) where
           nearer-by t s e x m g near legal.0 its next
           (no-end t s e x g.files near.here its (waits.none [] h e refl)) in
           omega (arith, others (fed t x.reply) one.0 later one.1.1 rest, one.1.0)
+
+  -- it comes nearer with each of these calls
+  pub near-on : (h : List Entry) (t : TrussState) (s : TracedState) (m : ℕ) → Reaches k t s → Near p place m t
+      → IsLegal n s h → Makes t (exchanges k h) → IsWaitedFor k pid p.control s h
+      → (left : ℕ) × ((left ≤ m) × Near p place left (truss_after t (exchanges k h)))
+  near-on [] t s m g near legal makes waits =
+      (m, (omega arith, subst (λ xs. Near p place m (truss_after t xs)) (sym (no-exchanges k)) near))
+  near-on (e ∷ h) t s m g near legal makes waits =
+      let first = makes-next k t e h makes in
+      let it =
+      by (exchange_of k e) refl first.0 (entry-reaches n k t s e g legal.0 first.0) first.1
+      (λ u left later near rest. near-on h u (after s e) left later near legal.1 rest (later-waits s e h waits)) in (
+        it.0,
+        (
+          it.1.0,
+          subst (Near p place it.0)
+              (sym (ap (truss_after t) (cons-exchanges k e h) ∙ after-cons t (exchange_of k e) (exchanges k h)))
+              it.1.1,
+        ),
+      )
+    where
+      by : (x : Option Exchange) → exchange_of k e ≡ x → MakesNext t x → Reaches k (with_exchange t x) (after s e)
+          → Makes (with_exchange t x) (exchanges k h)
+          → ((u : TrussState) (left : ℕ) → Reaches k u (after s e) → Near p place left u → Makes u (exchanges k h)
+          → (low : ℕ) × ((low ≤ left) × Near p place low (truss_after u (exchanges k h))))
+          → (low : ℕ) × ((low ≤ m) × Near p place low (truss_after (with_exchange t x) (exchanges k h)))
+      by None its next later rest others = others t m later near rest
+      by (Some x) its next later rest others =
+          let one =
+          nearer-by t s e x m g near legal.0 its next
+          (no-end t s e x g.files near.here its (waits.none [] h e refl)) in
+          let on = others (fed t x.reply) one.0 later one.1.1 rest in
+          (on.0, (omega (arith, on.1.0, one.1.0), on.1.1))
 
 -- ---- the poll
 
@@ -168,7 +204,7 @@ module _ (t : TrussState) (handles : List ℕ) where
   other-call : {A : Type 0} (c : Call) → is_poll c ≡ false → Some c ≡ Some (call.Poll handles) → A
   other-call c not is = absurd (false≢true (sym not ∙ ap is_poll (same_Some c (call.Poll handles) is)))
 
-  poll-stage : (stage : Stage) → call_of t stage ≡ Some (call.Poll handles)
+  pub poll-stage : (stage : Stage) → call_of t stage ≡ Some (call.Poll handles)
       → (stage ≡ Polling) × (map (λ (u : Traced). u.control) t.traced ≡ handles)
   unfolding call_of
   poll-stage Polling is = (refl, cc)
@@ -187,7 +223,7 @@ module _ (t : TrussState) (handles : List ℕ) where
   next-polls is = poll-stage t.stage is
 
 -- the handle at a place of those that a poll names is that of the process there
-control-at : (ts : List Traced) (place handle : ℕ) → slice_get (map (λ (u : Traced). u.control) ts) place ≡ Some handle
+pub control-at : (ts : List Traced) (place handle : ℕ) → slice_get (map (λ (u : Traced). u.control) ts) place ≡ Some handle
     → (place < length ts) × ((at_place ts place).control ≡ handle)
 control-at [] place handle is = absurd (none-some handle is)
 control-at (u ∷ ts) zero handle is = (omega arith, same_Some u.control handle is)
@@ -272,6 +308,30 @@ module _ (n k : ℕ) (o : Options) (pid handle : ℕ) (s : TracedState) (before 
   reads : told_of k t e ≡ with_stage t (ReadingStatus place)
   reads = ap (with_exchange t) names.is ∙ named-read t (reply.Ready handle) place named
 
+  -- the call that comes next reads the status of the process
+  looked : (xs : List Exchange) → Makes (told_of k t e) xs → ReadsStatusFirst k pid (after now e) xs
+  unfolding next_call_of call_of
+  looked [] made = tt
+  looked (x ∷ xs) made =
+      let u : TrussState = with_stage t (ReadingStatus place) in
+      let later : Reaches k u (after now e) =
+      subst (λ (v : TrussState). Reaches k v (after now e)) reads (entry-reaches n k t now e reached legal.0 makes.0) in
+      let files : HasFiles k u (after now e) = later.files in
+      let owns : Owns k u (after now e) = later.owns in
+      let its = status-read k u (after now e) files owns.fits place refl in
+      let called : next_call_of u ≡ Some x.call = subst (λ v. next_call_of v ≡ Some x.call) reads made.0 in (
+        number_of (traced_at t place).status,
+        (
+          record { held = _; there = its.is; of = own; file = refl },
+          sym (same_Some (call.Read (number_of (traced_at t place).status) 0 read_limit) x.call called),
+        ),
+      )
+
+  pub named-looks : (xs : List Exchange) → Makes (told_of k (truss_at k o before) e) xs
+      → ReadsStatusFirst k pid (after (state_after s before) e) xs
+  unfolding t now
+  named-looks xs made = looked xs made
+
   pub named-soon : length (exchanges k between) ≤ 12
   unfolding now
   named-soon =
@@ -292,4 +352,21 @@ soon-done n k o s h run = record {
       (subst (IsTrussRun n k o s) (is ∙ sym (append_assoc before (e ∷ between) later)) run)) names waits;
 }
 
-pub ruleset soon = (soon-done)
+no-split : (xs ys : List Entry) (e : Entry) → [] ≡ xs ++ e ∷ ys → ⊥
+no-split [] ys e is = cc
+no-split (x ∷ xs) ys e is = cc
+
+pub looks-at-named : (n k : ℕ) (o : Options) (s : TracedState) (h : List Entry) → IsTrussRun n k o s h
+    → LooksAtWhatIsNamed k s h
+looks-at-named n k o s h run = record {
+  each = λ before later e pid handle is names.
+      let all : IsTrussRun n k o s (before ++ e ∷ later) = subst (IsTrussRun n k o s) is run in
+      let one : IsTrussRun n k o s (before ++ e ∷ []) =
+      front-run n k o s (before ++ e ∷ []) later
+      (subst (IsTrussRun n k o s) (sym (append_assoc before (e ∷ []) later)) all) in
+      let m = makes-next k (truss_at k o before) e later (rest-makes n k o s before (e ∷ later) all) in
+      named-looks n k o pid handle s before [] e one names
+      (record { none = λ first rest f none done. no-split first rest f none }) (exchanges k later) m.1;
+}
+
+pub ruleset soon = (soon-done, looks-at-named)

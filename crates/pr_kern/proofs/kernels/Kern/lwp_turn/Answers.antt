@@ -2,7 +2,6 @@ use Rattle.std.proofs.Common.{◌<◌, length, sym, subst}
 use Rattle.pr_lawful.proofs.StateLemmas.{turn-state}
 use Rattle.pr_kern.specs.Kernels.{Kernel}
 use Rattle.pr_kern.proofs.KeptLemmas.{kept-push, turned-sound}
-use Rattle.pr_kern.proofs.ReadyLemmas.{turn-follows}
 use Rattle.pr_kern.proofs.kernels.Kern.lwp_turn.Goals as goal
 
 -- the turn leaves the system sound for one step more and the state lawful, and there was a place for the entry; and the
@@ -14,9 +13,7 @@ invariant_of-self-2 c =
     record {
       kept =
           kept-push _ _ _ _ _ c.push.ensures.entries c.push.ensures.room place was.room
-          (turned-sound _ _ _ was.sound c.turn.ensures.clock (c.turn.ensures.used _ was.sound.counts))
+          (turned-sound _ _ _ was.sound c.in_ok-turned.ensures.clock (c.in_ok-turned.ensures.used _ was.sound.counts))
           (turn-state _ _ _ _ was.lawful c.in_ok-turned.ensures.ok);
-      looks =
-          turn-follows _ _ _ _ _ _ _ was.lawful.system c.in_ok-turned.ensures.ok c.around_lwp-around.ensures
-          c.after_turn.ensures c.self.invariant.looks;
+      looks = c.in_ok-turned.ensures.looks;
     }

@@ -1,6 +1,6 @@
 use Rattle.std.proofs.Common.{◌∙◌, ◌==◌, List, ℕ, ap, length, refl}
 use Rattle.pr_io.specs.Known.{with_front}
-use Rattle.pr_lines.proofs.LineLemmas.{begun, ends-so, more-so, none-held, nothing-held, over-so, refilled}
+use Rattle.pr_lines.proofs.LineLemmas.{begun, come-above, come-begun, come-more, ends-so, more-so, none-held, nothing-held, over-so, refilled}
 use Rattle.pr_lines.proofs.lines.Lines.next.Goals as goal
 
 pub returns-then-branch-clause-takes : goal.returns-then-branch-clause-takes
@@ -23,6 +23,7 @@ loop-init g c =
       unheld =
           none-held c.in_ok-take_held.field-0 c.clear.new.self.items c.take_held.new.line.items c.args.self.now.held
           c.take_held.new.self.held c.if-branch.false took;
+      come = come-begun c.args.self.now.held (g.S.Source.left c.args.source.now);
       faults = refl;
     }
 
@@ -59,5 +60,15 @@ loop-preserved g c = record {
       nothing-held c.in_ok-take_held-2.field-0 c.loop.line.items c.take_held-in-loop.new.line.items c.refill.new.self.held
       c.take_held-in-loop.new.self.held c.if-branch-2.false c.in_ok-take_held-2.ensures;
   unheld = c.loop.invariant.unheld;
+  come =
+      come-more c.loop.counter c.refill.new.self.held (with_front c.args.self.now.held (g.S.Source.left c.args.source.now))
+      (g.S.Source.left c.loop.source) (g.S.Source.left c.refill.new.source) c.in_ok-refill.ensures.came
+      (c.in_ok-refill.ensures.some c.if-not-branch.false) c.loop.invariant.come;
   faults = c.in_ok-refill.ensures.no_fault (λ e. cc) ∙ c.loop.invariant.faults;
 }
+
+pub returns-clause-long : goal.returns-clause-long
+returns-clause-long g c =
+    λ long.
+    come-above c.loop.counter 18446744073709551614 (with_front c.args.self.now.held (g.S.Source.left c.args.source.now))
+    (g.S.Source.left c.loop.source) c.loop-test.false c.loop.invariant.come

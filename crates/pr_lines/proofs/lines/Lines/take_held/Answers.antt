@@ -1,4 +1,4 @@
-use Rattle.std.proofs.Common.{sym, ◌∙◌}
+use Rattle.std.proofs.Common.{sym}
 use Rattle.pr_lines.proofs.LineLemmas.{took-all, took-to}
 use Rattle.pr_lines.proofs.lines.Lines.take_held.Goals as goal
 

@@ -1,0 +1,189 @@
+use Rattle.std.proofs.Common.{◌≡◌, ◌<◌, ◌≤◌, ◌+◌, ◌++◌, ◌⊎◌, inl, inr, ℕ, Bool, true, false, List, [], ◌∷◌, Option, Some, None, Result, Ok, Err, length, refl, sym, ap, subst, ◌∙◌, arith}
+use Rattle.pr_api.specs.Entries.{call_entry}
+use Rattle.pr_asks.specs.declared.asks.Ask.{Ask}
+use Rattle.pr_asks.specs.declared.asks.Ask.TheVariants as ask
+use Rattle.pr_asks.specs.declared.asks.Kind.{Kind}
+use Rattle.pr_asks.specs.Asks.{ask_of}
+use Rattle.pr_model.specs.Legal.{IsLegal, IsLegalEntry, after, state_after}
+use Rattle.pr_model.specs.State.{TracedState}
+use Rattle.pr_model.specs.declared.calls.Call.{Call}
+use Rattle.pr_model.specs.declared.events.Act.{Act}
+use Rattle.pr_model.specs.declared.events.Act.TheVariants.{Call as Called, Turn, Tick}
+use Rattle.pr_model.specs.declared.events.Actor.{Actor}
+use Rattle.pr_model.specs.declared.events.Actor.TheVariants.{Controller as ByNumber, Lwp, Clock}
+use Rattle.pr_model.specs.declared.events.Entry.{Entry}
+use Rattle.pr_run_laws.specs.ScenarioRuns.{controllers_of, first_state_of}
+use Rattle.pr_scen.specs.Scenarios.{Scenario}
+use Rattle.pr_scen.specs.Scripts.{ScriptState}
+use Rattle.pr_world.proofs.ProtocolLemmas.{controllers_at-count}
+use Rattle.pr_world.specs.ControllerStates.{ControllerState}
+use Rattle.pr_world.specs.Protocol.{controllers_after, controllers_at}
+use Rattle.pr_drive.specs.Exchanges.{Answers, AnswersCall, AnswersMessages, HasEnded, IsTakenBack, Made, MadeMessages, MakesNone, MovesNot, MovesOne}
+use Rattle.pr_drive.specs.Going.{AreMoves, Called as OutsideCalled, Goes, IsMove, IsOwnCall, SeatsState, after_entries, after_entry, outside_of}
+use Rattle.pr_drive.specs.Sessions.{AnsweredAll, AnswersRead, AreOwnCalls, Exchange, Exchanged, Exchanges, IsHistoryFrom, Keeps, PassesTurn, Stand}
+use Rattle.pr_drive.specs.Starts.{first_seats}
+use Rattle.pr_drive.proofs.EntryLemmas.{entries-append, entries-history, entries-places, moved-goes, stayed-goes}
+
+-- What a session keeps: its history is legal, and each controller of the scenario made its own calls.
+
+-- ---- one history behind another
+
+IsLegal-append : (n : ℕ) (s : TracedState) (xs ys : List Entry) → IsLegal n s xs → IsLegal n (state_after s xs) ys → IsLegal n s (xs ++ ys)
+IsLegal-append n s [] ys mx my = my
+IsLegal-append n s (x ∷ xs) ys mx my = (mx.0, IsLegal-append n (after s x) xs ys mx.1 my)
+
+AreOwn-append : (cs : List ControllerState) (xs ys : List Entry) → AreOwnCalls cs xs → AreOwnCalls (controllers_at cs xs) ys → AreOwnCalls cs (xs ++ ys)
+AreOwn-append cs [] ys mx my = my
+AreOwn-append cs (x ∷ xs) ys mx my = (mx.0, AreOwn-append (controllers_after cs x) xs ys mx.1 my)
+
+-- ---- what entries make of a state
+
+pub entries-state : (es : List Entry) (s : SeatsState) → (after_entries es s).kernel.state ≡ state_after s.kernel.state es
+entries-state [] s = refl
+entries-state (e ∷ es) s = entries-state es (after_entry e s)
+
+pub entries-controllers : (es : List Entry) (s : SeatsState) → (after_entries es s).controllers ≡ controllers_at s.controllers es
+entries-controllers [] s = refl
+entries-controllers (e ∷ es) s = entries-controllers es (after_entry e s)
+
+-- the number of the outside stays
+pub entries-outside : (es : List Entry) (s : SeatsState) → outside_of (after_entries es s) ≡ outside_of s
+entries-outside es s = ap length (entries-controllers es s) ∙ controllers_at-count s.controllers es
+
+entry-outside : (e : Entry) (s : SeatsState) → outside_of (after_entry e s) ≡ outside_of s
+entry-outside e s = controllers_at-count s.controllers (e ∷ [])
+
+-- ---- moves of others, and calls of the outside
+
+legal-by : (n : ℕ) (s : TracedState) (actor : Actor) (act : Act) → IsLegalEntry n s (record { actor = actor; act = act }) → IsLegalEntry (n + 1) s (record { actor = actor; act = act })
+unfolding IsLegalEntry
+legal-by n s (ByNumber k) (Called c r) h = (omega (arith, h.0), h.1)
+legal-by n s (Lwp p l) (Turn t) h = h
+legal-by n s Clock (Tick m) h = h
+legal-by n s _ _ h = absurd h
+
+legal-more : (n : ℕ) (s : TracedState) (e : Entry) → IsLegalEntry n s e → IsLegalEntry (n + 1) s e
+legal-more n s e h = legal-by n s e.actor e.act h
+
+moves-legal : (n : ℕ) (es : List Entry) (until : ℕ) (s : SeatsState) → outside_of s ≡ n → AreMoves until s es → IsLegal (n + 1) s.kernel.state es
+moves-legal n [] until s is moves = tt
+moves-legal n (e ∷ es) until s is moves =
+    (legal-more n s.kernel.state e (subst (λ (m : ℕ). IsLegalEntry m s.kernel.state e) is moves.0.legal), moves-legal n es until (after_entry e s) (entry-outside e s ∙ is) moves.1)
+
+moves-own : (es : List Entry) (until : ℕ) (s : SeatsState) → AreMoves until s es → AreOwnCalls s.controllers es
+moves-own [] until s moves = tt
+moves-own (e ∷ es) until s moves = (moves.0.own, moves-own es until (after_entry e s) moves.1)
+
+pub keeps-none : (s : SeatsState) → Keeps s s
+keeps-none s = record { entries = []; legal = tt; own = tt; is = refl }
+
+pub keeps-same : (a b : SeatsState) → b ≡ a → Keeps a b
+keeps-same a b same = subst (λ (s : SeatsState). Keeps a s) (sym same) (keeps-none a)
+
+pub keeps-then : (a b c : SeatsState) → Keeps a b → Keeps b c → Keeps a c
+keeps-then a b c first second =
+    let xs = first.entries in let ys = second.entries in
+    let outside : outside_of b ≡ outside_of a = ap outside_of first.is ∙ entries-outside xs a in
+    let state : b.kernel.state ≡ state_after a.kernel.state xs = ap (λ (s : SeatsState). s.kernel.state) first.is ∙ entries-state xs a in
+    let fed : b.controllers ≡ controllers_at a.controllers xs = ap (λ (s : SeatsState). s.controllers) first.is ∙ entries-controllers xs a in
+    let legal : IsLegal (outside_of a + 1) (state_after a.kernel.state xs) ys =
+    subst (λ (s : TracedState). IsLegal (outside_of a + 1) s ys) state (subst (λ (n : ℕ). IsLegal (n + 1) b.kernel.state ys) outside second.legal) in
+    record {
+      entries = xs ++ ys;
+      legal = IsLegal-append (outside_of a + 1) a.kernel.state xs ys first.legal legal;
+      own = AreOwn-append a.controllers xs ys first.own (subst (λ (cs : List ControllerState). AreOwnCalls cs ys) fed second.own);
+      is = second.is ∙ ap (after_entries ys) first.is ∙ sym (entries-append xs ys a);
+    }
+
+pub goes-keep : (until : ℕ) (a b : SeatsState) → Goes until a b → Keeps a b
+goes-keep until a b goes = record {
+  entries = goes.entries;
+  legal = moves-legal (outside_of a) goes.entries until a refl goes.moves;
+  own = moves-own goes.entries until a goes.moves;
+  is = goes.is;
+}
+
+outside-own : (cs : List ControllerState) (c : Call) (r : _) → IsOwnCall cs (call_entry (length cs) c r)
+unfolding IsOwnCall
+outside-own cs c r = λ (within : length cs < length cs). absurd (omega arith)
+
+outside-legal : (s : SeatsState) (c : Call) (t : SeatsState) (called : OutsideCalled c s t) → IsLegalEntry (outside_of s + 1) s.kernel.state (call_entry (outside_of s) c called.answer.reply)
+unfolding IsLegalEntry
+outside-legal s c t called = (omega arith, (called.answer.state, called.answered))
+
+pub called-keep : (c : Call) (a b : SeatsState) → OutsideCalled c a b → Keeps a b
+called-keep c a b called = record {
+  entries = call_entry (outside_of a) c called.answer.reply ∷ [];
+  legal = (outside-legal a c b called, tt);
+  own = (outside-own a.controllers c called.answer.reply, tt);
+  is = called.is;
+}
+
+-- ---- a row for each thing that is asked
+
+made-keep : (c : Call) (a b : SeatsState) → Made c a b → Keeps a b
+made-keep c a b made = keeps-then a made.ready b (goes-keep _ a made.ready made.goes) (called-keep c made.ready b made.called)
+
+messages-keep : (texts : List (List ℕ)) (script after : ScriptState) (a b : SeatsState) → MadeMessages script after a b texts → Keeps a b
+messages-keep [] script after a b made = keeps-same a b made.1
+messages-keep (text ∷ texts) script after a b made =
+    let m = made.1 in
+    let first = keeps-then a made.2.0.made m (made-keep made.2.0.next.call a made.2.0.made made.2.0.next.made.made) (goes-keep _ made.2.0.made m made.2.0.goes) in
+    keeps-then a m b first (messages-keep texts made.0 after m b made.2.1)
+
+none-keep : (script : ScriptState) (a b : SeatsState) (text : List ℕ) → MakesNone script a b text → Keeps a b
+none-keep script a b text (inl ended) = keeps-same a b ended.same
+none-keep script a b text (inr back) = goes-keep _ a b back.taken_back.gave_up.goes
+
+one-keep : (actor : Actor) (a b : SeatsState) (text : List ℕ) → MovesOne actor a b text ⊎ MovesNot actor a b text → Keeps a b
+one-keep actor a b text (inl one) = goes-keep 0 a b (moved-goes 0 actor a b one.moved)
+one-keep actor a b text (inr not_moved) = keeps-same a b not_moved.stayed.same
+
+call-keep : (over : Bool) (c : Call) (a b : SeatsState) (text : List ℕ) → AnswersCall over c a b text → Keeps a b
+call-keep true c a b text made = made-keep c a b made.made
+call-keep false c a b text back = goes-keep _ a b back.gave_up.goes
+
+answers-keep : (asked : Ask) (over : Bool) (a b : SeatsState) (text : List ℕ) → Answers asked over a b text → Keeps a b
+answers-keep (ask.Call c) over a b text h = call-keep over c a b text h
+answers-keep (ask.Messages script) over a b text h =
+    keeps-then a h.1.reached b (messages-keep h.1.replies script h.1.after a h.1.reached h.1.made) (none-keep h.1.after h.1.reached b h.1.last h.1.end)
+answers-keep (ask.Moves times) over a b text h = goes-keep 0 a b h.1.moves.goes
+answers-keep (ask.Move actor) over a b text h = one-keep actor a b text h.1
+answers-keep ask.Run over a b text h = goes-keep 0 a b h.1.moves.goes
+answers-keep ask.End over a b text h = keeps-same a b h.1.same
+
+line-keep : (number : ℕ) (read : Result Ask Kind) (over : Bool) (a b : SeatsState) (text : List ℕ) → AnswersRead number read over a b text → Keeps a b
+line-keep number (Err kind) over a b text h = keeps-same a b h.1.same
+line-keep number (Ok asked) over a b text h = answers-keep asked over a b text h.1
+
+pass-keep : (over : Bool) (a b : SeatsState) → PassesTurn over a b → Keeps a b
+pass-keep true a b h = goes-keep 0 a b h
+pass-keep false a b h = keeps-same a b h
+
+exchanged-keep : (number : ℕ) (x : Exchange) (a b : Stand) → Exchanged number x a b → Keeps a.seats b.seats
+exchanged-keep number x a b h =
+    keeps-then a.seats h.answered b.seats (line-keep number (ask_of x.line) h.over a.seats h.answered x.reply h.answers) (pass-keep h.over h.answered b.seats h.passes)
+
+exchanges-keep : (xs : List Exchange) (number : ℕ) (a b : Stand) → Exchanges number xs a b → Keeps a.seats b.seats
+exchanges-keep [] number a b h = keeps-same a.seats b.seats (ap (λ (s : Stand). s.seats) h)
+exchanges-keep (x ∷ xs) number a b h =
+    keeps-then a.seats h.0.seats b.seats (exchanged-keep number x a h.0 h.1.0) (exchanges-keep xs (number + 1) h.0 b h.1.1)
+
+pub all-keep : (above : ℕ) (a b : Stand) (before after : Option (List ℕ)) → AnsweredAll above a b before after → Keeps a.seats b.seats
+all-keep above a b before after h =
+    keeps-then a.seats h.reached.seats b.seats (exchanges-keep h.exchanges (above + 1) a h.reached h.answered) (keeps-same h.reached.seats b.seats h.same)
+
+-- ---- from the first state on
+
+pub history-from : (s : Scenario) (last : SeatsState) → Keeps (first_seats s) last → IsHistoryFrom (first_state_of s) (controllers_of s) s.turns last
+unfolding first_seats
+history-from s last keeps =
+    let first = first_seats s in let es = keeps.entries in
+    let all : last.kernel.history ≡ es = ap (λ (x : SeatsState). x.kernel.history) keeps.is ∙ entries-history es first in
+    record {
+      legal = subst (λ (h : List Entry). IsLegal (outside_of first + 1) (first_state_of s) h) (sym all) keeps.legal;
+      own = subst (λ (h : List Entry). AreOwnCalls (controllers_of s) h) (sym all) keeps.own;
+      state = ap (λ (x : SeatsState). x.kernel.state) keeps.is ∙ entries-state es first ∙ ap (state_after (first_state_of s)) (sym all);
+      fed = ap (λ (x : SeatsState). x.controllers) keeps.is ∙ entries-controllers es first ∙ ap (controllers_at (controllers_of s)) (sym all);
+      places = ap (λ (x : SeatsState). x.kernel.places) keeps.is ∙ entries-places es first;
+    }

@@ -1,0 +1,7 @@
+use Rattle.std.proofs.Common.{◌≡◌, take}
+use Rattle.pr_drive.specs.Reports.{reports_from}
+use Rattle.pr_drive.proofs.reports.reports_of.Given as goal
+
+-- what the controllers so far print
+abbrev pub invariant-loop-number : goal.invariant-loop-number
+invariant-loop-number l = l.reports.items ≡ reports_from l.seats.kernel.state.system.programs 0 (take l.number l.seats.controllers)

@@ -1,0 +1,7 @@
+use Rattle.pr_drive.proofs.RoundLemmas.{rested, rests-on}
+use Rattle.pr_drive.proofs.rounds.Rounds.step_on.Goals as goal
+
+pub returns : goal.returns
+returns c =
+    rests-on c.args.until c.in_ok-again.again c.args.self.now c.step.new.self c.step-2.new.self
+    (rested c.args.until c.in_ok-moved.moved c.args.self.now c.step.new.self c.if-moved.false c.in_ok-moved.ensures) c.in_ok-again.ensures

@@ -1,0 +1,290 @@
+use Rattle.std.specs.Prelude.{◌≡◌, ◌≢◌, ◌≤◌, ◌<◌, ◌+◌, ◌⊎◌, ℕ, Bool, true, false, List, [], ◌∷◌, ◌++◌, Option, Result, Ok, Err, codes, length, All}
+use Rattle.std.specs.Io.KnownBytes.{IsAtEnd}
+use Rattle.std.specs.List.{flat_map}
+use Rattle.std.specs.Str.{bytes_eq}
+use Rattle.pr_input.specs.Kinds.{kind_name}
+use Rattle.pr_io.specs.Faults.{Rose}
+use Rattle.pr_io.specs.Known.{with_end}
+use Rattle.pr_io.specs.Writing.{AppendsFront}
+use Rattle.pr_lines.specs.Lines.{TookLine}
+use Rattle.pr_num.specs.Limits.{controller_limit, scenario_limit}
+use Rattle.pr_output.specs.Output.{AppendsSome, refusal_text, run_text}
+use Rattle.pr_run_laws.specs.ScenarioRuns.{controllers_of, first_state_of}
+use Rattle.pr_scen.specs.Reading.{scenario_of}
+use Rattle.pr_scen.specs.Refusals.{ScenFault}
+use Rattle.pr_scen.specs.Scenarios.{Scenario}
+use Rattle.pr_scen.specs.declared.refusals.ScenKind.{ScenKind}
+use Rattle.pr_scen.specs.declared.refusals.ScenKind.TheVariants.{NoEnd, TooLong, TooMany}
+use Rattle.pr_text.specs.TextLines.{newline}
+use Rattle.pr_drive.specs.Beside.{IsKeptBeside}
+use Rattle.pr_drive.specs.Going.{Goes, SeatsState}
+use Rattle.pr_drive.specs.Reports.{reports_from}
+use Rattle.pr_drive.specs.Sessions.{AnsweredAll, AnsweredSome, IsHistoryFrom, Stand}
+use Rattle.pr_drive.specs.Starts.{first_seats}
+use Rattle.pr_drive.specs.Statuses.{EndsAs, number}
+use Rattle.pr_drive.specs.declared.readings.Above.{Above}
+use Rattle.pr_drive.specs.declared.readings.Above.TheVariants as above
+use Rattle.pr_drive.specs.declared.readings.Opening.{Opening}
+use Rattle.pr_drive.specs.declared.readings.Opening.TheVariants as opening
+use Rattle.pr_drive.specs.declared.commands.Work.{Work}
+use Rattle.pr_drive.specs.declared.commands.Work.TheVariants.{Drives, Explains}
+use Rattle.pr_drive.specs.declared.ends.Status.{Status}
+use Rattle.pr_drive.specs.declared.ends.Status.TheVariants.{Usage, Refused, ReadFailed, WriteFailed, OutOfMemory}
+
+-- What a call of the program does, from what its source has left to what its sink has got.
+
+-- ---- the scenario
+
+-- whether a line is the mark, between the scenario and the calls
+abbrev pub is_mark : List ℕ → Bool
+is_mark line = bytes_eq line (codes "%calls")
+
+-- Lines were taken, one after another.
+abbrev pub TookLines : List (List ℕ) → Option (List ℕ) → Option (List ℕ) → Type 0
+TookLines [] old new = new ≡ old
+TookLines (line ∷ lines) old new = (m : Option (List ℕ)) × (TookLine line old m × TookLines lines m new)
+
+-- lines as a text, each with its newline
+abbrev pub text_of : List (List ℕ) → List ℕ
+text_of lines = flat_map (λ line. line ++ newline ∷ []) lines
+
+-- Lines above the mark were taken, of which none is the mark.
+pub record TookAbove (lines : List (List ℕ)) (old new : Option (List ℕ)) : Type 0 where
+  pub took : TookLines lines old new
+  pub above : All (λ line. is_mark line ≡ false) lines
+
+-- The text above the mark was taken, and the mark.
+pub record TookText (text : List ℕ) (above : ℕ) (old new : Option (List ℕ)) : Type 0 where
+  pub lines : List (List ℕ)
+  pub count : above ≡ length lines
+  pub is : text ≡ text_of lines
+  pub within : length text ≤ scenario_limit
+  pub reached : Option (List ℕ)
+  pub took : TookAbove lines old reached
+  pub last : List ℕ
+  pub is_last : is_mark last ≡ true
+  pub mark : TookLine last reached new
+
+-- There is no mark.
+pub record NoMark (old new : Option (List ℕ)) : Type 0 where
+  pub lines : List (List ℕ)
+  pub took : TookAbove lines old new
+  pub end : IsAtEnd new
+
+-- More stands above the mark than a scenario may have.
+pub record TooMuch (old new : Option (List ℕ)) : Type 0 where
+  pub lines : List (List ℕ)
+  pub took : TookAbove lines old new
+  pub above : scenario_limit < length (text_of lines)
+
+-- a refusal of the scenario as a whole
+abbrev pub whole : ScenKind → ScenFault
+whole kind = record { line = 0; kind = kind }
+
+-- What is above the mark has too many bytes, or there is no mark.
+abbrev pub WrongAbove : ScenKind → Option (List ℕ) → Option (List ℕ) → Type 0
+WrongAbove NoEnd old new = NoMark old new
+WrongAbove TooLong old new = TooMuch old new
+WrongAbove _ old new = ⊥
+
+-- What stands above the mark: a text of so many lines, or what is wrong with it.
+abbrev pub IsAbove : Above → List ℕ → Option (List ℕ) → Option (List ℕ) → Type 0
+IsAbove (above.Text count) text old new = TookText text count old new
+IsAbove (above.Wrong kind) text old new = WrongAbove kind old new
+
+-- The scenario of a text, which has so many lines, was read, and the others have had their turn. So many lines stand above
+-- the first one of the outside.
+pub record OpenedText (text : List ℕ) (lines : ℕ) (above : ℕ) (first : SeatsState) : Type 0 where
+  pub scenario : Scenario
+  pub read : scenario_of text ≡ Ok scenario
+  pub few : length scenario.controllers < controller_limit
+  pub count : above ≡ lines + 1
+  pub goes : Goes 0 (first_seats scenario) first
+
+-- Why a text is refused: it is no scenario, or has so many controllers that no place is left for one more.
+abbrev pub RefusesText : Result Scenario ScenFault → ScenFault → Type 0
+RefusesText (Err fault) given = given ≡ fault
+RefusesText (Ok s) given = (given ≡ whole TooMany) × (controller_limit ≤ length s.controllers)
+
+abbrev pub OpensText : List ℕ → ℕ → Opening → Type 0
+OpensText text lines (opening.Session first above) = OpenedText text lines above first
+OpensText text lines (opening.Refused fault) = RefusesText (scenario_of text) fault
+
+-- The text above the mark was read so.
+pub record Opened (above : ℕ) (first : SeatsState) (old new : Option (List ℕ)) : Type 0 where
+  pub text : List ℕ
+  pub lines : ℕ
+  pub took : TookText text lines old new
+  pub opened : OpenedText text lines above first
+
+pub record RefusedText (fault : ScenFault) (old new : Option (List ℕ)) : Type 0 where
+  pub text : List ℕ
+  pub lines : ℕ
+  pub took : TookText text lines old new
+  pub refuses : RefusesText (scenario_of text) fault
+
+pub record RefusedWhole (fault : ScenFault) (old new : Option (List ℕ)) : Type 0 where
+  pub kind : ScenKind
+  pub wrong : WrongAbove kind old new
+  pub is : fault ≡ whole kind
+
+-- How a session opens: with the scenario, or that is refused.
+abbrev pub OpensAs : Opening → Option (List ℕ) → Option (List ℕ) → Type 0
+OpensAs (opening.Session first above) old new = Opened above first old new
+OpensAs (opening.Refused fault) old new = RefusedText fault old new ⊎ RefusedWhole fault old new
+
+-- ---- a session
+
+-- What the source and the sink tell at one moment.
+pub record Ends : Type 0 where
+  pub left : Option (List ℕ)
+  pub read_faults : ℕ
+  pub written : Option (List ℕ)
+  pub write_faults : ℕ
+
+-- what is written at the end of a session
+abbrev pub end_text : Bool → SeatsState → Status → List ℕ
+end_text quiet s status =
+    run_text quiet s.kernel.history (reports_from s.kernel.state.system.programs 0 s.controllers) (number status)
+
+-- The end of a session was told, which stands so.
+pub record TellsEnd (quiet : Bool) (s : SeatsState) (status : Status) (before after : Option (List ℕ)) : Type 0 where
+  pub ends : EndsAs s status
+  pub written : after ≡ with_end before (end_text quiet s status)
+
+-- A prefix of it was, or nothing.
+pub record CutEnd (quiet : Bool) (s : SeatsState) (before after : Option (List ℕ)) : Type 0 where
+  pub status : Status
+  pub ends : EndsAs s status
+  pub written : AppendsSome before after (end_text quiet s status)
+
+abbrev pub CutsEnd : Bool → SeatsState → Option (List ℕ) → Option (List ℕ) → Type 0
+CutsEnd quiet s before after = (after ≡ before) ⊎ CutEnd quiet s before after
+
+-- Lines were answered from where a session stands, and its end was told.
+pub record WasEnded (quiet : Bool) (above : ℕ) (a : Stand) (before after : Option (List ℕ)) (status : Status) : Type 0 where
+  pub end : Stand
+  pub replies : Option (List ℕ)
+  pub answered : AnsweredAll above a end before replies
+  pub told : TellsEnd quiet end.seats status replies after
+
+-- Lines were answered, and the session was cut off in its end.
+pub record CutBehind (quiet : Bool) (above : ℕ) (a : Stand) (before after : Option (List ℕ)) : Type 0 where
+  pub end : Stand
+  pub replies : Option (List ℕ)
+  pub answered : AnsweredAll above a end before replies
+  pub cut : CutsEnd quiet end.seats replies after
+
+abbrev pub WasCutOff : Bool → ℕ → Stand → Option (List ℕ) → Option (List ℕ) → Type 0
+WasCutOff quiet above a before after = AnsweredSome above a before after ⊎ CutBehind quiet above a before after
+
+-- The refusal of a scenario was written.
+pub record TellsRefusal (fault : ScenFault) (status : Status) (before after : Option (List ℕ)) : Type 0 where
+  pub status_is : status ≡ Refused
+  pub written : after ≡ with_end before (refusal_text fault.line (kind_name fault.kind))
+
+-- The scenario was refused, and the refusal was written.
+pub record WasRefused (old new : Ends) (status : Status) : Type 0 where
+  pub fault : ScenFault
+  pub to_come : Option (List ℕ)
+  pub refused : RefusedText fault old.left to_come ⊎ RefusedWhole fault old.left to_come
+  pub told : TellsRefusal fault status old.written new.written
+
+-- All lines of the outside were answered.
+pub record AnsweredLines (old : Ends) (replies : Option (List ℕ)) (s : Scenario) (last : SeatsState) : Type 0 where
+  pub above : ℕ
+  pub first : SeatsState
+  pub begun : Option (List ℕ)
+  pub opened : Opened above first old.left begun
+  pub scenario_is : s ≡ opened.opened.scenario
+  pub end : Stand
+  pub last_is : last ≡ end.seats
+  pub answered : AnsweredAll above (record { to_come = begun; seats = first }) end old.written replies
+  pub history : IsHistoryFrom (first_state_of s) (controllers_of s) s.turns last
+  pub kept : IsKeptBeside s last.kernel.history
+
+-- A session was told whole: the replies to its lines, and behind them its history, what the controllers print, and the
+-- status, which says how it ended.
+pub record WasTold (quiet : Bool) (old new : Ends) (status : Status) : Type 0 where
+  pub scenario : Scenario
+  pub last : SeatsState
+  pub replies : Option (List ℕ)
+  pub answered : AnsweredLines old replies scenario last
+  pub told : TellsEnd quiet last status replies new.written
+
+abbrev pub WasDriven : Bool → Ends → Ends → Status → Type 0
+WasDriven quiet old new status = WasRefused old new status ⊎ WasTold quiet old new status
+
+-- ---- a session that is cut off
+
+-- while the refusal was written
+pub record CutRefusal (old new : Ends) : Type 0 where
+  pub fault : ScenFault
+  pub to_come : Option (List ℕ)
+  pub refused : RefusedText fault old.left to_come ⊎ RefusedWhole fault old.left to_come
+  pub written : AppendsSome old.written new.written (refusal_text fault.line (kind_name fault.kind))
+
+-- while lines were answered
+pub record CutInLines (old new : Ends) : Type 0 where
+  pub above : ℕ
+  pub first : SeatsState
+  pub begun : Option (List ℕ)
+  pub opened : Opened above first old.left begun
+  pub answered : AnsweredSome above (record { to_come = begun; seats = first }) old.written new.written
+
+-- while the end was told
+pub record CutInEnd (quiet : Bool) (old new : Ends) : Type 0 where
+  pub scenario : Scenario
+  pub last : SeatsState
+  pub replies : Option (List ℕ)
+  pub answered : AnsweredLines old replies scenario last
+  pub cut : CutsEnd quiet last replies new.written
+
+-- Nothing was written, or a prefix of what is written of a session.
+abbrev pub WasCut : Bool → Ends → Ends → Type 0
+WasCut quiet old new = (new.written ≡ old.written) ⊎ (CutRefusal old new ⊎ (CutInLines old new ⊎ CutInEnd quiet old new))
+
+-- what a source and a sink tell, by what each of them tells
+abbrev pub ends_of : {S K : Type 0} → (S → Option (List ℕ)) → (S → ℕ) → (K → Option (List ℕ)) → (K → ℕ) → S → K → Ends
+ends_of left read_faults written write_faults source sink =
+    record { left = left source; read_faults = read_faults source; written = written sink; write_faults = write_faults sink }
+
+-- Nothing failed.
+pub record IsWhole (status : Status) : Type 0 where
+  pub read : status ≢ ReadFailed
+  pub wrote : status ≢ WriteFailed
+  pub had_memory : status ≢ OutOfMemory
+
+-- A session: it is told whole, or cut off; only a read that failed raises the count of the source, and only a write that
+-- failed that of the sink.
+pub record Drove (quiet : Bool) (old new : Ends) (status : Status) : Type 0 where
+  pub told : IsWhole status → WasDriven quiet old new status
+  pub read_cut : status ≡ ReadFailed → WasCut quiet old new
+  pub read_failed : status ≡ ReadFailed → Rose old.read_faults new.read_faults
+  pub write_cut : status ≡ WriteFailed → WasCut quiet old new
+  pub write_failed : status ≡ WriteFailed → Rose old.write_faults new.write_faults
+  pub memory : status ≡ OutOfMemory → WasCut quiet old new
+  pub no_read_fault : status ≢ ReadFailed → new.read_faults ≡ old.read_faults
+  pub no_write_fault : status ≢ WriteFailed → new.write_faults ≡ old.write_faults
+
+-- ---- other words
+
+-- how the program is called
+abbrev pub usage_line : List ℕ
+usage_line = codes "usage: pdrive [-q]\n"
+
+-- The usage was told.
+pub record WasExplained (old new : Ends) (status : Status) : Type 0 where
+  pub told : status ≢ WriteFailed → (status ≡ Usage) × (new.written ≡ with_end old.written usage_line)
+  pub cut : status ≡ WriteFailed → AppendsFront old.written new.written usage_line
+  pub write_failed : status ≡ WriteFailed → Rose old.write_faults new.write_faults
+  pub no_write_fault : status ≢ WriteFailed → new.write_faults ≡ old.write_faults
+  pub read : status ≢ ReadFailed
+  pub had_memory : status ≢ OutOfMemory
+  pub unread : new.left ≡ old.left
+  pub no_read_fault : new.read_faults ≡ old.read_faults
+
+-- How a call ends, by its work.
+abbrev pub EndsWith : Work → Ends → Ends → Status → Type 0
+EndsWith Explains old new status = WasExplained old new status
+EndsWith (Drives quiet) old new status = Drove quiet old new status

@@ -1,0 +1,223 @@
+use Rattle.std.specs.Prelude.{◌≡◌, ◌⊎◌, ◌+◌, ◌-◌, ◌^◌, ℕ, Bool, true, false, List, [], ◌∷◌, ◌++◌, Option, Result, Ok, Err, length}
+use Rattle.std.specs.Io.KnownBytes.{IsAtEnd}
+use Rattle.std.specs.List.{flat_map}
+use Rattle.pr_asks.specs.Asks.{ask_of, name_of}
+use Rattle.pr_asks.specs.declared.asks.Ask.{Ask}
+use Rattle.pr_asks.specs.declared.asks.Ask.TheVariants as ask
+use Rattle.pr_asks.specs.declared.asks.Kind.{Kind}
+use Rattle.pr_io.specs.Known.{with_end}
+use Rattle.pr_lines.specs.Lines.{TookLine}
+use Rattle.pr_model.specs.Legal.{IsLegal, state_after}
+use Rattle.pr_model.specs.State.{TracedState}
+use Rattle.pr_model.specs.declared.events.Entry.{Entry}
+use Rattle.pr_output.specs.Output.{AppendsSome, refusal_text}
+use Rattle.pr_world.specs.ControllerStates.{ControllerState}
+use Rattle.pr_world.specs.Protocol.{controllers_after, controllers_at}
+use Rattle.pr_drive.specs.Exchanges.{Answers}
+use Rattle.pr_drive.specs.Going.{Goes, IsOwnCall, SeatsState, after_entries, outside_of}
+use Rattle.pr_drive.specs.declared.answers.Came.{Came}
+use Rattle.pr_drive.specs.declared.answers.Came.TheVariants as came
+
+-- Sessions: the lines of the outside, one after another, each answered before the next one is taken.
+
+-- ---- one line
+
+-- A line that asks for nothing is answered by its number and why, and nothing changes.
+pub record RefusesLine (number : ℕ) (kind : Kind) (old new : SeatsState) (text : List ℕ) : Type 0 where
+  pub same : new ≡ old
+  pub told : text ≡ refusal_text number (name_of kind)
+
+-- whether a line asks for the end
+abbrev pub is_end : Ask → Bool
+is_end ask.End = true
+is_end _ = false
+
+-- What is done and answered for a line, and whether the outside's turn is over then. The end is not answered.
+abbrev pub AnswersRead : ℕ → Result Ask Kind → Bool → SeatsState → SeatsState → List ℕ → Type 0
+AnswersRead number (Err kind) over old new text = (over ≡ false) × RefusesLine number kind old new text
+AnswersRead number (Ok a) over old new text = (is_end a ≡ false) × Answers a over old new text
+
+abbrev pub AnswersLine : ℕ → List ℕ → Bool → SeatsState → SeatsState → List ℕ → Type 0
+AnswersLine number line over old new text = AnswersRead number (ask_of line) over old new text
+
+abbrev pub AsksEnd : Result Ask Kind → Type 0
+AsksEnd (Ok a) = is_end a ≡ true
+AsksEnd (Err kind) = ⊥
+
+-- After the outside's turn the others have theirs, once around.
+abbrev pub PassesTurn : Bool → SeatsState → SeatsState → Type 0
+PassesTurn true old new = Goes 0 old new
+PassesTurn false old new = new ≡ old
+
+-- What a line asks for was done, and the answer was written.
+pub record PutAnswer (asked : Ask) (over : Bool) (old new : SeatsState) (before after : Option (List ℕ)) : Type 0 where
+  pub text : List ℕ
+  pub answers : Answers asked over old new text
+  pub written : after ≡ with_end before text
+
+-- It was done, and a prefix of the answer was written.
+pub record CutAnswer (asked : Ask) (old : SeatsState) (before after : Option (List ℕ)) : Type 0 where
+  pub over : Bool
+  pub new : SeatsState
+  pub text : List ℕ
+  pub answers : Answers asked over old new text
+  pub written : AppendsSome before after text
+
+-- A line was answered, and the text was written.
+pub record AnsweredLine (number : ℕ) (line : List ℕ) (over : Bool) (old new : SeatsState)
+    (before after : Option (List ℕ)) : Type 0 where
+  pub text : List ℕ
+  pub answers : AnswersLine number line over old new text
+  pub written : after ≡ with_end before text
+
+-- The line is the end, and nothing was done.
+pub record IsEnd (line : List ℕ) (old new : SeatsState) (before after : Option (List ℕ)) : Type 0 where
+  pub asks : AsksEnd (ask_of line)
+  pub same : new ≡ old
+  pub unwritten : after ≡ before
+
+-- whether the session ends with a line
+abbrev pub is_last : Came → Bool
+is_last came.End = true
+is_last _ = false
+
+-- what came of a line that was answered
+unfoldable pub came_of : Bool → Came
+came_of true = came.Over
+came_of false = came.Still
+
+-- What came of a line.
+abbrev pub CameOf : Came → ℕ → List ℕ → SeatsState → SeatsState → Option (List ℕ) → Option (List ℕ) → Type 0
+CameOf came.End number line old new before after = IsEnd line old new before after
+CameOf came.Over number line old new before after = AnsweredLine number line true old new before after
+CameOf came.Still number line old new before after = AnsweredLine number line false old new before after
+
+-- A line was answered, and a prefix of the text was written.
+pub record CutLine (number : ℕ) (line : List ℕ) (old : SeatsState) (before after : Option (List ℕ)) : Type 0 where
+  pub over : Bool
+  pub new : SeatsState
+  pub text : List ℕ
+  pub answers : AnswersLine number line over old new text
+  pub written : AppendsSome before after text
+
+-- So it is where a session is cut off at a line, or nothing was written for it.
+abbrev pub CutAt : ℕ → List ℕ → SeatsState → Option (List ℕ) → Option (List ℕ) → Type 0
+CutAt number line old before after = (after ≡ before) ⊎ CutLine number line old before after
+
+-- ---- one line after another
+
+-- where a session stands: what is to come from outside, where that is told, and the kernel with the controllers
+pub record Stand : Type 0 where
+  pub to_come : Option (List ℕ)
+  pub seats : SeatsState
+
+-- a line, and what was written for it
+pub record Exchange : Type 0 where
+  pub line : List ℕ
+  pub reply : List ℕ
+
+-- The next line was taken and answered, and after a call the others had their turn.
+pub record Exchanged (number : ℕ) (x : Exchange) (a b : Stand) : Type 0 where
+  pub took : TookLine x.line a.to_come b.to_come
+  pub over : Bool
+  pub answered : SeatsState
+  pub answers : AnswersLine number x.line over a.seats answered x.reply
+  pub passes : PassesTurn over answered b.seats
+
+-- Lines were, that count from a number.
+abbrev pub Exchanges : ℕ → List Exchange → Stand → Stand → Type 0
+Exchanges number [] a b = b ≡ a
+Exchanges number (x ∷ xs) a b = (m : Stand) × (Exchanged number x a m × Exchanges (number + 1) xs m b)
+
+-- all that was written for them
+abbrev pub replies_of : List Exchange → List ℕ
+replies_of xs = flat_map (λ x. x.reply) xs
+
+-- The next line was taken and answered, and this was written.
+pub record AnsweredNext (number : ℕ) (a b : Stand) (before after : Option (List ℕ)) : Type 0 where
+  pub exchange : Exchange
+  pub exchanged : Exchanged number exchange a b
+  pub written : after ≡ with_end before exchange.reply
+
+-- The next line was the end; or there was none.
+pub record TookEnd (a b : Stand) : Type 0 where
+  pub line : List ℕ
+  pub took : TookLine line a.to_come b.to_come
+  pub asks : AsksEnd (ask_of line)
+
+pub record NoLine (a b : Stand) : Type 0 where
+  pub end : IsAtEnd a.to_come
+  pub same : b.to_come ≡ a.to_come
+
+-- No line was answered, and nothing was written.
+pub record AnsweredNone (a b : Stand) (before after : Option (List ℕ)) : Type 0 where
+  pub ends : TookEnd a b ⊎ NoLine a b
+  pub seats : b.seats ≡ a.seats
+  pub unwritten : after ≡ before
+
+abbrev pub AnsweredIf : Bool → ℕ → Stand → Stand → Option (List ℕ) → Option (List ℕ) → Type 0
+AnsweredIf true number a b before after = AnsweredNext number a b before after
+AnsweredIf false number a b before after = AnsweredNone a b before after
+
+-- A line was taken, and the session was cut off at it.
+pub record CutAtLine (number : ℕ) (a : Stand) (before after : Option (List ℕ)) : Type 0 where
+  pub line : List ℕ
+  pub to_come : Option (List ℕ)
+  pub took : TookLine line a.to_come to_come
+  pub cut : CutLine number line a.seats before after
+
+-- So it is where a session is cut off, or nothing was written.
+abbrev pub CutNext : ℕ → Stand → Option (List ℕ) → Option (List ℕ) → Type 0
+CutNext number a before after = (after ≡ before) ⊎ CutAtLine number a before after
+
+-- ---- all lines
+
+-- The last number that a line can have.
+abbrev pub last_number : ℕ
+last_number = 2 ^ 32 - 1
+
+-- No further line is answered: the next one was the end, there was none, or lines have no numbers any more.
+abbrev pub NoMore : ℕ → Stand → Stand → Type 0
+NoMore number a b = (TookEnd a b ⊎ NoLine a b) ⊎ ((number ≡ last_number) × (b.to_come ≡ a.to_come))
+
+-- All lines were answered up to the end. So many stand above the first of them.
+pub record AnsweredAll (above : ℕ) (a b : Stand) (before after : Option (List ℕ)) : Type 0 where
+  pub exchanges : List Exchange
+  pub reached : Stand
+  pub answered : Exchanges (above + 1) exchanges a reached
+  pub written : after ≡ with_end before (replies_of exchanges)
+  pub same : b.seats ≡ reached.seats
+  pub no_more : NoMore (above + length exchanges) reached b
+
+-- Lines were answered, and then the session was cut off: all that was written are the replies to these lines, and perhaps
+-- a prefix of that to the next one.
+pub record AnsweredSome (above : ℕ) (a : Stand) (before after : Option (List ℕ)) : Type 0 where
+  pub exchanges : List Exchange
+  pub reached : Stand
+  pub answered : Exchanges (above + 1) exchanges a reached
+  pub replies : Option (List ℕ)
+  pub written : replies ≡ with_end before (replies_of exchanges)
+  pub cut : CutNext (above + length exchanges + 1) reached replies after
+
+-- ---- the history
+
+-- every call of a controller of the scenario in a history is the one that it makes after the replies that it got so far
+abbrev pub AreOwnCalls : List ControllerState → List Entry → Type 0
+AreOwnCalls controllers [] = Unit {0}
+AreOwnCalls controllers (e ∷ es) = IsOwnCall controllers e × AreOwnCalls (controllers_after controllers e) es
+
+-- What a session keeps: these entries came, which are legal, with one more controller than the scenario has; each of
+-- those made its own calls; the machine is in the state after them, and each controller has got its replies.
+pub record Keeps (old new : SeatsState) : Type 0 where
+  pub entries : List Entry
+  pub legal : IsLegal (outside_of old + 1) old.kernel.state entries
+  pub own : AreOwnCalls old.controllers entries
+  pub is : new ≡ after_entries entries old
+
+-- The history of a session that began with this state and these controllers, and with places for so many entries.
+pub record IsHistoryFrom (first : TracedState) (controllers : List ControllerState) (turns : ℕ) (s : SeatsState) : Type 0 where
+  pub legal : IsLegal (length controllers + 1) first s.kernel.history
+  pub own : AreOwnCalls controllers s.kernel.history
+  pub state : s.kernel.state ≡ state_after first s.kernel.history
+  pub fed : s.controllers ≡ controllers_at controllers s.kernel.history
+  pub places : s.kernel.places ≡ turns

@@ -1,0 +1,61 @@
+use Rattle.std.specs.Prelude.{◌≡◌, ◌⊎◌, ℕ, List, [], ◌∷◌, ◌++◌, Some}
+use Rattle.pr_model.specs.Handles.{handle_of}
+use Rattle.pr_model.specs.Legal.{state_after}
+use Rattle.pr_model.specs.State.{TracedState}
+use Rattle.pr_model.specs.declared.calls.Call.{Call}
+use Rattle.pr_model.specs.declared.calls.Call.TheVariants as call
+use Rattle.pr_model.specs.declared.calls.File.{File}
+use Rattle.pr_model.specs.declared.calls.File.TheVariants.{Ctl, Lstatus, Mem, Status}
+use Rattle.pr_model.specs.declared.events.Entry.{Entry}
+use Rattle.pr_model.specs.declared.handles.Held.{Held}
+use Rattle.pr_truss_laws.specs.Business.{IsAmong}
+use Rattle.pr_truss_laws.specs.Exchanges.{Exchange, exchange_of, exchanges}
+use Rattle.pr_report_laws.specs.Attachments.{HasFile}
+use Rattle.pr_report_laws.specs.Holds.{IsToldOfEnd}
+
+-- Truss calls nothing but files that it has open, and once a process has ended it closes all that it has of it.
+
+-- ---- what it calls
+
+-- A controller has this file of some process open, with this handle.
+pub record HasOpen (k : ℕ) (f : File) (s : TracedState) (handle : ℕ) : Type 0 where
+  pub pid : ℕ
+  pub has : HasFile k pid f handle s
+
+-- A call that names handles names files that the controller has open: a message, a wait and a poll control files, a
+-- read one of the others, and a close any file. So none is refused with EBADF.
+abbrev pub NamesItsOwn : ℕ → TracedState → Call → Type 0
+NamesItsOwn k s (call.Ctl handle bytes) = HasOpen k Ctl s handle
+NamesItsOwn k s (call.CtlWait handle until bytes) = HasOpen k Ctl s handle
+NamesItsOwn k s (call.Poll handles) = (handle : ℕ) → IsAmong handle handles → HasOpen k Ctl s handle
+NamesItsOwn k s (call.Read handle from len) =
+    HasOpen k Status s handle ⊎ (HasOpen k Lstatus s handle ⊎ HasOpen k Mem s handle)
+NamesItsOwn k s (call.Close handle) = (f : File) × HasOpen k f s handle
+NamesItsOwn k s _ = Unit {0}
+
+-- So does each call of truss.
+pub record CallsItsFiles (k : ℕ) (first : TracedState) (h : List Entry) : Type 0 where
+  pub each : (before later : List Entry) (e : Entry) (x : Exchange) → h ≡ before ++ e ∷ later
+      → exchange_of k e ≡ Some x → NamesItsOwn k (state_after first before) x.call
+
+-- ---- what has ended
+
+-- These calls close these handles, one after another, as far as they go, before they do anything else.
+abbrev pub CloseFirst : List Exchange → List ℕ → Type 0
+CloseFirst [] handles = Unit {0}
+CloseFirst (x ∷ xs) [] = Unit {0}
+CloseFirst (x ∷ xs) (handle ∷ handles) = (x.call ≡ call.Close handle) × CloseFirst xs handles
+
+-- These are the handles of all files of a process that a controller has open, and no others.
+pub record AreAllOf (k pid : ℕ) (s : TracedState) (handles : List ℕ) : Type 0 where
+  pub all : (handle : ℕ) (held : Held) → handle_of s.opens k handle ≡ Some held → held.pid ≡ pid
+      → IsAmong handle handles
+  pub only : (handle : ℕ) → IsAmong handle handles → (f : File) × HasFile k pid f handle s
+
+-- Where truss is told that a process has ended it closes each file of it that it has open, before it calls anything
+-- else.
+pub record ClosesAllThatEnded (k : ℕ) (first : TracedState) (h : List Entry) : Type 0 where
+  pub each : (before later : List Entry) (e : Entry) (pid : ℕ) → h ≡ before ++ e ∷ later
+      → IsToldOfEnd k pid (state_after first before) e
+      → (handles : List ℕ)
+      × (AreAllOf k pid (state_after first before) handles × CloseFirst (exchanges k later) handles)

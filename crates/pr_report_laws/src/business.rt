@@ -1,0 +1,76 @@
+ghost use Rattle.std.specs.Prelude.{ℕ, List};
+ghost use Rattle.pr_line.specs.declared.options.Options.{Options};
+ghost use Rattle.pr_model.specs.State.{TracedState};
+ghost use Rattle.pr_model.specs.declared.events.Entry.{Entry};
+ghost use Rattle.pr_report_laws.specs.Asked.{AsksForItsLines, ReadsItsReplies, TracesWhatIsAsked, WritesOneMessage};
+ghost use Rattle.pr_report_laws.specs.Counted.{PrintsItsCounts};
+ghost use Rattle.pr_report_laws.specs.HeldRefusals.{TellsNoRefusalOfWhatItHolds};
+ghost use Rattle.pr_report_laws.specs.LineReads.{ReadsForItsLines};
+ghost use Rattle.pr_report_laws.specs.OwnFiles.{CallsItsFiles, ClosesAllThatEnded};
+ghost use Rattle.pr_report_laws.specs.ShownOnce.{ShowsStopsOnce, ShowsWhatIsNew, ShowsWhatItReads};
+ghost use Rattle.pr_truss.specs.Trusses.{first_truss};
+ghost use Rattle.pr_truss_laws.specs.Exchanges.{Exchange, Makes};
+ghost use Rattle.pr_truss_laws.specs.Runs.{IsTrussRun};
+
+/// In a legal history of a lawful state, in which a truss with nothing open makes its calls: each call of it that names
+/// handles names files that it has open, and of the right kind. So none is refused with EBADF.
+#[tactic(auto, using(crate::proofs::OwnFiles::CalledFiles::called))]
+pub fn truss_calls_files_that_it_has_open()
+    ensures { (n k : ℕ) (o : Options) (s : TracedState) (h : List Entry) → IsTrussRun n k o s h
+        → CallsItsFiles k s h }
+{}
+
+/// In such a history, where a call of it to a process is refused with ENOENT, truss closes all files that it has of the
+/// process before it calls anything else.
+#[tactic(auto, using(crate::proofs::OwnFiles::EndedFiles::ended_files))]
+pub fn truss_closes_all_that_it_has_of_what_has_ended()
+    ensures { (n k : ℕ) (o : Options) (s : TracedState) (h : List Entry) → IsTrussRun n k o s h
+        → ClosesAllThatEnded k s h }
+{}
+
+/// In such a history truss shows what it reads, right then: in each entry nothing new of a process, whichever it is, or
+/// one event more, which it reads in this entry. Between two that it shows of a process it runs the process, or closes
+/// a file of it. Once no old stop of a process is left it shows what it reads of it and the options select.
+#[tactic(auto, using(crate::proofs::Asking::ReadShown::shown_laws))]
+pub fn truss_shows_what_it_reads_right_then_and_once()
+    ensures read { (n k : ℕ) (o : Options) (s : TracedState) (h : List Entry) → IsTrussRun n k o s h
+        → ShowsWhatItReads k o s h }
+    ensures once { (n k : ℕ) (o : Options) (s : TracedState) (h : List Entry) → IsTrussRun n k o s h
+        → ShowsStopsOnce k o s h }
+    ensures selected { (n k : ℕ) (o : Options) (s : TracedState) (h : List Entry) → IsTrussRun n k o s h
+        → ShowsWhatIsNew k o s h }
+{}
+
+/// With -c truss prints the lines of what was refused, and a table of the events that it has reported, each counted
+/// once.
+#[tactic(auto, using(crate::proofs::Asking::CountLaws::counts))]
+pub fn truss_prints_what_it_has_counted()
+    ensures { (o : Options) (xs : List Exchange) → Makes (first_truss o) xs → PrintsItsCounts o xs }
+{}
+
+/// In such a history truss does not say that it cannot trace a process of which it has hold, but where it is refused an
+/// open of that process.
+#[tactic(auto, using(crate::proofs::Asking::HeldRefused::held_refusals))]
+pub fn truss_tells_no_refusal_of_what_it_has_hold_of()
+    ensures { (n k : ℕ) (o : Options) (s : TracedState) (h : List Entry) → IsTrussRun n k o s h
+        → TellsNoRefusalOfWhatItHolds k o s h }
+{}
+
+/// Where truss reads the memory of a process, the last event that it has reported is one of that process, and its line
+/// asks for just this memory.
+#[tactic(auto, using(crate::proofs::Asking::MemoryAsked::line_reads))]
+pub fn truss_reads_memory_for_its_lines()
+    ensures { (n k : ℕ) (o : Options) (s : TracedState) (h : List Entry) → IsTrussRun n k o s h
+        → ReadsForItsLines k o s h }
+{}
+
+/// What truss has traced is what the options ask for: the calls, signals and faults that they choose, and with -f fork
+/// and vfork. Each write of it is one message. The memory that it asks for is that of the line of the event, and the
+/// text is what came of it.
+#[tactic(auto, using(crate::proofs::Asking::AskedLaws::asked))]
+pub fn truss_traces_writes_and_asks_for_no_more_than_it_is_asked()
+    ensures traces { (o : Options) → TracesWhatIsAsked o }
+    ensures writes { WritesOneMessage }
+    ensures reads { (o : Options) → AsksForItsLines o }
+    ensures replies { ReadsItsReplies }
+{}

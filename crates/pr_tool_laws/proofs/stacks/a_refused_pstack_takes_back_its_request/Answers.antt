@@ -1,0 +1,7 @@
+use Rattle.pr_tool_laws.proofs.RequestLemmas.{takes-back}
+use Rattle.pr_tool_laws.proofs.stacks.a_refused_pstack_takes_back_its_request.Goals as goal
+
+pub returns : goal.returns
+returns c =
+    λ controllers n k pid s h t begins legal follows ends ended was.
+    takes-back n k pid s controllers h t begins legal follows ends ended was
