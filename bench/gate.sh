@@ -1,12 +1,18 @@
 #!/usr/bin/env bash
 # What the gate costs from nothing: processor seconds of each crate for its proofs, its tests and its must-fail edits,
-# and their sum. The last commit is measured, in a copy that has no work of its own, by `rt ci` itself, which takes
-# nothing that earlier runs on this machine have kept. Words are a command that is measured in the copy instead, such as
-# `.ci/run` or `sh -c "cd crates/pr_num && rt check"`; of what a command takes from earlier runs nothing is seen.
+# and their sums in minutes. The last commit is measured, in a copy that has no work of its own, by `rt ci`, which
+# takes nothing that earlier runs on this machine have kept. It ends with status 1 where the whole takes more than 225
+# processor minutes, or GATE_BOUND where that is given: processors differ, and one was met that takes twice the time of
+# the one for which 225 was set. Nothing else should run beside it, since then each part takes longer.
+#
+# Words are a command that is measured in the copy instead, such as `.ci/run` or `sh -c "cd crates/pr_num && rt check"`;
+# it is held to no bound, and of what it takes from earlier runs nothing is seen.
 #
 # The processor time of the command and of all that it starts is exact. Its parts are read twice a second from /proc for
 # each run of the prover, so what a run takes after the last reading is in the row `other`, with what is no prover.
+# A crate that has edits is proved once more for them: that counts as edits.
 set -eu
+bound=${GATE_BOUND:-225}
 top=$(cd "$(dirname "${BASH_SOURCE[0]}")/.." && pwd)
 work=$(mktemp -d)
 trap 'rm -rf "$work"' EXIT
@@ -16,6 +22,8 @@ if [ $# = 0 ]; then
   set -- rt ci
   # (a kit that keeps nothing between runs has no --anew)
   if rt help 2>&1 | grep -q -e --anew; then set -- rt ci --anew; fi
+else
+  bound=0
 fi
 
 # kind_of FOLDER WORDS: what a run of the prover in this folder, with these words, is for
@@ -93,7 +101,7 @@ wait "$session" || status=$?
 
 per_second=$(getconf CLK_TCK)
 for run in "${!ticks[@]}"; do echo "${crates[$run]} ${kinds[$run]} ${ticks[$run]}"; done | sort |
-  awk -v per_second="$per_second" -v spent="$(cat "$work/spent")" '
+  awk -v per_second="$per_second" -v spent="$(cat "$work/spent")" -v bound="$bound" '
     function row(name, proofs, tests, edits, sum) { printf "%-18s %8d %8d %8d %8d\n", name, proofs, tests, edits, sum }
     { seconds = $3 / per_second; all[$2] += seconds; seen += seconds
       if (!($1 in sum)) crate[++count] = $1
@@ -107,6 +115,16 @@ for run in "${!ticks[@]}"; do echo "${crates[$run]} ${kinds[$run]} ${ticks[$run]
       }
       row("other", 0, 0, 0, total - seen)
       row("all", all["proofs"], all["tests"], all["edits"], total)
-      printf "%.0f processor minutes\n", total / 60
-    }'
-[ "$status" = 0 ] || { tail -20 "$work/said" >&2; exit "$status"; }
+      printf "%.0f processor minutes", total / 60
+      printf ": proofs %.0f, tests %.0f, edits %.0f", all["proofs"] / 60, all["tests"] / 60, all["edits"] / 60
+      printf ", other %.0f\n", (total - seen) / 60
+      if (!bound) exit 0
+      over = total > 60 * bound
+      printf "%s %d\n", over ? "more than the bound, which is" : "at most", bound
+      exit over
+    }' || over=1
+if [ "$status" != 0 ]; then
+  tail -20 "$work/said" >&2
+  exit "$status"
+fi
+exit "${over-0}"

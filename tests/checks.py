@@ -1,4 +1,5 @@
-"""What the tests of this folder share: which program they run, how a run is measured, and the count of what passed."""
+"""What the tests of this folder share: which program they run, how a run is measured, which crates a crate stands on, and
+the count of what passed."""
 import os
 import subprocess
 import sys
@@ -31,6 +32,23 @@ def run(program, words, data, seconds=120):
         except subprocess.TimeoutExpired:
             return None
         return Ran(process, measured.read())
+
+
+def crates_below(names):
+    """These crates and all of the repository that they stand on, with what each names in crates.txt."""
+    needs = {}
+    with open(os.path.join(TOP, "crates.txt")) as file:
+        for line in file:
+            head, _, below = line.partition("#")[0].partition(":")
+            if below:
+                needs[head.split()[0]] = below.split()
+    found, left = {}, list(names)
+    while left:
+        name = left.pop()
+        if name in needs and name not in found:
+            found[name] = needs[name]
+            left += needs[name]
+    return found
 
 
 class Checks:

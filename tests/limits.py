@@ -1,9 +1,8 @@
 #!/usr/bin/env python3
 """Inputs at their limits, by the built program: a scenario of exactly 1 MiB of each kind of line, and with a byte more;
 one more of each thing than there may be; long runs; and `check` on inputs of up to 256 MiB, whose time grows as they do,
-and whose memory is at most four times the input where lines are long, and at most sixteen times where they are the
-shortest. What has a limit while a scenario runs (processes, handles, lwps, areas,
-files, pipes, memory) is in cases/ and not here.
+and whose memory is at most four times the input, or 192 bytes for each entry where that is more. What has a limit while
+a scenario runs (processes, handles, lwps, areas, files, pipes, memory) is in cases/ and not here.
 
 A word names another program than the proved one. Each line has what was measured; the last is 'N passed, M failed'.
 """
@@ -149,12 +148,17 @@ def long_runs(checks, program):
         checks.check("64 controllers, " + " ".join(words), expect(ran, 0, "\nstatus 0\n"), measured(ran, TEXT))
 
 
-def judged(checks, program, name, data, status, out, most=4):
-    """`check` of an input, whose memory is at most so many times the input."""
+ENTRY = 96              # the bytes that an entry takes in a history, however short its line is
+OWN = 4 << 20           # those that the program has without any input, at most
+
+
+def judged(checks, program, name, data, status, out, most=4, entries=0):
+    """`check` of an input, whose memory is at most so many times the input, or what so many entries take in the history
+    that is read and in that of the kernel which plays it."""
     ran = run(program, ["check"], data)
     wrong = expect(ran, status, out)
-    if not wrong and ran.memory << 10 > most * len(data):
-        wrong = "more than %d times the input" % most
+    if not wrong and ran.memory << 10 > max(most * len(data), 2 * ENTRY * entries + OWN):
+        wrong = "more than %d times the input, and more than its entries take" % most
     checks.check("check, %s" % name, wrong, "%d MB, %s" % (len(data) // 1_000_000, measured(ran, len(data))))
     return ran.seconds if ran else 0.0
 
@@ -166,22 +170,42 @@ def reads(program, count):
     return text.encode() + b"%history\n" + run(program, ["run"], text.encode()).out
 
 
-def steps(count):
+CALLS = "program p\nagain:\nsys getpid\njmp again\nend\nspawn p\n"
+
+
+def steps(program, count):
     """A history of so many instructions, which is a line of some 14 bytes each, under its scenario."""
     lines = "".join("%d 1/1 ran\n" % k for k in range(count))
     return (LOOPS + "%history\nhistory " + "%d\n" % count + lines).encode()
 
 
+def calls(program, count):
+    """A history of so many entries in which a program calls without end, under its scenario: what it does comes again
+    after the entries of one call and one jump."""
+    out = run(program, ["run"], ("turns 64\n" + CALLS).encode()).out.decode()
+    acts = [line.split(" ", 1)[1] for line in out.splitlines()[1:65]]
+    size = next(k for k in range(1, 32) if acts[k:] == acts[:-k])
+    lines = "".join("%d %s\n" % (k, acts[k % size]) for k in range(count))
+    return (CALLS + "%history\nhistory " + "%d\n" % count + lines).encode()
+
+
+def traced(program, count):
+    """A history of so many entries in which truss follows a program that calls without end, under its scenario."""
+    text = "turns %d\n" % count + CALLS + "truss -p 1\n"
+    return text.encode() + b"%history\n" + run(program, ["run"], text.encode()).out
+
+
 def large_histories(checks, program):
-    for name, sizes, make in [("long lines", [1250, 2500, 5000], lambda n: reads(program, n)),
-                              ("short lines", [1_000_000, 2_000_000, 4_000_000], steps)]:
+    for name, make, sizes in [("long lines", reads, [1250, 2500, 5000]),
+                              ("lines of a traced program", traced, [25_000, 50_000, 99_990]),
+                              ("lines of a program that calls", calls, [500_000, 1_000_000, 2_000_000]),
+                              ("the shortest lines", steps, [1_000_000, 2_000_000, 4_000_000])]:
         times = []
         for size in sizes:
-            data = make(size)
-            entries = size + 3 if name == "long lines" else size
-            most = 4 if name == "long lines" else 16    # an entry takes 88 bytes, however short its line is, and stands in two histories
-            times.append(judged(checks, program, name, data, 0, "legal %d\n" % entries, most))
-        checks.check("the time of check, " + name, times[2] > 6 * times[0] and "more than linear", "ratio %.2f of 4" % (times[2] / times[0]))
+            entries = size + 3 if make == reads else size
+            times.append(judged(checks, program, name, make(program, size), 0, "legal %d\n" % entries, entries=entries))
+        slow = times[2] > 6 * times[0] + 0.2 and "more than linear"
+        checks.check("the time of check, " + name, slow, "ratio %.2f of 4" % (times[2] / times[0]))
 
 
 def limits_of_check(checks, program):

@@ -19,29 +19,12 @@ import shutil
 import subprocess
 import tempfile
 
-from checks import TOP, Checks
+from checks import TOP, Checks, crates_below
 
 PATCHES = os.path.join(TOP, "tests/wrong-trusses")
 TRUSS = "crates/pr_truss"
 PARTS = ("src", "specs", "proofs")
 LAWS = ["pr_truss_laws", "pr_report_laws"]
-
-
-def crates_below(names):
-    """These crates and all of the repository that they stand on, with what each names."""
-    needs = {}
-    with open(os.path.join(TOP, "crates.txt")) as file:
-        for line in file:
-            head, _, below = line.partition("#")[0].partition(":")
-            if below:
-                needs[head.split()[0]] = below.split()
-    found, left = {}, list(names)
-    while left:
-        name = left.pop()
-        if name in needs and name not in found:
-            found[name] = needs[name]
-            left += needs[name]
-    return found
 
 
 def copy_crates(room):

@@ -1,4 +1,6 @@
-use Rattle.std.proofs.Common.{◌≡◌, ◌≢◌, ◌==◌, ◌&&◌, ◌||◌, ◌<◌, ◌≤◌, ◌+◌, ◌++◌, ◌⊎◌, inl, inr, ℕ, zero, suc, Bool, true, false, cond, List, [], ◌∷◌, Option, Some, None, length, map, refl, sym, ap, subst, ◌∙◌, arith}
+use Rattle.std.proofs.Common.{◌≡◌, ◌≢◌, ◌==◌, ◌&&◌, ◌||◌, ◌<◌, ◌≤◌, ◌+◌, ◌++◌, ◌⊎◌, inl, inr, ℕ, zero, suc, Bool, true}
+use Rattle.std.proofs.Common.{false, cond, List, [], ◌∷◌, Option, Some, None, length, map, refl, sym, ap, subst, ◌∙◌}
+use Rattle.std.proofs.Common.{arith}
 use Rattle.std.specs.List.{All, cons_option, list_any, slice_get}
 use Rattle.std.specs.Option.{option_and_then, option_map}
 use Rattle.std.proofs.lemmas.Bool.{cases_eq, cases_lt, eqb-false, eqb-true, lt-ltb}
@@ -62,7 +64,8 @@ use Rattle.pr_truss_laws.specs.Exchanges.{Exchange, exchange_in, exchanges}
 use Rattle.pr_truss_laws.specs.Handles.{HasNothingOpen}
 use Rattle.pr_world.proofs.ProtocolLemmas.{controllers_at-count}
 use Rattle.pr_world.specs.ControllerStates.{ControllerState, FnTruss, Gcore, Probe, Script, Tool, Truss}
-use Rattle.pr_world.specs.Controllers.{after_reply, awaits_clock, call_by, feed_at, is_clock_awaited, next_call, with_fed}
+use Rattle.pr_world.specs.Controllers.{after_reply, awaits_clock, call_by, feed_at, is_clock_awaited, next_call}
+use Rattle.pr_world.specs.Controllers.{with_fed}
 use Rattle.pr_world.specs.Protocol.{Follows, FollowsAt, controllers_after, controllers_at}
 use Rattle.pr_drive.specs.Beside.{AreCallsOf, CallsAsController, ControllersKept, IsKeptBeside}
 use Rattle.pr_drive.specs.Going.{IsOwnCall}
@@ -340,15 +343,19 @@ module _ (s : Scenario) (h : List Entry) (range : IsScenarioInRange s)
       }
 
   functions : (k : ℕ) (o : Options) → slice_get s.controllers k ≡ Some (plan.Truss o) → has_functions o ≡ true
-      → IsFunctionTrussKept (controllers_of s) h k o
+      → IsFunctionTrussKept (controllers_of s) first h k o
   functions k o at has =
       let here = truss-first k o true at has in
-      let it = function-kept ds n first h k o (begins k (truss_of o true) here) has legal follows in
+      let it =
+      function-kept ds n first h k o reached bytes (none-held k) (begins k (truss_of o true) here) has legal follows in
       record {
         makes = it.makes;
         truss = sym (ends k (truss_of o true) here) ∙ it.truss;
         calls = it.calls;
         soon = it.soon;
+        opens = it.opens;
+        lifts = it.lifts;
+        turns = it.turns;
       }
 
   tool-first : (k : ℕ) (kind : ToolKind) (pid : ℕ) → slice_get s.controllers k ≡ Some (plan.Tool kind pid)

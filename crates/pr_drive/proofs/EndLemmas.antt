@@ -1,7 +1,8 @@
-use Rattle.std.proofs.Common.{◌≡◌, ◌≢◌, ◌<◌, ◌≤◌, ◌+◌, ◌++◌, ◌⊎◌, inl, inr, ℕ, Bool, true, false, List, [], ◌∷◌, Option, Some, None, Result, Ok, Err, IfOk, OnOk, OnErr, length, take, refl, sym, ap, subst, ◌∙◌, arith, append_assoc, append-nil, length-append}
+use Rattle.std.proofs.Common.{◌≡◌, ◌≢◌, ◌<◌, ◌≤◌, ◌+◌, ◌++◌, ◌⊎◌, inl, inr, ℕ, Bool, true, false, List, [], ◌∷◌, Option}
+use Rattle.std.proofs.Common.{Some, None, Result, Ok, Err, IfOk, OnOk, OnErr, length, take, refl, sym, ap, subst, ◌∙◌}
+use Rattle.std.proofs.Common.{arith, append_assoc, append-nil, length-append}
 use Rattle.std.proofs.lemmas.List.{take_all}
 use Rattle.std.specs.List.{flat_map}
-use Rattle.std.specs.Io.KnownBytes.{IsAtEnd}
 use Rattle.std.specs.Result.{IsErrOf}
 use Rattle.pr_asks.specs.Asks.{ask_of, name_of}
 use Rattle.pr_asks.specs.declared.asks.Ask.{Ask}
@@ -11,19 +12,23 @@ use Rattle.pr_io.specs.Known.{with_end}
 use Rattle.pr_io.specs.Writing.{AppendsFront}
 use Rattle.pr_io.specs.declared.sources.ReadEnd.{ReadEnd}
 use Rattle.pr_io.specs.declared.sources.ReadEnd.TheVariants as read
-use Rattle.pr_lines.specs.Lines.{TakesLine, TookLine}
 use Rattle.pr_output.specs.Output.{AppendsSome, refusal_text}
 use Rattle.pr_output.specs.Puts.{Puts}
 use Rattle.pr_output.specs.declared.cuts.Cut.{Cut}
 use Rattle.pr_output.specs.declared.cuts.Cut.TheVariants as write
 use Rattle.pr_drive.specs.Exchanges.{Answers, Writes}
-use Rattle.pr_drive.specs.Going.{Goes, SeatsState}
-use Rattle.pr_drive.specs.Sessions.{AnsweredAll, AnsweredIf, AnsweredLine, AnsweredNext, AnsweredNone, AnsweredSome, AnswersLine, AnswersRead, AsksEnd, CameOf, CutAnswer, CutAt, CutAtLine, CutLine, CutNext, Exchange, Exchanged, Exchanges, IsEnd, NoMore, PassesTurn, PutAnswer, RefusesLine, Stand, came_of, is_end, is_last, last_number, replies_of}
+use Rattle.pr_drive.specs.Inputs.{Input, Took}
+use Rattle.pr_drive.specs.Rounds.{FinishesRound, RoundsState}
+use Rattle.pr_drive.specs.Sessions.{AnsweredAll, AnsweredIf, AnsweredLine, AnsweredNext, AnsweredNone, AnsweredSome}
+use Rattle.pr_drive.specs.Sessions.{AnswersLine, AnswersRead, AsksEnd, CameOf, CutAnswer, CutAt, CutAtLine, CutLine}
+use Rattle.pr_drive.specs.Sessions.{CutNext, Exchange, Exchanged, Exchanges, IsEnd, NoMore, PassesTurn, PutAnswer}
+use Rattle.pr_drive.specs.Sessions.{RefusesLine, Stand, came_of, is_end, is_last, last_number, replies_of}
 use Rattle.pr_drive.specs.Statuses.{cut_off, read_off}
 use Rattle.pr_drive.specs.declared.answers.Came.{Came}
 use Rattle.pr_drive.specs.declared.answers.Came.TheVariants as came
 use Rattle.pr_drive.specs.declared.ends.CutOff.{CutOff}
 use Rattle.pr_drive.specs.declared.ends.CutOff.TheVariants as cut
+use Rattle.pr_drive.proofs.InputLemmas.{Takes, takes-none, takes-some}
 
 -- How lines are answered, from a source to a sink.
 
@@ -39,7 +44,8 @@ unread read.NoMemory y P is h failed = let no : cut.NoMemory ≡ cut.ReadFailed 
 pub read-fine : (e : ReadEnd) (y : CutOff) → y ≡ read_off e → (y ≡ cut.ReadFailed → ⊥) → e ≡ read.Failed → ⊥
 read-fine e y is fine failed = fine (is ∙ ap read_off failed)
 
-pub unwritten : (e : Cut) (y : CutOff) (P : Type 0) → y ≡ cut_off e → (e ≡ write.WriteFailed → P) → y ≡ cut.WriteFailed → P
+pub unwritten : (e : Cut) (y : CutOff) (P : Type 0) → y ≡ cut_off e → (e ≡ write.WriteFailed → P) → y ≡ cut.WriteFailed
+    → P
 unwritten write.WriteFailed y P is h failed = h refl
 unwritten write.NoMemory y P is h failed = let no : cut.NoMemory ≡ cut.WriteFailed = sym is ∙ failed in cc
 
@@ -47,8 +53,11 @@ pub write-fine : (e : Cut) (y : CutOff) → y ≡ cut_off e → (y ≡ cut.Write
 write-fine e y is fine failed = fine (is ∙ ap cut_off failed)
 
 -- what was put of a text where it was not put whole
-pub put-some : (e : Cut) (old new : Option (List ℕ)) (text : List ℕ) → (e ≡ write.WriteFailed → AppendsFront old new text) → (e ≡ write.NoMemory → AppendsSome old new text) → AppendsSome old new text
-put-some write.WriteFailed old new text failed memory = let front = failed refl in record { count = front.count; appended = front.appended }
+pub put-some : (e : Cut) (old new : Option (List ℕ)) (text : List ℕ)
+    → (e ≡ write.WriteFailed → AppendsFront old new text) → (e ≡ write.NoMemory → AppendsSome old new text)
+    → AppendsSome old new text
+put-some write.WriteFailed old new text failed memory = let front = failed refl in record
+    { count = front.count; appended = front.appended }
 put-some write.NoMemory old new text failed memory = memory refl
 
 pub front-some : (old new : Option (List ℕ)) (text : List ℕ) → AppendsFront old new text → AppendsSome old new text
@@ -65,26 +74,34 @@ on-err P (Err e) p = p
 pub whole-text : (before after text : List ℕ) → before ≡ [] → after ≡ before ++ text → after ≡ text
 whole-text before after text none all = all ∙ ap (λ (b : List ℕ). b ++ text) none
 
-pub put-whole : (asked : Ask) (over : Bool) (a b : SeatsState) (before after : List ℕ) (old new : Option (List ℕ)) → before ≡ [] → Writes before after (Answers asked over a b) → new ≡ with_end old after → PutAnswer asked over a b old new
+pub put-whole : (asked : Ask) (over : Bool) (a b : RoundsState) (before after : List ℕ) (old new : Option (List ℕ))
+    → before ≡ [] → Writes before after (Answers asked over a b) → new ≡ with_end old after
+    → PutAnswer asked over a b old new
 put-whole asked over a b before after old new none h all = record {
   text = h.text;
   answers = h.is;
   written = all ∙ ap (with_end old) (whole-text before after h.text none h.written);
 }
 
-pub put-cut : (asked : Ask) (over : Bool) (a b : SeatsState) (before after : List ℕ) (old new : Option (List ℕ)) → before ≡ [] → Writes before after (Answers asked over a b) → AppendsFront old new after → CutAnswer asked a old new
+pub put-cut : (asked : Ask) (over : Bool) (a b : RoundsState) (before after : List ℕ) (old new : Option (List ℕ))
+    → before ≡ [] → Writes before after (Answers asked over a b) → AppendsFront old new after
+    → CutAnswer asked a old new
 put-cut asked over a b before after old new none h front = record {
   over = over;
   new = b;
   text = h.text;
   answers = h.is;
-  written = subst (AppendsSome old new) (whole-text before after h.text none h.written) (front-some old new after front);
+  written = subst (AppendsSome old new) (whole-text before after h.text none h.written)
+      (front-some old new after front);
 }
 
-answers-read : (number : ℕ) (read : Result Ask Kind) (asked : Ask) (over : Bool) (a b : SeatsState) (text : List ℕ) → read ≡ Ok asked → is_end asked ≡ false → Answers asked over a b text → AnswersRead number read over a b text
-answers-read number read asked over a b text is on h = let P : Result Ask Kind → Type 0 = λ r. AnswersRead number r over a b text in subst P (sym is) (on, h)
+answers-read : (number : ℕ) (read : Result Ask Kind) (asked : Ask) (over : Bool) (a b : RoundsState) (text : List ℕ)
+    → read ≡ Ok asked → is_end asked ≡ false → Answers asked over a b text → AnswersRead number read over a b text
+answers-read number read asked over a b text is on h = let P : Result Ask Kind
+    → Type 0 = λ r. AnswersRead number r over a b text in subst P (sym is) (on, h)
 
-refused-read : (number : ℕ) (read : Result Ask Kind) (kind : Kind) (a : SeatsState) → read ≡ Err kind → AnswersRead number read false a a (refusal_text number (name_of kind))
+refused-read : (number : ℕ) (read : Result Ask Kind) (kind : Kind) (a : RoundsState) → read ≡ Err kind
+    → AnswersRead number read false a a (refusal_text number (name_of kind))
 refused-read number read kind a is =
     let P : Result Ask Kind → Type 0 = λ r. AnswersRead number r false a a (refusal_text number (name_of kind)) in
     subst P (sym is) (refl, record { same = refl; told = refl })
@@ -92,84 +109,145 @@ refused-read number read kind a is =
 asks-end : (read : Result Ask Kind) (asked : Ask) → read ≡ Ok asked → is_end asked ≡ true → AsksEnd read
 asks-end read asked is on = subst AsksEnd (sym is) on
 
-pub line-end : (number : ℕ) (line : List ℕ) (asked : Ask) (a : SeatsState) (w : Option (List ℕ)) → ask_of line ≡ Ok asked → is_end asked ≡ true → CameOf came.End number line a a w w
-line-end number line asked a w is on = record { asks = asks-end (ask_of line) asked is on; same = refl; unwritten = refl }
+pub line-end : (number : ℕ) (line : List ℕ) (asked : Ask) (a : RoundsState) (w : Option (List ℕ))
+    → ask_of line ≡ Ok asked → is_end asked ≡ true → CameOf came.End number line a a w w
+line-end number line asked a w is on = record
+    { asks = asks-end (ask_of line) asked is on; same = refl; unwritten = refl }
 
-pub line-came : (over : Bool) (number : ℕ) (line : List ℕ) (asked : Ask) (a b : SeatsState) (old new : Option (List ℕ)) → ask_of line ≡ Ok asked → is_end asked ≡ false → PutAnswer asked over a b old new
+pub line-came : (over : Bool) (number : ℕ) (line : List ℕ) (asked : Ask) (a b : RoundsState) (old new : Option (List ℕ))
+    → ask_of line ≡ Ok asked → is_end asked ≡ false → PutAnswer asked over a b old new
     → CameOf (came_of over) number line a b old new
 unfolding came_of
-line-came true number line asked a b old new is on put = record { text = put.text; answers = answers-read number (ask_of line) asked true a b put.text is on put.answers; written = put.written }
-line-came false number line asked a b old new is on put = record { text = put.text; answers = answers-read number (ask_of line) asked false a b put.text is on put.answers; written = put.written }
+line-came true number line asked a b old new is on put = record {
+  text = put.text;
+  answers = answers-read number (ask_of line) asked true a b put.text is on put.answers;
+  written =
+      put.written;
+}
+line-came false number line asked a b old new is on put = record {
+  text = put.text;
+  answers = answers-read number (ask_of line) asked false a b put.text is on put.answers;
+  written =
+      put.written;
+}
 
-pub line-cut : (number : ℕ) (line : List ℕ) (asked : Ask) (a : SeatsState) (old new : Option (List ℕ)) → ask_of line ≡ Ok asked → is_end asked ≡ false → (new ≡ old) ⊎ CutAnswer asked a old new → CutAt number line a old new
+pub line-cut : (number : ℕ) (line : List ℕ) (asked : Ask) (a : RoundsState) (old new : Option (List ℕ))
+    → ask_of line ≡ Ok asked → is_end asked ≡ false → (new ≡ old) ⊎ CutAnswer asked a old new
+    → CutAt number line a old new
 line-cut number line asked a old new is on (inl none) = inl none
 line-cut number line asked a old new is on (inr h) =
-    inr (record { over = h.over; new = h.new; text = h.text; answers = answers-read number (ask_of line) asked h.over a h.new h.text is on h.answers; written = h.written })
+    inr (record {
+      over = h.over;
+      new = h.new;
+      text = h.text;
+      answers = answers-read number (ask_of line) asked h.over a h.new
+          h.text is on h.answers;
+      written = h.written;
+    })
 
-pub line-refused : (number : ℕ) (line : List ℕ) (kind : Kind) (a : SeatsState) (old new : Option (List ℕ)) → ask_of line ≡ Err kind → new ≡ with_end old (refusal_text number (name_of kind)) → CameOf came.Still number line a a old new
-line-refused number line kind a old new is told = record { text = refusal_text number (name_of kind); answers = refused-read number (ask_of line) kind a is; written = told }
+pub line-refused : (number : ℕ) (line : List ℕ) (kind : Kind) (a : RoundsState) (old new : Option (List ℕ))
+    → ask_of line ≡ Err kind → new ≡ with_end old (refusal_text number (name_of kind))
+    → CameOf came.Still number line a a old new
+line-refused number line kind a old new is told = record
+    { text = refusal_text number (name_of kind); answers = refused-read number (ask_of line) kind a is; written = told }
 
-pub refusal-cut : (number : ℕ) (line : List ℕ) (kind : Kind) (a : SeatsState) (old new : Option (List ℕ)) → ask_of line ≡ Err kind → AppendsSome old new (refusal_text number (name_of kind)) → CutAt number line a old new
+pub refusal-cut : (number : ℕ) (line : List ℕ) (kind : Kind) (a : RoundsState) (old new : Option (List ℕ))
+    → ask_of line ≡ Err kind → AppendsSome old new (refusal_text number (name_of kind)) → CutAt number line a old new
 refusal-cut number line kind a old new is told =
-    inr (record { over = false; new = a; text = refusal_text number (name_of kind); answers = refused-read number (ask_of line) kind a is; written = told })
+    inr (record {
+      over = false;
+      new = a;
+      text = refusal_text number (name_of kind);
+      answers = refused-read number (ask_of line)
+          kind a is;
+      written = told;
+    })
 
 -- ---- the next line
 
-abbrev pub stand : Option (List ℕ) → SeatsState → Stand
-stand to_come seats = record { to_come = to_come; seats = seats }
+abbrev pub stand : Input → RoundsState → Stand
+stand from rounds = record { input = from; rounds = rounds }
 
 -- there is no next line
-pub next-none : (there : Bool) (line : List ℕ) (old new : Option (List ℕ)) (a : SeatsState) (w : Option (List ℕ)) → there ≡ false → TakesLine there line old new → AnsweredNone (stand old a) (stand new a) w w
+pub next-none : (there : Bool) (line : List ℕ) (old new : Input) (a : RoundsState) (w : Option (List ℕ)) → there ≡ false
+    → Takes there line old new → AnsweredNone (stand old a) (stand new a) w w
 next-none there line old new a w absent h =
-    let none : TakesLine false line old new = subst (λ (b : Bool). TakesLine b line old new) absent h in
-    record { ends = inr (record { end = subst IsAtEnd none.0 none.1; same = none.0 }); seats = refl; unwritten = refl }
-
-took : (there : Bool) (line : List ℕ) (old new : Option (List ℕ)) → there ≡ true → TakesLine there line old new → TookLine line old new
-took there line old new yes_there h = subst (λ (b : Bool). TakesLine b line old new) yes_there h
+    record { ends = inr (record { end = takes-none there line old new absent h }); same = refl; unwritten = refl }
 
 -- it is the end
-pub next-end : (there : Bool) (c : Came) (number : ℕ) (line : List ℕ) (old new : Option (List ℕ)) (a b : SeatsState) (v w : Option (List ℕ)) → there ≡ true → TakesLine there line old new → is_last c ≡ true
+pub next-end : (there : Bool) (c : Came) (number : ℕ) (line : List ℕ) (old new : Input) (a b : RoundsState)
+    (v w : Option (List ℕ)) → there ≡ true → Takes there line old new → is_last c ≡ true
     → CameOf c number line a b v w → AnsweredNone (stand old a) (stand new b) v w
 next-end there came.End number line old new a b v w yes_there h last end = record {
-  ends = inl (record { line = line; took = took there line old new yes_there h; asks = end.asks });
-  seats = end.same;
+  ends = inl (record { line = line; took = takes-some there line old new yes_there h; asks = end.asks });
+  same = end.same;
   unwritten = end.unwritten;
 }
 next-end there came.Over number line old new a b v w yes_there h last end = cc
 next-end there came.Still number line old new a b v w yes_there h last end = cc
 
 -- it is answered, and others had their turn
-pub next-answered : (there : Bool) (c : Came) (number : ℕ) (line : List ℕ) (old new : Option (List ℕ)) (a b d : SeatsState) (v w : Option (List ℕ)) → there ≡ true → TakesLine there line old new → is_last c ≡ false
-    → CameOf c number line a b v w → (c ≡ came.Over → Goes 0 b d) → (c ≡ came.Still → d ≡ b) → AnsweredNext number (stand old a) (stand new d) v w
+pub next-answered : (there : Bool) (c : Came) (number : ℕ) (line : List ℕ) (old new : Input) (a b d : RoundsState)
+    (v w : Option (List ℕ)) → there ≡ true → Takes there line old new → is_last c ≡ false
+    → CameOf c number line a b v w → (c ≡ came.Over → FinishesRound 0 b d) → (c ≡ came.Still → d ≡ b)
+    → AnsweredNext number (stand old a) (stand new d) v w
 next-answered there came.End number line old new a b d v w yes_there h last one over still = cc
 next-answered there came.Over number line old new a b d v w yes_there h last one over still = record {
   exchange = record { line = line; reply = one.text };
-  exchanged = record { took = took there line old new yes_there h; over = true; answered = b; answers = one.answers; passes = over refl };
+  exchanged = record {
+    took = takes-some there line old new yes_there h;
+    over = true;
+    answered = b;
+    answers = one.answers;
+    passes =
+        over refl;
+  };
   written = one.written;
 }
 next-answered there came.Still number line old new a b d v w yes_there h last one over still = record {
   exchange = record { line = line; reply = one.text };
-  exchanged = record { took = took there line old new yes_there h; over = false; answered = b; answers = one.answers; passes = still refl };
+  exchanged = record {
+    took = takes-some there line old new yes_there h;
+    over = false;
+    answered = b;
+    answers = one.answers;
+    passes =
+        still refl;
+  };
   written = one.written;
 }
 
 -- the session is cut off at it
-pub next-cut : (there : Bool) (number : ℕ) (line : List ℕ) (old new : Option (List ℕ)) (a : SeatsState) (v w : Option (List ℕ)) → there ≡ true → TakesLine there line old new → CutAt number line a v w → CutNext number (stand old a) v w
+pub next-cut : (there : Bool) (number : ℕ) (line : List ℕ) (old new : Input) (a : RoundsState) (v w : Option (List ℕ))
+    → there ≡ true → Takes there line old new → CutAt number line a v w → CutNext number (stand old a) v w
 next-cut there number line old new a v w yes_there h (inl none) = inl none
-next-cut there number line old new a v w yes_there h (inr one) = inr (record { line = line; to_come = new; took = took there line old new yes_there h; cut = one })
+next-cut there number line old new a v w yes_there h (inr one) = inr
+    (record { line = line; rest = new; took = takes-some there line old new yes_there h; cut = one })
 
 -- or in the others' turn behind it, where the reply is written whole
 whole : (old new : Option (List ℕ)) (text : List ℕ) → new ≡ with_end old text → AppendsSome old new text
-whole old new text all = record { count = length text; appended = all ∙ ap (with_end old) (sym (take_all (length text) text (omega arith))) }
+whole old new text all = record
+    { count = length text; appended = all ∙ ap (with_end old) (sym (take_all (length text) text (omega arith))) }
 
-answered-cut : (number : ℕ) (line : List ℕ) (over : Bool) (old new : Option (List ℕ)) (a b : SeatsState) (v w : Option (List ℕ)) → TookLine line old new → AnsweredLine number line over a b v w → CutNext number (stand old a) v w
+answered-cut : (number : ℕ) (line : List ℕ) (over : Bool) (old new : Input) (a b : RoundsState) (v w : Option (List ℕ))
+    → Took line old new → AnsweredLine number line over a b v w → CutNext number (stand old a) v w
 answered-cut number line over old new a b v w taken one =
-    inr (record { line = line; to_come = new; took = taken; cut = record { over = over; new = b; text = one.text; answers = one.answers; written = whole v w one.text one.written } })
+    inr (record {
+      line = line;
+      rest = new;
+      took = taken;
+      cut = record
+          { over = over; new = b; text = one.text; answers = one.answers; written = whole v w one.text one.written };
+    })
 
-pub pass-cut : (there : Bool) (c : Came) (number : ℕ) (line : List ℕ) (old new : Option (List ℕ)) (a b : SeatsState) (v w : Option (List ℕ)) → there ≡ true → TakesLine there line old new → CameOf c number line a b v w → CutNext number (stand old a) v w
+pub pass-cut : (there : Bool) (c : Came) (number : ℕ) (line : List ℕ) (old new : Input) (a b : RoundsState)
+    (v w : Option (List ℕ)) → there ≡ true → Takes there line old new → CameOf c number line a b v w
+    → CutNext number (stand old a) v w
 pass-cut there came.End number line old new a b v w yes_there h end = inl end.unwritten
-pass-cut there came.Over number line old new a b v w yes_there h one = answered-cut number line true old new a b v w (took there line old new yes_there h) one
-pass-cut there came.Still number line old new a b v w yes_there h one = answered-cut number line false old new a b v w (took there line old new yes_there h) one
+pass-cut there came.Over number line old new a b v w yes_there h one = answered-cut number line true old new a b v w
+    (takes-some there line old new yes_there h) one
+pass-cut there came.Still number line old new a b v w yes_there h one = answered-cut number line false old new a b v w
+    (takes-some there line old new yes_there h) one
 
 -- ---- one line after another
 
@@ -192,29 +270,37 @@ with_end-more (Some bytes) xs ys = ap Some (append_assoc bytes xs ys)
 pub so-far-none : (above : ℕ) (a : Stand) (v : Option (List ℕ)) → AnsweredSoFar above above a a v v
 so-far-none above a v = record { exchanges = []; answered = refl; written = with_end-nil v; number = omega arith }
 
-exchanges-push : (xs : List Exchange) (n m : ℕ) (x : Exchange) (a b c : Stand) → m ≡ n + length xs → Exchanges n xs a b → Exchanged m x b c → Exchanges n (xs ++ x ∷ []) a c
+exchanges-push : (xs : List Exchange) (n m : ℕ) (x : Exchange) (a b c : Stand) → m ≡ n + length xs → Exchanges n xs a b
+    → Exchanged m x b c → Exchanges n (xs ++ x ∷ []) a c
 exchanges-push [] n m x a b c is far one =
     let at : m ≡ n = omega (arith, is) in
     (c, (subst (λ (k : ℕ). Exchanged k x a c) at (subst (λ (s : Stand). Exchanged m x s c) far one), refl))
-exchanges-push (y ∷ xs) n m x a b c is far one = (far.0, (far.1.0, exchanges-push xs (n + 1) m x far.0 b c (omega (arith, is)) far.1.1 one))
+exchanges-push (y ∷ xs) n m x a b c is far one =
+    (far.0, (far.1.0, exchanges-push xs (n + 1) m x far.0 b c (omega (arith, is)) far.1.1 one))
 
 replies-push : (xs : List Exchange) (x : Exchange) → replies_of (xs ++ x ∷ []) ≡ replies_of xs ++ x.reply
 replies-push [] x = append-nil x.reply
-replies-push (y ∷ xs) x = ap (λ (r : List ℕ). y.reply ++ r) (replies-push xs x) ∙ sym (append_assoc y.reply (replies_of xs) x.reply)
+replies-push (y ∷ xs) x = ap (λ (r : List ℕ). y.reply ++ r) (replies-push xs x)
+    ∙ sym (append_assoc y.reply (replies_of xs) x.reply)
 
-pub so-far-more : (above count : ℕ) (a b c : Stand) (v w z : Option (List ℕ)) (answered : Bool) → answered ≡ true → AnsweredSoFar above count a b v w → AnsweredIf answered (count + 1) b c w z → AnsweredSoFar above (count + 1) a c v z
+pub so-far-more : (above count : ℕ) (a b c : Stand) (v w z : Option (List ℕ)) (answered : Bool) → answered ≡ true
+    → AnsweredSoFar above count a b v w → AnsweredIf answered (count + 1) b c w z
+    → AnsweredSoFar above (count + 1) a c v z
 so-far-more above count a b c v w z answered is far h =
     let one : AnsweredNext (count + 1) b c w z = subst (λ (x : Bool). AnsweredIf x (count + 1) b c w z) is h in
     record {
       exchanges = far.exchanges ++ one.exchange ∷ [];
-      answered = exchanges-push far.exchanges (above + 1) (count + 1) one.exchange a b c (omega (arith, far.number)) far.answered one.exchanged;
+      answered = exchanges-push far.exchanges (above + 1) (count + 1) one.exchange a b c (omega (arith, far.number))
+          far.answered one.exchanged;
       written =
-          one.written ∙ ap (λ (r : Option (List ℕ)). with_end r one.exchange.reply) far.written ∙ with_end-more v (replies_of far.exchanges) one.exchange.reply
+          one.written ∙ ap (λ (r : Option (List ℕ)). with_end r one.exchange.reply) far.written
+          ∙ with_end-more v (replies_of far.exchanges) one.exchange.reply
           ∙ ap (with_end v) (sym (replies-push far.exchanges one.exchange));
       number = omega (arith, far.number, length-append far.exchanges (one.exchange ∷ []));
     }
 
-pub so-far-end : (above count : ℕ) (a b c : Stand) (v w z : Option (List ℕ)) (answered : Bool) → answered ≡ false → AnsweredSoFar above count a b v w → AnsweredIf answered (count + 1) b c w z → AnsweredAll above a c v z
+pub so-far-end : (above count : ℕ) (a b c : Stand) (v w z : Option (List ℕ)) (answered : Bool) → answered ≡ false
+    → AnsweredSoFar above count a b v w → AnsweredIf answered (count + 1) b c w z → AnsweredAll above a c v z
 so-far-end above count a b c v w z answered is far h =
     let none : AnsweredNone b c w z = subst (λ (x : Bool). AnsweredIf x (count + 1) b c w z) is h in
     record {
@@ -222,11 +308,12 @@ so-far-end above count a b c v w z answered is far h =
       reached = b;
       answered = far.answered;
       written = none.unwritten ∙ far.written;
-      same = none.seats;
+      same = none.same;
       no_more = inl none.ends;
     }
 
-pub so-far-last : (above count : ℕ) (a b : Stand) (v w : Option (List ℕ)) → count ≡ last_number → AnsweredSoFar above count a b v w → AnsweredAll above a b v w
+pub so-far-last : (above count : ℕ) (a b : Stand) (v w : Option (List ℕ)) → count ≡ last_number
+    → AnsweredSoFar above count a b v w → AnsweredAll above a b v w
 so-far-last above count a b v w last far = record {
   exchanges = far.exchanges;
   reached = b;
@@ -236,7 +323,8 @@ so-far-last above count a b v w last far = record {
   no_more = inr (sym far.number ∙ last, refl);
 }
 
-pub so-far-cut : (above count : ℕ) (a b : Stand) (v w z : Option (List ℕ)) → AnsweredSoFar above count a b v w → CutNext (count + 1) b w z → AnsweredSome above a v z
+pub so-far-cut : (above count : ℕ) (a b : Stand) (v w z : Option (List ℕ)) → AnsweredSoFar above count a b v w
+    → CutNext (count + 1) b w z → AnsweredSome above a v z
 so-far-cut above count a b v w z far cut = record {
   exchanges = far.exchanges;
   reached = b;

@@ -1,10 +1,23 @@
-use Rattle.std.proofs.Common.{◌≡◌, ◌<◌, ◌≤◌, ◌+◌, ◌++◌, ◌⊎◌, inl, inr, ℕ, Bool, true, false, List, [], ◌∷◌, Option, Some, None, Result, Ok, Err, IfOk, OnOk, length, refl, sym, ap, subst, ◌∙◌, arith, append_assoc, append-nil, length-append}
+use Rattle.std.proofs.Common.{◌≡◌, ◌<◌, ◌≤◌, ◌+◌, ◌++◌, ◌⊎◌, inl, inr, ℕ, Bool, true, false, List, [], ◌∷◌, Option}
+use Rattle.std.proofs.Common.{Some, None, Result, Ok, Err, IfOk, OnOk, length, refl, sym, ap, subst, ◌∙◌, arith}
+use Rattle.std.proofs.Common.{append_assoc, append-nil, length-append}
 use Rattle.pr_kern.specs.Kernels.{Kernel}
 use Rattle.pr_model.specs.declared.events.Actor.{Actor}
 use Rattle.pr_model.specs.declared.events.Entry.{Entry}
-use Rattle.pr_drive.specs.Going.{AreMoves, Goes, IsMove, Moved, MovesIf, SeatsState, Stayed, after_entries, after_entry}
+use Rattle.pr_drive.specs.Going.{IsMove, Moved, MovesIf, SeatsState, Stayed, after_entries, after_entry}
 
 -- Moves, one after another.
+
+-- these entries are moves of others, whoever comes first
+abbrev pub AreMoves : ℕ → SeatsState → List Entry → Type 0
+AreMoves until s [] = Unit {0}
+AreMoves until s (e ∷ es) = IsMove until s e × AreMoves until (after_entry e s) es
+
+-- Others moved, while the outside waited until a moment, or 0.
+pub record Goes (until : ℕ) (old new : SeatsState) : Type 0 where
+  pub entries : List Entry
+  pub moves : AreMoves until old entries
+  pub is : new ≡ after_entries entries old
 
 -- ---- what entries make of a state
 
@@ -16,11 +29,13 @@ pub entries-places : (es : List Entry) (s : SeatsState) → (after_entries es s)
 entries-places [] s = refl
 entries-places (e ∷ es) s = entries-places es (after_entry e s)
 
-pub entries-append : (xs ys : List Entry) (s : SeatsState) → after_entries (xs ++ ys) s ≡ after_entries ys (after_entries xs s)
+pub entries-append : (xs ys : List Entry) (s : SeatsState)
+    → after_entries (xs ++ ys) s ≡ after_entries ys (after_entries xs s)
 entries-append [] ys s = refl
 entries-append (x ∷ xs) ys s = entries-append xs ys (after_entry x s)
 
-moves-append : (until : ℕ) (xs ys : List Entry) (s : SeatsState) → AreMoves until s xs → AreMoves until (after_entries xs s) ys → AreMoves until s (xs ++ ys)
+moves-append : (until : ℕ) (xs ys : List Entry) (s : SeatsState) → AreMoves until s xs
+    → AreMoves until (after_entries xs s) ys → AreMoves until s (xs ++ ys)
 moves-append until [] ys s mx my = my
 moves-append until (x ∷ xs) ys s mx my = (mx.0, moves-append until xs ys (after_entry x s) mx.1 my)
 
@@ -46,34 +61,22 @@ moved-goes until actor a b moved = record { entries = moved.entry ∷ []; moves 
 pub stayed-goes : (until : ℕ) (a b : SeatsState) → b ≡ a → Goes until a b
 stayed-goes until a b same = subst (λ (s : SeatsState). Goes until a s) (sym same) (goes-none until a)
 
-pub if-goes : (until : ℕ) (actor : Actor) (moved : Bool) (a b : SeatsState) → MovesIf moved until actor a b → Goes until a b
+pub if-goes : (until : ℕ) (actor : Actor) (moved : Bool) (a b : SeatsState) → MovesIf moved until actor a b
+    → Goes until a b
 if-goes until actor true a b moved = moved-goes until actor a b moved
 if-goes until actor false a b stayed = stayed-goes until a b stayed.same
 
 -- how many entries there are then
-pub goes-history : (until : ℕ) (a b : SeatsState) (goes : Goes until a b) → b.kernel.history ≡ a.kernel.history ++ goes.entries
+pub goes-history : (until : ℕ) (a b : SeatsState) (goes : Goes until a b)
+    → b.kernel.history ≡ a.kernel.history ++ goes.entries
 goes-history until a b goes = ap (λ (s : SeatsState). s.kernel.history) goes.is ∙ entries-history goes.entries a
 
-pub goes-count : (until : ℕ) (a b : SeatsState) (goes : Goes until a b) → length b.kernel.history ≡ length a.kernel.history + length goes.entries
+pub goes-count : (until : ℕ) (a b : SeatsState) (goes : Goes until a b)
+    → length b.kernel.history ≡ length a.kernel.history + length goes.entries
 goes-count until a b goes = ap length (goes-history until a b goes) ∙ length-append a.kernel.history goes.entries
 
 pub goes-places : (until : ℕ) (a b : SeatsState) → Goes until a b → b.kernel.places ≡ a.kernel.places
 goes-places until a b goes = ap (λ (s : SeatsState). s.kernel.places) goes.is ∙ entries-places goes.entries a
-
-pub moved-count : (until : ℕ) (actor : Actor) (a b : SeatsState) → Moved until actor a b → length b.kernel.history ≡ length a.kernel.history + 1
-unfolding moved-goes
-moved-count until actor a b moved = goes-count until a b (moved-goes until actor a b moved)
-
--- between two states that are others'
-pub goes-between : (until : ℕ) (first a b c last : SeatsState) → a ≡ first → Goes until a b → Goes until b c → last ≡ c → Goes until first last
-goes-between until first a b c last begins one two ends =
-    let all = goes-then until a b c one two in
-    subst (λ (s : SeatsState). Goes until s last) begins (subst (λ (s : SeatsState). Goes until a s) (sym ends) all)
-
--- one move more
-pub goes-push : (until : ℕ) (actor : Actor) (a b c : SeatsState) (goes : Goes until a b) → Moved until actor b c → (more : Goes until a c) × (length more.entries ≡ length goes.entries + 1)
-unfolding goes-then moved-goes
-goes-push until actor a b c goes moved = (goes-then until a b c goes (moved-goes until actor b c moved), length-append goes.entries (moved.entry ∷ []))
 
 -- ---- what holds where a result is Ok
 

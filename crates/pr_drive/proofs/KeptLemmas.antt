@@ -1,4 +1,5 @@
-use Rattle.std.proofs.Common.{◌≡◌, ◌<◌, ◌≤◌, ◌+◌, ◌++◌, ◌⊎◌, inl, inr, ℕ, Bool, true, false, List, [], ◌∷◌, Option, Some, None, Result, Ok, Err, length, refl, sym, ap, subst, ◌∙◌, arith}
+use Rattle.std.proofs.Common.{◌≡◌, ◌<◌, ◌≤◌, ◌+◌, ◌++◌, ◌⊎◌, inl, inr, ℕ, Bool, true, false, List, [], ◌∷◌, Option}
+use Rattle.std.proofs.Common.{Some, None, Result, Ok, Err, length, refl, sym, ap, subst, ◌∙◌, arith}
 use Rattle.pr_api.specs.Entries.{call_entry}
 use Rattle.pr_asks.specs.declared.asks.Ask.{Ask}
 use Rattle.pr_asks.specs.declared.asks.Ask.TheVariants as ask
@@ -18,31 +19,42 @@ use Rattle.pr_scen.specs.Scripts.{ScriptState}
 use Rattle.pr_world.proofs.ProtocolLemmas.{controllers_at-count}
 use Rattle.pr_world.specs.ControllerStates.{ControllerState}
 use Rattle.pr_world.specs.Protocol.{controllers_after, controllers_at}
-use Rattle.pr_drive.specs.Exchanges.{Answers, AnswersCall, AnswersMessages, HasEnded, IsTakenBack, Made, MadeMessages, MakesNone, MovesNot, MovesOne}
-use Rattle.pr_drive.specs.Going.{AreMoves, Called as OutsideCalled, Goes, IsMove, IsOwnCall, SeatsState, after_entries, after_entry, outside_of}
-use Rattle.pr_drive.specs.Sessions.{AnsweredAll, AnswersRead, AreOwnCalls, Exchange, Exchanged, Exchanges, IsHistoryFrom, Keeps, PassesTurn, Stand}
+use Rattle.pr_drive.specs.Exchanges.{Answers, AnswersCall, AnswersMessages, GaveUp, GoesFor, GoesUntil, HasEnded}
+use Rattle.pr_drive.specs.Exchanges.{IsTakenBack, Made, MadeMessages, MakesNone, MovesNot, MovesOne}
+use Rattle.pr_drive.specs.Going.{Called as OutsideCalled, IsMove, IsOwnCall, SeatsState, after_entries, after_entry}
+use Rattle.pr_drive.specs.Going.{outside_of}
+use Rattle.pr_drive.specs.Rounds.{AreStepsOn, RoundsState, after_steps, first_controllers}
+use Rattle.pr_drive.specs.Served.{Begins}
+use Rattle.pr_drive.specs.Sessions.{AnsweredAll, AnswersRead, AreOwnCalls, Exchange, Exchanged, Exchanges}
+use Rattle.pr_drive.specs.Sessions.{IsHistoryFrom, Keeps, PassesTurn, Stand}
 use Rattle.pr_drive.specs.Starts.{first_seats}
-use Rattle.pr_drive.proofs.EntryLemmas.{entries-append, entries-history, entries-places, moved-goes, stayed-goes}
+use Rattle.pr_drive.proofs.EntryLemmas.{AreMoves, Goes, entries-append, entries-history, entries-places, goes-then}
+use Rattle.pr_drive.proofs.EntryLemmas.{moved-goes, stayed-goes}
+use Rattle.pr_drive.proofs.StepLemmas.{finish-goes, follows-goes, for-seats, on-go, until-seats, waits-goes}
 
 -- What a session keeps: its history is legal, and each controller of the scenario made its own calls.
 
 -- ---- one history behind another
 
-IsLegal-append : (n : ℕ) (s : TracedState) (xs ys : List Entry) → IsLegal n s xs → IsLegal n (state_after s xs) ys → IsLegal n s (xs ++ ys)
+IsLegal-append : (n : ℕ) (s : TracedState) (xs ys : List Entry) → IsLegal n s xs → IsLegal n (state_after s xs) ys
+    → IsLegal n s (xs ++ ys)
 IsLegal-append n s [] ys mx my = my
 IsLegal-append n s (x ∷ xs) ys mx my = (mx.0, IsLegal-append n (after s x) xs ys mx.1 my)
 
-AreOwn-append : (cs : List ControllerState) (xs ys : List Entry) → AreOwnCalls cs xs → AreOwnCalls (controllers_at cs xs) ys → AreOwnCalls cs (xs ++ ys)
+AreOwn-append : (cs : List ControllerState) (xs ys : List Entry) → AreOwnCalls cs xs
+    → AreOwnCalls (controllers_at cs xs) ys → AreOwnCalls cs (xs ++ ys)
 AreOwn-append cs [] ys mx my = my
 AreOwn-append cs (x ∷ xs) ys mx my = (mx.0, AreOwn-append (controllers_after cs x) xs ys mx.1 my)
 
 -- ---- what entries make of a state
 
-pub entries-state : (es : List Entry) (s : SeatsState) → (after_entries es s).kernel.state ≡ state_after s.kernel.state es
+pub entries-state : (es : List Entry) (s : SeatsState)
+    → (after_entries es s).kernel.state ≡ state_after s.kernel.state es
 entries-state [] s = refl
 entries-state (e ∷ es) s = entries-state es (after_entry e s)
 
-pub entries-controllers : (es : List Entry) (s : SeatsState) → (after_entries es s).controllers ≡ controllers_at s.controllers es
+pub entries-controllers : (es : List Entry) (s : SeatsState)
+    → (after_entries es s).controllers ≡ controllers_at s.controllers es
 entries-controllers [] s = refl
 entries-controllers (e ∷ es) s = entries-controllers es (after_entry e s)
 
@@ -50,12 +62,14 @@ entries-controllers (e ∷ es) s = entries-controllers es (after_entry e s)
 pub entries-outside : (es : List Entry) (s : SeatsState) → outside_of (after_entries es s) ≡ outside_of s
 entries-outside es s = ap length (entries-controllers es s) ∙ controllers_at-count s.controllers es
 
-entry-outside : (e : Entry) (s : SeatsState) → outside_of (after_entry e s) ≡ outside_of s
+pub entry-outside : (e : Entry) (s : SeatsState) → outside_of (after_entry e s) ≡ outside_of s
 entry-outside e s = controllers_at-count s.controllers (e ∷ [])
 
 -- ---- moves of others, and calls of the outside
 
-legal-by : (n : ℕ) (s : TracedState) (actor : Actor) (act : Act) → IsLegalEntry n s (record { actor = actor; act = act }) → IsLegalEntry (n + 1) s (record { actor = actor; act = act })
+legal-by : (n : ℕ) (s : TracedState) (actor : Actor) (act : Act)
+    → IsLegalEntry n s (record { actor = actor; act = act })
+    → IsLegalEntry (n + 1) s (record { actor = actor; act = act })
 unfolding IsLegalEntry
 legal-by n s (ByNumber k) (Called c r) h = (omega (arith, h.0), h.1)
 legal-by n s (Lwp p l) (Turn t) h = h
@@ -65,10 +79,14 @@ legal-by n s _ _ h = absurd h
 legal-more : (n : ℕ) (s : TracedState) (e : Entry) → IsLegalEntry n s e → IsLegalEntry (n + 1) s e
 legal-more n s e h = legal-by n s e.actor e.act h
 
-moves-legal : (n : ℕ) (es : List Entry) (until : ℕ) (s : SeatsState) → outside_of s ≡ n → AreMoves until s es → IsLegal (n + 1) s.kernel.state es
+moves-legal : (n : ℕ) (es : List Entry) (until : ℕ) (s : SeatsState) → outside_of s ≡ n → AreMoves until s es
+    → IsLegal (n + 1) s.kernel.state es
 moves-legal n [] until s is moves = tt
-moves-legal n (e ∷ es) until s is moves =
-    (legal-more n s.kernel.state e (subst (λ (m : ℕ). IsLegalEntry m s.kernel.state e) is moves.0.legal), moves-legal n es until (after_entry e s) (entry-outside e s ∙ is) moves.1)
+moves-legal n (e ∷ es) until s is moves = (
+  legal-more n s.kernel.state e (subst (λ (m : ℕ). IsLegalEntry m s.kernel.state e) is moves.0.legal),
+  moves-legal n
+      es until (after_entry e s) (entry-outside e s ∙ is) moves.1,
+)
 
 moves-own : (es : List Entry) (until : ℕ) (s : SeatsState) → AreMoves until s es → AreOwnCalls s.controllers es
 moves-own [] until s moves = tt
@@ -84,14 +102,18 @@ pub keeps-then : (a b c : SeatsState) → Keeps a b → Keeps b c → Keeps a c
 keeps-then a b c first second =
     let xs = first.entries in let ys = second.entries in
     let outside : outside_of b ≡ outside_of a = ap outside_of first.is ∙ entries-outside xs a in
-    let state : b.kernel.state ≡ state_after a.kernel.state xs = ap (λ (s : SeatsState). s.kernel.state) first.is ∙ entries-state xs a in
-    let fed : b.controllers ≡ controllers_at a.controllers xs = ap (λ (s : SeatsState). s.controllers) first.is ∙ entries-controllers xs a in
+    let state : b.kernel.state ≡ state_after a.kernel.state xs = ap (λ (s : SeatsState). s.kernel.state) first.is
+    ∙ entries-state xs a in
+    let fed : b.controllers ≡ controllers_at a.controllers xs = ap (λ (s : SeatsState). s.controllers) first.is
+    ∙ entries-controllers xs a in
     let legal : IsLegal (outside_of a + 1) (state_after a.kernel.state xs) ys =
-    subst (λ (s : TracedState). IsLegal (outside_of a + 1) s ys) state (subst (λ (n : ℕ). IsLegal (n + 1) b.kernel.state ys) outside second.legal) in
+    subst (λ (s : TracedState). IsLegal (outside_of a + 1) s ys) state
+    (subst (λ (n : ℕ). IsLegal (n + 1) b.kernel.state ys) outside second.legal) in
     record {
       entries = xs ++ ys;
       legal = IsLegal-append (outside_of a + 1) a.kernel.state xs ys first.legal legal;
-      own = AreOwn-append a.controllers xs ys first.own (subst (λ (cs : List ControllerState). AreOwnCalls cs ys) fed second.own);
+      own = AreOwn-append a.controllers xs ys first.own
+          (subst (λ (cs : List ControllerState). AreOwnCalls cs ys) fed second.own);
       is = second.is ∙ ap (after_entries ys) first.is ∙ sym (entries-append xs ys a);
     }
 
@@ -107,7 +129,8 @@ outside-own : (cs : List ControllerState) (c : Call) (r : _) → IsOwnCall cs (c
 unfolding IsOwnCall
 outside-own cs c r = λ (within : length cs < length cs). absurd (omega arith)
 
-outside-legal : (s : SeatsState) (c : Call) (t : SeatsState) (called : OutsideCalled c s t) → IsLegalEntry (outside_of s + 1) s.kernel.state (call_entry (outside_of s) c called.answer.reply)
+outside-legal : (s : SeatsState) (c : Call) (t : SeatsState) (called : OutsideCalled c s t)
+    → IsLegalEntry (outside_of s + 1) s.kernel.state (call_entry (outside_of s) c called.answer.reply)
 unfolding IsLegalEntry
 outside-legal s c t called = (omega arith, (called.answer.state, called.answered))
 
@@ -121,69 +144,123 @@ called-keep c a b called = record {
 
 -- ---- a row for each thing that is asked
 
-made-keep : (c : Call) (a b : SeatsState) → Made c a b → Keeps a b
-made-keep c a b made = keeps-then a made.ready b (goes-keep _ a made.ready made.goes) (called-keep c made.ready b made.called)
+waits-keep : (c : Call) (a b : RoundsState) → GaveUp c a b → Keeps a.seats b.seats
+waits-keep c a b gave_up =
+    keeps-then a.seats gave_up.last.seats b.seats
+    (goes-keep _ a.seats gave_up.last.seats (waits-goes gave_up.rounds c a gave_up.last gave_up.waits))
+    (keeps-same gave_up.last.seats b.seats gave_up.rests.same)
 
-messages-keep : (texts : List (List ℕ)) (script after : ScriptState) (a b : SeatsState) → MadeMessages script after a b texts → Keeps a b
-messages-keep [] script after a b made = keeps-same a b made.1
+made-keep : (c : Call) (a b : RoundsState) → Made c a b → Keeps a.seats b.seats
+made-keep c a b made =
+    keeps-then a.seats made.ready.seats b.seats
+    (goes-keep _ a.seats made.ready.seats (waits-goes made.rounds c a made.ready made.waits))
+    (called-keep c made.ready.seats b.seats made.called)
+
+messages-keep : (texts : List (List ℕ)) (script after : ScriptState) (a b : RoundsState)
+    → MadeMessages script after a b texts → Keeps a.seats b.seats
+messages-keep [] script after a b made = keeps-same a.seats b.seats (ap (λ (r : RoundsState). r.seats) made.1)
 messages-keep (text ∷ texts) script after a b made =
     let m = made.1 in
-    let first = keeps-then a made.2.0.made m (made-keep made.2.0.next.call a made.2.0.made made.2.0.next.made.made) (goes-keep _ made.2.0.made m made.2.0.goes) in
-    keeps-then a m b first (messages-keep texts made.0 after m b made.2.1)
+    let d = made.2.0.made in
+    let first = keeps-then a.seats d.seats m.seats (made-keep made.2.0.next.call a d made.2.0.next.made.made)
+    (goes-keep _ d.seats m.seats (finish-goes _ d m made.2.0.round)) in
+    keeps-then a.seats m.seats b.seats first (messages-keep texts made.0 after m b made.2.1)
 
-none-keep : (script : ScriptState) (a b : SeatsState) (text : List ℕ) → MakesNone script a b text → Keeps a b
-none-keep script a b text (inl ended) = keeps-same a b ended.same
-none-keep script a b text (inr back) = goes-keep _ a b back.taken_back.gave_up.goes
+none-keep : (script : ScriptState) (a b : RoundsState) (text : List ℕ) → MakesNone script a b text
+    → Keeps a.seats b.seats
+none-keep script a b text (inl ended) = keeps-same a.seats b.seats (ap (λ (r : RoundsState). r.seats) ended.same)
+none-keep script a b text (inr back) = waits-keep back.call a b back.taken_back.gave_up
 
-one-keep : (actor : Actor) (a b : SeatsState) (text : List ℕ) → MovesOne actor a b text ⊎ MovesNot actor a b text → Keeps a b
-one-keep actor a b text (inl one) = goes-keep 0 a b (moved-goes 0 actor a b one.moved)
-one-keep actor a b text (inr not_moved) = keeps-same a b not_moved.stayed.same
+one-keep : (actor : Actor) (a b : RoundsState) (text : List ℕ) → MovesOne actor a b text ⊎ MovesNot actor a b text
+    → Keeps a.seats b.seats
+one-keep actor a b text (inl one) = goes-keep 0 a.seats b.seats (moved-goes 0 actor a.seats b.seats one.moved)
+one-keep actor a b text (inr not_moved) = keeps-same a.seats b.seats not_moved.stayed.same
 
-call-keep : (over : Bool) (c : Call) (a b : SeatsState) (text : List ℕ) → AnswersCall over c a b text → Keeps a b
+call-keep : (over : Bool) (c : Call) (a b : RoundsState) (text : List ℕ) → AnswersCall over c a b text
+    → Keeps a.seats b.seats
 call-keep true c a b text made = made-keep c a b made.made
-call-keep false c a b text back = goes-keep _ a b back.gave_up.goes
+call-keep false c a b text back = waits-keep c a b back.gave_up
 
-answers-keep : (asked : Ask) (over : Bool) (a b : SeatsState) (text : List ℕ) → Answers asked over a b text → Keeps a b
+on-keep : (es : List Entry) (a b : RoundsState) → AreStepsOn 0 a es → b.seats ≡ (after_steps es a).seats
+    → Keeps a.seats b.seats
+on-keep es a b steps is =
+    keeps-then a.seats (after_steps es a).seats b.seats
+    (goes-keep 0 a.seats (after_steps es a).seats (on-go 0 es a steps))
+    (keeps-same (after_steps es a).seats b.seats is)
+
+for-keep : (times : ℕ) (a b : RoundsState) → GoesFor times a b → Keeps a.seats b.seats
+for-keep times a b moves = on-keep moves.entries a b moves.steps (for-seats times a b moves)
+
+until-keep : (a b : RoundsState) → GoesUntil a b → Keeps a.seats b.seats
+until-keep a b moves = on-keep moves.entries a b moves.steps (until-seats a b moves)
+
+answers-keep : (asked : Ask) (over : Bool) (a b : RoundsState) (text : List ℕ) → Answers asked over a b text
+    → Keeps a.seats b.seats
 answers-keep (ask.Call c) over a b text h = call-keep over c a b text h
 answers-keep (ask.Messages script) over a b text h =
-    keeps-then a h.1.reached b (messages-keep h.1.replies script h.1.after a h.1.reached h.1.made) (none-keep h.1.after h.1.reached b h.1.last h.1.end)
-answers-keep (ask.Moves times) over a b text h = goes-keep 0 a b h.1.moves.goes
+    keeps-then a.seats h.1.reached.seats b.seats (messages-keep h.1.replies script h.1.after a h.1.reached h.1.made)
+    (none-keep h.1.after h.1.reached b h.1.last h.1.end)
+answers-keep (ask.Moves times) over a b text h = for-keep times a b h.1.moves
 answers-keep (ask.Move actor) over a b text h = one-keep actor a b text h.1
-answers-keep ask.Run over a b text h = goes-keep 0 a b h.1.moves.goes
-answers-keep ask.End over a b text h = keeps-same a b h.1.same
+answers-keep ask.Run over a b text h = until-keep a b h.1.moves
+answers-keep ask.End over a b text h = keeps-same a.seats b.seats (ap (λ (r : RoundsState). r.seats) h.1.same)
 
-line-keep : (number : ℕ) (read : Result Ask Kind) (over : Bool) (a b : SeatsState) (text : List ℕ) → AnswersRead number read over a b text → Keeps a b
-line-keep number (Err kind) over a b text h = keeps-same a b h.1.same
+line-keep : (number : ℕ) (read : Result Ask Kind) (over : Bool) (a b : RoundsState) (text : List ℕ)
+    → AnswersRead number read over a b text → Keeps a.seats b.seats
+line-keep number (Err kind) over a b text h = keeps-same a.seats b.seats (ap (λ (r : RoundsState). r.seats) h.1.same)
 line-keep number (Ok asked) over a b text h = answers-keep asked over a b text h.1
 
-pass-keep : (over : Bool) (a b : SeatsState) → PassesTurn over a b → Keeps a b
-pass-keep true a b h = goes-keep 0 a b h
-pass-keep false a b h = keeps-same a b h
+pass-keep : (over : Bool) (a b : RoundsState) → PassesTurn over a b → Keeps a.seats b.seats
+pass-keep true a b h = goes-keep 0 a.seats b.seats (finish-goes 0 a b h)
+pass-keep false a b h = keeps-same a.seats b.seats (ap (λ (r : RoundsState). r.seats) h)
 
-exchanged-keep : (number : ℕ) (x : Exchange) (a b : Stand) → Exchanged number x a b → Keeps a.seats b.seats
+abbrev seats_at : Stand → SeatsState
+seats_at a = a.rounds.seats
+
+exchanged-keep : (number : ℕ) (x : Exchange) (a b : Stand) → Exchanged number x a b → Keeps (seats_at a) (seats_at b)
 exchanged-keep number x a b h =
-    keeps-then a.seats h.answered b.seats (line-keep number (ask_of x.line) h.over a.seats h.answered x.reply h.answers) (pass-keep h.over h.answered b.seats h.passes)
+    keeps-then (seats_at a) h.answered.seats (seats_at b)
+    (line-keep number (ask_of x.line) h.over a.rounds h.answered x.reply h.answers)
+    (pass-keep h.over h.answered b.rounds h.passes)
 
-exchanges-keep : (xs : List Exchange) (number : ℕ) (a b : Stand) → Exchanges number xs a b → Keeps a.seats b.seats
-exchanges-keep [] number a b h = keeps-same a.seats b.seats (ap (λ (s : Stand). s.seats) h)
+exchanges-keep : (xs : List Exchange) (number : ℕ) (a b : Stand) → Exchanges number xs a b
+    → Keeps (seats_at a) (seats_at b)
+exchanges-keep [] number a b h = keeps-same (seats_at a) (seats_at b) (ap seats_at h)
 exchanges-keep (x ∷ xs) number a b h =
-    keeps-then a.seats h.0.seats b.seats (exchanged-keep number x a h.0 h.1.0) (exchanges-keep xs (number + 1) h.0 b h.1.1)
+    keeps-then (seats_at a) (seats_at h.0) (seats_at b) (exchanged-keep number x a h.0 h.1.0)
+    (exchanges-keep xs (number + 1) h.0 b h.1.1)
 
-pub all-keep : (above : ℕ) (a b : Stand) (before after : Option (List ℕ)) → AnsweredAll above a b before after → Keeps a.seats b.seats
+pub all-keep : (above : ℕ) (a b : Stand) (before after : Option (List ℕ)) → AnsweredAll above a b before after
+    → Keeps (seats_at a) (seats_at b)
 all-keep above a b before after h =
-    keeps-then a.seats h.reached.seats b.seats (exchanges-keep h.exchanges (above + 1) a h.reached h.answered) (keeps-same h.reached.seats b.seats h.same)
+    keeps-then (seats_at a) (seats_at h.reached) (seats_at b)
+    (exchanges-keep h.exchanges (above + 1) a h.reached h.answered)
+    (keeps-same (seats_at h.reached) (seats_at b) (ap (λ (r : RoundsState). r.seats) h.same))
+
+-- what a session begins with
+pub begins-keep : (s : Scenario) (first : RoundsState) → Begins s first → Keeps (first_seats s) first.seats
+begins-keep s first begins =
+    let round = begins.round in
+    goes-keep 0 (first_seats s) first.seats
+    (goes-then 0 (first_seats s) begins.followed first.seats
+    (follows-goes s.schedule (first_seats s) begins.followed begins.schedule)
+    (finish-goes 0 (record { seats = begins.followed; place = first_controllers }) first round))
 
 -- ---- from the first state on
 
-pub history-from : (s : Scenario) (last : SeatsState) → Keeps (first_seats s) last → IsHistoryFrom (first_state_of s) (controllers_of s) s.turns last
+pub history-from : (s : Scenario) (last : SeatsState) → Keeps (first_seats s) last
+    → IsHistoryFrom (first_state_of s) (controllers_of s) s.turns last
 unfolding first_seats
 history-from s last keeps =
     let first = first_seats s in let es = keeps.entries in
-    let all : last.kernel.history ≡ es = ap (λ (x : SeatsState). x.kernel.history) keeps.is ∙ entries-history es first in
+    let all : last.kernel.history ≡ es = ap (λ (x : SeatsState). x.kernel.history) keeps.is
+    ∙ entries-history es first in
     record {
       legal = subst (λ (h : List Entry). IsLegal (outside_of first + 1) (first_state_of s) h) (sym all) keeps.legal;
       own = subst (λ (h : List Entry). AreOwnCalls (controllers_of s) h) (sym all) keeps.own;
-      state = ap (λ (x : SeatsState). x.kernel.state) keeps.is ∙ entries-state es first ∙ ap (state_after (first_state_of s)) (sym all);
-      fed = ap (λ (x : SeatsState). x.controllers) keeps.is ∙ entries-controllers es first ∙ ap (controllers_at (controllers_of s)) (sym all);
+      state = ap (λ (x : SeatsState). x.kernel.state) keeps.is ∙ entries-state es first
+          ∙ ap (state_after (first_state_of s)) (sym all);
+      fed = ap (λ (x : SeatsState). x.controllers) keeps.is ∙ entries-controllers es first
+          ∙ ap (controllers_at (controllers_of s)) (sym all);
       places = ap (λ (x : SeatsState). x.kernel.places) keeps.is ∙ entries-places es first;
     }

@@ -1,6 +1,9 @@
+mod AloneLemmas
 mod BesideLemmas
 mod EndLemmas
 mod EntryLemmas
+mod HandleLemmas
+mod InputLemmas
 mod KeptLemmas
 mod MoveLemmas
 mod ReadLemmas
@@ -9,4 +12,5 @@ mod RoundLemmas
 mod SeatLemmas
 mod ServeLemmas
 mod SessionLemmas
+mod StepLemmas
 mod WriteLemmas

@@ -1,23 +1,25 @@
-use Rattle.std.proofs.Common.{◌≡◌, ◌≢◌, ◌<◌, ◌≤◌, ◌+◌, ◌++◌, ◌⊎◌, inl, inr, ℕ, Bool, true, false, List, [], ◌∷◌, Option, All, length, refl, sym, ap, subst, ◌∙◌, arith, append_assoc, append-nil, length-append}
+use Rattle.std.proofs.Common.{◌≡◌, ◌≢◌, ◌<◌, ◌≤◌, ◌+◌, ◌++◌, ◌⊎◌, inl, inr, ℕ, Bool, true, false, List, [], ◌∷◌, Option}
+use Rattle.std.proofs.Common.{All, length, refl, sym, ap, subst, ◌∙◌, arith, append_assoc, append-nil, length-append}
 use Rattle.std.proofs.lemmas.List.Elements.{All-append, All-cons, All-nil}
 use Rattle.std.specs.List.{flat_map}
-use Rattle.pr_lines.specs.Lines.{TakesLine, TookLine}
 use Rattle.pr_num.specs.Limits.{scenario_limit}
 use Rattle.pr_text.specs.TextLines.{newline}
 use Rattle.pr_drive.specs.declared.readings.Opening.{Opening}
 use Rattle.pr_drive.specs.declared.readings.Opening.TheVariants as opening
+use Rattle.pr_drive.specs.Inputs.{Input, Took}
 use Rattle.pr_drive.specs.Served.{NoMark, OpensAs, OpensText, TookAbove, TookLines, TookText, TooMuch, is_mark, text_of}
+use Rattle.pr_drive.proofs.InputLemmas.{Takes, takes-none, takes-some}
 
 -- The text above the line between a scenario and its calls, line by line.
 
-pub record TookSoFar (text : List ℕ) (n : ℕ) (old now : Option (List ℕ)) : Type 0 where
+pub record TookSoFar (text : List ℕ) (n : ℕ) (old now : Input) : Type 0 where
   pub lines : List (List ℕ)
   pub took : TookAbove lines old now
   pub is : text ≡ text_of lines
   pub count : n ≡ length lines
   pub within : length text ≤ scenario_limit
 
-pub took-none : (text : List ℕ) (old : Option (List ℕ)) → text ≡ [] → TookSoFar text 0 old old
+pub took-none : (text : List ℕ) (old : Input) → text ≡ [] → TookSoFar text 0 old old
 took-none text old none = record {
   lines = [];
   took = record { took = refl; above = All-nil (λ line. is_mark line ≡ false) };
@@ -26,38 +28,46 @@ took-none text old none = record {
   within = omega (arith, ap length none);
 }
 
-lines-push : (ls : List (List ℕ)) (l : List ℕ) (a b c : Option (List ℕ)) → TookLines ls a b → TookLine l b c → TookLines (ls ++ l ∷ []) a c
-lines-push [] l a b c far one = (c, (subst (λ (s : Option (List ℕ)). TookLine l s c) far one, refl))
+lines-push : (ls : List (List ℕ)) (l : List ℕ) (a b c : Input) → TookLines ls a b → Took l b c → TookLines (ls ++ l ∷ []) a c
+lines-push [] l a b c far one = (c, (subst (λ (s : Input). Took l s c) far one, refl))
 lines-push (x ∷ ls) l a b c far one = (far.0, (far.1.0, lines-push ls l far.0 b c far.1.1 one))
 
 text-push : (ls : List (List ℕ)) (l : List ℕ) → text_of (ls ++ l ∷ []) ≡ text_of ls ++ (l ++ newline ∷ [])
 text-push [] l = append-nil (l ++ newline ∷ [])
-text-push (x ∷ ls) l = ap (λ (r : List ℕ). (x ++ newline ∷ []) ++ r) (text-push ls l) ∙ sym (append_assoc (x ++ newline ∷ []) (text_of ls) (l ++ newline ∷ []))
+text-push (x ∷ ls) l = ap (λ (r : List ℕ). (x ++ newline ∷ []) ++ r) (text-push ls l)
+    ∙ sym (append_assoc (x ++ newline ∷ []) (text_of ls) (l ++ newline ∷ []))
 
 text-count : (ls : List (List ℕ)) → length ls ≤ length (text_of ls)
 text-count [] = omega arith
-text-count (x ∷ ls) = omega (arith, length-append (x ++ newline ∷ []) (text_of ls), length-append x (newline ∷ []), text-count ls)
+text-count (x ∷ ls) = omega
+    (arith, length-append (x ++ newline ∷ []) (text_of ls), length-append x (newline ∷ []), text-count ls)
 
-above-push : (ls : List (List ℕ)) (l : List ℕ) (a b c : Option (List ℕ)) → TookAbove ls a b → TookLine l b c → is_mark l ≡ false → TookAbove (ls ++ l ∷ []) a c
+above-push : (ls : List (List ℕ)) (l : List ℕ) (a b c : Input) → TookAbove ls a b → Took l b c → is_mark l ≡ false
+    → TookAbove (ls ++ l ∷ []) a c
 above-push ls l a b c far one plain = record {
   took = lines-push ls l a b c far.took one;
-  above = All-append (λ line. is_mark line ≡ false) ls (l ∷ []) far.above (All-cons (λ line. is_mark line ≡ false) l [] plain (All-nil (λ line. is_mark line ≡ false)));
+  above = All-append (λ line. is_mark line ≡ false) ls (l ∷ []) far.above
+      (All-cons (λ line. is_mark line ≡ false) l [] plain (All-nil (λ line. is_mark line ≡ false)));
 }
 
-line-there : (there : Bool) (l : List ℕ) (a b : Option (List ℕ)) → there ≡ true → TakesLine there l a b → TookLine l a b
-line-there there l a b yes_there h = subst (λ (x : Bool). TakesLine x l a b) yes_there h
+line-there : (there : Bool) (l : List ℕ) (a b : Input) → there ≡ true → Takes there l a b → Took l a b
+line-there there l a b yes_there h = takes-some there l a b yes_there h
 
-pub took-more : (text text' line : List ℕ) (n : ℕ) (old now new : Option (List ℕ)) (there : Bool) → there ≡ true → TookSoFar text n old now → TakesLine there line now new → is_mark line ≡ false → length text + length line < scenario_limit
+pub took-more : (text text' line : List ℕ) (n : ℕ) (old now new : Input) (there : Bool) → there ≡ true
+    → TookSoFar text n old now → Takes there line now new → is_mark line ≡ false
+    → length text + length line < scenario_limit
     → text' ≡ text ++ (line ++ newline ∷ []) → TookSoFar text' (n + 1) old new
 took-more text text' line n old now new there yes_there far h plain few all = record {
   lines = far.lines ++ line ∷ [];
   took = above-push far.lines line old now new far.took (line-there there line now new yes_there h) plain;
   is = all ∙ ap (λ (r : List ℕ). r ++ (line ++ newline ∷ [])) far.is ∙ sym (text-push far.lines line);
   count = omega (arith, far.count, length-append far.lines (line ∷ []));
-  within = omega (arith, ap length all, length-append text (line ++ newline ∷ []), length-append line (newline ∷ []), few);
+  within = omega
+      (arith, ap length all, length-append text (line ++ newline ∷ []), length-append line (newline ∷ []), few);
 }
 
-pub took-mark : (text line : List ℕ) (n : ℕ) (old now new : Option (List ℕ)) (there : Bool) → there ≡ true → TookSoFar text n old now → TakesLine there line now new → is_mark line ≡ true → TookText text n old new
+pub took-mark : (text line : List ℕ) (n : ℕ) (old now new : Input) (there : Bool) → there ≡ true
+    → TookSoFar text n old now → Takes there line now new → is_mark line ≡ true → TookText text n old new
 took-mark text line n old now new there yes_there far h is = record {
   lines = far.lines;
   count = far.count;
@@ -70,27 +80,42 @@ took-mark text line n old now new there yes_there far h is = record {
   mark = line-there there line now new yes_there h;
 }
 
-pub took-end : (text line : List ℕ) (n : ℕ) (old now new : Option (List ℕ)) (there : Bool) → there ≡ false → TookSoFar text n old now → TakesLine there line now new → NoMark old new
+pub took-end : (text line : List ℕ) (n : ℕ) (old now new : Input) (there : Bool) → there ≡ false
+    → TookSoFar text n old now → Takes there line now new → NoMark old new
 took-end text line n old now new there no_line far h =
-    let none : TakesLine false line now new = subst (λ (x : Bool). TakesLine x line now new) no_line h in
-    record { lines = far.lines; took = subst (TookAbove far.lines old) (sym none.0) far.took; end = none.1 }
+    record { lines = far.lines; reached = now; took = far.took; end = takes-none there line now new no_line h }
 
-pub took-much : (text line : List ℕ) (n : ℕ) (old now new : Option (List ℕ)) (there : Bool) → there ≡ true → TookSoFar text n old now → TakesLine there line now new → is_mark line ≡ false → scenario_limit ≤ length text + length line → TooMuch old new
+pub took-much : (text line : List ℕ) (n : ℕ) (old now new : Input) (there : Bool) → there ≡ true
+    → TookSoFar text n old now → Takes there line now new → is_mark line ≡ false
+    → scenario_limit ≤ length text + length line → TooMuch old new
 took-much text line n old now new there yes_there far h plain many = record {
   lines = far.lines ++ line ∷ [];
   took = above-push far.lines line old now new far.took (line-there there line now new yes_there h) plain;
   above =
-      omega (arith, ap length (text-push far.lines line), length-append (text_of far.lines) (line ++ newline ∷ []), length-append line (newline ∷ []), ap length far.is, many);
+      omega (
+        arith,
+        ap length (text-push far.lines line),
+        length-append (text_of far.lines)
+            (line ++ newline ∷ []),
+        length-append line (newline ∷ []),
+        ap length far.is,
+        many,
+      );
 }
 
 -- as each line has its newline, there are no more lines than bytes
-pub took-never : (text : List ℕ) (n : ℕ) (old now : Option (List ℕ)) (P : Type 0) → scenario_limit < n → TookSoFar text n old now → P
-took-never text n old now P many far = absurd (omega (arith, many, far.count, far.within, ap length far.is, text-count far.lines))
+pub took-never : (text : List ℕ) (n : ℕ) (old now : Input) (P : Type 0) → scenario_limit < n → TookSoFar text n old now
+    → P
+took-never text n old now P many far = absurd
+    (omega (arith, many, far.count, far.within, ap length far.is, text-count far.lines))
 
-pub text-few : (text : List ℕ) (n : ℕ) (old new : Option (List ℕ)) → TookText text n old new → n ≤ scenario_limit
+pub text-few : (text : List ℕ) (n : ℕ) (old new : Input) → TookText text n old new → n ≤ scenario_limit
 text-few text n old new took = omega (arith, took.count, took.within, ap length took.is, text-count took.lines)
 
 -- how a session opens that has this text
-pub opens-as : (o : Opening) (text : List ℕ) (lines : ℕ) (old new : Option (List ℕ)) → TookText text lines old new → OpensText text lines o → OpensAs o old new
-opens-as (opening.Session first above) text lines old new took h = record { text = text; lines = lines; took = took; opened = h }
-opens-as (opening.Refused fault) text lines old new took h = inl (record { text = text; lines = lines; took = took; refuses = h })
+pub opens-as : (o : Opening) (text : List ℕ) (lines : ℕ) (old new : Input) → TookText text lines old new
+    → OpensText text lines o → OpensAs o old new
+opens-as (opening.Session first above) text lines old new took h = record
+    { text = text; lines = lines; took = took; opened = h }
+opens-as (opening.Refused fault) text lines old new took h = inl
+    (record { text = text; lines = lines; took = took; refuses = h })

@@ -1,110 +1,138 @@
-use Rattle.std.proofs.Common.{◌≡◌, ◌≢◌, ◌⊎◌, inl, inr, ℕ, Bool, true, false, List, [], Option, Result, Ok, Err, IfOk, OnErr, refl, sym, ap, subst, ◌∙◌}
+use Rattle.std.proofs.Common.{◌≡◌, ◌≢◌, ◌⊎◌, inl, inr, ℕ, Bool, true, false, List, [], Option, Result, Ok, Err, IfOk}
+use Rattle.std.proofs.Common.{OnErr, refl, sym, ap, subst, ◌∙◌}
 use Rattle.std.specs.Result.{IsErrOf}
 use Rattle.pr_input.specs.Kinds.{kind_name}
-use Rattle.pr_io.proofs.Known.{with_front-nil}
 use Rattle.pr_io.specs.Faults.{Rose}
-use Rattle.pr_io.specs.Known.{with_end, with_front}
+use Rattle.pr_io.specs.Known.{with_end}
 use Rattle.pr_output.specs.Output.{AppendsSome, refusal_text}
 use Rattle.pr_run_laws.proofs.ScenarioRangeLemmas.{scenario-range}
 use Rattle.pr_run_laws.specs.ScenarioRuns.{controllers_of, first_state_of}
 use Rattle.pr_scen.specs.Refusals.{ScenFault}
 use Rattle.pr_drive.specs.Going.{SeatsState}
-use Rattle.pr_drive.specs.Served.{AnsweredLines, CutInEnd, CutInLines, CutRefusal, CutsEnd, Drove, Ends, IsWhole, Opened, OpensAs, RefusedText, RefusedWhole, TellsEnd, TellsRefusal, WasCut, WasCutOff, WasDriven, WasEnded, WasRefused, WasTold}
+use Rattle.pr_drive.specs.Inputs.{Input, from_start}
+use Rattle.pr_drive.specs.Rounds.{RoundsState}
+use Rattle.pr_drive.specs.Served.{AnsweredLines, CutInEnd, CutInLines, CutRefusal, CutsEnd, Drove, Ends, IsWhole}
+use Rattle.pr_drive.specs.Served.{Opened, OpensAs, RefusedText, RefusedWhole, TellsEnd, TellsRefusal, WasCut, WasCutOff}
+use Rattle.pr_drive.specs.Served.{WasDriven, WasEnded, WasRefused, WasTold}
 use Rattle.pr_drive.specs.Sessions.{AnsweredAll, AnsweredSome, Stand}
 use Rattle.pr_drive.specs.Starts.{first_seats}
 use Rattle.pr_drive.specs.Statuses.{EndsAs, status_of}
 use Rattle.pr_drive.specs.declared.ends.CutOff.{CutOff}
 use Rattle.pr_drive.specs.declared.ends.CutOff.TheVariants as cut
 use Rattle.pr_drive.specs.declared.ends.Status.{Status}
-use Rattle.pr_drive.specs.declared.ends.Status.TheVariants.{Done, Usage, Refused, Spent, Stuck, ReadFailed, WriteFailed, OutOfMemory}
+use Rattle.pr_drive.specs.declared.ends.Status.TheVariants.{Done, Usage, Refused, Spent, Stuck, ReadFailed, WriteFailed}
+use Rattle.pr_drive.specs.declared.ends.Status.TheVariants.{OutOfMemory}
 use Rattle.pr_drive.specs.declared.readings.Opening.{Opening}
 use Rattle.pr_drive.specs.declared.readings.Opening.TheVariants as opening
+use Rattle.pr_drive.proofs.AloneLemmas.{alone-runs}
 use Rattle.pr_drive.proofs.BesideLemmas.{kept-beside}
-use Rattle.pr_drive.proofs.KeptLemmas.{all-keep, goes-keep, history-from, keeps-then}
+use Rattle.pr_drive.proofs.EndLemmas.{stand}
+use Rattle.pr_drive.proofs.InputLemmas.{input}
+use Rattle.pr_drive.proofs.KeptLemmas.{all-keep, begins-keep, history-from, keeps-then}
 
 -- What a call of the program does.
 
 -- nothing is held before the first line
-pub from-first : (held : List ℕ) (left begun : Option (List ℕ)) (o : Opening) → held ≡ [] → OpensAs o (with_front held left) begun → OpensAs o left begun
-from-first held left begun o none h =
-    let P : Option (List ℕ) → Type 0 = λ x. OpensAs o x begun in
-    subst P (ap (λ (b : List ℕ). with_front b left) none ∙ with_front-nil left) h
+pub from-first : (held : List ℕ) (left : Option (List ℕ)) (begun : Input) (o : Opening) → held ≡ []
+    → OpensAs o (input held left) begun → OpensAs o (from_start left) begun
+from-first held left begun o none h = subst (λ (x : List ℕ). OpensAs o (input x left) begun) none h
 
-lines-answered : (old : Ends) (above : ℕ) (first : SeatsState) (begun : Option (List ℕ)) (end : Stand)
-    (replies : Option (List ℕ)) (opened : Opened above first old.left begun)
-    → AnsweredAll above (record { to_come = begun; seats = first }) end old.written replies
-    → AnsweredLines old replies opened.opened.scenario end.seats
-lines-answered old above first begun end replies opened all =
+lines-answered : (old : Ends) (left : Option (List ℕ)) (above : ℕ) (first : RoundsState) (begun : Input) (end : Stand)
+    (replies : Option (List ℕ)) (opened : Opened above first (from_start old.left) begun) → left ≡ end.input.left
+    → AnsweredAll above (stand begun first) end old.written replies
+    → AnsweredLines old left replies opened.opened.scenario end.rounds.seats
+lines-answered old left above first begun end replies opened left_is all =
     let s = opened.opened.scenario in
     let history =
-    history-from s end.seats
-    (keeps-then (first_seats s) first end.seats (goes-keep 0 (first_seats s) first opened.opened.goes)
-    (all-keep above (record { to_come = begun; seats = first }) end old.written replies all)) in
+    history-from s end.rounds.seats
+    (keeps-then (first_seats s) first.seats end.rounds.seats (begins-keep s first opened.opened.begins)
+    (all-keep above (stand begun first) end old.written replies all)) in
     record {
       above = above;
-      first = first;
-      begun = begun;
+      begun = stand begun first;
       opened = opened;
       scenario_is = refl;
       end = end;
       last_is = refl;
+      left_is = left_is;
       answered = all;
       history = history;
       kept =
-          kept-beside s end.seats.kernel.history (scenario-range opened.text s opened.opened.read) history.legal
+          kept-beside s end.rounds.seats.kernel.history (scenario-range opened.text s opened.opened.read) history.legal
           history.own;
+      alone = alone-runs s above (stand begun first) end old.written replies all opened.opened.begins;
     }
 
-pub session-told : (quiet : Bool) (old new : Ends) (status : Status) (above : ℕ) (first : SeatsState) (begun : Option (List ℕ)) (end : Stand) (replies : Option (List ℕ)) → Opened above first old.left begun
-    → AnsweredAll above (record { to_come = begun; seats = first }) end old.written replies → TellsEnd quiet end.seats status replies new.written → WasDriven quiet old new status
-session-told quiet old new status above first begun end replies opened all told =
+pub session-told : (quiet : Bool) (old new : Ends) (status : Status) (above : ℕ) (first : RoundsState) (begun : Input)
+    (end : Stand) (replies : Option (List ℕ)) → Opened above first (from_start old.left) begun
+    → new.left ≡ end.input.left → AnsweredAll above (stand begun first) end old.written replies
+    → TellsEnd quiet end.rounds.seats status replies new.written → WasDriven quiet old new status
+session-told quiet old new status above first begun end replies opened left_is all told =
     inr (record {
       scenario = opened.opened.scenario;
-      last = end.seats;
+      last = end.rounds.seats;
       replies = replies;
-      answered = lines-answered old above first begun end replies opened all;
+      answered = lines-answered old new.left above first begun end replies opened left_is all;
       told = told;
     })
 
-pub session-cut : (quiet : Bool) (old new : Ends) (above : ℕ) (first : SeatsState) (begun : Option (List ℕ)) (end : Stand) (replies : Option (List ℕ)) → Opened above first old.left begun
-    → AnsweredAll above (record { to_come = begun; seats = first }) end old.written replies → CutsEnd quiet end.seats replies new.written → WasCut quiet old new
-session-cut quiet old new above first begun end replies opened all cuts =
+pub session-cut : (quiet : Bool) (old new : Ends) (above : ℕ) (first : RoundsState) (begun : Input) (end : Stand)
+    (replies : Option (List ℕ)) → Opened above first (from_start old.left) begun
+    → new.left ≡ end.input.left → AnsweredAll above (stand begun first) end old.written replies
+    → CutsEnd quiet end.rounds.seats replies new.written → WasCut quiet old new
+session-cut quiet old new above first begun end replies opened left_is all cuts =
     inr (inr (inr (record {
       scenario = opened.opened.scenario;
-      last = end.seats;
+      last = end.rounds.seats;
       replies = replies;
-      answered = lines-answered old above first begun end replies opened all;
+      answered = lines-answered old new.left above first begun end replies opened left_is all;
       cut = cuts;
     })))
 
-pub lines-cut : (quiet : Bool) (old new : Ends) (above : ℕ) (first : SeatsState) (begun : Option (List ℕ)) → Opened above first old.left begun
-    → AnsweredSome above (record { to_come = begun; seats = first }) old.written new.written → WasCut quiet old new
-lines-cut quiet old new above first begun opened some = inr (inr (inl (record { above = above; first = first; begun = begun; opened = opened; answered = some })))
+pub lines-cut : (quiet : Bool) (old new : Ends) (above : ℕ) (first : RoundsState) (begun : Input)
+    → Opened above first (from_start old.left) begun
+    → AnsweredSome above (stand begun first) old.written new.written → WasCut quiet old new
+lines-cut quiet old new above first begun opened some = inr
+    (inr (inl (record { above = above; begun = stand begun first; opened = opened; answered = some })))
 
-pub refused-told : (quiet : Bool) (old new : Ends) (status : Status) (fault : ScenFault) (begun : Option (List ℕ)) → RefusedText fault old.left begun ⊎ RefusedWhole fault old.left begun
-    → TellsRefusal fault status old.written new.written → WasDriven quiet old new status
-refused-told quiet old new status fault begun refused told = inl (record { fault = fault; to_come = begun; refused = refused; told = told })
+pub refused-told : (quiet : Bool) (old new : Ends) (status : Status) (fault : ScenFault) (begun : Input)
+    → RefusedText fault (from_start old.left) begun ⊎ RefusedWhole fault (from_start old.left) begun
+    → new.left ≡ begun.left → TellsRefusal fault status old.written new.written → WasDriven quiet old new status
+refused-told quiet old new status fault begun refused left_is told = inl
+    (record { fault = fault; input = begun; refused = refused; left_is = left_is; told = told })
 
-pub refused-cut : (quiet : Bool) (old new : Ends) (fault : ScenFault) (begun : Option (List ℕ)) → RefusedText fault old.left begun ⊎ RefusedWhole fault old.left begun
+pub refused-cut : (quiet : Bool) (old new : Ends) (fault : ScenFault) (begun : Input)
+    → RefusedText fault (from_start old.left) begun ⊎ RefusedWhole fault (from_start old.left) begun
     → AppendsSome old.written new.written (refusal_text fault.line (kind_name fault.kind)) → WasCut quiet old new
-refused-cut quiet old new fault begun refused some = inr (inl (record { fault = fault; to_come = begun; refused = refused; written = some }))
+refused-cut quiet old new fault begun refused some = inr
+    (inl (record { fault = fault; input = begun; refused = refused; written = some }))
 
 -- ---- from an opening on
 
-pub opened-as : (held : List ℕ) (left begun : Option (List ℕ)) (o : Opening) (first : SeatsState) (above : ℕ) → o ≡ opening.Session first above → held ≡ [] → OpensAs o (with_front held left) begun → Opened above first left begun
-opened-as held left begun o first above is none h = subst (λ (x : Opening). OpensAs x left begun) is (from-first held left begun o none h)
+pub opened-as : (held : List ℕ) (left : Option (List ℕ)) (begun : Input) (o : Opening) (first : RoundsState) (above : ℕ)
+    → o ≡ opening.Session first above → held ≡ [] → OpensAs o (input held left) begun
+    → Opened above first (from_start left) begun
+opened-as held left begun o first above is none h = subst (λ (x : Opening). OpensAs x (from_start left) begun) is
+    (from-first held left begun o none h)
 
-pub refused-as : (held : List ℕ) (left begun : Option (List ℕ)) (o : Opening) (fault : ScenFault) → o ≡ opening.Refused fault → held ≡ [] → OpensAs o (with_front held left) begun → RefusedText fault left begun ⊎ RefusedWhole fault left begun
-refused-as held left begun o fault is none h = subst (λ (x : Opening). OpensAs x left begun) is (from-first held left begun o none h)
+pub refused-as : (held : List ℕ) (left : Option (List ℕ)) (begun : Input) (o : Opening) (fault : ScenFault)
+    → o ≡ opening.Refused fault → held ≡ [] → OpensAs o (input held left) begun
+    → RefusedText fault (from_start left) begun ⊎ RefusedWhole fault (from_start left) begun
+refused-as held left begun o fault is none h = subst (λ (x : Opening). OpensAs x (from_start left) begun) is
+    (from-first held left begun o none h)
 
-pub went-on : (quiet : Bool) (old new : Ends) (status : Status) (above : ℕ) (first : SeatsState) (begun : Option (List ℕ)) → Opened above first old.left begun
-    → WasEnded quiet above (record { to_come = begun; seats = first }) old.written new.written status → WasDriven quiet old new status
-went-on quiet old new status above first begun opened h = session-told quiet old new status above first begun h.end h.replies opened h.answered h.told
+pub went-on : (quiet : Bool) (old new : Ends) (status : Status) (above : ℕ) (first : RoundsState) (begun : Input)
+    → Opened above first (from_start old.left) begun
+    → WasEnded quiet above (stand begun first) new.left old.written new.written status → WasDriven quiet old new status
+went-on quiet old new status above first begun opened h = session-told quiet old new status above first begun h.end
+    h.replies opened h.left_is h.answered h.told
 
-pub went-cut : (quiet : Bool) (old new : Ends) (above : ℕ) (first : SeatsState) (begun : Option (List ℕ)) → Opened above first old.left begun
-    → WasCutOff quiet above (record { to_come = begun; seats = first }) old.written new.written → WasCut quiet old new
+pub went-cut : (quiet : Bool) (old new : Ends) (above : ℕ) (first : RoundsState) (begun : Input)
+    → Opened above first (from_start old.left) begun
+    → WasCutOff quiet above (stand begun first) new.left old.written new.written → WasCut quiet old new
 went-cut quiet old new above first begun opened (inl some) = lines-cut quiet old new above first begun opened some
-went-cut quiet old new above first begun opened (inr behind) = session-cut quiet old new above first begun behind.end behind.replies opened behind.answered behind.cut
+went-cut quiet old new above first begun opened (inr behind) = session-cut quiet old new above first begun behind.end
+    behind.replies opened behind.left_is behind.answered behind.cut
 
 -- ---- statuses
 
@@ -120,7 +148,8 @@ driven-whole quiet old new status (inl refused) =
     subst IsWhole (sym refused.told.status_is) (record { read = λ e. cc; wrote = λ e. cc; had_memory = λ e. cc })
 driven-whole quiet old new status (inr told) = ends-whole told.last status told.told.ends
 
-pub drove-whole : (quiet : Bool) (old new : Ends) (status : Status) → WasDriven quiet old new status → new.read_faults ≡ old.read_faults → new.write_faults ≡ old.write_faults → Drove quiet old new status
+pub drove-whole : (quiet : Bool) (old new : Ends) (status : Status) → WasDriven quiet old new status
+    → new.read_faults ≡ old.read_faults → new.write_faults ≡ old.write_faults → Drove quiet old new status
 drove-whole quiet old new status h reads writes =
     let w = driven-whole quiet old new status h in
     record {
@@ -138,12 +167,17 @@ drove-whole quiet old new status h reads writes =
 same-err : {T : Type 0} (x y : CutOff) → ◌≡◌ {A = Result T CutOff} (Err x) (Err y) → x ≡ y
 same-err x y e = cc
 
-pub held-whole : (quiet : Bool) (old new : Ends) (status : Status) → WasDriven quiet old new status → (◌≢◌ {A = Result Status CutOff} (Ok status) (Err cut.ReadFailed) → new.read_faults ≡ old.read_faults)
-    → (◌≢◌ {A = Result Status CutOff} (Ok status) (Err cut.WriteFailed) → new.write_faults ≡ old.write_faults) → Drove quiet old new status
+pub held-whole : (quiet : Bool) (old new : Ends) (status : Status) → WasDriven quiet old new status
+    → (◌≢◌ {A = Result Status CutOff} (Ok status) (Err cut.ReadFailed) → new.read_faults ≡ old.read_faults)
+    → (◌≢◌ {A = Result Status CutOff} (Ok status) (Err cut.WriteFailed) → new.write_faults ≡ old.write_faults)
+    → Drove quiet old new status
 held-whole quiet old new status h reads writes = drove-whole quiet old new status h (reads (λ e. cc)) (writes (λ e. cc))
 
-pub drove-cut : (quiet : Bool) (old new : Ends) (c : CutOff) → WasCut quiet old new → (c ≡ cut.ReadFailed → Rose old.read_faults new.read_faults) → (c ≡ cut.WriteFailed → Rose old.write_faults new.write_faults)
-    → ((c ≡ cut.ReadFailed → ⊥) → new.read_faults ≡ old.read_faults) → ((c ≡ cut.WriteFailed → ⊥) → new.write_faults ≡ old.write_faults) → Drove quiet old new (status_of c)
+pub drove-cut : (quiet : Bool) (old new : Ends) (c : CutOff) → WasCut quiet old new
+    → (c ≡ cut.ReadFailed → Rose old.read_faults new.read_faults)
+    → (c ≡ cut.WriteFailed → Rose old.write_faults new.write_faults)
+    → ((c ≡ cut.ReadFailed → ⊥) → new.read_faults ≡ old.read_faults)
+    → ((c ≡ cut.WriteFailed → ⊥) → new.write_faults ≡ old.write_faults) → Drove quiet old new (status_of c)
 unfolding status_of
 drove-cut quiet old new cut.ReadFailed h unread unwritten reads writes = record {
   told = λ whole. absurd (whole.read refl);
@@ -176,10 +210,14 @@ drove-cut quiet old new cut.NoMemory h unread unwritten reads writes = record {
   no_write_fault = λ differs. writes (λ e. cc);
 }
 
-pub held-cut : (quiet : Bool) (old new : Ends) (c : CutOff) (status : Status) → status ≡ status_of c → WasCut quiet old new → (IsErrOf {T = Status} (Err c) cut.ReadFailed → Rose old.read_faults new.read_faults)
-    → (IsErrOf {T = Status} (Err c) cut.WriteFailed → Rose old.write_faults new.write_faults) → (◌≢◌ {A = Result Status CutOff} (Err c) (Err cut.ReadFailed) → new.read_faults ≡ old.read_faults)
-    → (◌≢◌ {A = Result Status CutOff} (Err c) (Err cut.WriteFailed) → new.write_faults ≡ old.write_faults) → Drove quiet old new status
+pub held-cut : (quiet : Bool) (old new : Ends) (c : CutOff) (status : Status) → status ≡ status_of c
+    → WasCut quiet old new → (IsErrOf {T = Status} (Err c) cut.ReadFailed → Rose old.read_faults new.read_faults)
+    → (IsErrOf {T = Status} (Err c) cut.WriteFailed → Rose old.write_faults new.write_faults)
+    → (◌≢◌ {A = Result Status CutOff} (Err c) (Err cut.ReadFailed) → new.read_faults ≡ old.read_faults)
+    → (◌≢◌ {A = Result Status CutOff} (Err c) (Err cut.WriteFailed) → new.write_faults ≡ old.write_faults)
+    → Drove quiet old new status
 held-cut quiet old new c status is h unread unwritten reads writes =
     subst (Drove quiet old new) (sym is)
-    (drove-cut quiet old new c h (λ e. unread (ap Err e)) (λ e. unwritten (ap Err e)) (λ differs. reads (λ e. differs (same-err {T = Status} c cut.ReadFailed e)))
+    (drove-cut quiet old new c h (λ e. unread (ap Err e)) (λ e. unwritten (ap Err e))
+    (λ differs. reads (λ e. differs (same-err {T = Status} c cut.ReadFailed e)))
     (λ differs. writes (λ e. differs (same-err {T = Status} c cut.WriteFailed e))))

@@ -1,4 +1,5 @@
-use Rattle.std.proofs.Common.{◌≡◌, ◌≢◌, ◌≤◌, ◌<◌, ◌+◌, ◌++◌, ◌⊎◌, ℕ, zero, suc, Bool, true, false, cond, List, [], ◌∷◌, Option, Some, None, length, map, refl, sym, ap, subst, ◌∙◌, arith}
+use Rattle.std.proofs.Common.{◌≡◌, ◌≢◌, ◌≤◌, ◌<◌, ◌+◌, ◌++◌, ◌⊎◌, ℕ, zero, suc, Bool, true, false, cond, List, [], ◌∷◌}
+use Rattle.std.proofs.Common.{Option, Some, None, length, map, refl, sym, ap, subst, ◌∙◌, arith}
 use Rattle.std.specs.List.{All, position_from, slice_get}
 use Rattle.std.specs.Prelude.{drop, slice_index, nat_le, if◌then◌else◌}
 use Rattle.std.specs.Str.{bytes_eq}
@@ -13,7 +14,8 @@ use Rattle.pr_num.proofs.ListLemmas.{bytes_eq-self}
 use Rattle.pr_run_laws.specs.ScenarioRanges.{IsCoreOfBytes, IsLineOfBytes}
 use Rattle.pr_scen.specs.Bindings.{Bindings, bound, handle_at, handle_of}
 use Rattle.pr_scen.specs.Names.{place_of}
-use Rattle.pr_scen.specs.Scripts.{ScriptState, call_of, fed, next_call_of, present_of, with_answer, with_bound, with_ctl_answered, with_line_over, with_taken, with_wait_answered}
+use Rattle.pr_scen.specs.Scripts.{ScriptState, call_of, fed, next_call_of, present_of, with_answer, with_bound}
+use Rattle.pr_scen.specs.Scripts.{with_ctl_answered, with_line_over, with_taken, with_wait_answered}
 use Rattle.pr_scen.specs.declared.script_lines.ScriptLine.{ScriptLine}
 use Rattle.pr_scen.specs.declared.script_lines.ScriptLine.TheVariants as line
 use Rattle.pr_model.specs.declared.events.Entry.{Entry}

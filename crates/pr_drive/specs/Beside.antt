@@ -45,7 +45,7 @@ pub record ControllersKept (s : Scenario) (h : List Entry) : Type 0 where
   pub trusses : (k : ℕ) (o : Options) → slice_get s.controllers k ≡ Some (plan.Truss o) → has_functions o ≡ false
       → IsTrussKept (controllers_of s) (first_state_of s) h k o
   pub functions : (k : ℕ) (o : Options) → slice_get s.controllers k ≡ Some (plan.Truss o) → has_functions o ≡ true
-      → IsFunctionTrussKept (controllers_of s) h k o
+      → IsFunctionTrussKept (controllers_of s) (first_state_of s) h k o
   pub tools : (k : ℕ) (kind : ToolKind) (pid : ℕ) → slice_get s.controllers k ≡ Some (plan.Tool kind pid)
       → IsToolKept (controllers_of s) (first_state_of s) h k kind pid
   pub cores : (k pid : ℕ) → slice_get s.controllers k ≡ Some (plan.Gcore pid)

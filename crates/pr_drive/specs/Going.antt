@@ -16,8 +16,8 @@ use Rattle.pr_world.specs.Controllers.{call_by}
 use Rattle.pr_world.specs.Protocol.{controllers_after}
 use Rattle.pr_world.specs.Worlds.{WorldState, can_act}
 
--- A kernel with the controllers of a scenario, beside which one more controller calls it from outside: it has the number
--- behind theirs.
+-- A kernel with the controllers of a scenario, beside which one more controller calls it from outside: it has the
+-- number behind theirs.
 
 pub record SeatsState : Type 0 where
   pub kernel : Kernel
@@ -50,7 +50,8 @@ can_move until s actor = can_act (world_of until s) actor
 
 -- ---- one entry more
 
--- what an entry makes of a kernel and its controllers: the machine is in the state after it, and who called got the reply
+-- what an entry makes of a kernel and its controllers: the machine is in the state after it, and who called got the
+-- reply
 abbrev pub after_entry : Entry → SeatsState → SeatsState
 after_entry e s = record {
   kernel = with_entry (after s.kernel.state e) e s.kernel;
@@ -65,8 +66,8 @@ IsOwnCall controllers e = by e.actor e.act
     by (Controller k) (Call c r) = k < length controllers → call_by controllers k ≡ Some c
     by _ _ = Unit {0}
 
--- An entry is the move of one of the others: it can move, there is a place, and it does what the machine does then, and a
--- controller what it calls next.
+-- An entry is the move of one of the others: it can move, there is a place, and it does what the machine does then, and
+-- a controller what it calls next.
 pub record IsMove (until : ℕ) (s : SeatsState) (e : Entry) : Type 0 where
   pub can : can_move until s e.actor ≡ true
   pub place : length s.kernel.history < s.kernel.places
@@ -91,22 +92,10 @@ abbrev pub MovesIf : Bool → ℕ → Actor → SeatsState → SeatsState → Ty
 MovesIf true until actor old new = Moved until actor old new
 MovesIf false until actor old new = Stayed until actor old new
 
--- ---- moves of others
-
--- these entries, one after another, are moves of others
-abbrev pub AreMoves : ℕ → SeatsState → List Entry → Type 0
-AreMoves until s [] = Unit {0}
-AreMoves until s (e ∷ es) = IsMove until s e × AreMoves until (after_entry e s) es
-
+-- what entries, one after another, make of it
 abbrev pub after_entries : List Entry → SeatsState → SeatsState
 after_entries [] s = s
 after_entries (e ∷ es) s = after_entries es (after_entry e s)
-
--- Others moved, while the outside waited until a moment, or 0.
-pub record Goes (until : ℕ) (old new : SeatsState) : Type 0 where
-  pub entries : List Entry
-  pub moves : AreMoves until old entries
-  pub is : new ≡ after_entries entries old
 
 -- ---- whether others can move
 

@@ -1,7 +1,9 @@
+pub mod Alone
 pub mod Beside
 pub mod Commands
 pub mod Exchanges
 pub mod Going
+pub mod Inputs
 pub mod Reports
 pub mod Rounds
 pub mod Served

@@ -1,12 +1,11 @@
-use Rattle.std.specs.Prelude.{◌≡◌, ◌≢◌, ◌≤◌, ◌<◌, ◌+◌, ◌⊎◌, ℕ, Bool, true, false, List, [], ◌∷◌, ◌++◌, Option, Result, Ok, Err, codes, length, All}
-use Rattle.std.specs.Io.KnownBytes.{IsAtEnd}
+use Rattle.std.specs.Prelude.{◌≡◌, ◌≢◌, ◌≤◌, ◌<◌, ◌+◌, ◌⊎◌, ℕ, Bool, true, false, List, [], ◌∷◌, ◌++◌, Option, Result}
+use Rattle.std.specs.Prelude.{Ok, Err, codes, length, All}
 use Rattle.std.specs.List.{flat_map}
 use Rattle.std.specs.Str.{bytes_eq}
 use Rattle.pr_input.specs.Kinds.{kind_name}
 use Rattle.pr_io.specs.Faults.{Rose}
 use Rattle.pr_io.specs.Known.{with_end}
 use Rattle.pr_io.specs.Writing.{AppendsFront}
-use Rattle.pr_lines.specs.Lines.{TookLine}
 use Rattle.pr_num.specs.Limits.{controller_limit, scenario_limit}
 use Rattle.pr_output.specs.Output.{AppendsSome, refusal_text, run_text}
 use Rattle.pr_run_laws.specs.ScenarioRuns.{controllers_of, first_state_of}
@@ -16,9 +15,12 @@ use Rattle.pr_scen.specs.Scenarios.{Scenario}
 use Rattle.pr_scen.specs.declared.refusals.ScenKind.{ScenKind}
 use Rattle.pr_scen.specs.declared.refusals.ScenKind.TheVariants.{NoEnd, TooLong, TooMany}
 use Rattle.pr_text.specs.TextLines.{newline}
+use Rattle.pr_drive.specs.Alone.{IsPartOfRun, OnlyLetOthers}
 use Rattle.pr_drive.specs.Beside.{IsKeptBeside}
-use Rattle.pr_drive.specs.Going.{Goes, SeatsState}
+use Rattle.pr_drive.specs.Going.{SeatsState}
+use Rattle.pr_drive.specs.Inputs.{FoundEnd, Input, Took, from_start}
 use Rattle.pr_drive.specs.Reports.{reports_from}
+use Rattle.pr_drive.specs.Rounds.{FinishesRound, FollowsSchedule, RoundsState, first_controllers}
 use Rattle.pr_drive.specs.Sessions.{AnsweredAll, AnsweredSome, IsHistoryFrom, Stand}
 use Rattle.pr_drive.specs.Starts.{first_seats}
 use Rattle.pr_drive.specs.Statuses.{EndsAs, number}
@@ -40,39 +42,40 @@ abbrev pub is_mark : List ℕ → Bool
 is_mark line = bytes_eq line (codes "%calls")
 
 -- Lines were taken, one after another.
-abbrev pub TookLines : List (List ℕ) → Option (List ℕ) → Option (List ℕ) → Type 0
+abbrev pub TookLines : List (List ℕ) → Input → Input → Type 0
 TookLines [] old new = new ≡ old
-TookLines (line ∷ lines) old new = (m : Option (List ℕ)) × (TookLine line old m × TookLines lines m new)
+TookLines (line ∷ lines) old new = (m : Input) × (Took line old m × TookLines lines m new)
 
 -- lines as a text, each with its newline
 abbrev pub text_of : List (List ℕ) → List ℕ
 text_of lines = flat_map (λ line. line ++ newline ∷ []) lines
 
 -- Lines above the mark were taken, of which none is the mark.
-pub record TookAbove (lines : List (List ℕ)) (old new : Option (List ℕ)) : Type 0 where
+pub record TookAbove (lines : List (List ℕ)) (old new : Input) : Type 0 where
   pub took : TookLines lines old new
   pub above : All (λ line. is_mark line ≡ false) lines
 
 -- The text above the mark was taken, and the mark.
-pub record TookText (text : List ℕ) (above : ℕ) (old new : Option (List ℕ)) : Type 0 where
+pub record TookText (text : List ℕ) (above : ℕ) (old new : Input) : Type 0 where
   pub lines : List (List ℕ)
   pub count : above ≡ length lines
   pub is : text ≡ text_of lines
   pub within : length text ≤ scenario_limit
-  pub reached : Option (List ℕ)
+  pub reached : Input
   pub took : TookAbove lines old reached
   pub last : List ℕ
   pub is_last : is_mark last ≡ true
-  pub mark : TookLine last reached new
+  pub mark : Took last reached new
 
 -- There is no mark.
-pub record NoMark (old new : Option (List ℕ)) : Type 0 where
+pub record NoMark (old new : Input) : Type 0 where
   pub lines : List (List ℕ)
-  pub took : TookAbove lines old new
-  pub end : IsAtEnd new
+  pub reached : Input
+  pub took : TookAbove lines old reached
+  pub end : FoundEnd reached new
 
 -- More stands above the mark than a scenario may have.
-pub record TooMuch (old new : Option (List ℕ)) : Type 0 where
+pub record TooMuch (old new : Input) : Type 0 where
   pub lines : List (List ℕ)
   pub took : TookAbove lines old new
   pub above : scenario_limit < length (text_of lines)
@@ -82,24 +85,31 @@ abbrev pub whole : ScenKind → ScenFault
 whole kind = record { line = 0; kind = kind }
 
 -- What is above the mark has too many bytes, or there is no mark.
-abbrev pub WrongAbove : ScenKind → Option (List ℕ) → Option (List ℕ) → Type 0
+abbrev pub WrongAbove : ScenKind → Input → Input → Type 0
 WrongAbove NoEnd old new = NoMark old new
 WrongAbove TooLong old new = TooMuch old new
 WrongAbove _ old new = ⊥
 
 -- What stands above the mark: a text of so many lines, or what is wrong with it.
-abbrev pub IsAbove : Above → List ℕ → Option (List ℕ) → Option (List ℕ) → Type 0
+abbrev pub IsAbove : Above → List ℕ → Input → Input → Type 0
 IsAbove (above.Text count) text old new = TookText text count old new
 IsAbove (above.Wrong kind) text old new = WrongAbove kind old new
 
--- The scenario of a text, which has so many lines, was read, and the others have had their turn. So many lines stand above
--- the first one of the outside.
-pub record OpenedText (text : List ℕ) (lines : ℕ) (above : ℕ) (first : SeatsState) : Type 0 where
+-- Before the outside's first turn the actors of the schedule moved, and then the first round began at the controllers
+-- and went by up to that turn.
+pub record Begins (s : Scenario) (first : RoundsState) : Type 0 where
+  pub followed : SeatsState
+  pub schedule : FollowsSchedule s.schedule (first_seats s) followed
+  pub round : FinishesRound 0 (record { seats = followed; place = first_controllers }) first
+
+-- The scenario of a text, which has so many lines, was read, and the others have had their turn. So many lines stand
+-- above the first one of the outside.
+pub record OpenedText (text : List ℕ) (lines : ℕ) (above : ℕ) (first : RoundsState) : Type 0 where
   pub scenario : Scenario
   pub read : scenario_of text ≡ Ok scenario
   pub few : length scenario.controllers < controller_limit
   pub count : above ≡ lines + 1
-  pub goes : Goes 0 (first_seats scenario) first
+  pub begins : Begins scenario first
 
 -- Why a text is refused: it is no scenario, or has so many controllers that no place is left for one more.
 abbrev pub RefusesText : Result Scenario ScenFault → ScenFault → Type 0
@@ -111,25 +121,25 @@ OpensText text lines (opening.Session first above) = OpenedText text lines above
 OpensText text lines (opening.Refused fault) = RefusesText (scenario_of text) fault
 
 -- The text above the mark was read so.
-pub record Opened (above : ℕ) (first : SeatsState) (old new : Option (List ℕ)) : Type 0 where
+pub record Opened (above : ℕ) (first : RoundsState) (old new : Input) : Type 0 where
   pub text : List ℕ
   pub lines : ℕ
   pub took : TookText text lines old new
   pub opened : OpenedText text lines above first
 
-pub record RefusedText (fault : ScenFault) (old new : Option (List ℕ)) : Type 0 where
+pub record RefusedText (fault : ScenFault) (old new : Input) : Type 0 where
   pub text : List ℕ
   pub lines : ℕ
   pub took : TookText text lines old new
   pub refuses : RefusesText (scenario_of text) fault
 
-pub record RefusedWhole (fault : ScenFault) (old new : Option (List ℕ)) : Type 0 where
+pub record RefusedWhole (fault : ScenFault) (old new : Input) : Type 0 where
   pub kind : ScenKind
   pub wrong : WrongAbove kind old new
   pub is : fault ≡ whole kind
 
 -- How a session opens: with the scenario, or that is refused.
-abbrev pub OpensAs : Opening → Option (List ℕ) → Option (List ℕ) → Type 0
+abbrev pub OpensAs : Opening → Input → Input → Type 0
 OpensAs (opening.Session first above) old new = Opened above first old new
 OpensAs (opening.Refused fault) old new = RefusedText fault old new ⊎ RefusedWhole fault old new
 
@@ -161,47 +171,54 @@ pub record CutEnd (quiet : Bool) (s : SeatsState) (before after : Option (List �
 abbrev pub CutsEnd : Bool → SeatsState → Option (List ℕ) → Option (List ℕ) → Type 0
 CutsEnd quiet s before after = (after ≡ before) ⊎ CutEnd quiet s before after
 
--- Lines were answered from where a session stands, and its end was told.
-pub record WasEnded (quiet : Bool) (above : ℕ) (a : Stand) (before after : Option (List ℕ)) (status : Status) : Type 0 where
+-- Lines were answered from where a session stands, and its end was told. That much is left of the source.
+pub record WasEnded (quiet : Bool) (above : ℕ) (a : Stand) (left before after : Option (List ℕ))
+    (status : Status) : Type 0 where
   pub end : Stand
+  pub left_is : left ≡ end.input.left
   pub replies : Option (List ℕ)
   pub answered : AnsweredAll above a end before replies
-  pub told : TellsEnd quiet end.seats status replies after
+  pub told : TellsEnd quiet end.rounds.seats status replies after
 
 -- Lines were answered, and the session was cut off in its end.
-pub record CutBehind (quiet : Bool) (above : ℕ) (a : Stand) (before after : Option (List ℕ)) : Type 0 where
+pub record CutBehind (quiet : Bool) (above : ℕ) (a : Stand) (left before after : Option (List ℕ)) : Type 0 where
   pub end : Stand
+  pub left_is : left ≡ end.input.left
   pub replies : Option (List ℕ)
   pub answered : AnsweredAll above a end before replies
-  pub cut : CutsEnd quiet end.seats replies after
+  pub cut : CutsEnd quiet end.rounds.seats replies after
 
-abbrev pub WasCutOff : Bool → ℕ → Stand → Option (List ℕ) → Option (List ℕ) → Type 0
-WasCutOff quiet above a before after = AnsweredSome above a before after ⊎ CutBehind quiet above a before after
+abbrev pub WasCutOff : Bool → ℕ → Stand → Option (List ℕ) → Option (List ℕ) → Option (List ℕ) → Type 0
+WasCutOff quiet above a left before after = AnsweredSome above a before after
+    ⊎ CutBehind quiet above a left before after
 
 -- The refusal of a scenario was written.
 pub record TellsRefusal (fault : ScenFault) (status : Status) (before after : Option (List ℕ)) : Type 0 where
   pub status_is : status ≡ Refused
   pub written : after ≡ with_end before (refusal_text fault.line (kind_name fault.kind))
 
--- The scenario was refused, and the refusal was written.
+-- The scenario was refused, and the refusal was written; nothing was read behind the line that showed it.
 pub record WasRefused (old new : Ends) (status : Status) : Type 0 where
   pub fault : ScenFault
-  pub to_come : Option (List ℕ)
-  pub refused : RefusedText fault old.left to_come ⊎ RefusedWhole fault old.left to_come
+  pub input : Input
+  pub refused : RefusedText fault (from_start old.left) input ⊎ RefusedWhole fault (from_start old.left) input
+  pub left_is : new.left ≡ input.left
   pub told : TellsRefusal fault status old.written new.written
 
--- All lines of the outside were answered.
-pub record AnsweredLines (old : Ends) (replies : Option (List ℕ)) (s : Scenario) (last : SeatsState) : Type 0 where
+-- All lines of the outside were answered, and that much is left of the source: what was read behind the last line that
+-- was taken is held at the end, and came with the end of that line.
+pub record AnsweredLines (old : Ends) (left replies : Option (List ℕ)) (s : Scenario) (last : SeatsState) : Type 0 where
   pub above : ℕ
-  pub first : SeatsState
-  pub begun : Option (List ℕ)
-  pub opened : Opened above first old.left begun
+  pub begun : Stand
+  pub opened : Opened above begun.rounds (from_start old.left) begun.input
   pub scenario_is : s ≡ opened.opened.scenario
   pub end : Stand
-  pub last_is : last ≡ end.seats
-  pub answered : AnsweredAll above (record { to_come = begun; seats = first }) end old.written replies
+  pub last_is : last ≡ end.rounds.seats
+  pub left_is : left ≡ end.input.left
+  pub answered : AnsweredAll above begun end old.written replies
   pub history : IsHistoryFrom (first_state_of s) (controllers_of s) s.turns last
   pub kept : IsKeptBeside s last.kernel.history
+  pub alone : OnlyLetOthers answered.exchanges → IsPartOfRun s last.kernel.history
 
 -- A session was told whole: the replies to its lines, and behind them its history, what the controllers print, and the
 -- status, which says how it ended.
@@ -209,7 +226,7 @@ pub record WasTold (quiet : Bool) (old new : Ends) (status : Status) : Type 0 wh
   pub scenario : Scenario
   pub last : SeatsState
   pub replies : Option (List ℕ)
-  pub answered : AnsweredLines old replies scenario last
+  pub answered : AnsweredLines old new.left replies scenario last
   pub told : TellsEnd quiet last status replies new.written
 
 abbrev pub WasDriven : Bool → Ends → Ends → Status → Type 0
@@ -220,34 +237,40 @@ WasDriven quiet old new status = WasRefused old new status ⊎ WasTold quiet old
 -- while the refusal was written
 pub record CutRefusal (old new : Ends) : Type 0 where
   pub fault : ScenFault
-  pub to_come : Option (List ℕ)
-  pub refused : RefusedText fault old.left to_come ⊎ RefusedWhole fault old.left to_come
+  pub input : Input
+  pub refused : RefusedText fault (from_start old.left) input ⊎ RefusedWhole fault (from_start old.left) input
   pub written : AppendsSome old.written new.written (refusal_text fault.line (kind_name fault.kind))
 
 -- while lines were answered
 pub record CutInLines (old new : Ends) : Type 0 where
   pub above : ℕ
-  pub first : SeatsState
-  pub begun : Option (List ℕ)
-  pub opened : Opened above first old.left begun
-  pub answered : AnsweredSome above (record { to_come = begun; seats = first }) old.written new.written
+  pub begun : Stand
+  pub opened : Opened above begun.rounds (from_start old.left) begun.input
+  pub answered : AnsweredSome above begun old.written new.written
 
 -- while the end was told
 pub record CutInEnd (quiet : Bool) (old new : Ends) : Type 0 where
   pub scenario : Scenario
   pub last : SeatsState
   pub replies : Option (List ℕ)
-  pub answered : AnsweredLines old replies scenario last
+  pub answered : AnsweredLines old new.left replies scenario last
   pub cut : CutsEnd quiet last replies new.written
 
 -- Nothing was written, or a prefix of what is written of a session.
 abbrev pub WasCut : Bool → Ends → Ends → Type 0
-WasCut quiet old new = (new.written ≡ old.written) ⊎ (CutRefusal old new ⊎ (CutInLines old new ⊎ CutInEnd quiet old new))
+WasCut quiet old new = (new.written ≡ old.written)
+    ⊎ (CutRefusal old new ⊎ (CutInLines old new ⊎ CutInEnd quiet old new))
 
 -- what a source and a sink tell, by what each of them tells
 abbrev pub ends_of : {S K : Type 0} → (S → Option (List ℕ)) → (S → ℕ) → (K → Option (List ℕ)) → (K → ℕ) → S → K → Ends
 ends_of left read_faults written write_faults source sink =
-    record { left = left source; read_faults = read_faults source; written = written sink; write_faults = write_faults sink }
+    record {
+      left = left source;
+      read_faults = read_faults source;
+      written = written sink;
+      write_faults = write_faults
+          sink;
+    }
 
 -- Nothing failed.
 pub record IsWhole (status : Status) : Type 0 where
@@ -255,8 +278,8 @@ pub record IsWhole (status : Status) : Type 0 where
   pub wrote : status ≢ WriteFailed
   pub had_memory : status ≢ OutOfMemory
 
--- A session: it is told whole, or cut off; only a read that failed raises the count of the source, and only a write that
--- failed that of the sink.
+-- A session: it is told whole, or cut off; only a read that failed raises the count of the source, and only a write
+-- that failed that of the sink.
 pub record Drove (quiet : Bool) (old new : Ends) (status : Status) : Type 0 where
   pub told : IsWhole status → WasDriven quiet old new status
   pub read_cut : status ≡ ReadFailed → WasCut quiet old new

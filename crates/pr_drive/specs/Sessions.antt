@@ -1,12 +1,11 @@
-use Rattle.std.specs.Prelude.{◌≡◌, ◌⊎◌, ◌+◌, ◌-◌, ◌^◌, ℕ, Bool, true, false, List, [], ◌∷◌, ◌++◌, Option, Result, Ok, Err, length}
-use Rattle.std.specs.Io.KnownBytes.{IsAtEnd}
+use Rattle.std.specs.Prelude.{◌≡◌, ◌⊎◌, ◌+◌, ◌-◌, ◌^◌, ℕ, Bool, true, false, List, [], ◌∷◌, ◌++◌, Option, Result, Ok}
+use Rattle.std.specs.Prelude.{Err, length}
 use Rattle.std.specs.List.{flat_map}
 use Rattle.pr_asks.specs.Asks.{ask_of, name_of}
 use Rattle.pr_asks.specs.declared.asks.Ask.{Ask}
 use Rattle.pr_asks.specs.declared.asks.Ask.TheVariants as ask
 use Rattle.pr_asks.specs.declared.asks.Kind.{Kind}
 use Rattle.pr_io.specs.Known.{with_end}
-use Rattle.pr_lines.specs.Lines.{TookLine}
 use Rattle.pr_model.specs.Legal.{IsLegal, state_after}
 use Rattle.pr_model.specs.State.{TracedState}
 use Rattle.pr_model.specs.declared.events.Entry.{Entry}
@@ -14,7 +13,9 @@ use Rattle.pr_output.specs.Output.{AppendsSome, refusal_text}
 use Rattle.pr_world.specs.ControllerStates.{ControllerState}
 use Rattle.pr_world.specs.Protocol.{controllers_after, controllers_at}
 use Rattle.pr_drive.specs.Exchanges.{Answers}
-use Rattle.pr_drive.specs.Going.{Goes, IsOwnCall, SeatsState, after_entries, outside_of}
+use Rattle.pr_drive.specs.Going.{IsOwnCall, SeatsState, after_entries, outside_of}
+use Rattle.pr_drive.specs.Inputs.{FoundEnd, Input, Took}
+use Rattle.pr_drive.specs.Rounds.{FinishesRound, RoundsState}
 use Rattle.pr_drive.specs.declared.answers.Came.{Came}
 use Rattle.pr_drive.specs.declared.answers.Came.TheVariants as came
 
@@ -23,7 +24,7 @@ use Rattle.pr_drive.specs.declared.answers.Came.TheVariants as came
 -- ---- one line
 
 -- A line that asks for nothing is answered by its number and why, and nothing changes.
-pub record RefusesLine (number : ℕ) (kind : Kind) (old new : SeatsState) (text : List ℕ) : Type 0 where
+pub record RefusesLine (number : ℕ) (kind : Kind) (old new : RoundsState) (text : List ℕ) : Type 0 where
   pub same : new ≡ old
   pub told : text ≡ refusal_text number (name_of kind)
 
@@ -33,45 +34,45 @@ is_end ask.End = true
 is_end _ = false
 
 -- What is done and answered for a line, and whether the outside's turn is over then. The end is not answered.
-abbrev pub AnswersRead : ℕ → Result Ask Kind → Bool → SeatsState → SeatsState → List ℕ → Type 0
+abbrev pub AnswersRead : ℕ → Result Ask Kind → Bool → RoundsState → RoundsState → List ℕ → Type 0
 AnswersRead number (Err kind) over old new text = (over ≡ false) × RefusesLine number kind old new text
 AnswersRead number (Ok a) over old new text = (is_end a ≡ false) × Answers a over old new text
 
-abbrev pub AnswersLine : ℕ → List ℕ → Bool → SeatsState → SeatsState → List ℕ → Type 0
+abbrev pub AnswersLine : ℕ → List ℕ → Bool → RoundsState → RoundsState → List ℕ → Type 0
 AnswersLine number line over old new text = AnswersRead number (ask_of line) over old new text
 
 abbrev pub AsksEnd : Result Ask Kind → Type 0
 AsksEnd (Ok a) = is_end a ≡ true
 AsksEnd (Err kind) = ⊥
 
--- After the outside's turn the others have theirs, once around.
-abbrev pub PassesTurn : Bool → SeatsState → SeatsState → Type 0
-PassesTurn true old new = Goes 0 old new
+-- After the outside's turn the others have theirs: what is left of the round goes by.
+abbrev pub PassesTurn : Bool → RoundsState → RoundsState → Type 0
+PassesTurn true old new = FinishesRound 0 old new
 PassesTurn false old new = new ≡ old
 
 -- What a line asks for was done, and the answer was written.
-pub record PutAnswer (asked : Ask) (over : Bool) (old new : SeatsState) (before after : Option (List ℕ)) : Type 0 where
+pub record PutAnswer (asked : Ask) (over : Bool) (old new : RoundsState) (before after : Option (List ℕ)) : Type 0 where
   pub text : List ℕ
   pub answers : Answers asked over old new text
   pub written : after ≡ with_end before text
 
 -- It was done, and a prefix of the answer was written.
-pub record CutAnswer (asked : Ask) (old : SeatsState) (before after : Option (List ℕ)) : Type 0 where
+pub record CutAnswer (asked : Ask) (old : RoundsState) (before after : Option (List ℕ)) : Type 0 where
   pub over : Bool
-  pub new : SeatsState
+  pub new : RoundsState
   pub text : List ℕ
   pub answers : Answers asked over old new text
   pub written : AppendsSome before after text
 
 -- A line was answered, and the text was written.
-pub record AnsweredLine (number : ℕ) (line : List ℕ) (over : Bool) (old new : SeatsState)
+pub record AnsweredLine (number : ℕ) (line : List ℕ) (over : Bool) (old new : RoundsState)
     (before after : Option (List ℕ)) : Type 0 where
   pub text : List ℕ
   pub answers : AnswersLine number line over old new text
   pub written : after ≡ with_end before text
 
 -- The line is the end, and nothing was done.
-pub record IsEnd (line : List ℕ) (old new : SeatsState) (before after : Option (List ℕ)) : Type 0 where
+pub record IsEnd (line : List ℕ) (old new : RoundsState) (before after : Option (List ℕ)) : Type 0 where
   pub asks : AsksEnd (ask_of line)
   pub same : new ≡ old
   pub unwritten : after ≡ before
@@ -87,29 +88,29 @@ came_of true = came.Over
 came_of false = came.Still
 
 -- What came of a line.
-abbrev pub CameOf : Came → ℕ → List ℕ → SeatsState → SeatsState → Option (List ℕ) → Option (List ℕ) → Type 0
+abbrev pub CameOf : Came → ℕ → List ℕ → RoundsState → RoundsState → Option (List ℕ) → Option (List ℕ) → Type 0
 CameOf came.End number line old new before after = IsEnd line old new before after
 CameOf came.Over number line old new before after = AnsweredLine number line true old new before after
 CameOf came.Still number line old new before after = AnsweredLine number line false old new before after
 
 -- A line was answered, and a prefix of the text was written.
-pub record CutLine (number : ℕ) (line : List ℕ) (old : SeatsState) (before after : Option (List ℕ)) : Type 0 where
+pub record CutLine (number : ℕ) (line : List ℕ) (old : RoundsState) (before after : Option (List ℕ)) : Type 0 where
   pub over : Bool
-  pub new : SeatsState
+  pub new : RoundsState
   pub text : List ℕ
   pub answers : AnswersLine number line over old new text
   pub written : AppendsSome before after text
 
 -- So it is where a session is cut off at a line, or nothing was written for it.
-abbrev pub CutAt : ℕ → List ℕ → SeatsState → Option (List ℕ) → Option (List ℕ) → Type 0
+abbrev pub CutAt : ℕ → List ℕ → RoundsState → Option (List ℕ) → Option (List ℕ) → Type 0
 CutAt number line old before after = (after ≡ before) ⊎ CutLine number line old before after
 
 -- ---- one line after another
 
--- where a session stands: what is to come from outside, where that is told, and the kernel with the controllers
+-- where a session stands: what is to come from outside, and the kernel with the controllers and the place in the round
 pub record Stand : Type 0 where
-  pub to_come : Option (List ℕ)
-  pub seats : SeatsState
+  pub input : Input
+  pub rounds : RoundsState
 
 -- a line, and what was written for it
 pub record Exchange : Type 0 where
@@ -118,11 +119,11 @@ pub record Exchange : Type 0 where
 
 -- The next line was taken and answered, and after a call the others had their turn.
 pub record Exchanged (number : ℕ) (x : Exchange) (a b : Stand) : Type 0 where
-  pub took : TookLine x.line a.to_come b.to_come
+  pub took : Took x.line a.input b.input
   pub over : Bool
-  pub answered : SeatsState
-  pub answers : AnswersLine number x.line over a.seats answered x.reply
-  pub passes : PassesTurn over answered b.seats
+  pub answered : RoundsState
+  pub answers : AnswersLine number x.line over a.rounds answered x.reply
+  pub passes : PassesTurn over answered b.rounds
 
 -- Lines were, that count from a number.
 abbrev pub Exchanges : ℕ → List Exchange → Stand → Stand → Type 0
@@ -142,17 +143,16 @@ pub record AnsweredNext (number : ℕ) (a b : Stand) (before after : Option (Lis
 -- The next line was the end; or there was none.
 pub record TookEnd (a b : Stand) : Type 0 where
   pub line : List ℕ
-  pub took : TookLine line a.to_come b.to_come
+  pub took : Took line a.input b.input
   pub asks : AsksEnd (ask_of line)
 
 pub record NoLine (a b : Stand) : Type 0 where
-  pub end : IsAtEnd a.to_come
-  pub same : b.to_come ≡ a.to_come
+  pub end : FoundEnd a.input b.input
 
 -- No line was answered, and nothing was written.
 pub record AnsweredNone (a b : Stand) (before after : Option (List ℕ)) : Type 0 where
   pub ends : TookEnd a b ⊎ NoLine a b
-  pub seats : b.seats ≡ a.seats
+  pub same : b.rounds ≡ a.rounds
   pub unwritten : after ≡ before
 
 abbrev pub AnsweredIf : Bool → ℕ → Stand → Stand → Option (List ℕ) → Option (List ℕ) → Type 0
@@ -162,9 +162,9 @@ AnsweredIf false number a b before after = AnsweredNone a b before after
 -- A line was taken, and the session was cut off at it.
 pub record CutAtLine (number : ℕ) (a : Stand) (before after : Option (List ℕ)) : Type 0 where
   pub line : List ℕ
-  pub to_come : Option (List ℕ)
-  pub took : TookLine line a.to_come to_come
-  pub cut : CutLine number line a.seats before after
+  pub rest : Input
+  pub took : Took line a.input rest
+  pub cut : CutLine number line a.rounds before after
 
 -- So it is where a session is cut off, or nothing was written.
 abbrev pub CutNext : ℕ → Stand → Option (List ℕ) → Option (List ℕ) → Type 0
@@ -178,7 +178,7 @@ last_number = 2 ^ 32 - 1
 
 -- No further line is answered: the next one was the end, there was none, or lines have no numbers any more.
 abbrev pub NoMore : ℕ → Stand → Stand → Type 0
-NoMore number a b = (TookEnd a b ⊎ NoLine a b) ⊎ ((number ≡ last_number) × (b.to_come ≡ a.to_come))
+NoMore number a b = (TookEnd a b ⊎ NoLine a b) ⊎ ((number ≡ last_number) × (b ≡ a))
 
 -- All lines were answered up to the end. So many stand above the first of them.
 pub record AnsweredAll (above : ℕ) (a b : Stand) (before after : Option (List ℕ)) : Type 0 where
@@ -186,11 +186,11 @@ pub record AnsweredAll (above : ℕ) (a b : Stand) (before after : Option (List 
   pub reached : Stand
   pub answered : Exchanges (above + 1) exchanges a reached
   pub written : after ≡ with_end before (replies_of exchanges)
-  pub same : b.seats ≡ reached.seats
+  pub same : b.rounds ≡ reached.rounds
   pub no_more : NoMore (above + length exchanges) reached b
 
--- Lines were answered, and then the session was cut off: all that was written are the replies to these lines, and perhaps
--- a prefix of that to the next one.
+-- Lines were answered, and then the session was cut off: all that was written are the replies to these lines, and
+-- perhaps a prefix of that to the next one.
 pub record AnsweredSome (above : ℕ) (a : Stand) (before after : Option (List ℕ)) : Type 0 where
   pub exchanges : List Exchange
   pub reached : Stand
@@ -215,7 +215,8 @@ pub record Keeps (old new : SeatsState) : Type 0 where
   pub is : new ≡ after_entries entries old
 
 -- The history of a session that began with this state and these controllers, and with places for so many entries.
-pub record IsHistoryFrom (first : TracedState) (controllers : List ControllerState) (turns : ℕ) (s : SeatsState) : Type 0 where
+pub record IsHistoryFrom (first : TracedState) (controllers : List ControllerState) (turns : ℕ) (s : SeatsState) : Type
+    0 where
   pub legal : IsLegal (length controllers + 1) first s.kernel.history
   pub own : AreOwnCalls controllers s.kernel.history
   pub state : s.kernel.state ≡ state_after first s.kernel.history

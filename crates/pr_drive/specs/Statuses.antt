@@ -9,7 +9,8 @@ use Rattle.pr_drive.specs.Going.{NoneCanMove, SeatsState, SomeCanMove, has_place
 use Rattle.pr_drive.specs.declared.ends.CutOff.{CutOff}
 use Rattle.pr_drive.specs.declared.ends.CutOff.TheVariants as cut
 use Rattle.pr_drive.specs.declared.ends.Status.{Status}
-use Rattle.pr_drive.specs.declared.ends.Status.TheVariants.{Done, Usage, Refused, Spent, Stuck, ReadFailed, WriteFailed, OutOfMemory}
+use Rattle.pr_drive.specs.declared.ends.Status.TheVariants.{Done, Usage, Refused, Spent, Stuck, ReadFailed, WriteFailed}
+use Rattle.pr_drive.specs.declared.ends.Status.TheVariants.{OutOfMemory}
 
 -- the number of a status
 unfoldable pub number : Status → ℕ
@@ -28,8 +29,8 @@ status_of cut.ReadFailed = ReadFailed
 status_of cut.WriteFailed = WriteFailed
 status_of cut.NoMemory = OutOfMemory
 
--- Why a session is cut off where a text was not written whole, and where a line was not read. A line with more bytes than
--- can be counted is one that no memory holds.
+-- Why a session is cut off where a text was not written whole, and where a line was not read. A line with more bytes
+-- than can be counted is one that no memory holds.
 abbrev pub cut_off : Cut → CutOff
 cut_off write.WriteFailed = cut.WriteFailed
 cut_off write.NoMemory = cut.NoMemory

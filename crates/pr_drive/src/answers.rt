@@ -2,9 +2,10 @@
 ghost use Rattle.std.specs.Prelude.{◌≡◌, ◌≢◌, ◌⊎◌, Err, IfOk, IsErrOf, OnErr, OnOk};
 ghost use Rattle.pr_asks.specs.Asks.{name_of};
 ghost use Rattle.pr_io.specs.Faults.{Rose};
-ghost use Rattle.pr_io.specs.Known.{with_end, with_front};
-ghost use Rattle.pr_drive.specs.Going.{Goes};
-ghost use Rattle.pr_drive.specs.Sessions.{AnsweredAll, AnsweredIf, AnsweredSome, CameOf, CutAnswer, CutAt, CutNext, PutAnswer, came_of, is_end, is_last};
+ghost use Rattle.pr_io.specs.Known.{with_end};
+ghost use Rattle.pr_drive.specs.Rounds.{FinishesRound};
+ghost use Rattle.pr_drive.specs.Sessions.{AnsweredAll, AnsweredIf, AnsweredSome, CameOf, CutAnswer, CutAt, CutNext};
+ghost use Rattle.pr_drive.specs.Sessions.{PutAnswer, came_of, is_end, is_last};
 ghost use Rattle.pr_output.specs.Output.{AppendsSome, refusal_text};
 
 use crate::ends::CutOff;
@@ -64,8 +65,11 @@ fn put_answer<K: Sink>(
     reply: &mut Vec<u8>,
     sink: &mut K,
 ) -> Result<bool, CutOff>
-    ensures put { IfOk result (λ over. PutAnswer ask over session.old session.new (K.written sink.old) (K.written sink.new)) }
-    ensures cut { OnErr result ((K.written sink.new ≡ K.written sink.old) ⊎ CutAnswer ask session.old (K.written sink.old) (K.written sink.new)) }
+    ensures put { IfOk result (λ over.
+        PutAnswer ask over session.old session.new (K.written sink.old) (K.written sink.new)) }
+    ensures cut { OnErr result
+        ((K.written sink.new ≡ K.written sink.old) ⊎ CutAnswer ask session.old (K.written sink.old)
+        (K.written sink.new)) }
     ensures rose { IsErrOf result CutOff.WriteFailed → Rose (K.faults sink.old) (K.faults sink.new) }
     ensures no_fault { result ≢ Err CutOff.WriteFailed → K.faults sink.new ≡ K.faults sink.old }
     ensures not_read { result ≢ Err CutOff.ReadFailed }
@@ -78,8 +82,10 @@ fn put_answer<K: Sink>(
 
 /// Puts why a line asks for nothing.
 fn put_refusal<K: Sink>(alloc: Global, number: u32, kind: Kind, sink: &mut K) -> Result<(), CutOff>
-    ensures put { OnOk result (K.written sink.new ≡ with_end (K.written sink.old) (refusal_text number (name_of kind))) }
-    ensures cut { OnErr result (AppendsSome (K.written sink.old) (K.written sink.new) (refusal_text number (name_of kind))) }
+    ensures put { OnOk result
+        (K.written sink.new ≡ with_end (K.written sink.old) (refusal_text number (name_of kind))) }
+    ensures cut { OnErr result
+        (AppendsSome (K.written sink.old) (K.written sink.new) (refusal_text number (name_of kind))) }
     ensures rose { IsErrOf result CutOff.WriteFailed → Rose (K.faults sink.old) (K.faults sink.new) }
     ensures no_fault { result ≢ Err CutOff.WriteFailed → K.faults sink.new ≡ K.faults sink.old }
     ensures not_read { result ≢ Err CutOff.ReadFailed }
@@ -97,7 +103,8 @@ fn answer_line<K: Sink>(
     reply: &mut Vec<u8>,
     sink: &mut K,
 ) -> Result<Came, CutOff>
-    ensures came { IfOk result (λ came. CameOf came number line.now session.old session.new (K.written sink.old) (K.written sink.new)) }
+    ensures came { IfOk result (λ came.
+        CameOf came number line.now session.old session.new (K.written sink.old) (K.written sink.new)) }
     ensures cut { OnErr result (CutAt number line.now session.old (K.written sink.old) (K.written sink.new)) }
     ensures rose { IsErrOf result CutOff.WriteFailed → Rose (K.faults sink.old) (K.faults sink.new) }
     ensures no_fault { result ≢ Err CutOff.WriteFailed → K.faults sink.new ≡ K.faults sink.old }
@@ -121,7 +128,7 @@ fn answer_line<K: Sink>(
 
 /// Others have their turn, where the outside's is over.
 fn pass(session: &mut Session, came: Came) -> Result<(), NoMemory>
-    ensures over { came ≡ Came.Over → OnOk result (Goes 0 session.old session.new) }
+    ensures over { came ≡ Came.Over → OnOk result (FinishesRound 0 session.old session.new) }
     ensures still { came ≡ Came.Still → OnOk result (session.new ≡ session.old) }
 {
     match came {
@@ -130,8 +137,8 @@ fn pass(session: &mut Session, came: Came) -> Result<(), NoMemory>
     }
 }
 
-/// Takes the next line, answers it, and lets others have their turn after a call. Says whether a line was answered; else it
-/// was the end, or there was none.
+/// Takes the next line, answers it, and lets others have their turn after a call. Says whether a line was answered;
+/// else it was the end, or there was none.
 fn answer_next<S: Source, K: Sink>(
     alloc: Global,
     session: &mut Session,
@@ -143,11 +150,11 @@ fn answer_next<S: Source, K: Sink>(
     sink: &mut K,
 ) -> Result<bool, CutOff>
     ensures answered { IfOk result (λ there. AnsweredIf there number
-        (record { to_come = with_front lines.old.held (S.left source.old); seats = session.old })
-        (record { to_come = with_front lines.new.held (S.left source.new); seats = session.new })
+        (record { input = record { held = lines.old.held; left = S.left source.old }; rounds = session.old })
+        (record { input = record { held = lines.new.held; left = S.left source.new }; rounds = session.new })
         (K.written sink.old) (K.written sink.new)) }
     ensures cut { OnErr result (CutNext number
-        (record { to_come = with_front lines.old.held (S.left source.old); seats = session.old })
+        (record { input = record { held = lines.old.held; left = S.left source.old }; rounds = session.old })
         (K.written sink.old) (K.written sink.new)) }
     ensures unread { IsErrOf result CutOff.ReadFailed → Rose (S.faults source.old) (S.faults source.new) }
     ensures unwritten { IsErrOf result CutOff.WriteFailed → Rose (K.faults sink.old) (K.faults sink.new) }
@@ -166,8 +173,8 @@ fn answer_next<S: Source, K: Sink>(
     Ok(true)
 }
 
-/// Answers the lines of the outside, of which the first has so many above it, up to the one that ends the session, the end
-/// of the input, or the last number that a line can have.
+/// Answers the lines of the outside, of which the first has so many above it, up to the one that ends the session, the
+/// end of the input, or the last number that a line can have.
 pub fn answer_lines<S: Source, K: Sink>(
     alloc: Global,
     session: &mut Session,
@@ -177,11 +184,11 @@ pub fn answer_lines<S: Source, K: Sink>(
     sink: &mut K,
 ) -> Result<(), CutOff>
     ensures answered { OnOk result (AnsweredAll above
-        (record { to_come = with_front lines.old.held (S.left source.old); seats = session.old })
-        (record { to_come = with_front lines.new.held (S.left source.new); seats = session.new })
+        (record { input = record { held = lines.old.held; left = S.left source.old }; rounds = session.old })
+        (record { input = record { held = lines.new.held; left = S.left source.new }; rounds = session.new })
         (K.written sink.old) (K.written sink.new)) }
     ensures cut { OnErr result (AnsweredSome above
-        (record { to_come = with_front lines.old.held (S.left source.old); seats = session.old })
+        (record { input = record { held = lines.old.held; left = S.left source.old }; rounds = session.old })
         (K.written sink.old) (K.written sink.new)) }
     ensures unread { IsErrOf result CutOff.ReadFailed → Rose (S.faults source.old) (S.faults source.new) }
     ensures unwritten { IsErrOf result CutOff.WriteFailed → Rose (K.faults sink.old) (K.faults sink.new) }

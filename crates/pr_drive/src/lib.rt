@@ -1,5 +1,5 @@
-//! Debuggers from outside: a kernel with the controllers of a scenario, driven line by line by one more controller, whose
-//! calls come from a source and whose replies go to a sink.
+//! Debuggers from outside: a kernel with the controllers of a scenario, driven line by line by one more controller,
+//! whose calls come from a source and whose replies go to a sink.
 #![tactic(auto)]
 
 mod answers;

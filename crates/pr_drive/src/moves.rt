@@ -88,7 +88,8 @@ impl Seats {
     pub fn turn(&mut self, actor: Actor) -> Result<(), NoMemory>
         requires can { (until : ℕ) × (can_move until self.old actor ≡ true) }
         requires place { length self.old.kernel.history < self.old.kernel.places }
-        ensures { (until : ℕ) → can_move until self.old actor ≡ true → OnOk result (Moved until actor self.old self.new) }
+        ensures { (until : ℕ) → can_move until self.old actor ≡ true → OnOk result
+            (Moved until actor self.old self.new) }
     {
         match actor {
             Actor::Controller(number) => self.move_controller(number),
@@ -100,8 +101,8 @@ impl Seats {
         }
     }
 
-    /// The move of an actor, while the outside waits until a moment, or 0. Says whether the actor could move, and there was
-    /// a place; else nothing changes. The outside cannot move in this way.
+    /// The move of an actor, while the outside waits until a moment, or 0. Says whether the actor could move, and there
+    /// was a place; else nothing changes. The outside cannot move in this way.
     pub fn move_actor(&mut self, actor: Actor, until: u64) -> Result<bool, NoMemory>
         ensures { IfOk result (λ moved. MovesIf moved until actor self.old self.new) }
     {

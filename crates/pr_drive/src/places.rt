@@ -7,9 +7,8 @@ use pr_model::Actor;
 /// Who is asked next in a round.
 #[derive(Clone, Copy)]
 pub enum Place {
-    /// The lwps after this one, or all of them.
+    /// The lwps after this one, or all of them; then the clock, and the controllers.
     Lwps(Option<(u32, u32)>),
-    Clock,
     /// The controllers from a number on.
     Controllers(u32),
 }

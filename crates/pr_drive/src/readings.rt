@@ -1,10 +1,7 @@
 //! The scenario is read, up to the line below it.
 ghost use Rattle.std.specs.Prelude.{◌≡◌, ◌≢◌, ◌<◌, ◌≤◌, ◌++◌, ◌∷◌, [], Err, IfOk, IsErrOf, OnErr, OnOk, length};
-ghost use Rattle.pr_drive.specs.Served.{IsAbove, OpensAs, OpensText, is_mark, whole};
-ghost use Rattle.pr_drive.specs.Going.{Goes};
-ghost use Rattle.pr_drive.specs.Starts.{first_seats};
+ghost use Rattle.pr_drive.specs.Served.{Begins, IsAbove, OpensAs, OpensText, is_mark, whole};
 ghost use Rattle.pr_io.specs.Faults.{Rose};
-ghost use Rattle.pr_io.specs.Known.{with_front};
 ghost use Rattle.pr_num.specs.Limits.{controller_limit, scenario_limit};
 ghost use Rattle.pr_scen.specs.Scenarios.{IsWithinLimits};
 ghost use Rattle.pr_text.specs.TextLines.{newline};
@@ -67,7 +64,9 @@ fn read_above<S: Source>(
     text: &mut Vec<u8>,
 ) -> Result<Above, CutOff>
     requires { text.old.items ≡ [] }
-    ensures above { IfOk result (λ above. IsAbove above text.new.items (with_front lines.old.held (S.left source.old)) (with_front lines.new.held (S.left source.new))) }
+    ensures above { IfOk result (λ above. IsAbove above text.new.items
+        (record { held = lines.old.held; left = S.left source.old })
+        (record { held = lines.new.held; left = S.left source.new })) }
     ensures unread { IsErrOf result CutOff.ReadFailed → Rose (S.faults source.old) (S.faults source.new) }
     ensures no_fault { result ≢ Err CutOff.ReadFailed → S.faults source.new ≡ S.faults source.old }
     ensures not_written { result ≢ Err CutOff.WriteFailed }
@@ -94,7 +93,9 @@ pub fn read_opening<S: Source>(
     lines: &mut Lines,
     source: &mut S,
 ) -> Result<Opening, CutOff>
-    ensures opens { IfOk result (λ opening. OpensAs opening (with_front lines.old.held (S.left source.old)) (with_front lines.new.held (S.left source.new))) }
+    ensures opens { IfOk result (λ opening. OpensAs opening
+        (record { held = lines.old.held; left = S.left source.old })
+        (record { held = lines.new.held; left = S.left source.new })) }
     ensures unread { IsErrOf result CutOff.ReadFailed → Rose (S.faults source.old) (S.faults source.new) }
     ensures no_fault { result ≢ Err CutOff.ReadFailed → S.faults source.new ≡ S.faults source.old }
     ensures not_written { result ≢ Err CutOff.WriteFailed }
@@ -125,11 +126,12 @@ fn open_text(alloc: Global, text: &[u8], above: u32) -> Result<Opening, CutOff>
     }
 }
 
-/// The session of a scenario, of which the actors of the schedule and the first round were moved up to the outside's turn.
+/// The session of a scenario, of which the actors of the schedule and the first round were moved up to the outside's
+/// turn.
 fn begin(alloc: Global, scenario: Scenario) -> Result<Session, NoMemory>
     requires limits { IsWithinLimits scenario }
     requires few { length scenario.controllers < controller_limit }
-    ensures { IfOk result (λ session. Goes 0 (first_seats scenario) session) }
+    ensures { IfOk result (λ session. Begins scenario session) }
 {
     let (seats, schedule) = seats_of(alloc, scenario)?;
     let mut rounds = Rounds::new(seats);

@@ -32,7 +32,8 @@ fn add_report(
     controller: &Controller,
     reports: &mut Vec<Report>,
 ) -> Result<(), NoMemory>
-    ensures { OnOk result (reports.new.items ≡ reports.old.items ++ report_of programs.now number (state_of controller.now)) }
+    ensures { OnOk result
+        (reports.new.items ≡ reports.old.items ++ report_of programs.now number (state_of controller.now)) }
 {
     let Some(printer) = printer_of(controller) else {
         return Ok(());
@@ -47,7 +48,8 @@ fn add_report(
 
 /// What the controllers print, by their numbers.
 pub fn reports_of(alloc: Global, seats: &Seats) -> Result<Vec<Report>, NoMemory>
-    ensures { IfOk result (λ reports. reports.items ≡ reports_from seats.now.kernel.state.system.programs 0 seats.now.controllers) }
+    ensures { IfOk result (λ reports.
+        reports.items ≡ reports_from seats.now.kernel.state.system.programs 0 seats.now.controllers) }
 {
     let mut reports = Vec::new(alloc);
     for number in 0..seats.outside() {

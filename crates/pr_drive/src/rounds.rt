@@ -1,9 +1,10 @@
-//! Who moves next beside the outside. The rounds are those of a run: controllers by number, lwps by process and lwp, the
-//! clock. The outside has its turn after the controllers of the scenario, so others come in the order: lwps, the clock,
-//! controllers; and then it is the outside's turn.
+//! Who moves next beside the outside. The rounds are those of a run: controllers by number, lwps by process and lwp,
+//! the clock. The outside has its turn after the controllers of the scenario, so others come in the order: lwps, the
+//! clock, controllers; and then it is the outside's turn.
 ghost use Rattle.std.specs.Prelude.{◌≡◌, ◌<◌, true, false, length, IfOk, OnOk};
-ghost use Rattle.pr_drive.specs.Going.{Goes, NoneCanMove, SomeCanMove};
-ghost use Rattle.pr_drive.specs.Rounds.{GoesOnIf, IsAtRest, Rests, StepsIf};
+ghost use Rattle.pr_drive.specs.Going.{NoneCanMove, SomeCanMove};
+ghost use Rattle.pr_drive.specs.Rounds.{FinishesRound, FollowsSchedule, GoesOnIf, GoesRound, IsAtRest, Rests, StepsIf};
+ghost use Rattle.pr_drive.specs.Rounds.{first_controllers};
 
 use crate::places::{Place, place_behind};
 use crate::seats::Seats;
@@ -29,7 +30,7 @@ impl Model for Rounds {
 impl Rounds {
     /// Before the first move: the controllers come first.
     pub fn new(seats: Seats) -> Rounds
-        ensures { result.seats ≡ seats }
+        ensures { result ≡ record { seats = seats; place = first_controllers } }
     {
         Rounds {
             seats,
@@ -39,7 +40,8 @@ impl Rounds {
 
     /// The actors of a schedule move, each if it can.
     pub fn follow(&mut self, schedule: &[Actor]) -> Result<(), NoMemory>
-        ensures { OnOk result (Goes 0 self.old.seats self.new.seats) }
+        ensures follows { OnOk result (FollowsSchedule schedule.now self.old.seats self.new.seats) }
+        ensures place { self.new.place ≡ self.old.place }
     {
         for actor in schedule {
             self.seats.move_actor(*actor, 0)?;
@@ -47,8 +49,8 @@ impl Rounds {
         Ok(())
     }
 
-    /// Who is next in the round moves, and where nobody is left in it, nobody: then it is the outside's turn. Says whether
-    /// somebody moved. The outside waits until a moment, or 0.
+    /// Who is next in the round moves, and where nobody is left in it, nobody: then it is the outside's turn. Says
+    /// whether somebody moved. The outside waits until a moment, or 0.
     pub fn step(&mut self, until: u64) -> Result<bool, NoMemory>
         ensures { IfOk result (λ moved. StepsIf moved until self.old self.new) }
     {
@@ -67,8 +69,9 @@ impl Rounds {
 
     /// What is left of the round, up to the outside's turn. Says whether somebody moved.
     pub fn finish_round(&mut self, until: u64) -> Result<bool, NoMemory>
-        ensures goes { OnOk result (Goes until self.old.seats self.new.seats) }
-        ensures more { IfOk result (λ moved. moved ≡ true → length self.old.seats.kernel.history < length self.new.seats.kernel.history) }
+        ensures round { OnOk result (FinishesRound until self.old self.new) }
+        ensures more { IfOk result (λ moved.
+            moved ≡ true → length self.old.seats.kernel.history < length self.new.seats.kernel.history) }
         ensures rests { IfOk result (λ moved. moved ≡ false → Rests until self.old self.new) }
     {
         let mut moved = false;
@@ -85,9 +88,8 @@ impl Rounds {
     /// What is left of the round, or where nobody in it can move, a whole one. Says whether somebody moved; else nobody
     /// can.
     pub fn go_round(&mut self, until: u64) -> Result<bool, NoMemory>
-        ensures goes { OnOk result (Goes until self.old.seats self.new.seats) }
-        ensures more { IfOk result (λ moved. moved ≡ true → length self.old.seats.kernel.history < length self.new.seats.kernel.history) }
-        ensures rests { IfOk result (λ moved. moved ≡ false → IsAtRest until self.old.seats self.new.seats) }
+        ensures round { IfOk result (λ moved. moved ≡ true → GoesRound until self.old self.new) }
+        ensures rests { IfOk result (λ moved. moved ≡ false → IsAtRest until self.old self.new) }
     {
         let moved = self.finish_round(until)?;
         if moved {
@@ -99,7 +101,7 @@ impl Rounds {
 
     /// Who is next moves, also past the outside's turn. Says whether somebody did; else nobody can.
     pub fn step_on(&mut self, until: u64) -> Result<bool, NoMemory>
-        ensures { IfOk result (λ moved. GoesOnIf moved until self.old.seats self.new.seats) }
+        ensures { IfOk result (λ moved. GoesOnIf moved until self.old self.new) }
     {
         let moved = self.step(until)?;
         if moved {

@@ -1,9 +1,12 @@
-//! A kernel with the controllers of a scenario, beside which the outside has the number after theirs; and who of them can
-//! move.
-ghost use Rattle.std.specs.Prelude.{◌≡◌, ◌<◌, ◌≤◌, ℕ, [], Some, true, false, is_some, length, map, slice_get, IfOk, IfSome};
+//! A kernel with the controllers of a scenario, beside which the outside has the number after theirs; and who of them
+//! can move.
+ghost use Rattle.std.specs.Prelude.{◌≡◌, ◌++◌, ◌<◌, ◌≤◌, ℕ, [], Some, true, false, is_some, length, map, slice_get, IfOk};
+ghost use Rattle.std.specs.Prelude.{IfSome};
+ghost use Rattle.std.specs.Prelude.{OnOk};
 ghost use Rattle.std.specs.List.{list_all, list_any};
 ghost use Rattle.std.specs.Option.{option_copied};
 ghost use Rattle.pr_api.specs.Entries.{last_reply_of};
+ghost use Rattle.pr_drive.specs.Exchanges.{is_answered_now, is_open, poll_of, polls_if, polls_of};
 ghost use Rattle.pr_drive.specs.Going.{can_move, has_place, outside_of, world_of};
 ghost use Rattle.pr_drive.specs.Rounds.{HasNumber, from_clock, from_lwps, next_from};
 ghost use Rattle.pr_drive.specs.Starts.{first_seats};
@@ -20,8 +23,8 @@ use crate::waits::wait_end_of;
 use pr_asm::Program;
 use pr_kern::Kern;
 use pr_model::{Actor, Call, History, Reply};
-use pr_num::NoMemory;
-use pr_num::limits::CLOCK_LIMIT;
+use pr_num::limits::{CLOCK_LIMIT, HANDLE_LIMIT};
+use pr_num::{Handles, NoMemory};
 use pr_scen::Scenario;
 use pr_world::Controller;
 use std::alloc::Global;
@@ -119,6 +122,15 @@ fn have_finished(alloc: Global, controllers: &[Controller]) -> Result<bool, NoMe
     Ok(true)
 }
 
+/// A poll of one file.
+fn poll_of(alloc: Global, handle: u32) -> Result<Call, NoMemory>
+    ensures { IfOk result (λ call. call ≡ poll_of handle) }
+{
+    Ok(Call::Poll {
+        handles: Handles::from_vec(Vec::from_slice(alloc, &[handle])?),
+    })
+}
+
 impl Seats {
     /// The number of the outside, which counts from 0 as theirs do.
     #[tactic(auto, using(crate::proofs::SeatLemmas::seats))]
@@ -160,8 +172,8 @@ impl Seats {
         }
     }
 
-    /// Whether the clock can go on: an lwp sleeps, a controller waits for it, or the outside waits until a moment (0: it
-    /// does not).
+    /// Whether the clock can go on: an lwp sleeps, a controller waits for it, or the outside waits until a moment (0:
+    /// it does not).
     #[tactic(auto, using(crate::proofs::SeatLemmas::clocks))]
     fn clock_can_move(&self, until: u64) -> Result<bool, NoMemory>
         ensures { IfOk result (λ can. can ≡ can_move until self.now Actor.Clock) }
@@ -249,7 +261,6 @@ impl Seats {
     {
         match place {
             Place::Lwps(after) => self.next_from_lwps(after, until),
-            Place::Clock => self.next_from_clock(until),
             Place::Controllers(from) => self.first_controller(from),
         }
     }
@@ -258,11 +269,48 @@ impl Seats {
 
     /// Whether a call of the outside would be answered now, and there is a place for its entry.
     pub fn is_answered(&self, call: &Call) -> bool
-        ensures place { result ≡ true → length self.now.kernel.history < self.now.kernel.places }
-        ensures ready { result ≡ true → is_some (answer_to self.now.kernel.state (outside_of self.now) call.now) ≡ true }
-        ensures not_ready { result ≡ false → has_place self.now ≡ true → is_some (answer_to self.now.kernel.state (outside_of self.now) call.now) ≡ false }
+        ensures { result ≡ is_answered_now call.now self.now }
     {
         self.has_place() && self.kern.ready(self.outside(), call)
+    }
+
+    /// Whether one of these calls would be answered now, and there is a place for its entry.
+    pub fn some_answered(&self, calls: &[Call]) -> bool
+        ensures { result ≡ list_any (λ call. is_answered_now call self.now) calls.now }
+    {
+        calls.iter().any(|call| self.is_answered(call))
+    }
+
+    /// Whether the outside has the file of a handle open.
+    fn is_open(&self, handle: u32) -> bool
+        ensures { result ≡ is_open self.now handle }
+    {
+        self.kern
+            .machine()
+            .opens
+            .get(self.outside(), handle)
+            .is_ok()
+    }
+
+    /// Adds a poll of the file of a handle, if the outside has it open.
+    fn add_poll(&self, handle: u32, polls: &mut Vec<Call>) -> Result<(), NoMemory>
+        ensures { OnOk result (polls.new.items ≡ polls.old.items ++ polls_if handle (is_open self.now handle)) }
+    {
+        if !self.is_open(handle) {
+            return Ok(());
+        }
+        Ok(polls.push(poll_of(self.alloc, handle)?)?)
+    }
+
+    /// A poll of each file that the outside has open, by number.
+    pub fn polls(&self) -> Result<Vec<Call>, NoMemory>
+        ensures { IfOk result (λ polls. polls.items ≡ polls_of self.now) }
+    {
+        let mut polls = Vec::new(self.alloc);
+        for handle in 0..HANDLE_LIMIT as u32 {
+            self.add_poll(handle, &mut polls)?;
+        }
+        Ok(polls)
     }
 
     /// Whether every controller of the scenario has finished: it makes no call any more.

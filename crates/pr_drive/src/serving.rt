@@ -1,9 +1,10 @@
 //! Sessions from a source to a sink.
 ghost use Rattle.std.specs.Prelude.{◌≡◌, ◌≢◌, Err, IfOk, IsErrOf, OnErr};
-ghost use Rattle.pr_drive.specs.Served.{CutsEnd, Drove, EndsWith, TellsEnd, TellsRefusal, WasCut, WasCutOff, WasDriven, WasEnded, ends_of, usage_line};
+ghost use Rattle.pr_drive.specs.Served.{CutsEnd, Drove, EndsWith, TellsEnd, TellsRefusal, WasCut, WasCutOff, WasDriven};
+ghost use Rattle.pr_drive.specs.Served.{WasEnded, ends_of, usage_line};
 ghost use Rattle.pr_drive.specs.declared.ends.Status.TheVariants.{OutOfMemory, ReadFailed, Usage, WriteFailed};
 ghost use Rattle.pr_input.specs.Kinds.{kind_name};
-ghost use Rattle.pr_io.specs.Known.{with_end, with_front};
+ghost use Rattle.pr_io.specs.Known.{with_end};
 ghost use Rattle.pr_io.specs.Writing.{AppendsFront};
 ghost use Rattle.pr_io.specs.Faults.{Rose};
 ghost use Rattle.pr_output.specs.Output.{AppendsSome, refusal_text};
@@ -31,8 +32,9 @@ fn tell_end<K: Sink>(
     session: &Session,
     sink: &mut K,
 ) -> Result<Status, CutOff>
-    ensures told { IfOk result (λ status. TellsEnd quiet session.now status (K.written sink.old) (K.written sink.new)) }
-    ensures cut { OnErr result (CutsEnd quiet session.now (K.written sink.old) (K.written sink.new)) }
+    ensures told { IfOk result (λ status.
+        TellsEnd quiet session.now.seats status (K.written sink.old) (K.written sink.new)) }
+    ensures cut { OnErr result (CutsEnd quiet session.now.seats (K.written sink.old) (K.written sink.new)) }
     ensures unwritten { IsErrOf result CutOff.WriteFailed → Rose (K.faults sink.old) (K.faults sink.new) }
     ensures no_write_fault { result ≢ Err CutOff.WriteFailed → K.faults sink.new ≡ K.faults sink.old }
     ensures not_read { result ≢ Err CutOff.ReadFailed }
@@ -61,8 +63,12 @@ fn go_on<S: Source, K: Sink>(
     source: &mut S,
     sink: &mut K,
 ) -> Result<Status, CutOff>
-    ensures told { IfOk result (λ status. WasEnded quiet above (record { to_come = with_front lines.old.held (S.left source.old); seats = session }) (K.written sink.old) (K.written sink.new) status) }
-    ensures cut { OnErr result (WasCutOff quiet above (record { to_come = with_front lines.old.held (S.left source.old); seats = session }) (K.written sink.old) (K.written sink.new)) }
+    ensures told { IfOk result (λ status. WasEnded quiet above
+        (record { input = record { held = lines.old.held; left = S.left source.old }; rounds = session })
+        (S.left source.new) (K.written sink.old) (K.written sink.new) status) }
+    ensures cut { OnErr result (WasCutOff quiet above
+        (record { input = record { held = lines.old.held; left = S.left source.old }; rounds = session })
+        (S.left source.new) (K.written sink.old) (K.written sink.new)) }
     ensures unread { IsErrOf result CutOff.ReadFailed → Rose (S.faults source.old) (S.faults source.new) }
     ensures unwritten { IsErrOf result CutOff.WriteFailed → Rose (K.faults sink.old) (K.faults sink.new) }
     ensures no_read_fault { result ≢ Err CutOff.ReadFailed → S.faults source.new ≡ S.faults source.old }
@@ -75,7 +81,8 @@ fn go_on<S: Source, K: Sink>(
 /// Tells that the scenario is refused.
 fn refuse<K: Sink>(alloc: Global, fault: ScenFault, sink: &mut K) -> Result<Status, CutOff>
     ensures told { IfOk result (λ status. TellsRefusal fault status (K.written sink.old) (K.written sink.new)) }
-    ensures cut { OnErr result (AppendsSome (K.written sink.old) (K.written sink.new) (refusal_text fault.line (kind_name fault.kind))) }
+    ensures cut { OnErr result
+        (AppendsSome (K.written sink.old) (K.written sink.new) (refusal_text fault.line (kind_name fault.kind))) }
     ensures unwritten { IsErrOf result CutOff.WriteFailed → Rose (K.faults sink.old) (K.faults sink.new) }
     ensures no_write_fault { result ≢ Err CutOff.WriteFailed → K.faults sink.new ≡ K.faults sink.old }
     ensures not_read { result ≢ Err CutOff.ReadFailed }
@@ -92,9 +99,11 @@ fn drive<S: Source, K: Sink>(
     sink: &mut K,
 ) -> Result<Status, CutOff>
     ensures told { IfOk result (λ status. WasDriven quiet
-        (ends_of S.left S.faults K.written K.faults source.old sink.old) (ends_of S.left S.faults K.written K.faults source.new sink.new) status) }
+        (ends_of S.left S.faults K.written K.faults source.old sink.old)
+        (ends_of S.left S.faults K.written K.faults source.new sink.new) status) }
     ensures cut { OnErr result (WasCut quiet
-        (ends_of S.left S.faults K.written K.faults source.old sink.old) (ends_of S.left S.faults K.written K.faults source.new sink.new)) }
+        (ends_of S.left S.faults K.written K.faults source.old sink.old)
+        (ends_of S.left S.faults K.written K.faults source.new sink.new)) }
     ensures unread { IsErrOf result CutOff.ReadFailed → Rose (S.faults source.old) (S.faults source.new) }
     ensures unwritten { IsErrOf result CutOff.WriteFailed → Rose (K.faults sink.old) (K.faults sink.new) }
     ensures no_read_fault { result ≢ Err CutOff.ReadFailed → S.faults source.new ≡ S.faults source.old }
@@ -113,7 +122,8 @@ fn drive<S: Source, K: Sink>(
 /// A session, and how it ended.
 fn hold<S: Source, K: Sink>(alloc: Global, quiet: bool, source: &mut S, sink: &mut K) -> Status
     ensures { Drove quiet
-        (ends_of S.left S.faults K.written K.faults source.old sink.old) (ends_of S.left S.faults K.written K.faults source.new sink.new) result }
+        (ends_of S.left S.faults K.written K.faults source.old sink.old)
+        (ends_of S.left S.faults K.written K.faults source.new sink.new) result }
 {
     match drive(alloc, quiet, source, sink) {
         Ok(status) => status,
@@ -123,7 +133,8 @@ fn hold<S: Source, K: Sink>(alloc: Global, quiet: bool, source: &mut S, sink: &m
 
 /// Tells how the program is called.
 fn explain<K: Sink>(sink: &mut K) -> Status
-    ensures told { result ≢ WriteFailed → (result ≡ Usage) × (K.written sink.new ≡ with_end (K.written sink.old) usage_line) }
+    ensures told { result ≢ WriteFailed
+        → (result ≡ Usage) × (K.written sink.new ≡ with_end (K.written sink.old) usage_line) }
     ensures cut { result ≡ WriteFailed → AppendsFront (K.written sink.old) (K.written sink.new) usage_line }
     ensures write_failed { result ≡ WriteFailed → Rose (K.faults sink.old) (K.faults sink.new) }
     ensures no_write_fault { result ≢ WriteFailed → K.faults sink.new ≡ K.faults sink.old }
@@ -136,13 +147,14 @@ fn explain<K: Sink>(sink: &mut K) -> Status
     }
 }
 
-/// Does what the words after the program's name ask for, from `source` to `sink`: a session, with or without its history
-/// at the end. A scenario is read up to the line `%calls`; then each line is answered before the next one is read, until
-/// `%end` or the end of the input; and then the history is written, what the controllers of the scenario print, and the
-/// status.
+/// Does what the words after the program's name ask for, from `source` to `sink`: a session, with or without its
+/// history at the end. A scenario is read up to the line `%calls`; then each line is answered before the next one is
+/// read, until `%end` or the end of the input; and then the history is written, what the controllers of the scenario
+/// print, and the status.
 pub fn serve<S: Source, K: Sink>(alloc: Global, work: Work, source: &mut S, sink: &mut K) -> Status
     ensures { EndsWith work
-        (ends_of S.left S.faults K.written K.faults source.old sink.old) (ends_of S.left S.faults K.written K.faults source.new sink.new) result }
+        (ends_of S.left S.faults K.written K.faults source.old sink.old)
+        (ends_of S.left S.faults K.written K.faults source.new sink.new) result }
 {
     match work {
         Work::Explains => explain(sink),

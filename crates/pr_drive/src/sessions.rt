@@ -1,71 +1,55 @@
 //! A session: what the outside asks for is done, and the reply is written into a buffer.
-ghost use Rattle.std.specs.Prelude.{◌≡◌, ◌<◌, ◌++◌, ◌⊎◌, Ok, true, false, drop, is_some, length, IfOk, OnOk};
+ghost use Rattle.std.specs.Prelude.{◌≡◌, ◌++◌, ◌⊎◌, drop, length, IfOk, OnOk};
 ghost use Rattle.std.specs.Option.{ForSome};
 ghost use Rattle.pr_api.specs.Entries.{last_reply_of};
 ghost use Rattle.pr_asks.specs.Replies.{count_line, reply_line};
-ghost use Rattle.pr_drive.specs.Exchanges.{Answers, AnswersCall, AnswersMessages, AnswersNext, GoesFor, GoesUntil, HasReady, IsNever, MakesIf, MovesNot, MovesOne, MovesOthers, RunsOthers, Writes, wait_of};
-ghost use Rattle.pr_drive.specs.Going.{Goes, SomeCanMove, outside_of};
+ghost use Rattle.pr_drive.specs.Exchanges.{Answers, AnswersCall, AnswersMessages, AnswersNext, GoesFor, GoesUntil};
+ghost use Rattle.pr_drive.specs.Exchanges.{MakesIf, MovesNot, MovesOne, MovesOthers, RunsOthers, WaitsIf, Writes};
+ghost use Rattle.pr_drive.specs.Exchanges.{wait_of};
+ghost use Rattle.pr_drive.specs.Going.{SomeCanMove};
+ghost use Rattle.pr_drive.specs.Rounds.{FinishesRound};
 ghost use Rattle.pr_drive.specs.Statuses.{EndsAs};
-ghost use Rattle.pr_model.specs.Calls.{answer_to};
 ghost use Rattle.pr_plain.specs.HistoryText.{entries_text};
 ghost use Rattle.pr_scen.specs.Scripts.{fed, next_call_of};
-ghost use Rattle.pr_world.specs.Controllers.{wait_end_of};
 
 use crate::ends::Status;
 use crate::rounds::Rounds;
 use crate::waits::wait_end_of;
 use pr_asks::{Ask, write_count, write_entries, write_reply};
-use pr_model::{Actor, Call, Reply, opened_in};
-use pr_num::{Handles, NoMemory};
+use pr_model::{Actor, Call};
+use pr_num::NoMemory;
 use pr_scen::Script;
 use std::alloc::Global;
 use std::marker::Model;
 
-/// A session, seen by contracts as the kernel with the scenario's controllers. It also knows which handles the outside has
-/// open.
+/// A session, seen by contracts as the kernel with the scenario's controllers, and the place in the round.
 #[derive(Drop)]
 pub struct Session {
     pub(crate) alloc: Global,
     pub(crate) rounds: Rounds,
-    handles: Vec<u32>,
 }
 
 impl Model for Session {
-    ghost use Rattle.pr_drive.specs.Going.{SeatsState};
+    ghost use Rattle.pr_drive.specs.Rounds.{RoundsState};
 
-    ghost Value = { SeatsState };
+    ghost Value = { RoundsState };
 
-    ghost view = { λ a. a.rounds.seats };
-}
-
-/// The handle that a call closes.
-fn closed_by(call: &Call) -> Option<u32> {
-    match call {
-        Call::Close { handle } => Some(*handle),
-        _ => None,
-    }
+    ghost view = { λ a. a.rounds };
 }
 
 impl Session {
     /// A session of which nothing was asked yet.
     pub fn new(alloc: Global, rounds: Rounds) -> Session
-        ensures { result ≡ rounds.seats }
+        ensures { result ≡ rounds }
     {
-        Session {
-            alloc,
-            rounds,
-            handles: Vec::new(alloc),
-        }
+        Session { alloc, rounds }
     }
 
     // ---- calls
 
-    /// Others move until a call is ready. Says whether it is; else nobody can move any more.
+    /// Others move, a round after the other, until a call is ready. Says whether it is; else nobody can move any more.
     fn wait_for(&mut self, call: &Call) -> Result<bool, NoMemory>
-        ensures goes { OnOk result (Goes (wait_end_of call.now) self.old self.new) }
-        ensures place { result ≡ Ok true → length self.new.kernel.history < self.new.kernel.places }
-        ensures ready { result ≡ Ok true → is_some (answer_to self.new.kernel.state (outside_of self.new) call.now) ≡ true }
-        ensures never { result ≡ Ok false → IsNever call.now self.new }
+        ensures { IfOk result (λ ready. WaitsIf ready call.now self.old self.new) }
     {
         let until = wait_end_of(call);
         for _at in self.rounds.seats.entries()..self.rounds.seats.places() {
@@ -80,22 +64,6 @@ impl Session {
         Ok(false)
     }
 
-    /// Notes which handles are open after a call.
-    fn note(&mut self, closed: Option<u32>) -> Result<(), NoMemory>
-        ensures { self.new ≡ self.old }
-    {
-        let Some(reply) = self.rounds.seats.last_reply() else {
-            return Ok(());
-        };
-        if let Some(handle) = opened_in(reply) {
-            self.handles.push(handle)?;
-        }
-        if let (Some(handle), Reply::Done) = (closed, reply) {
-            self.handles.retain(|open| *open != handle);
-        }
-        Ok(())
-    }
-
     /// Makes a call, after a wait where it is not ready. Says whether it was made.
     fn make_call(&mut self, call: Call) -> Result<bool, NoMemory>
         ensures { IfOk result (λ made. MakesIf made call self.old self.new) }
@@ -104,15 +72,15 @@ impl Session {
         if !ready {
             return Ok(false);
         }
-        let closed = closed_by(&call);
         self.rounds.seats.call(call)?;
-        self.note(closed)?;
         Ok(true)
     }
 
     /// Writes the reply of the last entry, if that is a call.
     fn write_last(&self, out: &mut Vec<u8>) -> Result<(), NoMemory>
-        ensures { OnOk result (ForSome (last_reply_of self.now.kernel.history) (λ reply. out.new.items ≡ out.old.items ++ reply_line reply)) }
+        ensures { OnOk result
+            (ForSome (last_reply_of self.now.seats.kernel.history)
+            (λ reply. out.new.items ≡ out.old.items ++ reply_line reply)) }
     {
         match self.rounds.seats.last_reply() {
             Some(reply) => write_reply(self.alloc, out, reply),
@@ -137,7 +105,7 @@ impl Session {
 
     /// A script gets the reply of the last entry, if that is a call.
     fn feed_last(&self, script: &mut Script)
-        ensures { ForSome (last_reply_of self.now.kernel.history) (λ reply. script.new ≡ fed script.old reply) }
+        ensures { ForSome (last_reply_of self.now.seats.kernel.history) (λ reply. script.new ≡ fed script.old reply) }
     {
         if let Some(reply) = self.rounds.seats.last_reply() {
             script.feed(reply);
@@ -146,7 +114,8 @@ impl Session {
 
     /// Makes the next call of a script that writes messages, which gets the reply. Says whether it made one.
     fn answer_message(&mut self, script: &mut Script, out: &mut Vec<u8>) -> Result<bool, NoMemory>
-        ensures { IfOk result (λ made. Writes out.old.items out.new.items (AnswersNext made script.old script.new self.old self.new)) }
+        ensures { IfOk result (λ made.
+            Writes out.old.items out.new.items (AnswersNext made script.old script.new self.old self.new)) }
     {
         let next = script.next_call(self.alloc)?;
         let Some(call) = next else {
@@ -191,7 +160,9 @@ impl Session {
 
     /// Writes the entries that came, and how many there are.
     fn tell_moves(&self, from: u32, out: &mut Vec<u8>) -> Result<(), NoMemory>
-        ensures { OnOk result (out.new.items ≡ out.old.items ++ (entries_text from (drop from self.now.kernel.history) ++ count_line (length self.now.kernel.history))) }
+        ensures { OnOk result
+            (out.new.items ≡ out.old.items ++ (entries_text from
+            (drop from self.now.seats.kernel.history) ++ count_line (length self.now.seats.kernel.history))) }
     {
         write_entries(out, self.rounds.seats.history(), from as usize)?;
         write_count(out, self.rounds.seats.entries())
@@ -221,7 +192,9 @@ impl Session {
 
     /// One actor moves, if it can.
     fn move_one(&mut self, actor: Actor, out: &mut Vec<u8>) -> Result<(), NoMemory>
-        ensures { OnOk result (Writes out.old.items out.new.items (λ text. MovesOne actor self.old self.new text ⊎ MovesNot actor self.old self.new text)) }
+        ensures { OnOk result
+            (Writes out.old.items out.new.items
+            (λ text. MovesOne actor self.old self.new text ⊎ MovesNot actor self.old self.new text)) }
     {
         let from = self.rounds.seats.entries();
         let moved = self.rounds.seats.move_actor(actor, 0)?;
@@ -231,25 +204,14 @@ impl Session {
         Ok(out.extend_from_slice(b"no\n")?)
     }
 
-    /// Whether a poll of the open handles is ready; not where none is open.
-    fn has_ready(&self) -> Result<bool, NoMemory>
-        ensures { IfOk result (λ ready. ready ≡ true → HasReady self.now) }
-    {
-        if self.handles.is_empty() {
-            return Ok(false);
-        }
-        let poll = Call::Poll {
-            handles: Handles::from_vec(Vec::from_slice(self.alloc, &self.handles)?),
-        };
-        Ok(self.rounds.seats.is_answered(&poll))
-    }
-
-    /// Others move until a poll of the open handles is ready, or nobody can.
+    /// Others move until a poll of a file that the outside has open is ready, or nobody can. Which files it has open
+    /// does not change by that.
     fn go_until_ready(&mut self) -> Result<(), NoMemory>
         ensures { OnOk result (GoesUntil self.old self.new) }
     {
+        let polls = self.rounds.seats.polls()?;
         for _at in self.rounds.seats.entries()..self.rounds.seats.places() {
-            let ready = self.has_ready()?;
+            let ready = self.rounds.seats.some_answered(&polls);
             if ready {
                 return Ok(());
             }
@@ -300,7 +262,7 @@ impl Session {
 
     /// Others move up to the outside's turn.
     pub fn pass_turn(&mut self) -> Result<(), NoMemory>
-        ensures { OnOk result (Goes 0 self.old self.new) }
+        ensures { OnOk result (FinishesRound 0 self.old self.new) }
     {
         self.rounds.finish_round(0)?;
         Ok(())
@@ -308,7 +270,7 @@ impl Session {
 
     /// How the session has ended: as a run does, but that others may still be able to move.
     pub fn status(&self) -> Result<Status, NoMemory>
-        ensures { IfOk result (λ status. EndsAs self.now status) }
+        ensures { IfOk result (λ status. EndsAs self.now.seats status) }
     {
         let some = self.rounds.some_can_move()?;
         if some {
@@ -324,8 +286,8 @@ impl Session {
 
     /// How it has ended where one of the others can move still.
     fn status_in_mid_run(&self) -> Status
-        requires { SomeCanMove 0 self.now }
-        ensures { EndsAs self.now result }
+        requires { SomeCanMove 0 self.now.seats }
+        ensures { EndsAs self.now.seats result }
     {
         if self.rounds.seats.has_place() {
             Status::Done

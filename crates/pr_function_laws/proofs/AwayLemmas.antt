@@ -9,7 +9,7 @@ use Rattle.pr_line.specs.Events.{event_of}
 use Rattle.pr_line.specs.Selections.{is_selected}
 use Rattle.pr_line.specs.declared.events.Event.{Event}
 use Rattle.pr_line.specs.declared.options.Options.{Options}
-use Rattle.pr_model.specs.Replies.{bytes_in}
+use Rattle.pr_model.specs.Replies.{bytes_in, no_handle, number_of}
 use Rattle.pr_model.specs.declared.calls.Call.{Call}
 use Rattle.pr_model.specs.declared.calls.Call.TheVariants as call
 use Rattle.pr_model.specs.declared.calls.Reply.{Reply}
@@ -122,11 +122,20 @@ at-set Q (u ∷ us) (suc place) t (suc q) all here = at-set Q us place t q all h
 
 -- ---- truss away from a process
 
--- All processes but one have files of which this is so; that one has the control file `c` and the status file `ns`.
-module _ (Q : ℕ → Type 0) (c ns : ℕ) where
+-- what truss knows of a process is what it knew when it met an lwp of it, but for what is planted and its run flags
+pub record IsKnownAs (met u : Traced) : Type 0 where
+  pub pid : u.pid ≡ met.pid
+  pub old : u.old ≡ met.old
+  pub seen : u.seen ≡ met.seen
+  pub stepped : u.marks.stepped ≡ met.marks.stepped
+
+-- All processes but one have files of which this is so; that one has the control file `c` and the status file `ns`, and
+-- truss knows of it what it knew when it met it.
+module _ (Q : ℕ → Type 0) (c ns : ℕ) (met : Traced) where
   pub record Own (u : Traced) : Type 0 where
     pub control : u.control ≡ c
     pub status : u.status ≡ Some ns
+    pub known : IsKnownAs met u
 
   abbrev pub Ours : Traced → Type 0
   Ours u = Own u ⊎ All Q (handles_of u)
@@ -604,29 +613,103 @@ module _ (Q : ℕ → Type 0) (c ns : ℕ) where
         ap opens (sym next ∙ ap (λ b. cond b (call_beside t t.stage t.aside) (next_call_of t)) has)
         ∙ aside-opens t.aside w.beside
 
+  -- ---- where it comes to read the process
+
+  abbrev is_read : Option Call → Bool
+  is_read (Some (call.Read handle from len)) = true
+  is_read _ = false
+
+  abbrev read_from : Option Call → ℕ
+  read_from (Some (call.Read handle from len)) = handle
+  read_from _ = 0
+
+  status-one : (u : Traced) (m : ℕ) → All Q (handles_of u) → u.status ≡ Some m → Q m
+  status-one u m all is =
+      All-head Q m (u.control ∷ [])
+      (subst (λ o. All Q (cons_option o (u.control ∷ []))) is (last-cons Q u.lstatus _ (last-cons Q u.memory _ all)))
+
+  memory-one : (u : Traced) (m : ℕ) → All Q (handles_of u) → u.memory ≡ Some m → Q m
+  memory-one u m all is =
+      All-head Q m (cons_option u.lstatus (cons_option u.status (u.control ∷ [])))
+      (subst (λ o. All Q (cons_option o (cons_option u.lstatus (cons_option u.status (u.control ∷ []))))) is all)
+
+  -- it comes to read the status of the process that it met
+  pub record ReadsOwn (t : TrussState) : Type 0 where
+    pub place : ℕ
+    pub reads : t.stage ≡ ReadingStatus place
+    pub idle : t.aside ≡ Nothing
+    pub own : Own (traced_at t place)
+
+  module _ (t : TrussState) (w : Away t) (open_one : ns < no_handle) (ours : Q ns → ⊥) where
+    -- no file of another process has this handle
+    not-other : (o : Option ℕ) → ((m : ℕ) → o ≡ Some m → Q m) → number_of o ≡ ns → ⊥
+    not-other None files is = omega (arith, is, open_one)
+    not-other (Some m) files is = ours (subst Q is (files m refl))
+
+    patch-reads : (control : ℕ) (plant lift : Option ℕ)
+        → is_read (Some (patch_call t.options control plant lift)) ≡ false
+    patch-reads control (Some function) lift = refl
+    patch-reads control None (Some function) = refl
+    patch-reads control None None = refl
+
+    no-read : {A : Type 0} (d : Option Call) → is_read d ≡ false → d ≡ Some (read_record (Some ns)) → A
+    no-read d other is = absurd (false≢true (sym other ∙ ap is_read is))
+
+    stage-reads : t.aside ≡ Nothing → (stage : Stage) → t.stage ≡ stage → AwayStage t.traced stage
+        → function_call_of t stage ≡ Some (read_record (Some ns)) → ReadsOwn t
+    unfolding function_call_of call_of
+    stage-reads idle (ReadingStatus q) at here is = by (w.each q here)
+      where
+        by : Ours (at_place t.traced q) → ReadsOwn t
+        by (inl own) = record { place = q; reads = at; idle = idle; own = own }
+        by (inr apart) =
+            absurd (not-other (traced_at t q).status (λ m. status-one (traced_at t q) m apart) (ap read_from is))
+    stage-reads idle (ReadingText q l from len) at here is =
+        absurd (not-other (traced_at t q).memory (λ m. memory-one (traced_at t q) m here.1) (ap read_from is))
+    stage-reads idle Polling at here is = no-read _ refl is
+    stage-reads idle (Running q) at here is = no-read _ refl is
+    stage-reads idle (Closing q GoOn) at here is = no-read _ refl is
+    stage-reads idle Finished at here is = no-read _ refl is
+    stage-reads idle _ at here is = absurd here
+
+    aside-reads : (aside : Aside) → t.aside ≡ aside → AwayAside t.traced aside
+        → call_beside t t.stage aside ≡ Some (read_record (Some ns)) → ReadsOwn t
+    unfolding call_beside
+    aside-reads Nothing idle here is = stage-reads idle t.stage refl w.stage is
+    aside-reads (Patching q plants lifts clear) at here is =
+        no-read _ (patch-reads (traced_at t q).control (first_function plants) (first_function lifts)) is
+    aside-reads _ at here is = absurd here
+
+    pub reads-own : has_functions t.options ≡ true → next_function_call_of t ≡ Some (read_record (Some ns))
+        → ReadsOwn t
+    unfolding next_function_call_of
+    reads-own has next =
+        aside-reads t.aside refl w.beside
+        (sym (ap (λ b. cond b (call_beside t t.stage t.aside) (next_call_of t)) has) ∙ next)
+
 -- what is so of handles may change meanwhile
-pub away-weaker : (Q R : ℕ → Type 0) (c ns : ℕ) (t : TrussState) → ((m : ℕ) → Q m → R m) → Away Q c ns t
-    → Away R c ns t
-away-weaker Q R c ns t weaker w = record {
+pub away-weaker : (Q R : ℕ → Type 0) (c ns : ℕ) (met : Traced) (t : TrussState) → ((m : ℕ) → Q m → R m)
+    → Away Q c ns met t → Away R c ns met t
+away-weaker Q R c ns met t weaker w = record {
   follow = w.follow;
   off = w.off;
   each = λ q within. elim (w.each q within) [
-    | inl own ↦ inl (record { control = own.control; status = own.status })
+    | inl own ↦ inl (record { control = own.control; status = own.status; known = own.known })
     | inr apart ↦ inr (All-weaker Q R weaker (handles_of (at_place t.traced q)) apart)
   ];
   beside = aside t.aside w.beside;
   stage = stage t.stage w.stage;
 }
   where
-    else-weaker : (q : ℕ) → Else Q c ns t.traced q → Else R c ns t.traced q
+    else-weaker : (q : ℕ) → Else Q c ns met t.traced q → Else R c ns met t.traced q
     else-weaker q is = (is.0, All-weaker Q R weaker (handles_of (at_place t.traced q)) is.1)
 
-    aside : (a : Aside) → AwayAside Q c ns t.traced a → AwayAside R c ns t.traced a
+    aside : (a : Aside) → AwayAside Q c ns met t.traced a → AwayAside R c ns met t.traced a
     aside Nothing is = tt
     aside (Patching q plants lifts clear) is = else-weaker q is
     aside _ is = absurd is
 
-    stage : (st : Stage) → AwayStage Q c ns t.traced st → AwayStage R c ns t.traced st
+    stage : (st : Stage) → AwayStage Q c ns met t.traced st → AwayStage R c ns met t.traced st
     stage Polling is = tt
     stage (ReadingStatus q) is = is
     stage (ReadingText q l from len) is = else-weaker q is

@@ -20,7 +20,8 @@ use Rattle.pr_model.specs.Readers.{has_lent}
 use Rattle.pr_model.specs.Running.{run_refused, with_run}
 use Rattle.pr_model.specs.Replies.{bytes_in}
 use Rattle.pr_model.specs.State.{TracedLwp, TracedProcess, TracedState, TracedSystem, live_process, lwp_of}
-use Rattle.pr_model.specs.Statuses.{status_of}
+use Rattle.pr_model.specs.Statuses.{status_of, status_of_found}
+use Rattle.pr_model.specs.Stops.{representative}
 use Rattle.pr_model.specs.declared.calls.Call.{Call}
 use Rattle.pr_model.specs.declared.calls.Call.TheVariants as call
 use Rattle.pr_model.specs.declared.calls.File.TheVariants.{Ctl, Status}
@@ -58,6 +59,7 @@ use Rattle.pr_truss.specs.Replies.{answer_of}
 use Rattle.pr_truss_laws.proofs.OpensLemmas.{held_by}
 use Rattle.pr_truss.specs.Trusses.{TrussState, traced_at}
 use Rattle.pr_truss.specs.declared.asides.Aside.TheVariants.{Nothing}
+use Rattle.pr_truss.specs.declared.processes.Traced.{Traced}
 use Rattle.pr_truss.specs.declared.stages.Stage.TheVariants.{ReadingStatus}
 use Rattle.pr_truss.specs.declared.replies.Answer.TheVariants.{Interrupted, Gone}
 use Rattle.pr_truss_laws.proofs.AnswerLemmas.{IsAnswer, answer-is, gone-refuses}
@@ -72,14 +74,14 @@ use Rattle.pr_truss_laws.proofs.StillLemmas.{frozen-turns, live-changed}
 use Rattle.pr_truss_laws.proofs.TakenLemmas.{ReadsAs, read-as}
 use Rattle.pr_truss_laws.specs.Exchanges.{Exchange, exchange_in, exchange_of, exchanges}
 use Rattle.pr_truss_laws.specs.Handles.{HasNoOtherWriter}
-use Rattle.pr_function_laws.proofs.AwayLemmas.{Away, away-acts, away-opens, away-weaker, next-away}
+use Rattle.pr_function_laws.proofs.AwayLemmas.{Away, Own, away-acts, away-opens, away-weaker, next-away}
 use Rattle.pr_function_laws.proofs.FaultLemmas.{StandsAtFault, alone-fault, fault-frozen, fault-ready, fault-stop, spaced-fault}
 use Rattle.pr_function_laws.proofs.MetLemmas.{fresh-stands}
 use Rattle.pr_function_laws.proofs.ToldLemmas.{told-fault}
-use Rattle.pr_function_laws.proofs.LiftLemmas.{AfterLook, LookCall, Looks, call-looks, goes_on, has_ended, is_away, looks-weaker, met-looks, patches, reply-after, step_flags, steps}
+use Rattle.pr_function_laws.proofs.LiftLemmas.{AfterLook, LookCall, Looks, call-looks, goes_on, has_ended, is_away, looks-weaker, met-looks, met_at, patches, reply-after, step_flags, steps}
 use Rattle.pr_function_laws.proofs.StretchLemmas as stretch
 use Rattle.pr_function_laws.proofs.StretchLemmas.{Does, message-does, stretch-stops}
-use Rattle.pr_function_laws.specs.Lifted.{GoesElsewhere, HasControl, IsAtStopAtBreakpoint, IsNoRead, ReadsOnlyLast, StepsNoCall}
+use Rattle.pr_function_laws.specs.Lifted.{GoesElsewhere, HasControl, HasStatus, IsAtStopAtBreakpoint, IsNoRead, ReadsOnlyLast, StepsNoCall}
 use Rattle.pr_function_laws.specs.Runs.{MakesCalls}
 use Rattle.pr_function_laws.specs.Steps.{RunsNoCall}
 use Rattle.pr_function_laws.specs.Stretches.{BeginWith, BeginWithWrite, IsControlOf, IsReadyToStep, IsStretch, MovesOneAlone, OthersOnlyStop, acts_by, is_write}
@@ -138,7 +140,7 @@ pub record IsOwnEntry (k : ℕ) (s : TracedState) (e : Entry) (x : Exchange) : T
   pub later : answer.state ≡ after s e
 
 -- a call that opens nothing and closes nothing leaves the handles
-own-handles : (k : ℕ) (s : TracedState) (e : Entry) (x : Exchange) → IsOwnEntry k s e x → keeps_handles x.call ≡ true
+pub own-handles : (k : ℕ) (s : TracedState) (e : Entry) (x : Exchange) → IsOwnEntry k s e x → keeps_handles x.call ≡ true
     → (m : ℕ) → handle_of (after s e).opens k m ≡ handle_of s.opens k m
 own-handles k s e x own plain m =
     ap (λ (u : TracedState). handle_of u.opens k m) (sym own.later)
@@ -174,9 +176,9 @@ pub own-entry : (n k : ℕ) (s : TracedState) (e : Entry) (x : Exchange) → IsL
 own-entry n k s e x legal is = own-acted n k s e.actor e.act x legal is
 
 -- an entry that is no call of it is of another controller, a turn, or a tick; its handles stay
-record IsForeign (k : ℕ) (s : TracedState) (e : Entry) : Type 0 where
-  other : e.actor ≢ Controller k
-  handles : (m : ℕ) → handle_of (after s e).opens k m ≡ handle_of s.opens k m
+pub record IsForeign (k : ℕ) (s : TracedState) (e : Entry) : Type 0 where
+  pub other : e.actor ≢ Controller k
+  pub handles : (m : ℕ) → handle_of (after s e).opens k m ≡ handle_of s.opens k m
 
 not-own : (by k : ℕ) (x : Exchange) (b : Bool) → (by == k) ≡ b → cond b (Some x) None ≡ None → by ≢ k
 not-own by k x true own is = cc
@@ -204,7 +206,7 @@ foreign-acted n k s (Lwp p l) (act.Turn did) legal is = record {
 foreign-acted n k s Clock (act.Tick moment) legal is = record { other = λ same. cc; handles = λ m. refl }
 foreign-acted n k s _ _ legal is = absurd legal
 
-foreign-entry : (n k : ℕ) (s : TracedState) (e : Entry) → IsLegalEntry n s e → exchange_of k e ≡ None
+pub foreign-entry : (n k : ℕ) (s : TracedState) (e : Entry) → IsLegalEntry n s e → exchange_of k e ≡ None
     → IsForeign k s e
 foreign-entry n k s e legal is = foreign-acted n k s e.actor e.act legal is
 
@@ -381,38 +383,40 @@ abbrev opens_file : Call → Bool
 opens_file (call.Open pid id file mode) = true
 opens_file _ = false
 
-step-is : step_flags ≡ clear_fault + single_step
+pub step-is : step_flags ≡ clear_fault + single_step
 unfolding union_word
 step-is = refl
 
-step-begins : BeginWith (message.Run (clear_fault + single_step)) (spelling (message.Run step_flags) [])
+pub step-begins : BeginWith (message.Run (clear_fault + single_step)) (spelling (message.Run step_flags) [])
 step-begins =
     subst (λ f. BeginWith (message.Run f) (spelling (message.Run step_flags) [])) step-is step-reads
 
-module _ (n k pid id c ns place : ℕ) where
+module _ (n k pid id c ns : ℕ) (met : Traced) (place : ℕ) where
   abbrev Goes : TracedState → ℕ → Type 0
   Goes s m = GoesElsewhere k pid s m
 
   -- Truss looks at the process, which stands at a fault; or it is away; or the process has ended.
   data Phase (t : TrussState) (s : TracedState) : Type 0 where
-    looking : Looks (Goes s) c ns place t → HasControl k pid c s
+    looking : Looks (Goes s) c ns met place t → HasControl k pid c s
         → ((p : TracedProcess) → live_process s.system pid ≡ Some p → StandsAtFault p id) → Phase t s
-    away : Away (Goes s) c ns t → HasControl k pid c s → Phase t s
+    away : Away (Goes s) c ns met t → HasControl k pid c s → Phase t s
     ended : live_process s.system pid ≡ None → Phase t s
 
   -- the handles that are open later were open before, that of the process among them
-  record Keeps (s u : TracedState) : Type 0 where
-    shrinks : (m : ℕ) (held : Held) → handle_of u.opens k m ≡ Some held → handle_of s.opens k m ≡ Some held
-    control : HasControl k pid c u
+  pub record Keeps (s u : TracedState) : Type 0 where
+    pub shrinks : (m : ℕ) (held : Held) → handle_of u.opens k m ≡ Some held → handle_of s.opens k m ≡ Some held
+    pub control : HasControl k pid c u
+    pub status : HasStatus k pid ns s → HasStatus k pid ns u
 
-  keeps-goes : (s u : TracedState) → Keeps s u → (m : ℕ) → Goes s m → Goes u m
+  pub keeps-goes : (s u : TracedState) → Keeps s u → (m : ℕ) → Goes s m → Goes u m
   keeps-goes s u w m goes held there = goes held (w.shrinks m held there)
 
-  same-keeps : (s u : TracedState) → ((m : ℕ) → handle_of u.opens k m ≡ handle_of s.opens k m) → HasControl k pid c s
-      → Keeps s u
+  pub same-keeps : (s u : TracedState) → ((m : ℕ) → handle_of u.opens k m ≡ handle_of s.opens k m)
+      → HasControl k pid c s → Keeps s u
   same-keeps s u same control = record {
     shrinks = λ m held there. sym (same m) ∙ there;
     control = same c ∙ control;
+    status = λ reads. same ns ∙ reads;
   }
 
   module _ (s : TracedState) (lawful : IsLawful s) (made : pid < s.system.made) where
@@ -430,12 +434,12 @@ module _ (n k pid id c ns place : ℕ) where
       foreign-phase : (t : TrussState) → IsForeign k s e → Phase t s → Phase t (after s e)
       foreign-phase t w (looking looks control stands) =
           let keeps = same-keeps s (after s e) w.handles control in
-          looking (looks-weaker (Goes s) (Goes (after s e)) c ns place t (keeps-goes s (after s e) keeps) looks)
+          looking (looks-weaker (Goes s) (Goes (after s e)) c ns met place t (keeps-goes s (after s e) keeps) looks)
           keeps.control
           (others-stand n k pid id s lawful made (λ p live. sole-by control) stands e legal w.other)
       foreign-phase t w (away it control) =
           let keeps = same-keeps s (after s e) w.handles control in
-          away (away-weaker (Goes s) (Goes (after s e)) c ns t (keeps-goes s (after s e) keeps) it) keeps.control
+          away (away-weaker (Goes s) (Goes (after s e)) c ns met t (keeps-goes s (after s e) keeps) it) keeps.control
       foreign-phase t w (ended none) = ended (over-later none)
 
       -- ---- a call of its own
@@ -448,7 +452,7 @@ module _ (n k pid id c ns place : ℕ) where
           moves : MovesOneAlone k pid id s x.call
           phase : Phase (fed_functions t x.reply) (after s e)
 
-        calm : answer_of x.reply ≢ Interrupted
+        pub calm : answer_of x.reply ≢ Interrupted
         unfolding IsAnswer
         calm interrupted = quiet.no_interrupt (subst (IsAnswer x.reply) interrupted (answer-is x.reply))
 
@@ -456,7 +460,7 @@ module _ (n k pid id c ns place : ℕ) where
         opens-later = own-handles k s e x own
 
         -- truss looks at the process
-        module _ (looks : Looks (Goes s) c ns place t) (control : HasControl k pid c s)
+        module _ (looks : Looks (Goes s) c ns met place t) (control : HasControl k pid c s)
             (stands : (p : TracedProcess) → live_process s.system pid ≡ Some p → StandsAtFault p id) where
           abbrev mine : IsControlOf k pid c s
           mine = own-control n k pid id s lawful made (λ p live. sole-by control) stands c control
@@ -466,12 +470,12 @@ module _ (n k pid id c ns place : ℕ) where
             runs : x.call ≡ call.Ctl c (spelling (message.Run step_flags) []) → Sends
             writes : (bytes : List ℕ) → x.call ≡ call.Ctl c bytes → BeginWithWrite bytes → Sends
 
-          sends : (d : Call) → LookCall (Goes s) c ns place t.options d → x.call ≡ d → Sends
+          sends : (d : Call) → LookCall (Goes s) c ns met place t.options d → x.call ≡ d → Sends
           sends d steps is = runs is
           sends d (patches function code) is = writes (spelling (message.Write _ _) code) is (write-reads _ _ code)
 
           sent : Sends
-          sent = sends x.call (call-looks (Goes s) c ns place t looks has x.call next) refl
+          sent = sends x.call (call-looks (Goes s) c ns met place t looks has x.call next) refl
 
           ready : x.call ≡ call.Ctl c (spelling (message.Run step_flags) []) → (p : TracedProcess)
               → live_process s.system pid ≡ Some p → IsReadyToStep p id
@@ -526,26 +530,26 @@ module _ (n k pid id c ns place : ℕ) where
                   (ap (answer_to s k) (sym is) ∙ own.is) in
                   left.stand q (ap (λ (u : TracedState). live_process u.system pid) own.later ∙ later)
 
-          looked : AfterLook (Goes s) c ns place t.options x.reply x.call (fed_functions t x.reply)
+          looked : AfterLook (Goes s) c ns met place t.options x.reply x.call (fed_functions t x.reply)
               → Phase (fed_functions t x.reply) (after s e)
           looked (goes_on more function code is) =
-              looking (looks-weaker (Goes s) (Goes (after s e)) c ns place _ (keeps-goes s (after s e) keeps) more)
+              looking (looks-weaker (Goes s) (Goes (after s e)) c ns met place _ (keeps-goes s (after s e) keeps) more)
               (let w = keeps in w.control) (stand-later function code is)
           looked (is_away it) =
-              away (away-weaker (Goes s) (Goes (after s e)) c ns _ (keeps-goes s (after s e) keeps) it)
+              away (away-weaker (Goes s) (Goes (after s e)) c ns met _ (keeps-goes s (after s e) keeps) it)
               (let w = keeps in w.control)
           looked (has_ended gone) = ended (gone-over gone)
 
           look-step : Step
           look-step = record {
             moves = look-moves sent;
-            phase = looked (reply-after (Goes s) c ns place t looks has x.reply calm x.call next);
+            phase = looked (reply-after (Goes s) c ns met place t looks has x.reply calm x.call next);
           }
 
         -- truss is away
-        module _ (it : Away (Goes s) c ns t) (control : HasControl k pid c s) where
-          acts-away : (m : ℕ) → acts_by x.call ≡ Some m → Goes s m
-          acts-away m is = away-acts (Goes s) c ns t it m has x.call next is
+        module _ (it : Away (Goes s) c ns met t) (control : HasControl k pid c s) where
+          pub acts-away : (m : ℕ) → acts_by x.call ≡ Some m → Goes s m
+          acts-away m is = away-acts (Goes s) c ns met t it m has x.call next is
 
           -- it closes no file of the process
           closes-keeps : (m : ℕ) → Goes s m → answer_to s k (call.Close m) ≡ Some own.answer
@@ -563,6 +567,7 @@ module _ (n k pid id c ns place : ℕ) where
                   | inr apart ↦ sym (stays i apart) ∙ there
                 ];
                 control = stays c (λ same. goes _ (ap (λ i. handle_of s.opens k i) same ∙ control) refl) ∙ control;
+                status = λ reads. stays ns (λ same. goes _ (ap (λ i. handle_of s.opens k i) same ∙ reads) refl) ∙ reads;
               }
                 where
                   stays : (i : ℕ) → m ≢ i → handle_of own.answer.state.opens k i ≡ handle_of s.opens k i
@@ -585,19 +590,21 @@ module _ (n k pid id c ns place : ℕ) where
               (λ i. ap (λ p. handle_of p k i) (plain-leaves s k d own.answer refl
               (ap (answer_to s k) (sym is) ∙ own.is))) control
 
-          away-keeps : Keeps s (after s e)
+          pub away-keeps : Keeps s (after s e)
           away-keeps =
               subst (Keeps s) own.later
-              (call-keeps x.call refl (away-opens (Goes s) c ns t it has x.call next) acts-away)
+              (call-keeps x.call refl (away-opens (Goes s) c ns met t it has x.call next) acts-away)
+
+          pub away-later : Away (Goes (after s e)) c ns met (fed_functions t x.reply)
+          away-later =
+              away-weaker (Goes s) (Goes (after s e)) c ns met _ (keeps-goes s (after s e) away-keeps)
+              (next-away (Goes s) c ns met t x.reply it calm has
+              (λ reads. quiet.no_read (same_Some _ _ (sym next ∙ reads))))
 
           away-step : Step
           away-step = record {
             moves = stretches.elsewhere (λ m held acts there. acts-away m acts held there);
-            phase = away
-                (away-weaker (Goes s) (Goes (after s e)) c ns _ (keeps-goes s (after s e) away-keeps)
-                (next-away (Goes s) c ns t x.reply it calm has
-                (λ reads. quiet.no_read (same_Some _ _ (sym next ∙ reads)))))
-                (let w = away-keeps in w.control);
+            phase = away away-later (let w = away-keeps in w.control);
           }
 
         -- whatever it is at
@@ -751,7 +758,7 @@ module _ (n k pid id c ns place : ℕ) where
 
 -- ---- the read at the breakpoint
 
-read-is : (t : TrussState) (place : ℕ) → has_functions t.options ≡ true → t.stage ≡ ReadingStatus place
+pub read-is : (t : TrussState) (place : ℕ) → has_functions t.options ≡ true → t.stage ≡ ReadingStatus place
     → t.aside ≡ Nothing → next_function_call_of t ≡ Some (read_record (traced_at t place).status)
 unfolding next_function_call_of call_beside function_call_of call_of
 read-is t place has reads idle =
@@ -763,39 +770,43 @@ module _ (n k : ℕ) (t : TrussState) (place ns pid id : ℕ) (s : TracedState) 
   abbrev c : ℕ
   c = (traced_at t place).control
 
+  -- the process as truss knows it once it was met
+  abbrev met : Traced
+  met = let m = w.meets in met_at t place m.l m.function
+
   abbrev now : TracedState
   now = after s e
 
-  its : IsOwnEntry k s e w.x
+  pub its : IsOwnEntry k s e w.x
   its = own-entry n k s e w.x w.legal.0 w.own
 
-  makes : MakesCalls t (w.x ∷ exchanges k between)
+  pub makes : MakesCalls t (w.x ∷ exchanges k between)
   makes =
       subst (λ o. MakesCalls t (cons_option o (exchanges k between))) w.own
       (subst (MakesCalls t) (cons-exchanges k e between) w.makes)
 
-  reads : w.x.call ≡ read_record (traced_at t place).status
+  pub reads : w.x.call ≡ read_record (traced_at t place).status
   reads = let m = w.meets in same_Some _ _ (sym makes.0 ∙ read-is t place w.has m.reads m.idle)
 
-  system-same : now.system ≡ s.system
+  pub system-same : now.system ≡ s.system
   system-same =
       let own = its in
       ap (λ (u : TracedState). u.system) (sym own.later)
       ∙ ap (λ (u : TracedState). u.system) (looking-stays s k w.x.call own.answer (ap only_looks reads) own.is)
 
-  handles-same : (m : ℕ) → handle_of now.opens k m ≡ handle_of s.opens k m
+  pub handles-same : (m : ℕ) → handle_of now.opens k m ≡ handle_of s.opens k m
   handles-same = own-handles k s e w.x its (ap keeps_handles reads)
 
-  lawful-now : IsLawful now
+  pub lawful-now : IsLawful now
   lawful-now = history-state n s (e ∷ []) w.lawful (w.legal.0, tt)
 
-  live-now : live_process now.system pid ≡ Some w.process
+  pub live-now : live_process now.system pid ≡ Some w.process
   live-now = ap (λ (u : TracedSystem). live_process u pid) system-same ∙ w.live
 
-  -- the process stands as it is told
-  stands : StandsAtFault w.process id
+  -- the status that it reads is that of the process
+  pub seen-then : status_of_found w.process (representative w.process) ≡ (let m = w.meets in m.l)
   unfolding status_of
-  stands =
+  seen-then =
       let own = its in
       let f = w.files in
       let m = w.meets in
@@ -803,21 +814,35 @@ module _ (n k : ℕ) (t : TrussState) (place ns pid id : ℕ) (s : TracedState) 
       let sees =
       status-read s k ns (held_by k pid 0 Status Read) f.reads own.answer w.process w.live refl w.ranged
       (ap (answer_to s k) asked ∙ own.is) in
-      told-fault w.process id m.l m.event
-      (same_Some _ _ (sym sees.lwp ∙ ap (λ r. option_and_then status_lwp (bytes_in r)) own.replied ∙ m.told))
-      (fresh-stands (traced_at t place) m.l m.event m.fresh) w.told w.not_lent
+      same_Some _ _ (sym sees.lwp ∙ ap (λ r. option_and_then status_lwp (bytes_in r)) own.replied ∙ m.told)
 
-  first-phase : Phase n k pid id c ns place (fed_functions t w.x.reply) now
+  -- the process stands as it is told
+  pub stands : StandsAtFault w.process id
+  stands =
+      let m = w.meets in
+      told-fault w.process id m.l m.event seen-then (fresh-stands (traced_at t place) m.l m.event m.fresh) w.told
+      w.not_lent
+
+  own-met : Own (GoesElsewhere k pid s) c ns met met
+  own-met =
+      let f = w.files in
+      record {
+        control = refl;
+        status = f.own_status;
+        known = record { pid = refl; old = refl; seen = refl; stepped = refl };
+      }
+
+  pub looks-now : Looks (GoesElsewhere k pid now) c ns met place (fed_functions t w.x.reply)
+  looks-now =
+      let f = w.files in
+      looks-weaker (GoesElsewhere k pid s) (GoesElsewhere k pid now) c ns met place _
+      (keeps-goes n k pid id c ns met place s now (same-keeps n k pid id c ns met place s now handles-same f.control))
+      (met-looks (GoesElsewhere k pid s) c ns met place t w.x w.meets w.has w.follows_none own-met f.others)
+
+  first-phase : Phase n k pid id c ns met place (fed_functions t w.x.reply) now
   first-phase =
       let f = w.files in
-      let keeps = same-keeps n k pid id c ns place s now handles-same f.control in
-      let looks =
-      met-looks (GoesElsewhere k pid s) c ns place t w.x w.meets w.has w.follows_none
-      (record { control = refl; status = f.own_status }) f.others in
-      looking
-      (looks-weaker (GoesElsewhere k pid s) (GoesElsewhere k pid now) c ns place _
-      (keeps-goes n k pid id c ns place s now keeps) looks)
-      keeps.control
+      looking looks-now (handles-same c ∙ f.control)
       (λ p live. subst (λ (q : TracedProcess). StandsAtFault q id) (same_Some w.process p (sym live-now ∙ live)) stands)
 
   pub breakpoint-stops : OthersOnlyStop pid id between
@@ -825,7 +850,7 @@ module _ (n k : ℕ) (t : TrussState) (place ns pid id : ℕ) (s : TracedState) 
       let before = was-made pid s.system w.process w.lawful.system (found-live s.system pid w.process w.live).0 in
       let made = stays-made n s e pid w.lawful w.legal.0 before in
       let it =
-      history-stretch n k pid id c ns place between (fed_functions t w.x.reply) now lawful-now made
+      history-stretch n k pid id c ns met place between (fed_functions t w.x.reply) now lawful-now made
       (ap has_functions (fed_functions-options t w.x.reply) ∙ w.has) w.legal.1 makes.1 first-phase w.reads_last
       w.no_call in
       stretch-stops n k pid id c now w.process between lawful-now

@@ -107,7 +107,7 @@ module _ (s : TracedSystem) (pid : ℕ) (p : TracedProcess) (id : ℕ) (l : Trac
         posted_row_or s pid p id l phase
         (current_row_or s pid p id l l.current (signal_row_or s pid p id l phase (row_in s pid p id l phase)))
 
-    row-is : row_for s pid p id l ≡ taken_or s pid p id l (own_takeable l) (shared_takeable p l)
+    pub row-is : row_for s pid p id l ≡ taken_or s pid p id l (own_takeable l) (shared_takeable p l)
         (executed_row p l (instruction_effect p.space p.control.areas l.regs))
     unfolding row_for rest signal_row_or row_in
     row-is =
@@ -115,7 +115,7 @@ module _ (s : TracedSystem) (pid : ℕ) (p : TracedProcess) (id : ℕ) (l : Trac
         ∙ ap (λ o. current_row_or s pid p id l o (taken_or s pid p id l (own_takeable l) (shared_takeable p l)
         (executed_row p l (instruction_effect p.space p.control.areas l.regs)))) stepped.no_current
 
-    row-met : Meets (row_for s pid p id l)
+    pub row-met : Meets (row_for s pid p id l)
     unfolding own_takeable shared_takeable
     row-met =
         let own = fit-lwp p id l fit stepped.there in
@@ -132,7 +132,7 @@ module _ (s : TracedSystem) (pid : ℕ) (p : TracedProcess) (id : ℕ) (l : Trac
   abbrev row : Row
   row = row_for s pid p id l
 
-  turn-is : t ≡ settled s pid p id l row
+  pub turn-is : t ≡ settled s pid p id l row
   turn-is =
       let it = turn-taken s pid id t turn in
       let same : it.process ≡ p = same_Some it.process p (sym it.live ∙ live) in
@@ -192,7 +192,7 @@ module _ (s : TracedSystem) (pid : ℕ) (p : TracedProcess) (id : ℕ) (l : Trac
         let was = found-live s pid p live in
         (x, (subst (λ (y : TracedProcess). GoesOn y x) (same_Some a.0 p (sym a.1.0 ∙ was.0)) a.1.1, q-is))
 
-    carried : (q : TracedProcess) → live_process t.system pid ≡ Some q
+    pub carried : (q : TracedProcess) → live_process t.system pid ≡ Some q
         → (x : TracedProcess) × (GoesOn p x × (after_meeting row.point id x ≡ q))
     carried q after =
         let now = found-live t.system pid q after in

@@ -1,11 +1,15 @@
 pub mod AwayLemmas
 pub mod BreakpointLemmas
 pub mod CallLemmas
+pub mod CalledLaws
 pub mod FaultLemmas
 pub mod HaltingSteps
+pub mod KeptLemmas
 pub mod LiftLemmas
 pub mod MarkLemmas
 pub mod MetLemmas
+pub mod OpenedLaws
+pub mod OpenedLemmas
 pub mod OtherSteps
 pub mod ReturnLemmas
 pub mod SoonLemmas
@@ -13,3 +17,11 @@ pub mod SoundLemmas
 pub mod StepLemmas
 pub mod StretchLemmas
 pub mod ToldLemmas
+pub mod TrapLemmas
+pub mod TurnCalls
+pub mod TurnLemmas
+pub mod TurnOrder
+pub mod TurnPoints
+pub mod TurnReads
+pub mod TurnStates
+pub mod TurnWalks

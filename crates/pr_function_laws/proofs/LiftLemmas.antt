@@ -10,6 +10,7 @@ use Rattle.pr_model.specs.declared.calls.Reply.{Reply}
 use Rattle.pr_num.specs.Control.{clear_fault, single_step}
 use Rattle.pr_num.specs.Sets.{union_word}
 use Rattle.pr_num.specs.declared.messages.Message.TheVariants as message
+use Rattle.pr_rec.specs.declared.lwps.LwpStatus.{LwpStatus}
 use Rattle.pr_truss.specs.Asides.{marks_at, patching, with_aside, with_marks, with_patches}
 use Rattle.pr_truss.specs.Closings.{with_closing, with_going_on}
 use Rattle.pr_truss.specs.Feeding.{fed}
@@ -33,7 +34,7 @@ use Rattle.pr_truss.specs.declared.stages.Stage.TheVariants.{Running}
 use Rattle.pr_truss_laws.proofs.HeldLemmas.{at_place, set-at}
 use Rattle.pr_truss_laws.specs.Exchanges.{Exchange}
 use Rattle.pr_truss_laws.specs.Handles.{handles_of}
-use Rattle.pr_function_laws.proofs.AwayLemmas.{Away, Own, going-away}
+use Rattle.pr_function_laws.proofs.AwayLemmas.{Away, IsKnownAs, Own, going-away}
 use Rattle.pr_function_laws.specs.Lifted.{MeetsBreakpoint}
 
 -- What truss does at a breakpoint: it lifts it, and steps the lwp over it.
@@ -41,10 +42,17 @@ use Rattle.pr_function_laws.specs.Lifted.{MeetsBreakpoint}
 abbrev pub step_flags : ℕ
 step_flags = union_word clear_fault single_step
 
+-- the marks of a process, and the process, once truss has met an lwp of it at the breakpoint of a function
+abbrev pub stepping_at : TrussState → ℕ → LwpStatus → ℕ → Marks
+stepping_at t place l function = record (marks_at t place) { stepped = Some (step_of l function); flags = step_flags }
+
+abbrev pub met_at : TrussState → ℕ → LwpStatus → ℕ → Traced
+met_at t place l function = record (traced_at t place) { marks = stepping_at t place l function }
+
 abbrev IsBusy : List Bool → List Bool → Type 0
 IsBusy plants lifts = (is_some (first_function plants) || is_some (first_function lifts)) ≡ true
 
-module _ (Q : ℕ → Type 0) (c ns place : ℕ) where
+module _ (Q : ℕ → Type 0) (c ns : ℕ) (met : Traced) (place : ℕ) where
   abbrev LooksAside : Aside → Type 0
   LooksAside Nothing = Unit {0}
   LooksAside (Patching q plants lifts clear) = (q ≡ place) × (IsBusy plants lifts × (clear ≡ false))
@@ -57,7 +65,7 @@ module _ (Q : ℕ → Type 0) (c ns place : ℕ) where
     pub off : t.leaving ≡ false
     pub within : place < length t.traced
     pub stage : t.stage ≡ Running place
-    pub own : Own Q c ns (traced_at t place)
+    pub own : Own Q c ns met (traced_at t place)
     pub flags : (traced_at t place).marks.flags ≡ step_flags
     pub others : (q : ℕ) → q < length t.traced → q ≢ place → All Q (handles_of (traced_at t q))
     pub beside : LooksAside t.aside
@@ -74,7 +82,8 @@ module _ (Q : ℕ → Type 0) (c ns place : ℕ) where
 
   -- with other marks, and these flags
   marked-looks : (t : TrussState) (m : Marks) (a : Aside) → m.flags ≡ step_flags → t.options.follow ≡ false
-      → t.leaving ≡ false → place < length t.traced → t.stage ≡ Running place → Own Q c ns (traced_at t place)
+      → t.leaving ≡ false → place < length t.traced → t.stage ≡ Running place
+      → Own Q c ns met (record (traced_at t place) { marks = m })
       → ((q : ℕ) → q < length t.traced → q ≢ place → All Q (handles_of (traced_at t q))) → LooksAside a
       → Looks (with_aside (with_marks t place m) a)
   marked-looks t m a flags follow off within stage own others beside =
@@ -85,7 +94,7 @@ module _ (Q : ℕ → Type 0) (c ns place : ℕ) where
         off = off;
         within = omega (arith, within, length-set t.traced place u);
         stage = stage;
-        own = subst (Own Q c ns) (sym here) (record { control = own.control; status = own.status });
+        own = subst (Own Q c ns met) (sym here) own;
         flags = ap (λ (x : Traced). x.marks.flags) here ∙ flags;
         others = λ q inside apart.
             subst (λ (x : Traced). All Q (handles_of x)) (sym (get_or-set_other t.traced place q u nobody apart))
@@ -96,10 +105,10 @@ module _ (Q : ℕ → Type 0) (c ns place : ℕ) where
   -- ---- the breakpoint is met
 
   module _ (t : TrussState) (x : Exchange) (meets : MeetsBreakpoint t x place) (has : has_functions t.options ≡ true)
-      (follow : t.options.follow ≡ false) (own : Own Q c ns (traced_at t place))
+      (follow : t.options.follow ≡ false) (own : Own Q c ns met (met_at t place meets.l meets.function))
       (others : (q : ℕ) → q < length t.traced → q ≢ place → All Q (handles_of (traced_at t q))) where
     abbrev stepping : Marks
-    stepping = record (marks_at t place) { stepped = Some (step_of meets.l meets.function); flags = step_flags }
+    stepping = stepping_at t place meets.l meets.function
 
     abbrev stopped : TrussState
     stopped = with_stage (with_marks t place stepping) (Running place)
@@ -155,7 +164,7 @@ module _ (Q : ℕ → Type 0) (c ns place : ℕ) where
     ran-looks : (d : Call) → function_call_of t t.stage ≡ Some d → d ≡ message_call c (message.Run step_flags)
     unfolding function_call_of
     ran-looks d is =
-        let own : Own Q c ns (traced_at t place) = l.own in
+        let own : Own Q c ns met (traced_at t place) = l.own in
         sym (same_Some _ d (sym (ap (function_call_of t) l.stage) ∙ is))
         ∙ ap (λ m. message_call m (message.Run (traced_at t place).marks.flags)) own.control
         ∙ ap (λ f. message_call c (message.Run f)) l.flags
@@ -164,7 +173,7 @@ module _ (Q : ℕ → Type 0) (c ns place : ℕ) where
         → (d : Call) → call_beside t t.stage (Patching q plants lifts clear) ≡ Some d → Patched d
     unfolding call_beside
     aside-patches q plants lifts clear beside d is =
-        let own : Own Q c ns (traced_at t place) = l.own in
+        let own : Own Q c ns met (traced_at t place) = l.own in
         patch-looks (first_function plants) (first_function lifts) beside.1.0 d
         (ap (λ m. patch_call t.options m (first_function plants) (first_function lifts)) (sym own.control)
         ∙ ap (λ i. patch_call t.options (traced_at t i).control (first_function plants) (first_function lifts))
@@ -192,7 +201,7 @@ module _ (Q : ℕ → Type 0) (c ns place : ℕ) where
   pub data AfterLook (opts : Options) (r : Reply) (d : Call) (u : TrussState) : Type 0 where
     goes_on : Looks u → (function : ℕ) (code : List ℕ) → d ≡ write_code_call opts c function code
         → AfterLook opts r d u
-    is_away : Away Q c ns u → AfterLook opts r d u
+    is_away : Away Q c ns met u → AfterLook opts r d u
     has_ended : answer_of r ≡ Gone → AfterLook opts r d u
 
   module _ (t : TrussState) (l : Looks t) (has : has_functions t.options ≡ true) (r : Reply)
@@ -203,16 +212,27 @@ module _ (Q : ℕ → Type 0) (c ns place : ℕ) where
     abbrev unflagged : TrussState
     unflagged = with_marks t place (record (marks_at t place) { flags = 0 })
 
+    -- the process with other marks, but the same step under way
+    marked-own : (m : Marks) → m.stepped ≡ (marks_at t place).stepped
+        → Own Q c ns met (record (traced_at t place) { marks = m })
+    marked-own m same =
+        let own : Own Q c ns met (traced_at t place) = l.own in
+        let k : IsKnownAs met (traced_at t place) = own.known in
+        record {
+          control = own.control;
+          status = own.status;
+          known = record { pid = k.pid; old = k.old; seen = k.seen; stepped = same ∙ k.stepped };
+        }
+
     -- PCRUN
-    ran-away : t.aside ≡ Nothing → Away Q c ns (with_going_on unflagged)
+    ran-away : t.aside ≡ Nothing → Away Q c ns met (with_going_on unflagged)
     ran-away idle =
         let u : Traced = record (traced_at t place) { marks = record (marks_at t place) { flags = 0 } } in
         let here : at_place (slice_set t.traced place u) place ≡ u = set-at t.traced place u l.within in
-        let own : Own Q c ns (traced_at t place) = l.own in
-        going-away Q c ns unflagged l.follow l.off (λ q inside. elim (cases_eq q place) [
+        going-away Q c ns met unflagged l.follow l.off (λ q inside. elim (cases_eq q place) [
           | inl same ↦ inl
-              (subst (λ i. Own Q c ns (at_place (slice_set t.traced place u) i)) (sym same)
-              (subst (Own Q c ns) (sym here) (record { control = own.control; status = own.status })))
+              (subst (λ i. Own Q c ns met (at_place (slice_set t.traced place u) i)) (sym same)
+              (subst (Own Q c ns met) (sym here) (marked-own (record (marks_at t place) { flags = 0 }) refl)))
           | inr apart ↦ inr
               (subst (λ (x : Traced). All Q (handles_of x)) (sym (get_or-set_other t.traced place q u nobody apart))
               (l.others q (omega (arith, inside, length-set t.traced place u)) apart))
@@ -247,10 +267,11 @@ module _ (Q : ℕ → Type 0) (c ns place : ℕ) where
         beside = beside;
       }
 
-      marked-on : (m : Marks) → m.flags ≡ (marks_at t place).flags → (rest : Aside) → LooksAside rest
-          → Looks (with_aside (with_marks idle_now place m) rest)
-      marked-on m same rest beside =
-          marked-looks idle_now m rest (same ∙ l.flags) l.follow l.off l.within l.stage l.own l.others beside
+      marked-on : (m : Marks) → m.flags ≡ (marks_at t place).flags → m.stepped ≡ (marks_at t place).stepped
+          → (rest : Aside) → LooksAside rest → Looks (with_aside (with_marks idle_now place m) rest)
+      marked-on m same step rest beside =
+          marked-looks idle_now m rest (same ∙ l.flags) l.follow l.off l.within l.stage (marked-own m step) l.others
+          beside
 
       patch-after : (u : TrussState) (rest : Aside) (a : Answer) → answer_of r ≡ a → Looks (with_aside u rest)
           → After (after_patch u rest place (Running place) a)
@@ -268,7 +289,7 @@ module _ (Q : ℕ → Type 0) (c ns place : ℕ) where
 
       planted-after : (f : ℕ) (rest : Aside) (a : Answer) → LooksAside rest
           → Looks (with_aside (planted_if idle_now place f a) rest)
-      planted-after f rest Accepted beside = marked-on _ refl rest beside
+      planted-after f rest Accepted beside = marked-on _ refl refl rest beside
       planted-after f rest _ beside = kept-on rest beside
 
       first-after : (plants lifts : List Bool) (plant lift : Option ℕ)
@@ -278,7 +299,7 @@ module _ (Q : ℕ → Type 0) (c ns place : ℕ) where
           (planted-after f _ (answer_of r) (patching-looks (without_function plants f) lifts))
       first-after plants lifts None (Some f) =
           stage-after (without_planted idle_now place f) _
-          (marked-on _ refl _ (patching-looks plants (without_function lifts f)))
+          (marked-on _ refl refl _ (patching-looks plants (without_function lifts f)))
       first-after plants lifts None None = stage-after idle_now Nothing (kept-on Nothing tt)
 
       answered-after : (q : ℕ) (plants lifts : List Bool) (clear : Bool) → q ≡ place → clear ≡ false
@@ -306,20 +327,24 @@ module _ (Q : ℕ → Type 0) (c ns place : ℕ) where
         (sym (ap (λ b. cond b (call_beside t t.stage t.aside) (next_call_of t)) has) ∙ is))
 
 -- what is so of handles may change meanwhile
-pub looks-weaker : (Q R : ℕ → Type 0) (c ns place : ℕ) (t : TrussState) → ((m : ℕ) → Q m → R m)
-    → Looks Q c ns place t → Looks R c ns place t
-looks-weaker Q R c ns place t weaker l = record {
+pub looks-weaker : (Q R : ℕ → Type 0) (c ns : ℕ) (met : Traced) (place : ℕ) (t : TrussState)
+    → ((m : ℕ) → Q m → R m) → Looks Q c ns met place t → Looks R c ns met place t
+looks-weaker Q R c ns met place t weaker l = record {
   follow = l.follow;
   off = l.off;
   within = l.within;
   stage = l.stage;
-  own = let own : Own Q c ns (traced_at t place) = l.own in record { control = own.control; status = own.status };
+  own = let own : Own Q c ns met (traced_at t place) = l.own in record {
+    control = own.control;
+    status = own.status;
+    known = own.known;
+  };
   flags = l.flags;
   others = λ q inside apart. All-weaker Q R weaker (handles_of (traced_at t q)) (l.others q inside apart);
   beside = aside t.aside l.beside;
 }
   where
-    aside : (a : Aside) → LooksAside Q c ns place a → LooksAside R c ns place a
+    aside : (a : Aside) → LooksAside Q c ns met place a → LooksAside R c ns met place a
     aside Nothing is = tt
     aside (Patching q plants lifts clear) is = is
     aside _ is = absurd is

@@ -58,7 +58,7 @@ abbrev breaks : FunctionEvent → Option ℕ
 breaks (AtBreakpoint function) = Some function
 breaks _ = None
 
-abbrev completes : FunctionEvent → Option Stepped
+abbrev pub completes : FunctionEvent → Option Stepped
 completes (Completed step) = Some step
 completes _ = None
 
@@ -96,10 +96,10 @@ module _ (o : Options) (m : Marks) (id : ℕ) where
   found-at pc function is = standing-found (position (begins_at pc) o.functions) function is
 
   -- the event is FLTBPT at the address of the function
-  record Breaks (e : Event) (function : ℕ) : Type 0 where
-    pc : ℕ
-    is : e ≡ event.Incurred Bpt pc
-    found : position (begins_at pc) o.functions ≡ Some function
+  pub record Breaks (e : Event) (function : ℕ) : Type 0 where
+    pub pc : ℕ
+    pub is : e ≡ event.Incurred Bpt pc
+    pub found : position (begins_at pc) o.functions ≡ Some function
 
   fault-breaks : (f : Flt) (pc function : ℕ) → breaks (fault_event o m id f pc) ≡ Some function
       → Breaks (event.Incurred f pc) function
@@ -107,7 +107,7 @@ module _ (o : Options) (m : Marks) (id : ℕ) where
   fault-breaks Trace pc function is = absurd (none-some function (sym (trap-breaks m.stepped id) ∙ is))
   fault-breaks _ pc function is = absurd (none-some function is)
 
-  event-breaks : (e : Event) (function : ℕ) → function_event o m id e ≡ AtBreakpoint function → Breaks e function
+  pub event-breaks : (e : Event) (function : ℕ) → function_event o m id e ≡ AtBreakpoint function → Breaks e function
   unfolding function_event
   event-breaks (event.Entered call arguments) function is =
       absurd (none-some function (sym (choice-breaks (copies_memory call) BeforeCopy Other refl refl) ∙ ap breaks is))
@@ -119,11 +119,11 @@ module _ (o : Options) (m : Marks) (id : ℕ) where
   event-breaks (event.Incurred f pc) function is = fault-breaks f pc function (ap breaks is)
 
   -- the event is FLTTRACE of the lwp whose step is under way
-  record Completes (e : Event) (step : Stepped) : Type 0 where
-    pc : ℕ
-    is : e ≡ event.Incurred Trace pc
-    under_way : m.stepped ≡ Some step
-    own : step.lwp ≡ id
+  pub record Completes (e : Event) (step : Stepped) : Type 0 where
+    pub pc : ℕ
+    pub is : e ≡ event.Incurred Trace pc
+    pub under_way : m.stepped ≡ Some step
+    pub own : step.lwp ≡ id
 
   trap-completes : (o : Option Stepped) (step : Stepped) → completes (trap_event o id) ≡ Some step
       → (o ≡ Some step) × (step.lwp ≡ id)
@@ -144,7 +144,8 @@ module _ (o : Options) (m : Marks) (id : ℕ) where
       record { pc = pc; is = refl; under_way = it.0; own = it.1 }
   fault-completes _ pc step is = absurd (none-some step is)
 
-  event-completes : (e : Event) (step : Stepped) → completes (function_event o m id e) ≡ Some step → Completes e step
+  pub event-completes : (e : Event) (step : Stepped) → completes (function_event o m id e) ≡ Some step
+      → Completes e step
   unfolding function_event
   event-completes (event.Entered call arguments) step is =
       absurd (none-some step (sym (choice-completes (copies_memory call) BeforeCopy Other refl refl) ∙ is))
@@ -175,7 +176,7 @@ module _ (o : Options) where
     holds = w.holds;
   }
 
-  found-function : (pc function : ℕ) → position (begins_at pc) o.functions ≡ Some function
+  pub found-function : (pc function : ℕ) → position (begins_at pc) o.functions ≡ Some function
       → (f : Function) × ((slice_get o.functions function ≡ Some f) × (f.at ≡ pc))
   found-function pc function is = elim (slice_get_cases o.functions function).1 [
     | inl h ↦ (

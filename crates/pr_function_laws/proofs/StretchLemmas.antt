@@ -120,7 +120,7 @@ still-stops : (b c : Bool) → b ≡ true → (b || c) ≡ true
 still-stops true c is = refl
 still-stops false c is = cc
 
-frozen-halting : (p : TracedProcess) → IsFrozen p → IsHalting p
+pub frozen-halting : (p : TracedProcess) → IsFrozen p → IsHalting p
 frozen-halting p w = record {
   each = λ id l there. still-stops (stands_still l) l.control.directed (w.each id l there);
 }
@@ -142,11 +142,11 @@ data Goes (pid id : ℕ) (s : TracedSystem) : Type 0 where
   halts : (q : TracedProcess) → live_process s pid ≡ Some q → IsHalting q → StopsAtAll q.control → Goes pid id s
   ends : live_process s pid ≡ None → pid < s.made → Goes pid id s
 
-alone-settings : (p q : TracedProcess) → IsUndisturbed p q → StopsAtAll p.control → StopsAtAll q.control
+pub alone-settings : (p q : TracedProcess) → IsUndisturbed p q → StopsAtAll p.control → StopsAtAll q.control
 alone-settings p q alone all =
     subst StopsAtAll (sym (ap (λ (x : TracedProcess). x.control) alone.rest)) all
 
-alone-no-call : (p q : TracedProcess) (id : ℕ) (l k : TracedLwp) → IsUndisturbed p q → p.borrower ≡ None
+pub alone-no-call : (p q : TracedProcess) (id : ℕ) (l k : TracedLwp) → IsUndisturbed p q → p.borrower ≡ None
     → lwp_of p id ≡ Some l → lwp_of q id ≡ Some k → RunsNoCall p l → (q.borrower ≡ None) × RunsNoCall q k
 alone-no-call p q id l k alone lent here there none =
     let memory = alone.memory.own lent in
@@ -172,17 +172,17 @@ outlasts-halts pid id p u made halting all (outlast.lives q live alone) =
     halts q live (alone-halting p q alone halting) (alone-settings p q alone all)
 outlasts-halts pid id p u made halting all (outlast.killed z gone there status) = ends gone made
 
-stopped-settings : (other : ℕ) (p : TracedProcess) → StopsAtAll p.control
+pub stopped-settings : (other : ℕ) (p : TracedProcess) → StopsAtAll p.control
     → StopsAtAll (with_lwp_stopped other p).control
 unfolding with_lwp with_counted
 stopped-settings other p all = record { signals = all.signals; faults = all.faults; directs = all.directs }
 
-stopped-no-call : (other : ℕ) (p : TracedProcess) (k : TracedLwp) → RunsNoCall p k
+pub stopped-no-call : (other : ℕ) (p : TracedProcess) (k : TracedLwp) → RunsNoCall p k
     → RunsNoCall (with_lwp_stopped other p) k
 unfolding with_lwp with_counted
 stopped-no-call other p k none = record { is_none = none.is_none }
 
-stopped-lent : (other : ℕ) (p : TracedProcess) → (with_lwp_stopped other p).borrower ≡ p.borrower
+pub stopped-lent : (other : ℕ) (p : TracedProcess) → (with_lwp_stopped other p).borrower ≡ p.borrower
 unfolding with_lwp with_counted
 stopped-lent other p = refl
 
@@ -364,7 +364,7 @@ module _ (n k pid id number : ℕ) (s : TracedState) (lawful : IsLawful s) (sole
 
   -- ---- a call of the controller
 
-  named-acts : (c : Call) (m : ℕ) → names c m ≡ true → acts_by c ≡ Some m
+  pub named-acts : (c : Call) (m : ℕ) → names c m ≡ true → acts_by c ≡ Some m
   named-acts (call.Ctl handle bytes) m is = ap (λ i. Some i) (eqb-true handle m is)
   named-acts (call.Close handle) m is = ap (λ i. Some i) (eqb-true handle m is)
   named-acts _ m is = absurd (false≢true is)

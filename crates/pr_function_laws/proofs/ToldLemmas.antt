@@ -26,7 +26,7 @@ use Rattle.pr_function_laws.specs.Lifted.{TellsOfFault}
 
 -- ---- an lwp
 
-no-event : (s : LwpStatus) (suspended : Bool) (job : Option Sig)
+pub no-event : (s : LwpStatus) (suspended : Bool) (job : Option Sig)
     → option_and_then (event_for s) (reason_shown (cond suspended (Some Suspended) (shown_by_job job))) ≡ None
 unfolding reason_shown
 no-event s true job = refl
@@ -73,7 +73,7 @@ told-agent p e leads other = by (lwp_of p agent_id) refl
 
 -- ---- its process
 
-none-on : event_of no_lwp ≡ None
+pub none-on : event_of no_lwp ≡ None
 unfolding event_of no_lwp
 none-on = refl
 

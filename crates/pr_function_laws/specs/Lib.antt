@@ -1,8 +1,11 @@
+pub mod CalledTurns
 pub mod Calls
 pub mod Lifted
 pub mod Met
+pub mod Opened
 pub mod Returns
 pub mod Runs
 pub mod Soon
 pub mod Steps
 pub mod Stretches
+pub mod Turns

@@ -2,17 +2,22 @@
 //! nothing.
 #![tactic(auto)]
 
+mod called;
 mod lifted;
 mod lines;
 mod met;
+mod opened;
 mod returns;
 mod soon;
 mod steps;
 mod stretches;
+mod turns;
 
+pub use called::in_each_history_calls_are_turns;
 pub use lifted::a_breakpoint_is_lifted_for_one_lwp_alone;
 pub use lines::{each_reply_tells_at_most_one_call, the_calls_reported_are_those_told};
 pub use met::{each_call_told_was_met_at_its_breakpoint, the_calls_reported_were_met};
+pub use opened::{each_breakpoint_is_lifted_for_one_lwp_alone, what_truss_opened_it_traces_alone};
 pub use returns::a_breakpoint_is_planted_again_first;
 pub use soon::what_a_poll_named_is_soon_run_or_closed;
 pub use steps::{
@@ -22,4 +27,8 @@ pub use steps::{
 };
 pub use stretches::{
     a_process_that_is_stopped_on_an_event_is_frozen, no_other_lwp_begins_an_instruction,
+};
+pub use turns::{
+    a_call_told_is_the_one_turn_of_its_lwp, a_turn_whose_trap_is_read_is_told,
+    calls_have_their_turns_in_order,
 };

@@ -45,14 +45,16 @@ pub fn next_movable(
     next_ready(sys, movable, after, &CanMove(sys))
 }
 
-/// The sets at the start have all processes that were made. Process 0, which never has an lwp, is looked at here, so that
-/// it stands in no set and no walk comes to it.
+/// The sets at the start have all processes that were made. Each is looked at here, so that it leaves those in which it
+/// does not have to be: else each walk over those that sleep would come to it until it makes its first call.
 pub fn first_ready(sys: &Sys) -> Ready
     requires { IsLawfulSystem sys.now }
     ensures { AreReady sys.now result }
 {
     let mut ready = Ready::all(sys.made);
-    renew(&mut ready, sys, 0, &CanMove(sys));
+    for pid in 0..sys.made {
+        renew(&mut ready, sys, pid, &CanMove(sys));
+    }
     ready
 }
 

@@ -1,4 +1,4 @@
-use Rattle.std.proofs.Common.{◌≡◌, ◌+◌, ◌-◌, ◌<◌, ◌≤◌, ◌||◌, ◌==◌, ℕ, zero, suc, Bool, true, false, not, cond, ltb, List, [], ◌∷◌, ◌++◌, Option, Some, None, take, drop, length, inl, inr, refl, sym, ◌∙◌, ap, subst, arith, append_assoc, length-append}
+use Rattle.std.proofs.Common.{◌≡◌, ◌+◌, ◌-◌, ◌<◌, ◌≤◌, ◌||◌, ◌==◌, ℕ, zero, suc, Bool, true, false, not, cond, ltb, List, [], ◌∷◌, ◌++◌, Option, Some, None, take, drop, length, inl, inr, refl, sym, ◌∙◌, ap, subst, arith, append_assoc, append-nil, length-append}
 use Rattle.std.proofs.Math.Seq.{drop-length}
 use Rattle.std.proofs.lemmas.Bool.{cases_Bool, eqb-true}
 use Rattle.std.proofs.lemmas.Bool.Decides.{nat_tests}
@@ -11,7 +11,7 @@ use Rattle.pr_io.specs.Known.{with_front}
 use Rattle.pr_io.specs.Reading.{CameAbove}
 use Rattle.pr_num.proofs.NumberLemmas.{one_more}
 use Rattle.pr_num.proofs.TableLemmas.{list_any-no_place, position-within}
-use Rattle.pr_lines.specs.Lines.{TakenSoFar, TakesLine, TookHeld, TookLine, kept_of, line_bytes}
+use Rattle.pr_lines.specs.Lines.{ReadsToNewline, TakenSoFar, TakesLine, TookHeld, TookLine, kept_of, line_bytes, piece_bytes}
 use Rattle.pr_text.specs.TextLines.{is_newline, newline}
 
 -- ---- the first newline
@@ -203,3 +203,38 @@ come-above n limit old now above has = record {
   front = has.front;
   above = let many = has.many in omega (arith, many, above);
 }
+
+-- ---- what was read
+
+-- so far, before there was a newline
+pub record ReadSoFar (held : List ℕ) (old now : Option (List ℕ)) : Type 0 where
+  pub before : List ℕ
+  pub plain : list_any is_newline (held ++ before) ≡ false
+  pub front : old ≡ with_front before now
+
+pub read-none : (held : List ℕ) (old : Option (List ℕ)) → list_any is_newline held ≡ false → ReadSoFar held old old
+read-none held old plain = record {
+  before = [];
+  plain = ap (list_any is_newline) (append-nil held) ∙ plain;
+  front = sym (with_front-nil old);
+}
+
+read-front : (before piece : List ℕ) (old now new : Option (List ℕ)) → old ≡ with_front before now → now ≡ with_front piece new → old ≡ with_front (before ++ piece) new
+read-front before piece old now new far came = far ∙ ap (with_front before) came ∙ with_front-with_front before piece new
+
+pub read-more : (held piece : List ℕ) (old now new : Option (List ℕ)) → ReadSoFar held old now → now ≡ with_front piece new → list_any is_newline piece ≡ false → ReadSoFar held old new
+read-more held piece old now new far came plain = record {
+  before = far.before ++ piece;
+  plain = ap (list_any is_newline) (sym (append_assoc held far.before piece)) ∙ plain-more (held ++ far.before) piece far.plain plain;
+  front = read-front far.before piece old now new far.front came;
+}
+
+-- the last piece
+pub read-last : (held piece : List ℕ) (old now new : Option (List ℕ)) → ReadSoFar held old now → now ≡ with_front piece new → length piece ≤ piece_bytes → ReadsToNewline held old new
+read-last held piece old now new far came most = inr (record {
+  before = far.before;
+  plain = far.plain;
+  piece = piece;
+  most = most;
+  front = read-front far.before piece old now new far.front came;
+})

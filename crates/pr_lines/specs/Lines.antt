@@ -1,4 +1,4 @@
-use Rattle.std.specs.Prelude.{◌≡◌, ◌<◌, ◌+◌, ◌-◌, ◌⊎◌, ◌++◌, ℕ, Bool, true, false, List, [], ◌∷◌, Option, length, take}
+use Rattle.std.specs.Prelude.{◌≡◌, ◌<◌, ◌+◌, ◌-◌, ◌≤◌, ◌⊎◌, ◌++◌, ℕ, Bool, true, false, List, [], ◌∷◌, Option, length, take}
 use Rattle.std.specs.Io.KnownBytes.{IsAtEnd}
 use Rattle.std.specs.List.{list_any}
 use Rattle.pr_io.specs.Known.{with_front}
@@ -53,3 +53,22 @@ pub record TookLine (line : List ℕ) (old new : Option (List ℕ)) : Type 0 whe
 abbrev pub TakesLine : Bool → List ℕ → Option (List ℕ) → Option (List ℕ) → Type 0
 TakesLine true line old new = TookLine line old new
 TakesLine false line old new = (new ≡ old) × IsAtEnd new
+
+-- ---- what is read for it
+
+-- one read asks for so many bytes
+abbrev pub piece_bytes : ℕ
+piece_bytes = 65536
+
+-- More was read of a source, of whose bytes these were held: the last read came before there was a newline, and what it
+-- brought is no more than one read asks for.
+pub record ReadMore (held : List ℕ) (old new : Option (List ℕ)) : Type 0 where
+  pub before : List ℕ
+  pub plain : list_any is_newline (held ++ before) ≡ false
+  pub piece : List ℕ
+  pub most : length piece ≤ piece_bytes
+  pub front : old ≡ with_front (before ++ piece) new
+
+-- nothing was read, or only up to a newline
+abbrev pub ReadsToNewline : List ℕ → Option (List ℕ) → Option (List ℕ) → Type 0
+ReadsToNewline held old new = (new ≡ old) ⊎ ReadMore held old new

@@ -4,7 +4,7 @@ ghost use Rattle.std.specs.List.{list_any, position};
 ghost use Rattle.pr_io.specs.Faults.{Rose};
 ghost use Rattle.pr_io.specs.Known.{with_front};
 ghost use Rattle.pr_io.specs.Reading.{CameAbove};
-ghost use Rattle.pr_lines.specs.Lines.{TakesLine, TookHeld, line_bytes};
+ghost use Rattle.pr_lines.specs.Lines.{ReadsToNewline, TakesLine, TookHeld, line_bytes, piece_bytes};
 ghost use Rattle.pr_text.specs.TextLines.{is_newline};
 
 use pr_io::{ReadEnd, Source};
@@ -29,14 +29,14 @@ pub struct Lines {
 }
 
 impl Model for Lines {
-    ghost use Rattle.std.specs.Prelude.{◌<◌, drop, length};
-    ghost use Rattle.pr_lines.specs.Lines.{Held};
+    ghost use Rattle.std.specs.Prelude.{◌≡◌, drop, length};
+    ghost use Rattle.pr_lines.specs.Lines.{Held, piece_bytes};
 
     ghost Value = { Held };
 
     ghost view = { λ a. record { held = drop a.at a.bytes.items } };
 
-    ghost invariant = { λ a. 0 < length a.piece.items };
+    ghost invariant = { λ a. length a.piece.items ≡ piece_bytes };
 }
 
 /// The place of the first newline.
@@ -57,7 +57,7 @@ fn extend_line(line: &mut Vec<u8>, more: &[u8]) -> Result<(), NoMemory>
 }
 
 fn new_piece(alloc: Global) -> Result<Vec<u8>, NoMemory>
-    ensures { IfOk result (λ piece. 0 < length piece.items) }
+    ensures { IfOk result (λ piece. length piece.items ≡ piece_bytes) }
 {
     Ok(vec![in alloc; 0; PIECE]?)
 }
@@ -127,6 +127,7 @@ impl Lines {
         ensures came { OnOk result (S.left source.old ≡ with_front self.new.held (S.left source.new)) }
         ensures some { IfOk result (λ more. more ≡ true → 0 < length self.new.held) }
         ensures none { IfOk result (λ more. more ≡ false → self.new.held ≡ []) }
+        ensures most { OnOk result (length self.new.held ≤ piece_bytes) }
         ensures end { IfOk result (λ more. more ≡ false → IsAtEnd (S.left source.new)) }
         ensures failed { IsErrOf result ReadEnd.Failed → Rose (S.faults source.old) (S.faults source.new) }
         ensures no_fault { result ≢ Err ReadEnd.Failed → S.faults source.new ≡ S.faults source.old }
@@ -139,10 +140,12 @@ impl Lines {
     }
 
     /// Takes the next line, without its newline; the last one may lack it. Says whether there was a line. Of one with
-    /// more bytes than a line may have one byte more than that is kept. Nothing is read where a whole line is held.
+    /// more bytes than a line may have one byte more than that is kept. Nothing is read where a whole line is held, nor
+    /// once its end has come.
     pub fn next<S: Source>(&mut self, source: &mut S, line: &mut Vec<u8>) -> Result<bool, ReadEnd>
         ensures takes { IfOk result (λ there. TakesLine there line.new.items
             (with_front self.old.held (S.left source.old)) (with_front self.new.held (S.left source.new))) }
+        ensures read { OnOk result (ReadsToNewline self.old.held (S.left source.old) (S.left source.new)) }
         ensures unread { list_any is_newline self.old.held ≡ true → source.new ≡ source.old }
         // More bytes came than can be counted.
         ensures long { IsErrOf result ReadEnd.TooLong

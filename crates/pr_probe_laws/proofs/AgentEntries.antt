@@ -31,7 +31,7 @@ use Rattle.pr_truss_laws.proofs.StillLemmas.{row-directed, stop-settled, stopped
 use Rattle.pr_truss_laws.specs.Handles.{HasNoOtherWriter}
 use Rattle.pr_truss_laws.specs.Stills.{IsUndisturbed, stands_still, stopped_lwp, will_stop, with_lwp_stopped}
 use Rattle.pr_tool_laws.proofs.StandingLemmas.{IsOther}
-use Rattle.pr_probe_laws.proofs.AgentTurns.{IsReady}
+use Rattle.pr_probe_laws.proofs.AgentTurns.{IsReadyFor}
 
 -- What others do to a process with an agent, each other lwp of which stands still or will stop: the agent alone moves.
 
@@ -40,9 +40,10 @@ abbrev pub pends_as : TracedLwp → TracedLwp → TracedLwp
 pends_as l k = record l { pending = k.pending }
 
 -- What is left of such a process and its agent.
-pub record IsLeft (C : Result (List ℕ) BadByte → Type 0) (p : TracedProcess) (l : TracedLwp) (q : TracedProcess)
+pub record IsLeft (exit_set : ℕ) (C : Result (List ℕ) BadByte → Type 0) (p : TracedProcess) (l : TracedLwp)
+    (q : TracedProcess)
     : Type 0 where
-  pub ready : IsReady C q
+  pub ready : IsReadyFor exit_set C q
   pub fds : q.fds ≡ p.fds
   pub space : q.space ≡ p.space
   pub agent : TracedLwp
@@ -53,20 +54,21 @@ or-left : (a b : Bool) → a ≡ true → (a || b) ≡ true
 or-left true b is = refl
 or-left false b is = cc
 
-or-second : (a b c : Bool) → (a || b) ≡ true → (a || (b || c)) ≡ true
+pub or-second : (a b c : Bool) → (a || b) ≡ true → (a || (b || c)) ≡ true
 or-second true b c is = refl
 or-second false true c is = refl
 or-second false false c is = cc
 
-must-be : (a b : Bool) → (a || b) ≡ true → a ≡ false → b ≡ true
+pub must-be : (a b : Bool) → (a || b) ≡ true → a ≡ false → b ≡ true
 must-be true b is none = cc
 must-be false b is none = is
 
-false-if : (a : Bool) → (a ≡ true → ⊥) → a ≡ false
+pub false-if : (a : Bool) → (a ≡ true → ⊥) → a ≡ false
 false-if true never = absurd (never refl)
 false-if false never = refl
 
-module _ (C : Result (List ℕ) BadByte → Type 0) (p : TracedProcess) (ready : IsReady C p) (l : TracedLwp)
+module _ (exit_set : ℕ) (C : Result (List ℕ) BadByte → Type 0) (p : TracedProcess) (ready : IsReadyFor exit_set C p)
+    (l : TracedLwp)
     (there : lwp_of p agent_id ≡ Some l) where
   -- ---- others leave it alone but for signals
 
@@ -80,7 +82,7 @@ module _ (C : Result (List ℕ) BadByte → Type 0) (p : TracedProcess) (ready :
     its-agent : (m : TracedLwp) × ((lwp_of q agent_id ≡ Some m) × (l ≡ record m { pending = l.pending }))
     its-agent = lwp-alike p.lwps q.lwps (sym alone.same) agent_id l there
 
-    pub alone-left : IsLeft C p l q
+    pub alone-left : IsLeft exit_set C p l q
     alone-left = record {
       ready = record {
         no_signals = ap (λ (c : TracedControl). c.traced_signals) same-control ∙ ready.no_signals;
@@ -124,7 +126,7 @@ module _ (C : Result (List ℕ) BadByte → Type 0) (p : TracedProcess) (ready :
         by (inr differs) =
             ready.others other k not_agent (sym (under-change_under_other id other stopped_lwp differs p.lwps) ∙ at)
 
-    pub stop-left : IsLeft C p l (with_lwp_stopped id p)
+    pub stop-left : IsLeft exit_set C p l (with_lwp_stopped id p)
     unfolding with_counted with_lwp
     stop-left = record {
       ready = record {
@@ -166,63 +168,95 @@ module _ (C : Result (List ℕ) BadByte → Type 0) (p : TracedProcess) (ready :
 -- ---- whatever others do
 
 -- what may become of the process: it is left as it was, or its agent had a turn
-pub data Becomes (C : Result (List ℕ) BadByte → Type 0) (s : TracedSystem) (pid : ℕ) (p : TracedProcess)
+pub data Becomes (exit_set : ℕ) (C : Result (List ℕ) BadByte → Type 0) (s : TracedSystem) (pid : ℕ) (p : TracedProcess)
     (l : TracedLwp) (q : TracedProcess) : Type 0 where
-  is_left : IsLeft C p l q → Becomes C s pid p l q
+  is_left : IsLeft exit_set C p l q → Becomes exit_set C s pid p l q
   had_turn : (t : LwpTurn) → turn_of s pid agent_id ≡ Some t → live_process t.system pid ≡ Some q
-      → Becomes C s pid p l q
+      → Becomes exit_set C s pid p l q
 
-module _ (C : Result (List ℕ) BadByte → Type 0) (n : ℕ) (s : TracedState) (k pid : ℕ) (lawful : IsLawful s)
+module _ (exit_set : ℕ) (C : Result (List ℕ) BadByte → Type 0) (n : ℕ) (s : TracedState) (k pid : ℕ)
+    (lawful : IsLawful s)
     (sole : HasNoOtherWriter k pid s.opens) where
-  module _ (p : TracedProcess) (live : live_process s.system pid ≡ Some p) (ready : IsReady C p) (l : TracedLwp)
+  module _ (p : TracedProcess) (live : live_process s.system pid ≡ Some p) (ready : IsReadyFor exit_set C p)
+      (l : TracedLwp)
       (there : lwp_of p agent_id ≡ Some l) where
     elsewhere : (e : Entry) → IsLegalEntry n s e → ((id : ℕ) → e.actor ≢ Lwp pid id) → e.actor ≢ Controller k
-        → (q : TracedProcess) → live_process (after s e).system pid ≡ Some q → Becomes C s.system pid p l q
+        → (q : TracedProcess) → live_process (after s e).system pid ≡ Some q → IsLeft exit_set C p l q
     elsewhere e legal apart other q later =
         by (others-entry n s k pid e p lawful sole legal apart other live)
       where
-        by : Outlasts pid p (after s e).system → Becomes C s.system pid p l q
+        by : Outlasts pid p (after s e).system → IsLeft exit_set C p l q
         by (outlast.lives r at alone) =
-            subst (Becomes C s.system pid p l) (same_Some r q (sym at ∙ later))
-            (is_left (alone-left C p ready l there r alone))
+            subst (IsLeft exit_set C p l) (same_Some r q (sym at ∙ later))
+            (alone-left exit_set C p ready l there r alone)
         by (outlast.killed z none at status) = absurd (none-some q (sym none ∙ later))
 
+    -- a turn of another lwp
+    stop-turn : (id : ℕ) → id ≢ agent_id → (t : LwpTurn) → turn_of s.system pid id ≡ Some t → (q : TracedProcess)
+        → live_process t.system pid ≡ Some q → IsLeft exit_set C p l q
+    stop-turn id apart t turn q later =
+        let now = others-turn exit_set C p ready l there id apart s.system pid live t turn in
+        subst (IsLeft exit_set C p l) (same_Some (with_lwp_stopped id p) q (sym now ∙ later))
+        (stop-left exit_set C p ready l there id apart)
+
     own-turn : (id : ℕ) (t : LwpTurn) → turn_of s.system pid id ≡ Some t → (q : TracedProcess)
-        → live_process t.system pid ≡ Some q → Becomes C s.system pid p l q
+        → live_process t.system pid ≡ Some q → Becomes exit_set C s.system pid p l q
     own-turn id t turn q later = by (cases_eq id agent_id)
       where
-        by : (id ≡ agent_id) ⊎ (id ≢ agent_id) → Becomes C s.system pid p l q
+        by : (id ≡ agent_id) ⊎ (id ≢ agent_id) → Becomes exit_set C s.system pid p l q
         by (inl same) =
             had_turn t (ap (λ (i : ℕ). turn_of s.system pid i) (sym same) ∙ turn) later
-        by (inr apart) =
-            let now = others-turn C p ready l there id apart s.system pid live t turn in
-            subst (Becomes C s.system pid p l) (same_Some (with_lwp_stopped id p) q (sym now ∙ later))
-            (is_left (stop-left C p ready l there id apart))
+        by (inr apart) = is_left (stop-turn id apart t turn q later)
 
     pub others-become : (actor : Actor) (it : Act) → IsLegalEntry n s (record { actor = actor; act = it })
         → IsOther k actor it → (q : TracedProcess)
         → live_process (after s (record { actor = actor; act = it })).system pid ≡ Some q
-        → Becomes C s.system pid p l q
+        → Becomes exit_set C s.system pid p l q
     unfolding IsLegalEntry after
     others-become (Controller j) (act.Call c r) legal other q later =
-        elsewhere (record { actor = Controller j; act = act.Call c r }) legal (λ id same. cc) (λ same. other (cc)) q
-        later
+        is_left (elsewhere (record { actor = Controller j; act = act.Call c r }) legal (λ id same. cc)
+        (λ same. other (cc)) q later)
     others-become (Lwp acting id) (act.Turn turned) legal other q later = by (cases_eq acting pid)
       where
         t : LwpTurn
         t = record { system = legal.0; turned = turned }
 
-        by : (acting ≡ pid) ⊎ (acting ≢ pid) → Becomes C s.system pid p l q
+        by : (acting ≡ pid) ⊎ (acting ≢ pid) → Becomes exit_set C s.system pid p l q
         by (inl same) =
             let turn : turn_of s.system pid id ≡ Some t = ap (λ (m : ℕ). turn_of s.system m id) (sym same) ∙ legal.1 in
             own-turn id t turn q
             (ap (λ (o : Option LwpTurn). live_process (after_turn s o).system pid) (sym legal.1) ∙ later)
         by (inr differs) =
+            is_left (elsewhere (record { actor = Lwp acting id; act = act.Turn turned }) legal
+            (λ other_id same. differs (cc)) (λ same. cc) q later)
+    others-become Clock (act.Tick m) legal other q later =
+        is_left (elsewhere (record { actor = Clock; act = act.Tick m }) legal (λ id same. cc) (λ same. cc) q later)
+    others-become _ _ legal other q later = absurd legal
+
+    -- an entry that is no turn of its agent leaves it so
+    pub others-left : (actor : Actor) (it : Act) → IsLegalEntry n s (record { actor = actor; act = it })
+        → IsOther k actor it → actor ≢ Lwp pid agent_id → (q : TracedProcess)
+        → live_process (after s (record { actor = actor; act = it })).system pid ≡ Some q → IsLeft exit_set C p l q
+    unfolding IsLegalEntry after
+    others-left (Controller j) (act.Call c r) legal other no_agent q later =
+        elsewhere (record { actor = Controller j; act = act.Call c r }) legal (λ id same. cc) (λ same. other (cc)) q
+        later
+    others-left (Lwp acting id) (act.Turn turned) legal other no_agent q later = by (cases_eq acting pid)
+      where
+        t : LwpTurn
+        t = record { system = legal.0; turned = turned }
+
+        by : (acting ≡ pid) ⊎ (acting ≢ pid) → IsLeft exit_set C p l q
+        by (inl same) =
+            let turn : turn_of s.system pid id ≡ Some t = ap (λ (m : ℕ). turn_of s.system m id) (sym same) ∙ legal.1 in
+            stop-turn id (λ is. no_agent (ap (λ (m : ℕ). Lwp m id) same ∙ ap (λ (m : ℕ). Lwp pid m) is)) t turn q
+            (ap (λ (o : Option LwpTurn). live_process (after_turn s o).system pid) (sym legal.1) ∙ later)
+        by (inr differs) =
             elsewhere (record { actor = Lwp acting id; act = act.Turn turned }) legal
             (λ other_id same. differs (cc)) (λ same. cc) q later
-    others-become Clock (act.Tick m) legal other q later =
+    others-left Clock (act.Tick m) legal other no_agent q later =
         elsewhere (record { actor = Clock; act = act.Tick m }) legal (λ id same. cc) (λ same. cc) q later
-    others-become _ _ legal other q later = absurd legal
+    others-left _ _ legal other no_agent q later = absurd legal
 
   -- a process that lives later lived before
   pub lived-before : (made : pid < s.system.made) (actor : Actor) (it : Act)

@@ -1,4 +1,4 @@
-use Rattle.std.proofs.Common.{nat_le, nat_lt, ◌≡◌, ◌⊎◌, ◌&&◌, ◌+◌, ◌%◌, ◌^◌, ◌<◌, ◌≤◌, ◌∷◌, ◌++◌, ℕ, zero, suc, Bool, true, false, List, [], Option, Some, None, Result, Ok, Err, is_ok, length, refl, ap, ◌∙◌, inl, inr, arith}
+use Rattle.std.proofs.Common.{nat_le, nat_lt, ◌≡◌, ◌⊎◌, ◌&&◌, ◌+◌, ◌%◌, ◌^◌, ◌<◌, ◌≤◌, ◌∷◌, ◌++◌, ℕ, zero, suc, Bool, true, false, List, [], Option, Some, None, Result, Ok, Err, is_ok, length, refl, subst, ap, ◌∙◌, inl, inr, arith}
 use Rattle.std.proofs.lemmas.Bool.{and_parts, cases_Bool, leb-true, ltb-true}
 use Rattle.std.specs.Int.Bits.{and_zero_r}
 use Rattle.std.specs.List.{find}
@@ -138,3 +138,27 @@ first-bytes need space from (x ∷ xs) ys is =
         let head : b ≡ x = cc in
         let tail : zs ≡ xs ++ ys = cc in
         rw (first, rest (ap (λ (bs : List ℕ). Ok bs) tail), head) refl
+
+-- and so is what comes after it
+pub last-bytes : (need : ℕ) (space : Space) (from : ℕ) (xs ys : List ℕ) → from + length xs < 2 ^ 64
+    → bytes_for need space from (length (xs ++ ys)) ≡ Ok (xs ++ ys)
+    → bytes_for need space (from + length xs) (length ys) ≡ Ok ys
+unfolding bytes_for
+last-bytes need space from [] ys end is =
+    let same : from ≡ from + 0 = omega arith in
+    subst (λ (a : ℕ). bytes_for need space a (length ys) ≡ Ok ys) same is
+last-bytes need space from (x ∷ xs) ys end is =
+    let next : (from + 1) % 2 ^ 64 ≡ from + 1 = omega (arith, end) in
+    let tail =
+    of (byte_for need space from) (bytes_for need space ((from + 1) % 2 ^ 64) (length (xs ++ ys))) is in
+    let there =
+    last-bytes need space (from + 1) xs ys (omega (arith, end))
+    (subst (λ (a : ℕ). bytes_for need space a (length (xs ++ ys)) ≡ Ok (xs ++ ys)) next tail) in
+    let same : (from + 1) + length xs ≡ from + length (x ∷ xs) = omega arith in
+    subst (λ (a : ℕ). bytes_for need space a (length ys) ≡ Ok ys) same there
+  where
+    of : (r : Result ℕ BadByte) (zs : Result (List ℕ) BadByte) → one_more r zs ≡ Ok (x ∷ (xs ++ ys))
+        → zs ≡ Ok (xs ++ ys)
+    of (Err bad) zs it = absurd (cc)
+    of (Ok b) (Err bad) it = absurd (cc)
+    of (Ok b) (Ok zs) it = let tail : zs ≡ xs ++ ys = cc in ap (λ (bs : List ℕ). Ok bs) tail

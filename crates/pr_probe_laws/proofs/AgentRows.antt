@@ -97,7 +97,7 @@ unheld pending held g spares same least =
     ∙ ap (λ (w : ℕ). has_number (minus_word (pending_set pending) w) (signal_number g)) (sym same) ∙ has)
 
 -- SIGSTOP has its default action
-stop-stops : (dispositions : List ℕ) (g : Sig) → AreUncaught dispositions → g ≡ sig.Stop
+pub stop-stops : (dispositions : List ℕ) (g : Sig) → AreUncaught dispositions → g ≡ sig.Stop
     → action_for dispositions g ≡ act.Stop
 unfolding action_of default_action
 stop-stops dispositions g uncaught is =
@@ -105,12 +105,12 @@ stop-stops dispositions g uncaught is =
 
 -- ---- what the call gives
 
-unwatched : (kind at size : ℕ) → hit_in kind [] at size ≡ None
+pub unwatched : (kind at size : ℕ) → hit_in kind [] at size ≡ None
 unfolding hit_in
 unwatched kind at zero = refl
 unwatched kind at (suc size) = unwatched kind ((at + 1) % 2 ^ 64) size
 
-asks-code : (d : ℕ) → pc_of (asks d) ≡ text_base
+pub asks-code : (d : ℕ) → pc_of (asks d) ≡ text_base
 unfolding agent_registers
 asks-code d = refl
 
@@ -135,7 +135,7 @@ module _ (d : ℕ) (p : TracedProcess) (ready : IsReady IsPlanted p) where
       first-bytes prot_exec p.space text_base (instruction_bytes (Sys Fstat)) (instruction_bytes (Sys LwpExit))
       ready.code
 
-  comes-to-call : instruction_effect p.space p.control.areas (asks d) ≡ calls Fstat (moved_on (asks d))
+  pub comes-to-call : instruction_effect p.space p.control.areas (asks d) ≡ calls Fstat (moved_on (asks d))
   unfolding instruction_effect decoded executed
   comes-to-call =
       let code : bytes_for prot_exec p.space (pc_of (asks d)) 16 ≡ Ok (instruction_bytes (Sys Fstat)) =
@@ -148,12 +148,12 @@ module _ (d : ℕ) (p : TracedProcess) (ready : IsReady IsPlanted p) where
       ∙ ap (of_instruction p.space [] None (asks d)) fstat-read
 
 -- what fstat(2) does, of the descriptor that is asked for
-data Gives (d : ℕ) (files : FileTable) (p : TracedProcess) : Effect → Type 0 where
+pub data Gives (d : ℕ) (files : FileTable) (p : TracedProcess) : Effect → Type 0 where
   gives_errno : described files p.fds d ≡ Err BadFd → Gives d files p (does (Error Badf) [])
   gives_stat : (stat : Stat) → described files p.fds d ≡ Ok stat
       → Gives d files p (does (Value 0) (space_is (with_bytes stack_base (stat_words stat) p.space) ∷ []))
 
-fstat-gives : (d : ℕ) (files : FileTable) (p : TracedProcess) → IsReady IsPlanted p
+pub fstat-gives : (d : ℕ) (files : FileTable) (p : TracedProcess) → IsReady IsPlanted p
     → Gives d files p (fstat_effect files p.fds p.space d stack_base)
 unfolding fstat_effect described
 fstat-gives d files p ready = by (open_of files p.fds d) refl
@@ -162,6 +162,19 @@ fstat-gives d files p ready = by (open_of files p.fds d) refl
         → Gives d files p (fstat_effect files p.fds p.space d stack_base)
     by None is = rw is (gives_errno (rw is refl))
     by (Some found) is = rw (is, ready.stack) (gives_stat (stat_of files found.1) (rw is refl))
+
+-- it asks for the descriptor
+pub asked-effect : (d : ℕ) (s : TracedSystem) (pid : ℕ) (p : TracedProcess) (l : TracedLwp)
+    → l.regs ≡ moved_on (asks d)
+    → call_effect s pid p agent_id l s.clock Fstat (arguments l.regs)
+    ≡ fstat_effect s.files p.fds p.space d stack_base
+unfolding call_effect
+asked-effect d s pid p l asked =
+    ap (λ (regs : List ℕ).
+    fstat_effect s.files p.fds p.space (slice_index (arguments regs) 0) (slice_index (arguments regs) 1)) asked
+    ∙ ap (λ (fd : ℕ). fstat_effect s.files p.fds p.space fd (slice_index (arguments (moved_on (asks d))) 1))
+    (asks-for d)
+    ∙ ap (fstat_effect s.files p.fds p.space d) (asks-at d)
 
 -- the memory with its answer
 module _ (p : TracedProcess) (ready : IsReady IsPlanted p) (stat : Stat) where
@@ -469,17 +482,6 @@ module _ (d : ℕ) (s : TracedSystem) (pid : ℕ) (p : TracedProcess) (l : Trace
   unfolding with_space
   space-ended sp = refl
 
-  effect : l.regs ≡ moved_on (asks d)
-      → call_effect s pid p agent_id l s.clock Fstat (arguments l.regs)
-      ≡ fstat_effect s.files p.fds p.space d stack_base
-  unfolding call_effect
-  effect asked =
-      ap (λ (regs : List ℕ).
-      fstat_effect s.files p.fds p.space (slice_index (arguments regs) 0) (slice_index (arguments regs) 1)) asked
-      ∙ ap (λ (fd : ℕ). fstat_effect s.files p.fds p.space fd (slice_index (arguments (moved_on (asks d))) 1))
-      (asks-for d)
-      ∙ ap (fstat_effect s.files p.fds p.space d) (asks-at d)
-
   performs-call : (call : Sysno) (args : List ℕ) (since : ℕ) (woken : Bool) → IsInCall s l woken call args since
       → (q : TracedProcess)
       → live_process
@@ -525,7 +527,7 @@ module _ (d : ℕ) (s : TracedSystem) (pid : ℕ) (p : TracedProcess) (l : Trace
       by (calling entered asked) =
           let fstat : call ≡ Fstat = same-call call Fstat (sym is ∙ entered) in
           gave (call_effect s pid p agent_id l s.clock Fstat (arguments l.regs))
-          (subst (Gives d s.files p) (sym (effect asked)) (fstat-gives d s.files p ready))
+          (subst (Gives d s.files p) (sym (asked-effect d s pid p l asked)) (fstat-gives d s.files p ready))
           (subst (λ (c : Sysno).
           live_process
           (settled s pid p agent_id l

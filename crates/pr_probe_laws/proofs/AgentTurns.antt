@@ -112,17 +112,21 @@ IsFetchable r = is_ok r ≡ true
 abbrev pub IsPlanted : Result (List ℕ) BadByte → Type 0
 IsPlanted r = r ≡ Ok planted
 
--- Its process traces the exit of fstat(2) alone, watches nothing, has its memory to itself with room for its answer and
+-- Its process traces these exits alone, watches nothing, has its memory to itself with room for its answer and
 -- something that is so of its code, and each other lwp stands still or will stop.
-pub record IsReady (C : Result (List ℕ) BadByte → Type 0) (p : TracedProcess) : Type 0 where
+pub record IsReadyFor (exit_set : ℕ) (C : Result (List ℕ) BadByte → Type 0) (p : TracedProcess) : Type 0 where
   pub no_signals : p.control.traced_signals ≡ 0
   pub no_entries : p.control.traced_entries ≡ 0
-  pub exits : p.control.traced_exits ≡ agent_sets.exits
+  pub exits : p.control.traced_exits ≡ exit_set
   pub unwatched : p.control.areas ≡ []
   pub own : p.borrower ≡ None
   pub code : C (bytes_for prot_exec p.space text_base code_size)
   pub stack : can_write p.space stack_base 24 ≡ true
   pub others : (id : ℕ) (k : TracedLwp) → id ≢ agent_id → lwp_of p id ≡ Some k → will_stop k ≡ true
+
+-- so it is while descriptors are asked for: the exit of fstat(2) alone is traced
+abbrev pub IsReady : (Result (List ℕ) BadByte → Type 0) → TracedProcess → Type 0
+IsReady C p = IsReadyFor agent_sets.exits C p
 
 -- ---- what it was answered
 
@@ -159,7 +163,8 @@ module _ (f : TracedLwp → TracedLwp) (did : Did) (begun : Bool) (p x : TracedP
   abbrev pub later : TracedProcess
   later = with_counted did begun (with_lwp agent_id f x)
 
-  pub later-ready : (C : Result (List ℕ) BadByte → Type 0) → IsReady C p → IsReady C later
+  pub later-ready : {exit_set : ℕ} (C : Result (List ℕ) BadByte → Type 0) → IsReadyFor exit_set C p
+      → IsReadyFor exit_set C later
   unfolding with_counted with_lwp
   later-ready C ready = record {
     no_signals = ap (λ (c : TracedControl). c.traced_signals) like.control ∙ ready.no_signals;
@@ -194,7 +199,7 @@ module _ (f : TracedLwp → TracedLwp) (did : Did) (begun : Bool) (p x : TracedP
   later-control = refl
 
   -- a signal that is taken is not traced
-  pub later-signal : (C : Result (List ℕ) BadByte → Type 0) → IsReady C p → (g : Sig)
+  pub later-signal : {exit_set : ℕ} (C : Result (List ℕ) BadByte → Type 0) → IsReadyFor exit_set C p → (g : Sig)
       → after_meeting (Some (Signal g)) agent_id later ≡ later
   unfolding after_meeting is_traced
   later-signal C ready g =
@@ -204,7 +209,8 @@ module _ (f : TracedLwp → TracedLwp) (did : Did) (begun : Bool) (p x : TracedP
       ∙ ap (λ (b : Bool). cond b (with_stop_at (Signal g) agent_id later) later) (has_number-zero (signal_number g))
 
   -- nor is the entry of its call
-  pub later-entry : (C : Result (List ℕ) BadByte → Type 0) → IsReady C p → (call : Sysno)
+  pub later-entry : {exit_set : ℕ} (C : Result (List ℕ) BadByte → Type 0) → IsReadyFor exit_set C p
+      → (call : Sysno)
       → after_meeting (Some (Entry call)) agent_id later ≡ later
   unfolding after_meeting is_traced with_counted with_lwp
   later-entry C ready call =

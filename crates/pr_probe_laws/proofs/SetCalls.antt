@@ -1,4 +1,5 @@
 use Rattle.std.proofs.Common.{cond, ◌≡◌, ◌≢◌, ◌⊎◌, ◌<◌, ◌+◌, ◌∷◌, ◌++◌, ℕ, Bool, true, false, List, [], Option, Some, None, option_map, refl, sym, subst, ap, ◌∙◌, inl, inr, arith}
+use Rattle.std.proofs.lemmas.List.Elements.{All-nil}
 use Rattle.std.proofs.lemmas.Option.{none-some, same_Some}
 use Rattle.pr_api.specs.Entries.{call_entry}
 use Rattle.pr_core_laws.proofs.ReadLemmas.{status-gone, status-there}
@@ -21,6 +22,7 @@ use Rattle.pr_model.specs.declared.calls.Call.TheVariants as call
 use Rattle.pr_model.specs.declared.calls.File.TheVariants as file
 use Rattle.pr_model.specs.declared.calls.Reply.{Reply}
 use Rattle.pr_model.specs.declared.calls.Reply.TheVariants as reply
+use Rattle.pr_model.specs.declared.events.Act.TheVariants as act
 use Rattle.pr_model.specs.declared.events.Entry.{Entry}
 use Rattle.pr_num.proofs.ByIdLaws.{All-under}
 use Rattle.pr_num.specs.Limits.{read_limit}
@@ -65,7 +67,7 @@ use Rattle.pr_probe_laws.proofs.ProbeCalls.{asked-next, granted}
 use Rattle.pr_probe_laws.proofs.StatusSets.{bytes-given, proper-sets, same-system, keeps_system, status-sets}
 use Rattle.pr_probe_laws.proofs.SetMessages.{set-done, setting, still-lives, without-none}
 use Rattle.pr_probe_laws.proofs.SetStages.{AllBack, Began, EntriesBack, FaultsBack, Goes, HasLeft, IsFair, IsProper, Knows, Leaves, Looks, NoneBack, Noted, Put, SignalsBack, Untouched, Works, began-still, fair-front, found, left-still, noted-still, ranged-now}
-use Rattle.pr_probe_laws.specs.SetsBack.{WasTraced, sets_in_control, sets_on}
+use Rattle.pr_probe_laws.specs.SetsBack.{ClosesAtMost, HoldsControl, WasTraced, sets_in_control, sets_on}
 
 -- What a call of apfiles makes of what it knows of the traced sets.
 
@@ -410,9 +412,28 @@ module _ (k pid : ℕ) (first : TracedState) (h : List Entry) (c : Call) (a : An
 
   -- ---- its closes
 
+  its-control : {o : Opened} → HasFirst k pid 6 s.opens o → HoldsControl k pid s.opens
+  unfolding place_of lwp_of file_of mode_of
+  its-control first_files =
+      let control = first_files.each Control (omega arith) in
+      record {
+        number = control.number;
+        held = held_of k pid Control;
+        there = control.stands;
+        of = refl;
+        file = refl;
+      }
+
   closes : (p : ProbeState) → Leaves k pid first AllBack h s p ⊎ HasLeft k pid first h
       → option_map call.Close (last_open p.opened) ≡ Some c → HasLeft k pid first longer
-  closes p (inr left) same = left-still k pid first h it left
+  closes p (inr left) same = left-still k pid first h it (of (last_open p.opened) same) left
+    where
+      of : (o : Option ℕ) → option_map call.Close o ≡ Some c → ClosesAtMost k it
+      of None is d r call_is = absurd (none-some c is)
+      of (Some handle) is d r call_is =
+          let made : act.Call c a.reply ≡ act.Call d r = ap (λ (x : Entry). x.act) call_is in
+          let its : c ≡ d = cc in
+          record { handle = handle; is = sym its ∙ sym (same_Some (call.Close handle) c is) }
   closes p (inl going) same = of (last_open p.opened) same
     where
       of : (o : Option ℕ) → option_map call.Close o ≡ Some c → HasLeft k pid first longer
@@ -424,6 +445,8 @@ module _ (k pid : ℕ) (first : TracedState) (h : List Entry) (c : Call) (a : An
         reply = a.reply;
         after = [];
         place = ap (λ (d : Call). h ++ call_entry k d a.reply ∷ []) (sym (same_Some (call.Close handle) c is));
+        holds = its-control going.holds;
+        closes = All-nil (ClosesAtMost k);
         so = λ fair q live.
             let put = going.so fair in
             let was = put.notes.was in

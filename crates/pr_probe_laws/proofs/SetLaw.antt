@@ -31,7 +31,7 @@ use Rattle.pr_world.specs.Controllers.{after_reply, next_call}
 use Rattle.pr_world.specs.Protocol.{Follows, controllers_at}
 use Rattle.pr_probe_laws.proofs.SetCalls.{called-knows}
 use Rattle.pr_probe_laws.proofs.SetStages.{AllBack, HasLeft, Knows, Leaves, knows-still}
-use Rattle.pr_probe_laws.specs.SetsBack.{SetsBack}
+use Rattle.pr_probe_laws.specs.SetsBack.{HoldsControl, SetsBack}
 
 -- apfiles sets the traced sets back.
 
@@ -49,12 +49,12 @@ last-some o number first none = of (places_to_last o.handles) refl
 
 module _ (n k pid : ℕ) (first : TracedState) where
   -- apfiles at its stage in a lawful state, unless it was refused
-  IsProbeKnown : List Entry → ControllerState → Type 0
+  unfoldable pub IsProbeKnown : List Entry → ControllerState → Type 0
   IsProbeKnown h (Probe p) =
       IsLawful (state_after first h) × (p.refusal ≡ None → Knows k pid first h (state_after first h) p p.stage)
   IsProbeKnown h _ = ⊥
 
-  others-known : KeptByOthers n k first IsProbeKnown
+  pub others-known : KeptByOthers n k first IsProbeKnown
   unfolding IsProbeKnown
   others-known h (Probe p) actor it legal other kept =
       let e : Entry = record { actor = actor; act = it } in
@@ -66,7 +66,7 @@ module _ (n k pid : ℕ) (first : TracedState) where
       IsLawful s × (p.refusal ≡ None → Knows k pid first (h ++ e ∷ []) s p p.stage)) same (lawful, knows)
   others-known h _ actor it legal other kept = absurd kept
 
-  calls-known : KeptByCalls n k first IsProbeKnown
+  pub calls-known : KeptByCalls n k first IsProbeKnown
   unfolding IsProbeKnown next_call after_reply
   calls-known h (Probe p) c a next given kept =
       let u : ProbeState = fed p a.reply in
@@ -77,7 +77,7 @@ module _ (n k pid : ℕ) (first : TracedState) where
       (lawful, called-knows k pid first h c a kept.0 given p next kept.1)
   calls-known h _ c a next given kept = absurd kept
 
-  at_first : Knows k pid first [] first (first_probe pid) (first_probe pid).stage
+  pub at_first : Knows k pid first [] first (first_probe pid) (first_probe pid).stage
   unfolding Knows first_probe
   at_first = (refl, refl)
 
@@ -134,6 +134,8 @@ sets-back controllers n k pid s h p lawful ranged bytes starts legal follows end
           reply = left.reply;
           after = left.after;
           place = left.place ∙ ap (λ (es : List Entry). es ++ rest) b.place;
+          holds = subst (λ (es : List Entry). HoldsControl k pid (state_after s es).opens) b.place left.holds;
+          closes = left.closes;
           back = λ sole q live.
               left.so (record {
                 sole = sole;

@@ -1,4 +1,6 @@
 use Rattle.std.proofs.Common.{◌≡◌, ◌⊎◌, ◌<◌, ◌∷◌, ◌++◌, ℕ, List, [], Some, sym, subst, ap, ◌∙◌, inl, inr, arith}
+use Rattle.std.proofs.lemmas.List.Elements.{All-append, All-cons, All-nil}
+use Rattle.std.specs.List.{All}
 use Rattle.std.proofs.lemmas.List.{append_assoc, append-nil}
 use Rattle.pr_api.specs.Entries.{call_entry}
 use Rattle.pr_model.specs.Handles.{handle_of}
@@ -8,7 +10,9 @@ use Rattle.pr_model.specs.State.{TracedProcess, TracedState, TracedSystem, live_
 use Rattle.pr_model.specs.declared.calls.Call.TheVariants as call
 use Rattle.pr_model.specs.declared.calls.Reply.{Reply}
 use Rattle.pr_model.specs.declared.events.Act.{Act}
+use Rattle.pr_model.specs.declared.events.Act.TheVariants as act
 use Rattle.pr_model.specs.declared.events.Actor.{Actor}
+use Rattle.pr_model.specs.declared.events.Actor.TheVariants.{Controller, Lwp, Clock}
 use Rattle.pr_model.specs.declared.events.Entry.{Entry}
 use Rattle.pr_model.specs.declared.handles.Held.{Held}
 use Rattle.pr_probe.specs.ProbeStages.{place_of}
@@ -27,7 +31,7 @@ use Rattle.pr_truss_laws.specs.Handles.{HasNoOtherWriter}
 use Rattle.pr_probe_laws.proofs.FilePlaces.{HasFirst, held_of, keeps-first}
 use Rattle.pr_probe_laws.proofs.SetFrames.{others-sets}
 use Rattle.pr_probe_laws.proofs.SetMessages.{AreProper}
-use Rattle.pr_probe_laws.specs.SetsBack.{IsSoleIn, WasTraced, opening_entry, sets_on}
+use Rattle.pr_probe_laws.specs.SetsBack.{ClosesAtMost, HoldsControl, IsSoleIn, WasTraced, opening_entry, sets_on}
 
 -- The stages of apfiles, with what it knows of the sets by which its process was traced when it came.
 
@@ -145,6 +149,8 @@ module _ (k pid : ℕ) (first : TracedState) where
     pub reply : Reply
     pub after : List Entry
     pub place : h ≡ front ++ call_entry k (call.Close handle) reply ∷ after
+    pub holds : HoldsControl k pid (state_after first front).opens
+    pub closes : All (ClosesAtMost k) after
     pub so : IsFair front began → Untouched front began (state_after first front).system
 
   -- what is so at a stage of a probe that was not refused
@@ -183,14 +189,32 @@ module _ (k pid : ℕ) (first : TracedState) where
 
   -- ---- an entry later
 
-  pub left-still : (h : List Entry) (e : Entry) → HasLeft h → HasLeft (h ++ e ∷ [])
-  left-still h e it = record {
+  -- what others do is no call of its own
+  pub others-close : (actor : Actor) (it : Act) → IsOther k actor it
+      → ClosesAtMost k (record { actor = actor; act = it })
+  others-close (Controller j) (act.Call d v) other c r same =
+      absurd (other (let by : Controller j ≡ Controller k = ap (λ (x : Entry). x.actor) same in cc))
+  others-close (Controller j) (act.Turn t) other c r same =
+      absurd (let it : act.Turn t ≡ act.Call c r = ap (λ (x : Entry). x.act) same in cc)
+  others-close (Controller j) (act.Tick m) other c r same =
+      absurd (let it : act.Tick m ≡ act.Call c r = ap (λ (x : Entry). x.act) same in cc)
+  others-close (Lwp acting id) it other c r same =
+      absurd (let by : Lwp acting id ≡ Controller k = ap (λ (x : Entry). x.actor) same in cc)
+  others-close Clock it other c r same =
+      absurd (let by : Clock ≡ Controller k = ap (λ (x : Entry). x.actor) same in cc)
+
+  pub left-still : (h : List Entry) (e : Entry) → ClosesAtMost k e → HasLeft h → HasLeft (h ++ e ∷ [])
+  left-still h e close it = record {
     front = it.front;
     began = it.began;
     handle = it.handle;
     reply = it.reply;
     after = it.after ++ e ∷ [];
     place = place-still h it.front (call_entry k (call.Close it.handle) it.reply) it.after e it.place;
+    holds = it.holds;
+    closes =
+        All-append (ClosesAtMost k) it.after (e ∷ []) it.closes
+        (All-cons (ClosesAtMost k) e [] close (All-nil (ClosesAtMost k)));
     so = it.so;
   }
 
@@ -305,6 +329,6 @@ module _ (k pid : ℕ) (first : TracedState) where
     knows-still p (stage.Retrace Exits) so = leaves-on EntriesBack p so
     knows-still p stage.Run so = leaves-on AllBack p so
     knows-still p stage.Close (inl so) = inl (leaves-on AllBack p so)
-    knows-still p stage.Close (inr so) = inr (left-still h e so)
+    knows-still p stage.Close (inr so) = inr (left-still h e (others-close actor it other) so)
     knows-still p (stage.Restore kind) so = so
     knows-still p stage.Release so = so

@@ -80,6 +80,7 @@ use Rattle.pr_probe_laws.proofs.SetCalls.{back-on, control, control-stands, entr
 use Rattle.pr_probe_laws.proofs.SetMessages.{set-done, setting, still-lives}
 use Rattle.pr_probe_laws.proofs.SetStages.{AllBack, Began, EntriesBack, FaultsBack, IsFair, IsProper, NoneBack, SignalsBack, began-still, fair-front, since}
 use Rattle.pr_probe_laws.proofs.StatusSets.{bytes-given, same-system}
+use Rattle.pr_probe_laws.proofs.HiddenMessages.{agent-used}
 use Rattle.pr_probe_laws.proofs.TextMessages.{agent-made, agent-read, asked-agent, asked-so, changed-fds, changed-with, code-planted, kind-reads, made-with, planted-size, planted-with, read-stays, registers-read, run-agent, run-so}
 use Rattle.pr_probe_laws.proofs.TextReads.{agent-shows, agent-there, found-all, found-first, found-open, found-shut, kind-back, kind-noted, shows}
 use Rattle.pr_probe_laws.proofs.TextStages.{Asks, Comes, HasFound, HasShown, IsAll, IsAnsweredOf, IsAsked, IsAsking, IsBack, IsFree, IsKnown, IsMade, IsOut, IsRanged, IsToAsk, Making, Nothing, Reads, Runs, SameKinds, Stands, TellsKind, TracesSo, WithAgent, asking-front, found-still, making-still, on_its_way, ranged-now, shown-still}
@@ -272,6 +273,7 @@ module _ (k pid : ℕ) (first : TracedState) (h : List Entry) (c : Call) (a : An
           began = before.began;
           make = c;
           made = a.reply;
+          granted = agent-used s k file.number pid a stands accepts _ (asks 0) agent-read sent;
           asked = [];
           place = refl;
           makes = sends p 4 some before.holds (message.Agent (asks 0)) same;
@@ -389,22 +391,22 @@ module _ (k pid : ℕ) (first : TracedState) (h : List Entry) (c : Call) (a : An
   -- ---- by the agent's control file
 
   module _ (p : ProbeState) (holds : HasFirst k pid 6 s.opens p.opened) where
-    agent : HasFile k pid s.opens p.opened AgentControl
+    pub agent : HasFile k pid s.opens p.opened AgentControl
     unfolding place_of
     agent = holds.each AgentControl (omega arith)
 
-    agent-stands : handle_in s.opens k agent.number ≡ Some (agent_writer k pid)
+    pub agent-stands : handle_in s.opens k agent.number ≡ Some (agent_writer k pid)
     unfolding lwp_of file_of mode_of
     agent-stands = agent.stands
 
-    agent-sent : (bytes : List ℕ)
+    pub agent-sent : (bytes : List ℕ)
         → Some (call.Ctl (number_of (handle_at p.opened (place_of AgentControl))) bytes) ≡ Some c
         → answer_to s k (call.Ctl agent.number bytes) ≡ Some a
     agent-sent bytes same =
         ap (λ (x : Option ℕ). answer_to s k (call.Ctl (number_of x) bytes)) (sym agent.at)
         ∙ its k pid first h c a lawful given _ same
 
-    agent-polled : Some (call.Poll (number_of (handle_at p.opened (place_of AgentControl)) ∷ [])) ≡ Some c
+    pub agent-polled : Some (call.Poll (number_of (handle_at p.opened (place_of AgentControl)) ∷ [])) ≡ Some c
         → answer_to s k (call.Poll (agent.number ∷ [])) ≡ Some a
     agent-polled same =
         ap (λ (x : Option ℕ). answer_to s k (call.Poll (number_of x ∷ []))) (sym agent.at)

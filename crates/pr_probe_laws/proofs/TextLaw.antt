@@ -34,12 +34,12 @@ use Rattle.pr_probe_laws.specs.ShownDescriptors.{ShowsDescriptors, ShowsOneState
 
 module _ (n k pid : ℕ) (first : TracedState) where
   -- apfiles at its stage in a lawful state, unless it was refused
-  IsProbeReading : List Entry → ControllerState → Type 0
+  unfoldable pub IsProbeReading : List Entry → ControllerState → Type 0
   IsProbeReading h (Probe p) =
       IsLawful (state_after first h) × (p.refusal ≡ None → Reads k pid first h (state_after first h) p p.stage)
   IsProbeReading h _ = ⊥
 
-  others-read : KeptByOthers n k first IsProbeReading
+  pub others-read : KeptByOthers n k first IsProbeReading
   unfolding IsProbeReading
   others-read h (Probe p) actor it legal other kept =
       let e : Entry = record { actor = actor; act = it } in
@@ -51,7 +51,7 @@ module _ (n k pid : ℕ) (first : TracedState) where
       IsLawful s × (p.refusal ≡ None → Reads k pid first (h ++ e ∷ []) s p p.stage)) same (lawful, reads)
   others-read h _ actor it legal other kept = absurd kept
 
-  calls-read : KeptByCalls n k first IsProbeReading
+  pub calls-read : KeptByCalls n k first IsProbeReading
   unfolding IsProbeReading next_call after_reply
   calls-read h (Probe p) c a next given kept =
       let u : ProbeState = fed p a.reply in
@@ -62,7 +62,7 @@ module _ (n k pid : ℕ) (first : TracedState) where
       (lawful, called-reads k pid first h c a kept.0 given p next kept.1)
   calls-read h _ c a next given kept = absurd kept
 
-  at_first : Reads k pid first [] first (first_probe pid) (first_probe pid).stage
+  pub at_first : Reads k pid first [] first (first_probe pid) (first_probe pid).stage
   unfolding Reads first_probe
   at_first = (refl, refl, refl)
 

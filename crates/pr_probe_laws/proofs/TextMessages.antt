@@ -58,7 +58,7 @@ use Rattle.pr_probe_laws.specs.ShownDescriptors.{HasRoom}
 -- ---- how they are read
 
 -- a message that is spelt is read as it was meant
-spelt-reads : (m : Message) → All IsWord (operands m) → length (operands m) ≡ operand_count m → bad_operand m ≡ None
+pub spelt-reads : (m : Message) → All IsWord (operands m) → length (operands m) ≡ operand_count m → bad_operand m ≡ None
     → tail_length m ≡ 0 → ReadsAs m (first_message (spelling m []))
 spelt-reads m words count columns none =
     let bytes : List ℕ = spelling m [] in

@@ -15,6 +15,7 @@ use Rattle.pr_model.specs.State.{TracedLwp, TracedProcess, TracedState, TracedSy
 use Rattle.pr_model.specs.Stops.{has_event_stop}
 use Rattle.pr_model.specs.declared.calls.Call.{Call}
 use Rattle.pr_model.specs.declared.calls.Reply.{Reply}
+use Rattle.pr_model.specs.declared.calls.Reply.TheVariants as reply
 use Rattle.pr_model.specs.declared.events.Act.{Act}
 use Rattle.pr_model.specs.declared.events.Actor.{Actor}
 use Rattle.pr_model.specs.declared.events.Entry.{Entry}
@@ -219,7 +220,7 @@ module _ (l k : TracedLwp) (same : k ≡ pends_as l k) where
   }
 
 -- an lwp that stands has no turn
-stands-still : (s : TracedSystem) (pid : ℕ) (p : TracedProcess) (l : TracedLwp) → live_process s pid ≡ Some p
+pub stands-still : (s : TracedSystem) (pid : ℕ) (p : TracedProcess) (l : TracedLwp) → live_process s pid ≡ Some p
     → lwp_of p agent_id ≡ Some l → has_event_stop l ≡ true → (t : LwpTurn) → turn_of s pid agent_id ≡ Some t → ⊥
 unfolding is_held_back
 stands-still s pid p l live there stands t turn =
@@ -241,6 +242,7 @@ module _ (k pid : ℕ) (first : TracedState) where
     pub began : Began k pid first front
     pub make : Call
     pub made : Reply
+    pub granted : (used : ℕ) × (made ≡ reply.Used used)
     pub asked : List Entry
     pub place : h ≡ front ++ call_entry k make made ∷ asked
     pub makes : SendsTo k pid (message.Agent (agent_registers 0 text_base)) [] (state_after first front) make
@@ -256,6 +258,7 @@ module _ (k pid : ℕ) (first : TracedState) where
     began = m.began;
     make = m.make;
     made = m.made;
+    granted = m.granted;
     asked = m.asked ++ e ∷ [];
     place = place-still h m.front (call_entry k m.make m.made) m.asked e m.place;
     makes = m.makes;
@@ -267,7 +270,7 @@ module _ (k pid : ℕ) (first : TracedState) where
   abbrev pub whole : (h : List Entry) → Making h → List Entry
   whole h m = since k pid first m.front m.began ++ asking h m
 
-  whole-place : (h : List Entry) (m : Making h) → h ≡ m.began.before ++ whole h m
+  pub whole-place : (h : List Entry) (m : Making h) → h ≡ m.began.before ++ whole h m
   whole-place h m =
       m.place ∙ ap (λ (es : List Entry). es ++ asking h m) m.began.place
       ∙ append_assoc m.began.before (since k pid first m.front m.began) (asking h m)
@@ -501,7 +504,7 @@ module _ (k pid : ℕ) (first : TracedState) where
         so = λ ask q live.
             let front : IsAsking h before.making = asking-front h e before.making ask in
             let sole = sole-now h before.making front in
-            let was = lived-before IsPlanted n s k pid lawful sole made actor it legal q live in
+            let was = lived-before agent_sets.exits IsPlanted n s k pid lawful sole made actor it legal q live in
             on before.making ask was.0 q was.1 live (before.so front was.0 was.1);
       }
 
@@ -511,9 +514,9 @@ module _ (k pid : ℕ) (first : TracedState) where
       front = asking-front h e m ask
 
       becomes : (C : Result (List ℕ) BadByte → Type 0) → IsReady C x → (l : TracedLwp) → lwp_of x agent_id ≡ Some l
-          → Becomes C s.system pid x l q
+          → Becomes agent_sets.exits C s.system pid x l q
       becomes C ready l there =
-          others-become C n s k pid lawful (sole-now h m front) x before ready l there actor it legal other q later
+          others-become agent_sets.exits C n s k pid lawful (sole-now h m front) x before ready l there actor it legal other q later
 
       kinds : q.fds ≡ x.fds → SameKinds s.system.files x.fds next.system.files q.fds
       kinds same =
@@ -531,7 +534,7 @@ module _ (k pid : ℕ) (first : TracedState) where
           → WithAgent C P x → Rested C P
       rested C P alike stands w = by (becomes C w.ready w.agent w.there)
         where
-          by : Becomes C s.system pid x w.agent q → Rested C P
+          by : Becomes agent_sets.exits C s.system pid x w.agent q → Rested C P
           by (is_left left) = record {
             with_agent = record {
               ready = left.ready;
@@ -644,7 +647,7 @@ module _ (k pid : ℕ) (first : TracedState) where
           → FoundBefore lines d s.system x → IsOut lines d next.system q
       runs-still lines d w found = by (becomes IsPlanted w.ready w.agent w.there)
         where
-          by : Becomes IsPlanted s.system pid x w.agent q → IsOut lines d next.system q
+          by : Becomes agent_sets.exits IsPlanted s.system pid x w.agent q → IsOut lines d next.system q
           by (is_left left) = (
             inl (record {
               ready = left.ready;

@@ -1,12 +1,16 @@
+use Rattle.std.specs.List.{All}
 use Rattle.std.specs.Prelude.{◌≡◌, ℕ, List, ◌∷◌, ◌++◌, Some}
 use Rattle.pr_api.specs.Entries.{call_entry}
+use Rattle.pr_model.specs.Handles.{handle_of}
 use Rattle.pr_model.specs.Legal.{state_after}
-use Rattle.pr_model.specs.State.{TracedControl, TracedProcess, TracedState, TracedSystem, live_process}
+use Rattle.pr_model.specs.State.{Places, TracedControl, TracedProcess, TracedState, TracedSystem, live_process}
+use Rattle.pr_model.specs.declared.calls.Call.{Call}
 use Rattle.pr_model.specs.declared.calls.Call.TheVariants as call
 use Rattle.pr_model.specs.declared.calls.File.TheVariants as file
 use Rattle.pr_model.specs.declared.calls.Mode.TheVariants as mode
 use Rattle.pr_model.specs.declared.calls.Reply.{Reply}
 use Rattle.pr_model.specs.declared.events.Entry.{Entry}
+use Rattle.pr_model.specs.declared.handles.Held.{Held}
 use Rattle.pr_probe.specs.declared.traced_sets.TracedSets.{TracedSets}
 use Rattle.pr_truss_laws.specs.Handles.{HasNoOtherWriter}
 
@@ -33,6 +37,24 @@ pub record IsSoleIn (k pid : ℕ) (first : TracedState) (before between : List E
   pub each : (front back : List Entry) → between ≡ front ++ back
       → HasNoOtherWriter k pid (state_after first (before ++ front)).opens
 
+-- ---- how it leaves
+
+-- a controller has the control file of a process open
+pub record HoldsControl (k pid : ℕ) (opens : Places) : Type 0 where
+  pub number : ℕ
+  pub held : Held
+  pub there : handle_of opens k number ≡ Some held
+  pub of : held.pid ≡ pid
+  pub file : held.file ≡ file.Ctl
+
+-- an entry is no call of a controller but a close
+pub record IsClose (c : Call) : Type 0 where
+  pub handle : ℕ
+  pub is : c ≡ call.Close handle
+
+abbrev pub ClosesAtMost : ℕ → Entry → Type 0
+ClosesAtMost k e = (c : Call) (r : Reply) → e ≡ call_entry k c r → IsClose c
+
 -- ---- the sets are back
 
 -- the entry by which a controller opens the control file of a process, to send it messages
@@ -45,8 +67,9 @@ pub record WasTraced (pid : ℕ) (sets : TracedSets) (s : TracedSystem) : Type 0
   pub lived : live_process s pid ≡ Some process
   pub same : sets ≡ sets_on process
 
--- A controller has opened the control file of a process, and later closes a file. Where no other has that process open
--- for writing meanwhile, the process, if it lives then still, is traced by the sets by which it was traced before.
+-- A controller has opened the control file of a process, and later begins to close its files: it still has the control
+-- file open, and from then on it does nothing but close. Where no other has that process open for writing meanwhile,
+-- the process, if it lives then still, is traced by the sets by which it was traced before.
 pub record SetsBack (k pid : ℕ) (first : TracedState) (h : List Entry) : Type 0 where
   pub before : List Entry
   pub opened : Reply
@@ -56,6 +79,8 @@ pub record SetsBack (k pid : ℕ) (first : TracedState) (h : List Entry) : Type 
   pub after : List Entry
   pub place : h
       ≡ (before ++ opening_entry k pid opened ∷ later) ++ call_entry k (call.Close handle) reply ∷ after
+  pub holds : HoldsControl k pid (state_after first (before ++ opening_entry k pid opened ∷ later)).opens
+  pub closes : All (ClosesAtMost k) after
   pub back : IsSoleIn k pid first before (opening_entry k pid opened ∷ later) → (q : TracedProcess)
       → live_process (state_after first (before ++ opening_entry k pid opened ∷ later)).system pid ≡ Some q
       → WasTraced pid (sets_on q) (state_after first before).system

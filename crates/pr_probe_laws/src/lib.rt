@@ -1,12 +1,14 @@
 //! Laws of apfiles: what it writes over in the memory of a process it puts back, the sets by which a process is traced
-//! it sets back, and its text is that of one state. Each public function carries one law in its contract, and does
-//! nothing.
+//! it sets back, its text is that of one state, and programs see nothing of it where it is left alone. Each public
+//! function carries one law in its contract, and does nothing.
 #![tactic(auto)]
 
+mod hidden;
 mod one_state;
 mod put_back;
 mod sets_back;
 
+pub use hidden::apfiles_is_hidden;
 pub use one_state::apfiles_shows_one_state;
 pub use put_back::apfiles_puts_back_what_it_wrote_over;
 pub use sets_back::apfiles_sets_the_traced_sets_back;

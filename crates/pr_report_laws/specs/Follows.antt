@@ -1,4 +1,4 @@
-use Rattle.std.specs.Prelude.{◌≡◌, ◌≢◌, ◌<◌, ℕ, true, List, [], ◌∷◌, ◌++◌, Option, Some, All, length, map, option_and_then, slice_get, take}
+use Rattle.std.specs.Prelude.{◌≡◌, ◌≢◌, ◌<◌, ◌≤◌, ℕ, true, List, [], ◌∷◌, ◌++◌, Option, Some, All, length, map, option_and_then, slice_get, take}
 use Rattle.pr_model.specs.Replies.{bytes_in, handle_in}
 use Rattle.pr_model.specs.declared.calls.Call.{Call}
 use Rattle.pr_model.specs.declared.calls.Call.TheVariants as call
@@ -51,8 +51,10 @@ abbrev pub following_calls : ℕ → List Exchange → List Call
 following_calls child xs = child_calls child (handle_in (reply_at xs 0))
 
 -- None of its calls was refused before the last one, by which the child runs. The parent runs next; where the last
--- reply tells that the child has ended, the files of the child are closed before.
-pub record IsAttachedChild (child control : ℕ) (due : Option Call) (xs : List Exchange) : Type 0 where
+-- reply tells that the child has ended, the files of the child are closed before. Nothing is reported up to the first
+-- of these calls, whatever the last reply: that PCRUN was refused is passed over.
+pub record IsAttachedChild (child control : ℕ) (base reports : List Report) (due : Option Call)
+    (xs : List Exchange) : Type 0 where
   pub opening : List Exchange
   pub last : Exchange
   pub later : List Exchange
@@ -61,6 +63,7 @@ pub record IsAttachedChild (child control : ℕ) (due : Option Call) (xs : List 
   pub granted : All IsGranted opening
   pub lives : last.reply ≢ reply.Fail Noent → RunsThen due control [] later
   pub ended : last.reply ≡ reply.Fail Noent → RunsThen due control (with_opened_by [] opening) later
+  pub silent : length later ≤ 1 → reports ≡ base
 
 -- The opening up to its first call that was refused, which is not the last one.
 pub record IsRefusedFollowing (child : ℕ) (errno : Errno) (xs : List Exchange) : Type 0 where
@@ -102,7 +105,7 @@ pub record IsBegunChild (child : ℕ) (due : Option Call) (xs : List Exchange) :
 -- much then, and at the end of the exchanges it has reported so much and this call is due.
 pub data IsFollowedUp (child control : ℕ) (base reports : List Report) (due : Option Call)
     (xs : List Exchange) : Type 0 where
-  attached : IsAttachedChild child control due xs → IsFollowedUp child control base reports due xs
+  attached : IsAttachedChild child control base reports due xs → IsFollowedUp child control base reports due xs
   refused : IsRefusedChild child control base reports due xs → IsFollowedUp child control base reports due xs
   left : IsLeftChild child xs → IsFollowedUp child control base reports due xs
   begun : IsBegunChild child due xs → IsFollowedUp child control base reports due xs

@@ -1,4 +1,4 @@
-use Rattle.std.specs.Prelude.{◌≡◌, ◌==◌, ℕ, Bool, false, List, [], ◌∷◌, ◌++◌, None, Some, filter}
+use Rattle.std.specs.Prelude.{◌≡◌, ◌==◌, ◌⊎◌, ℕ, Bool, false, List, [], ◌∷◌, ◌++◌, None, Some, filter}
 use Rattle.pr_line.specs.declared.options.Options.{Options}
 use Rattle.pr_model.specs.State.{TracedState}
 use Rattle.pr_model.specs.declared.events.Entry.{Entry}
@@ -18,9 +18,10 @@ tells_refusal_of pid _ = false
 abbrev pub refusals_of : ℕ → List Report → List Report
 refusals_of pid reports = filter (tells_refusal_of pid) reports
 
--- While it has hold of a process it reports none, but where it is refused an open of that process, as where the words
--- name it twice.
+-- While it has hold of a process, and in the entry by which it gets hold of it, it reports none, but where it is
+-- refused an open of that process, as where the words name it twice.
 pub record TellsNoRefusalOfWhatItHolds (k : ℕ) (o : Options) (first : TracedState) (h : List Entry) : Type 0 where
   pub each : (before later : List Entry) (e : Entry) (x : Exchange) (pid : ℕ) → h ≡ before ++ e ∷ later
-      → exchange_of k e ≡ Some x → HasHold k o pid first before → opened_by x.call x.reply ≡ None
+      → exchange_of k e ≡ Some x → HasHold k o pid first before ⊎ HasHold k o pid first (before ++ e ∷ [])
+      → opened_by x.call x.reply ≡ None
       → refusals_of pid (truss_at k o (before ++ e ∷ [])).reports ≡ refusals_of pid (truss_at k o before).reports

@@ -13,12 +13,14 @@ pub mod HeldGrips
 pub mod HeldMemories
 pub mod HeldRefusals
 pub mod Holds
+pub mod LaterSends
 pub mod LineReads
 pub mod Lineages
 pub mod Memories
 pub mod Named
 pub mod Newborn
 pub mod OwnFiles
+pub mod OwnOpens
 pub mod Positions
 pub mod Reads
 pub mod Releases
@@ -28,6 +30,7 @@ pub mod SeenTo
 pub mod SetModes
 pub mod Shown
 pub mod ShownOnce
+pub mod SoonOpen
 pub mod ToldForks
 pub mod Unfollowed
 pub mod Watching

@@ -12,15 +12,7 @@ use Rattle.pr_truss.specs.Messages.{message_call, traced_exits}
 use Rattle.pr_truss_laws.specs.Exchanges.{Exchange}
 use Rattle.pr_truss_laws.specs.Soon.{IsNoPoll}
 
--- Truss runs just what a poll has named, and what it has opened.
-
--- The last poll among these exchanges was replied that this handle is ready.
-pub record WasNamedLast (handle : ℕ) (xs : List Exchange) : Type 0 where
-  pub before : List Exchange
-  pub handles : List ℕ
-  pub after : List Exchange
-  pub is : xs ≡ before ++ record { call = call.Poll handles; reply = reply.Ready handle } ∷ after
-  pub none : All IsNoPoll after
+-- Truss runs just what a poll has named, once for each poll, and what it has opened.
 
 -- The call that comes right before the PCRUN with which an opening ends: of a process that truss was given, and of the
 -- child of a fork.
@@ -29,11 +21,33 @@ pub data EndsOpening (o : Options) (control : ℕ) : Call → Type 0 where
   followed : EndsOpening o control (message_call control (message.Set fork_mode))
   as_child : {pid : ℕ} → EndsOpening o control (call.Open pid 0 Mem Read)
 
+-- These exchanges end with such a call, so that of the opening nothing is left but its PCRUN.
+pub record HasEnded (o : Options) (control : ℕ) (xs : List Exchange) : Type 0 where
+  pub earlier : List Exchange
+  pub last : Exchange
+  pub is : xs ≡ earlier ++ last ∷ []
+  pub ends : EndsOpening o control last.call
+
+-- Each PCRUN among the later of these exchanges, to whichever process, ends an opening.
+pub record RunsWhatItOpens (o : Options) (earlier later : List Exchange) : Type 0 where
+  pub each : (before after : List Exchange) (control : ℕ) (reply : Reply)
+      → later ≡ before ++ record { call = message_call control (message.Run 0); reply = reply } ∷ after
+      → HasEnded o control (earlier ++ before)
+
+-- The last poll among these exchanges was replied that this handle is ready, and since then nothing was run but what
+-- was opened. So no two runs are of one poll.
+pub record WasNamedLast (o : Options) (handle : ℕ) (xs : List Exchange) : Type 0 where
+  pub before : List Exchange
+  pub handles : List ℕ
+  pub after : List Exchange
+  pub is : xs ≡ before ++ record { call = call.Poll handles; reply = reply.Ready handle } ∷ after
+  pub none : All IsNoPoll after
+  pub once : RunsWhatItOpens o (before ++ record { call = call.Poll handles; reply = reply.Ready handle } ∷ []) after
+
 -- When truss runs a process by the handle of its control file.
 pub data MayRun (o : Options) (control : ℕ) (xs : List Exchange) : Type 0 where
-  named : WasNamedLast control xs → MayRun o control xs
-  opened : (earlier : List Exchange) (last : Exchange) → xs ≡ earlier ++ last ∷ [] → EndsOpening o control last.call
-      → MayRun o control xs
+  named : WasNamedLast o control xs → MayRun o control xs
+  opened : HasEnded o control xs → MayRun o control xs
 
 pub record RunsWhatWasNamed (o : Options) (xs : List Exchange) : Type 0 where
   pub each : (before after : List Exchange) (control : ℕ) (reply : Reply)

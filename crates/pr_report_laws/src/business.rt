@@ -5,9 +5,12 @@ ghost use Rattle.pr_model.specs.declared.events.Entry.{Entry};
 ghost use Rattle.pr_report_laws.specs.Asked.{AsksForItsLines, ReadsItsReplies, TracesWhatIsAsked, WritesOneMessage};
 ghost use Rattle.pr_report_laws.specs.Counted.{PrintsItsCounts};
 ghost use Rattle.pr_report_laws.specs.HeldRefusals.{TellsNoRefusalOfWhatItHolds};
+ghost use Rattle.pr_report_laws.specs.LaterSends.{SendsLittleLater};
 ghost use Rattle.pr_report_laws.specs.LineReads.{ReadsForItsLines};
 ghost use Rattle.pr_report_laws.specs.OwnFiles.{CallsItsFiles, ClosesAllThatEnded};
+ghost use Rattle.pr_report_laws.specs.OwnOpens.{OpensInPlace};
 ghost use Rattle.pr_report_laws.specs.ShownOnce.{ShowsStopsOnce, ShowsWhatIsNew, ShowsWhatItReads};
+ghost use Rattle.pr_report_laws.specs.SoonOpen.{PollsByItsFiles};
 ghost use Rattle.pr_truss.specs.Trusses.{first_truss};
 ghost use Rattle.pr_truss_laws.specs.Exchanges.{Exchange, Makes};
 ghost use Rattle.pr_truss_laws.specs.Runs.{IsTrussRun};
@@ -18,6 +21,33 @@ ghost use Rattle.pr_truss_laws.specs.Runs.{IsTrussRun};
 pub fn truss_calls_files_that_it_has_open()
     ensures { (n k : ℕ) (o : Options) (s : TracedState) (h : List Entry) → IsTrussRun n k o s h
         → CallsItsFiles k s h }
+{}
+
+/// In such a history truss opens a control file while it opens what it was given, before it has polled or was
+/// interrupted; or, where it follows children, right after the read that told it of the child, of a process of which it
+/// has hold and at a stop that is not old. Each other file of a process it opens right behind the file before it, whose
+/// open was granted.
+#[tactic(auto, using(crate::proofs::OwnFiles::PlacedOpens::placed_opens))]
+pub fn truss_opens_each_file_in_its_place()
+    ensures { (n k : ℕ) (o : Options) (s : TracedState) (h : List Entry) → IsTrussRun n k o s h
+        → OpensInPlace k o s h }
+{}
+
+/// In such a history truss sends, once it has polled or a wait of it was interrupted, nothing but these: PCRUN; PCSET
+/// PR_RLC right behind the granted open of the control file to which it goes; and, once it was interrupted, PCUNSET
+/// PR_FORK. Nor does it wait for a stop then.
+#[tactic(auto, using(crate::proofs::OwnFiles::SentLater::sent_later))]
+pub fn truss_sends_little_once_it_has_polled()
+    ensures { (n k : ℕ) (o : Options) (s : TracedState) (h : List Entry) → IsTrussRun n k o s h
+        → SendsLittleLater k h }
+{}
+
+/// In such a history truss polls again, or has finished, after at most 38 calls, 12 more for each control file that it
+/// has open, and as long as it has not polled 40 more for each process that its words name.
+#[tactic(auto, using(crate::proofs::OwnFiles::SoonOpens::soon_by_files))]
+pub fn truss_polls_soon_by_the_control_files_that_it_has_open()
+    ensures { (n k : ℕ) (o : Options) (s : TracedState) (h : List Entry) → IsTrussRun n k o s h
+        → PollsByItsFiles k o s h }
 {}
 
 /// In such a history, where a call of it to a process is refused with ENOENT, truss closes all files that it has of the
@@ -48,8 +78,8 @@ pub fn truss_prints_what_it_has_counted()
     ensures { (o : Options) (xs : List Exchange) → Makes (first_truss o) xs → PrintsItsCounts o xs }
 {}
 
-/// In such a history truss does not say that it cannot trace a process of which it has hold, but where it is refused an
-/// open of that process.
+/// In such a history truss does not say that it cannot trace a process of which it has hold, or gets hold in that
+/// entry, but where it is refused an open of that process.
 #[tactic(auto, using(crate::proofs::Asking::HeldRefused::held_refusals))]
 pub fn truss_tells_no_refusal_of_what_it_has_hold_of()
     ensures { (n k : ℕ) (o : Options) (s : TracedState) (h : List Entry) → IsTrussRun n k o s h

@@ -16,8 +16,8 @@ pub fn what_a_poll_named_is_run_or_closed_within_twelve_calls()
     ensures { (n k : ℕ) (o : Options) (s : TracedState) (h : List Entry) → IsTrussRun n k o s h → IsSoonDone k s h }
 {}
 
-/// Truss runs no other process than the one that a poll has named last, but where it ends an opening. This is so
-/// whatever it was replied.
+/// Truss runs no other process than the one that a poll has named last, and once for each poll, but where it ends an
+/// opening. This is so whatever it was replied.
 #[tactic(auto, using(crate::proofs::Asking::NamedRuns::named_runs))]
 pub fn truss_runs_what_a_poll_has_named()
     ensures { (o : Options) (xs : List Exchange) → Makes (first_truss o) xs → RunsWhatWasNamed o xs }

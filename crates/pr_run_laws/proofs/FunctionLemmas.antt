@@ -27,10 +27,16 @@ use Rattle.pr_truss.specs.Marks.{has_functions}
 use Rattle.pr_truss.specs.Replies.{answer_of}
 use Rattle.pr_truss.specs.declared.replies.Answer.TheVariants.{Interrupted}
 use Rattle.pr_truss_laws.specs.Exchanges.{exchange_of}
+use Rattle.pr_truss_laws.specs.Handles.{HasNothingOpen}
+use Rattle.pr_reached.specs.ByteHistories.{HasBytes}
+use Rattle.pr_reached.specs.Reached.{IsReached}
 use Rattle.pr_report_laws.proofs.Files.KeepLemmas.{can_wait}
 use Rattle.pr_report_laws.proofs.Files.WatchHistories.{answered-calm, exchange-answered}
 use Rattle.pr_function_laws.proofs.MetLemmas.{tells-calls}
+use Rattle.pr_function_laws.proofs.CalledLaws.{calls-are-turns}
+use Rattle.pr_function_laws.proofs.OpenedLaws.{holds-opened, lifts-alone}
 use Rattle.pr_function_laws.proofs.SoonLemmas.{soon-done}
+use Rattle.pr_function_laws.specs.Opened.{IsFunctionRun}
 use Rattle.pr_function_laws.specs.Runs.{MakesCalls, functions_after, replies_in}
 use Rattle.pr_function_laws.specs.Soon.{IsCalm, may_wait}
 use Rattle.pr_run_laws.specs.FunctionRuns.{IsFunctionTrussKept}
@@ -133,13 +139,26 @@ all-calm (e ∷ h) n s k legal =
     by (Some x) calm rest = All-cons IsCalm x (exchanges k h) (calm x refl) rest
 
 pub function-kept : (controllers : List ControllerState) (n : ℕ) (s : TracedState) (h : List Entry) (k : ℕ)
-    (o : Options) → slice_get controllers k ≡ Some (FnTruss (first_truss o)) → has_functions o ≡ true → IsLegal n s h
-    → Follows controllers s h → IsFunctionTrussKept controllers h k o
-function-kept controllers n s h k o at has legal follows =
+    (o : Options) → IsReached s → HasBytes h → HasNothingOpen k s
+    → slice_get controllers k ≡ Some (FnTruss (first_truss o)) → has_functions o ≡ true → IsLegal n s h
+    → Follows controllers s h → IsFunctionTrussKept controllers s h k o
+function-kept controllers n s h k o reached bytes none at has legal follows =
     let stays = function-stays h controllers s k (first_truss o) at follows in
+    let run : o.follow ≡ false → IsFunctionRun n k o s h =
+    λ follow. record {
+      has = has;
+      follows_none = follow;
+      lawful = reached.lawful;
+      nothing_open = none;
+      legal = legal;
+      makes = stays.0;
+    } in
     record {
       makes = stays.0;
       truss = stays.1;
       calls = tells-calls o (replies_in (exchanges k h)) has;
       soon = soon-done o (exchanges k h) has stays.0 (all-calm h n s k legal);
+      opens = λ follow. holds-opened n k o s h (run follow);
+      lifts = λ follow. lifts-alone n k o s h (run follow) reached bytes;
+      turns = λ follow. calls-are-turns n k o s h (run follow) reached bytes;
     }

@@ -16,6 +16,8 @@ use Rattle.pr_model.specs.declared.events.Entry.{Entry}
 use Rattle.pr_model.specs.declared.tools.ToolKind.{ToolKind}
 use Rattle.pr_model.specs.declared.tools.ToolKind.TheVariants.{Prun, Pstack, Pstop}
 use Rattle.pr_probe.specs.Probes.{first_probe}
+use Rattle.pr_hidden.proofs.FirstLemmas.{first-untouched}
+use Rattle.pr_probe_laws.proofs.HiddenLaw.{apfiles-hidden}
 use Rattle.pr_probe_laws.proofs.ProbeLaw.{puts-back}
 use Rattle.pr_probe_laws.proofs.SetLaw.{sets-back}
 use Rattle.pr_probe_laws.proofs.TextLaw.{shows-one}
@@ -45,7 +47,7 @@ use Rattle.pr_run_laws.specs.ScenarioRuns.{IsKept, controller_of, controllers_of
 use Rattle.pr_run_laws.specs.ScenarioRanges.{IsScenarioInRange}
 use Rattle.pr_run_laws.specs.CoreRuns.{IsGcoreKept}
 use Rattle.pr_run_laws.specs.FunctionRuns.{IsFunctionTrussKept}
-use Rattle.pr_run_laws.specs.ProbeRuns.{IsProbeKept}
+use Rattle.pr_run_laws.specs.ProbeRuns.{AreHidden, IsProbeKept}
 use Rattle.pr_run_laws.specs.ToolRuns.{IsToolKept}
 use Rattle.pr_run_laws.specs.Tracers.{IsTracer}
 use Rattle.pr_run_laws.specs.TrussRuns.{IsTrussKept}
@@ -133,13 +135,14 @@ trusses-kept s h range legal follows k o at bare =
     follows)
     (truss-plan s k o false at bare) (first-held s k) legal follows
 
-functions-kept : (s : Scenario) (h : List Entry) → IsLegal (length (controllers_of s)) (first_state_of s) h
-    → Follows (controllers_of s) (first_state_of s) h → (k : ℕ)
+functions-kept : (s : Scenario) (h : List Entry) → IsScenarioInRange s
+    → IsLegal (length (controllers_of s)) (first_state_of s) h → Follows (controllers_of s) (first_state_of s) h → (k : ℕ)
     (o : Options) → slice_get s.controllers k ≡ Some (plan.Truss o) → has_functions o ≡ true
-    → IsFunctionTrussKept (controllers_of s) h k o
-functions-kept s h legal follows k o at some =
-    function-kept (controllers_of s) (length (controllers_of s)) (first_state_of s) h k o
-    (truss-plan s k o true at some) some legal follows
+    → IsFunctionTrussKept (controllers_of s) (first_state_of s) h k o
+functions-kept s h range legal follows k o at some =
+    function-kept (controllers_of s) (length (controllers_of s)) (first_state_of s) h k o (state-reached s range)
+    (follows-bytes (controllers_of s) (length (controllers_of s)) (first_state_of s) h (state-reached s range)
+    range.bytes legal follows) (first-held s k) (truss-plan s k o true at some) some legal follows
 
 -- ---- tools
 
@@ -245,6 +248,19 @@ probes-kept s h range legal follows k pid at = record {
       (probe-first s k pid at) legal follows ends ended accepted;
 }
 
+-- programs see nothing of them where they are left alone
+hidden-kept : (s : Scenario) (h : List Entry) → IsScenarioInRange s → IsLegal (length (controllers_of s))
+    (first_state_of s) h → Follows (controllers_of s) (first_state_of s) h
+    → AreHidden (controllers_of s) (first_state_of s) h
+hidden-kept s h range legal follows = record {
+  hidden = λ who are.
+      let n = length (controllers_of s) in
+      let reached = state-reached s range in
+      apfiles-hidden n who (controllers_of s) (first_state_of s) h reached
+      (first-untouched s.programs (files_of s) s.spawns)
+      (follows-bytes (controllers_of s) n (first_state_of s) h reached range.bytes legal follows) legal follows are;
+}
+
 -- ---- runs
 
 -- the entries by which a world was led to from the first one are a run of the machine
@@ -267,10 +283,11 @@ led-kept s w range led =
           run.legal;
       transparent_without_scripts = transparent-tracers s led.entries run.legal run.follows;
       trusses = trusses-kept s led.entries range run.legal run.follows;
-      functions = functions-kept s led.entries run.legal run.follows;
+      functions = functions-kept s led.entries range run.legal run.follows;
       tools = tools-kept s led.entries range run.legal run.follows;
       cores = gcores-kept s led.entries range run.legal run.follows;
       probes = probes-kept s led.entries range run.legal run.follows;
+      hides = hidden-kept s led.entries range run.legal run.follows;
       programs = first-same (length (controllers_of s)) s.programs (files_of s) s.spawns led.entries range.start
           run.legal;
     } in

@@ -32,6 +32,9 @@ use Rattle.pr_report_laws.proofs.Asking.ReadShown.{shows-what-is-new}
 use Rattle.pr_report_laws.proofs.Asking.ShownLaws.{shows-read}
 use Rattle.pr_report_laws.proofs.OwnFiles.CalledFiles.{calls-files}
 use Rattle.pr_report_laws.proofs.OwnFiles.EndedFiles.{closes-ended}
+use Rattle.pr_report_laws.proofs.OwnFiles.PlacedOpens.{opens-in-place}
+use Rattle.pr_report_laws.proofs.OwnFiles.SentLater.{sends-later}
+use Rattle.pr_report_laws.proofs.OwnFiles.SoonOpens.{polls-by-files}
 use Rattle.pr_report_laws.proofs.Watching.BeginLaws.{finished-watches-none}
 use Rattle.pr_report_laws.proofs.Watching.EndLaws.{watched-let}
 use Rattle.pr_report_laws.proofs.UnopenedChildren.LeftChildren.{left-front}
@@ -331,6 +334,8 @@ truss-kept controllers n first h k o reached bytes at none legal follows =
       opens = record {
         handled = handled-so-far o (exchanges k h) stays.0;
         grips = λ pid. gripped-once n k o pid first h reached run bytes;
+        places = opens-in-place n k o first h run;
+        later = sends-later n k o first h run;
         calls = calls-files n k o first h run;
         refusals = tells-no-refusal n k o first h run;
       };
@@ -357,6 +362,7 @@ truss-kept controllers n first h k o reached bytes at none legal follows =
             left-unfollowed n k o pid first before e (entry-run n k o first h run before later e is) left;
         lets_go = let-go n k o first h run;
         ended = closes-ended n k o first h run;
+        polls = polls-by-files n k o first h run;
       };
       releases = record {
         releases = λ before later is. releases n k o first before (front-run n k o first h run before later is);

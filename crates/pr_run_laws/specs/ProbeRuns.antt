@@ -1,8 +1,11 @@
 use Rattle.std.specs.Prelude.{◌≡◌, ℕ, true, List, None, Some, slice_get}
+use Rattle.pr_hidden.specs.HiddenSteps.{IsHidden}
+use Rattle.pr_hidden.specs.Hiders.{Hiders}
 use Rattle.pr_model.specs.State.{TracedState}
 use Rattle.pr_model.specs.declared.events.Entry.{Entry}
 use Rattle.pr_probe.specs.ProbeText.{printed}
 use Rattle.pr_probe.specs.Probes.{ProbeState, has_ended}
+use Rattle.pr_probe_laws.specs.HiddenProbes.{AreLeftAlone}
 use Rattle.pr_probe_laws.specs.PutBack.{PutsBack}
 use Rattle.pr_probe_laws.specs.SetsBack.{SetsBack}
 use Rattle.pr_probe_laws.specs.ShownDescriptors.{ShowsOneState}
@@ -22,3 +25,9 @@ pub record IsProbeKept (controllers : List ControllerState) (first : TracedState
       → p.refusal ≡ None → SetsBack k pid first h
   pub shows : (p : ProbeState) → slice_get (controllers_at controllers h) k ≡ Some (Probe p) → has_ended p ≡ true
       → p.refusal ≡ None → ShowsOneState k pid first h (printed p)
+
+-- Programs see nothing of the apfiles that hide what they do in a history, on the conditions of AreLeftAlone: the steps
+-- that are not hidden are a run of the machine without controllers, and its trace is that of the history without what
+-- is hidden.
+pub record AreHidden (controllers : List ControllerState) (first : TracedState) (h : List Entry) : Type 0 where
+  pub hidden : (who : Hiders) → AreLeftAlone who controllers first h → IsHidden who first h

@@ -19,7 +19,7 @@ use Rattle.pr_truss.specs.Marks.{has_functions}
 use Rattle.pr_truss.specs.Trusses.{first_truss}
 use Rattle.pr_run_laws.specs.CoreRuns.{IsGcoreKept}
 use Rattle.pr_run_laws.specs.FunctionRuns.{IsFunctionTrussKept}
-use Rattle.pr_run_laws.specs.ProbeRuns.{IsProbeKept}
+use Rattle.pr_run_laws.specs.ProbeRuns.{AreHidden, IsProbeKept}
 use Rattle.pr_run_laws.specs.ToolRuns.{IsToolKept}
 use Rattle.pr_run_laws.specs.TrussRuns.{IsTrussKept}
 use Rattle.pr_world.specs.Protocol.{Follows}
@@ -72,12 +72,15 @@ first_world s = record {
 -- none shows calls of functions, the programs always did so.
 --
 -- Of a truss that shows calls of functions it is said which calls it makes and what it has learnt from their replies,
--- of which its text is a function. Each other truss has shown what was selected while it watched, on the conditions of
--- TrussRuns; it lets a process go for a reason alone, and releases it. When it has finished, it has attached what it
--- was given or reported its refusal, unless it was interrupted before; it has opened or set free each child of a fork
--- that it read and is to follow, or reported its refusal; and it has nothing open. What a tool shows stood so in one
--- state, whatever programs give its labels; what gcore prints is the core of one state, where others spare the process;
--- apfiles puts back what it writes over; and the programs of the machine are always those of the scenario.
+-- of which its text is a function; that it traces all of each process that it has opened, alone; and that it lifts a
+-- breakpoint for one lwp alone, where its read of it is as FunctionRuns says. Each other truss has shown what was
+-- selected while it watched, on the conditions of TrussRuns; it lets a process go for a reason alone, and releases it.
+-- When it has finished, it has attached what it was given or reported its refusal, unless it was interrupted before; it
+-- has opened or set free each child of a fork that it read and is to follow, or reported its refusal; and it has
+-- nothing open. What a tool shows stood so in one state, whatever programs give its labels; what gcore prints is the
+-- core of one state, where others spare the process; apfiles puts back what it writes over, and programs see nothing of
+-- it where it is left alone; and the programs of the
+-- machine are always those of the scenario.
 pub record IsKept (s : Scenario) (h : List Entry) : Type 0 where
   pub legal : IsLegal (length (controllers_of s)) (first_state_of s) h
   pub follows : Follows (controllers_of s) (first_state_of s) h
@@ -87,13 +90,14 @@ pub record IsKept (s : Scenario) (h : List Entry) : Type 0 where
   pub trusses : (k : ℕ) (o : Options) → slice_get s.controllers k ≡ Some (plan.Truss o) → has_functions o ≡ false
       → IsTrussKept (controllers_of s) (first_state_of s) h k o
   pub functions : (k : ℕ) (o : Options) → slice_get s.controllers k ≡ Some (plan.Truss o) → has_functions o ≡ true
-      → IsFunctionTrussKept (controllers_of s) h k o
+      → IsFunctionTrussKept (controllers_of s) (first_state_of s) h k o
   pub tools : (k : ℕ) (kind : ToolKind) (pid : ℕ) → slice_get s.controllers k ≡ Some (plan.Tool kind pid)
       → IsToolKept (controllers_of s) (first_state_of s) h k kind pid
   pub cores : (k pid : ℕ) → slice_get s.controllers k ≡ Some (plan.Gcore pid)
       → IsGcoreKept (controllers_of s) (first_state_of s) h k pid
   pub probes : (k pid : ℕ) → slice_get s.controllers k ≡ Some (plan.Probe pid)
       → IsProbeKept (controllers_of s) (first_state_of s) h k pid
+  pub hides : AreHidden (controllers_of s) (first_state_of s) h
   pub programs : (state_after (first_state_of s) h).system.programs ≡ s.programs
 
 -- ---- on one thread a run is a function of the scenario

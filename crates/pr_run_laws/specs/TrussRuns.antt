@@ -26,6 +26,8 @@ use Rattle.pr_report_laws.specs.Asked.{AsksForItsLines, ReadsItsReplies, TracesW
 use Rattle.pr_report_laws.specs.Counted.{PrintsItsCounts}
 use Rattle.pr_report_laws.specs.LineReads.{ReadsForItsLines}
 use Rattle.pr_report_laws.specs.OwnFiles.{CallsItsFiles, ClosesAllThatEnded}
+use Rattle.pr_report_laws.specs.LaterSends.{SendsLittleLater}
+use Rattle.pr_report_laws.specs.OwnOpens.{OpensInPlace}
 use Rattle.pr_report_laws.specs.ShownOnce.{ShowsStopsOnce, ShowsWhatIsNew, ShowsWhatItReads}
 use Rattle.pr_report_laws.specs.Lineages.{IsLeftToTruss}
 use Rattle.pr_report_laws.specs.Follows.{IsLeftChild}
@@ -43,6 +45,7 @@ use Rattle.pr_report_laws.specs.Newborn.{IsNoTurnOf, WasForked, WasSpawned}
 use Rattle.pr_report_laws.specs.RunsNamed.{RunsWhatWasNamed}
 use Rattle.pr_report_laws.specs.SetModes.{HasSetRelease}
 use Rattle.pr_report_laws.specs.Shown.{selected, LwpEvent, shown}
+use Rattle.pr_report_laws.specs.SoonOpen.{PollsByItsFiles}
 use Rattle.pr_report_laws.specs.ToldForks.{FollowsChild, FreesChild, ReadsChild, ReadsLastChild}
 use Rattle.pr_truss_laws.specs.Exchanges.{Exchange, Makes, errno_in, exchange_of, exchanges, truss_at}
 use Rattle.pr_truss_laws.specs.Given.{IsHandled, IsHandledSoFar}
@@ -142,11 +145,16 @@ pub record Releases (k : ℕ) (o : Options) (first : TracedState) (h : List Entr
 
 -- Truss opens, in their order, the processes that it was given, as far as it has come: each is attached, or its refusal
 -- is reported. It gets hold of a process by the whole opening of it, at most once, and from the wait of the opening on
--- the process does nothing until truss has hold of it. It calls no file but those that it has open, and does not say of
--- a process of which it has hold that it cannot trace it.
+-- the process does nothing until truss has hold of it. It opens each file in its place: those of what it was given
+-- before it polls, those of a child right after the read that told of it, and each behind the one before it. Once it
+-- has polled, or was interrupted, it sends nothing but PCRUN, PR_RLC of a child just opened, and that it follows no more
+-- children of what it leaves. It calls no file but those that it has open, and does not say of a process of which it has
+-- hold that it cannot trace it.
 pub record OpensItsOwn (k : ℕ) (o : Options) (first : TracedState) (h : List Entry) : Type 0 where
   pub handled : IsHandledSoFar o (next_call_of (truss_at k o h)) o.program (truss_at k o h).reports (exchanges k h)
   pub grips : (pid : ℕ) → HasOneGrip k o pid first h
+  pub places : OpensInPlace k o first h
+  pub later : SendsLittleLater k h
   pub calls : CallsItsFiles k first h
   pub refusals : TellsNoRefusalOfWhatItHolds k o first h
 
@@ -186,10 +194,11 @@ pub record FollowsItsChildren (k : ℕ) (o : Options) (first : TracedState) (h :
 -- ---- what it runs and lets go
 
 -- Right after a poll has named a process truss reads its status, and at most twelve calls after the poll it runs the
--- process, or closes a file of it. Where it does not end an opening it runs just what the last poll has named. Where it
--- lets a process go, the process has ended, or truss was interrupted. Before its last look at a process that it leaves
--- it has the children of that process followed no more. Of what has ended it closes all its files before it calls
--- anything else.
+-- process, or closes a file of it. Where it does not end an opening it runs just what the last poll has named, and once
+-- for each poll. Where it lets a process go, the process has ended, or truss was interrupted. Before its last look at a
+-- process that it leaves it has the children of that process followed no more. Of what has ended it closes all its files
+-- before it calls anything else. How many calls come at most before it polls is told by the control files that it has
+-- open.
 pub record LetsItsProcessesGo (k : ℕ) (o : Options) (first : TracedState) (h : List Entry) : Type 0 where
   pub soon : IsSoonDone k first h
   pub looks : LooksAtWhatIsNamed k first h
@@ -199,6 +208,7 @@ pub record LetsItsProcessesGo (k : ℕ) (o : Options) (first : TracedState) (h :
   pub lets_go : (before later : List Entry) (e : Entry) (pid : ℕ) → h ≡ before ++ e ∷ later
       → HasHold k o pid first before → LetsGoIn k pid first before e → IsLetGo k pid first before e
   pub ended : ClosesAllThatEnded k first h
+  pub polls : PollsByItsFiles k o first h
 
 -- ---- what it releases
 

@@ -48,18 +48,11 @@ use Rattle.pr_truss_laws.proofs.ReplySteps.{Closes, GoesOn, Learns, Looks, Opens
 use Rattle.pr_truss_laws.specs.Exchanges.{Exchange, Makes}
 use Rattle.pr_truss_laws.specs.Soon.{IsNoPoll}
 use Rattle.pr_report_laws.proofs.Watching.NamedSoon.{poll-stage}
-use Rattle.pr_report_laws.specs.RunsNamed.{EndsOpening, MayRun, RunsWhatWasNamed, WasNamedLast, as_child, followed, named, opened, traced}
+use Rattle.pr_report_laws.specs.RunsNamed.{EndsOpening, HasEnded, MayRun, RunsWhatItOpens, RunsWhatWasNamed, WasNamedLast, as_child, followed, named, opened, traced}
 
 -- Truss runs just what a poll has named, and what it has opened.
 
 -- ---- what is known at a stage
-
--- these exchanges end with the call that comes before the PCRUN of an opening
-pub record HasEnded (o : Options) (control : ℕ) (xs : List Exchange) : Type 0 where
-  pub earlier : List Exchange
-  pub last : Exchange
-  pub is : xs ≡ earlier ++ last ∷ []
-  pub ends : EndsOpening o control last.call
 
 abbrev AtStart : Options → ℕ → List Exchange → OpeningStep → Type 0
 AtStart o control xs opening.Start = HasEnded o control xs
@@ -69,21 +62,74 @@ abbrev AtChildStart : Options → ℕ → List Exchange → ChildStep → Type 0
 AtChildStart o control xs child.Start = HasEnded o control xs
 AtChildStart o control xs _ = Unit {0}
 
-abbrev NamedAt : List Exchange → List Traced → ℕ → Type 0
-NamedAt xs ts place = WasNamedLast (at_place ts place).control xs
+abbrev NamedAt : Options → List Exchange → List Traced → ℕ → Type 0
+NamedAt o xs ts place = WasNamedLast o (at_place ts place).control xs
 
 abbrev Aware : Options → List Exchange → Bool → List Traced → Stage → Type 0
 Aware o xs leaving ts (Opening place now) = AtStart o (at_place ts place).control xs now
-Aware o xs leaving ts (ReadingStatus place) = NamedAt xs ts place
-Aware o xs leaving ts (ReadingText place l from len) = (leaving ≡ true) ⊎ NamedAt xs ts place
-Aware o xs leaving ts (OpeningChildControl parent pid) = NamedAt xs ts parent
+Aware o xs leaving ts (ReadingStatus place) = NamedAt o xs ts place
+Aware o xs leaving ts (ReadingText place l from len) = (leaving ≡ true) ⊎ NamedAt o xs ts place
+Aware o xs leaving ts (OpeningChildControl parent pid) = NamedAt o xs ts parent
 Aware o xs leaving ts (OpeningChild parent place now) =
-    NamedAt xs ts parent × AtChildStart o (at_place ts place).control xs now
-Aware o xs leaving ts (Running place) = NamedAt xs ts place
-Aware o xs leaving ts (Closing place (RunParent parent)) = NamedAt xs ts parent
+    NamedAt o xs ts parent × AtChildStart o (at_place ts place).control xs now
+Aware o xs leaving ts (Running place) = NamedAt o xs ts place
+Aware o xs leaving ts (Closing place (RunParent parent)) = NamedAt o xs ts parent
 Aware o xs leaving ts Unfollowing = leaving ≡ true
 Aware o xs leaving ts ReadingLwps = leaving ≡ true
 Aware o xs leaving ts _ = Unit {0}
+
+-- ---- what is no PCRUN
+
+-- the first byte of what a call writes is the code of its message
+abbrev first_byte : Call → Option ℕ
+first_byte (call.Ctl handle bytes) = slice_get bytes 0
+first_byte _ = None
+
+code-first : (control : ℕ) (m : Message) → first_byte (message_call control m) ≡ Some (message_code m)
+unfolding message_code operands word_bytes
+code-first control message.Stop = refl
+code-first control _ = refl
+
+-- so no other message is PCRUN
+module _ (control : ℕ) where
+  other-message : {A : Type 0} (c : ℕ) (m : Message) → (message_code m == message_code (message.Run 0)) ≡ false
+      → message_call c m ≡ message_call control (message.Run 0) → A
+  other-message c m other is =
+      let code : message_code m ≡ message_code (message.Run 0) =
+      same_Some _ _ (sym (code-first c m) ∙ ap first_byte is ∙ code-first control (message.Run 0)) in
+      absurd (false≢true (sym other ∙ eq-eqb (message_code m) (message_code (message.Run 0)) code))
+
+  same-control : {a : ℕ} → message_call a (message.Run 0) ≡ message_call control (message.Run 0) → a ≡ control
+  same-control is = cc
+
+child-ends : (o : Options) (xs : List Exchange) (control : ℕ) (t : Traced) (now : ChildStep)
+    → AtChildStart o t.control xs now → child_call t now ≡ message_call control (message.Run 0) → HasEnded o control xs
+unfolding child_call message_code
+child-ends o xs control t child.Start a is = subst (λ n. HasEnded o n xs) (same-control control is) a
+child-ends o xs control t child.SetRelease a is = other-message control t.control (message.Set rlc_mode) refl is
+child-ends o xs control t child.OpenStatus a is = cc
+child-ends o xs control t child.OpenLstatus a is = cc
+child-ends o xs control t child.OpenMemory a is = cc
+
+none-within : {A : Type 0} (before after : List Exchange) (y : Exchange) → [] ≡ before ++ y ∷ after → A
+none-within [] after y is = cc
+none-within (z ∷ before) after y is = cc
+
+-- What is at a place in a list with one element more is that one, or is in the list.
+last-or : {A : Type 0} (xs before after : List Exchange) (x y : Exchange) → xs ++ x ∷ [] ≡ before ++ y ∷ after
+    → (xs ≡ before → x ≡ y → A) → ((rest : List Exchange) → xs ≡ before ++ y ∷ rest → A) → A
+last-or [] [] after x y is last inside = last refl cc
+last-or [] (z ∷ []) after x y is last inside = cc
+last-or [] (z ∷ (w ∷ before)) after x y is last inside = cc
+last-or (z ∷ xs) [] after x y is last inside = inside xs cc
+last-or (z ∷ xs) (w ∷ before) after x y is last inside =
+    let below : xs ++ x ∷ [] ≡ before ++ y ∷ after = cc in
+    last-or xs before after x y below
+    (λ (all : xs ≡ before) (one : x ≡ y). last (with-front all) one)
+    (λ (rest : List Exchange) (at : xs ≡ before ++ y ∷ rest). inside rest (with-front at))
+  where
+    with-front : {ys : List Exchange} → xs ≡ ys → z ∷ xs ≡ w ∷ ys
+    with-front same_rest = let same : z ≡ w = cc in cc
 
 -- ---- one exchange more
 
@@ -105,16 +151,55 @@ module _ (o : Options) (xs : List Exchange) (s : TrussState) (x : Exchange) (sam
     other = λ handles is. other ((poll-stage s handles stage (called stage at ∙ ap Some is)).0);
   }
 
-  named-on : (control : ℕ) → IsNoPoll x → WasNamedLast control xs → WasNamedLast control then
-  named-on control none w = record {
+  -- if it is a PCRUN it ends an opening
+  abbrev EndsIfRun : Type 0
+  EndsIfRun = (c : ℕ) → x.call ≡ message_call c (message.Run 0) → HasEnded o c xs
+
+  named-on : (control : ℕ) → IsNoPoll x → EndsIfRun → WasNamedLast o control xs → WasNamedLast o control then
+  named-on control none ends w = record {
     before = w.before;
     handles = w.handles;
     after = w.after ++ x ∷ [];
     is =
         ap (λ ys. ys ++ x ∷ []) w.is
-        ∙ append_assoc w.before (record { call = call.Poll w.handles; reply = reply.Ready control } ∷ w.after) (x ∷ []);
+        ∙ append_assoc w.before (poll ∷ w.after) (x ∷ []);
     none = All-append IsNoPoll w.after (x ∷ []) w.none (All-cons IsNoPoll x [] none (All-nil IsNoPoll));
+    once = record {
+      each = λ b a c r is.
+          let run : Exchange = record { call = message_call c (message.Run 0); reply = r } in
+          last-or w.after b a x run is
+          (λ all one. subst (HasEnded o c)
+          (w.is ∙ sym (append_assoc w.before (poll ∷ []) w.after) ∙ ap (λ ys. (w.before ++ poll ∷ []) ++ ys) all)
+          (ends c (ap (λ (y : Exchange). y.call) one)))
+          (λ rest at. w.once.each b rest c r at);
+    };
   }
+    where
+      poll : Exchange
+      poll = record { call = call.Poll w.handles; reply = reply.Ready control }
+
+  status-runs : (place : ℕ) → s.stage ≡ ReadingStatus place → EndsIfRun
+  unfolding call_of
+  status-runs place at c is = let calls : _ = called (ReadingStatus place) at ∙ ap Some is in cc
+
+  text-runs : (place : ℕ) (l : _) (from len : ℕ) → s.stage ≡ ReadingText place l from len → EndsIfRun
+  unfolding call_of
+  text-runs place l from len at c is = let calls : _ = called (ReadingText place l from len) at ∙ ap Some is in cc
+
+  control-runs : (parent pid : ℕ) → s.stage ≡ OpeningChildControl parent pid → EndsIfRun
+  unfolding call_of
+  control-runs parent pid at c is = let calls : _ = called (OpeningChildControl parent pid) at ∙ ap Some is in cc
+
+  closing-runs : (place : ℕ) (next : AfterClosing) → s.stage ≡ Closing place next → EndsIfRun
+  unfolding call_of
+  closing-runs place next at c is = let calls : _ = called (Closing place next) at ∙ ap Some is in cc
+
+  child-runs : (parent place : ℕ) (now : ChildStep) → s.stage ≡ OpeningChild parent place now
+      → AtChildStart o (traced_at s place).control xs now → EndsIfRun
+  unfolding call_of
+  child-runs parent place now at a c is =
+      child-ends o xs c (traced_at s place) now a
+      (same_Some _ _ (called (OpeningChild parent place now) at ∙ ap Some is))
 
   on-aware : (u v : TrussState) (given : Bool) → GoesOn u given v → Aware o then v.leaving v.traced v.stage
   on-aware u v given (step.polls _ _) = tt
@@ -124,7 +209,7 @@ module _ (o : Options) (xs : List Exchange) (s : TrussState) (x : Exchange) (sam
   on-aware u v given (step.opens_next _) = tt
 
   over-aware : (u v : TrussState) (place : ℕ) (pid : Option ℕ) → StopOver u place pid v
-      → (u.leaving ≡ false → NamedAt then u.traced place) → Aware o then v.leaving v.traced v.stage
+      → (u.leaving ≡ false → NamedAt o then u.traced place) → Aware o then v.leaving v.traced v.stage
   over-aware u v place pid (step.runs stays) known = known stays
   over-aware u v place pid (step.opens_child stays) known = known stays
   over-aware u v place pid (step.leaves _) known = tt
@@ -134,15 +219,15 @@ module _ (o : Options) (xs : List Exchange) (s : TrussState) (x : Exchange) (sam
   not-leaving on off = absurd (false≢true (sym off ∙ on))
 
   reads-known : (stage : Stage) (place : ℕ) (l : _) → s.stage ≡ stage → Aware o xs s.leaving s.traced stage
-      → Reads s x.reply stage place l → (s.leaving ≡ true) ⊎ NamedAt then s.traced place
+      → Reads s x.reply stage place l → (s.leaving ≡ true) ⊎ NamedAt o then s.traced place
   reads-known stage place l at a (step.reads_status _) =
-      inr (named-on _ (no-poll (ReadingStatus place) at (λ is. cc)) a)
+      inr (named-on _ (no-poll (ReadingStatus place) at (λ is. cc)) (status-runs place at) a)
   reads-known stage place l at a step.reads_none =
-      inr (named-on _ (no-poll (ReadingStatus place) at (λ is. cc)) a)
+      inr (named-on _ (no-poll (ReadingStatus place) at (λ is. cc)) (status-runs place at) a)
   reads-known stage place l at a (step.reads_lwps _) = inl a
 
-  either : (place : ℕ) → (s.leaving ≡ true) ⊎ NamedAt then s.traced place → s.leaving ≡ false
-      → NamedAt then s.traced place
+  either : (place : ℕ) → (s.leaving ≡ true) ⊎ NamedAt o then s.traced place → s.leaving ≡ false
+      → NamedAt o then s.traced place
   either place (inl on) off = not-leaving on off
   either place (inr known) off = known
 
@@ -158,11 +243,11 @@ module _ (o : Options) (xs : List Exchange) (s : TrussState) (x : Exchange) (sam
 
   looks-aware : (stage : Stage) (place : ℕ) (pid : Option ℕ) (u : TrussState) → s.stage ≡ stage
       → Fits s.traced stage → Aware o xs s.leaving s.traced stage → Looks s x.reply stage place pid u
-      → u.leaving ≡ false → NamedAt then u.traced place
+      → u.leaving ≡ false → NamedAt o then u.traced place
   looks-aware stage place pid u at f a (step.passes reads) off =
       either place (reads-known stage place _ at a reads) off
   looks-aware stage place pid u at f a (step.passes_old reads _ _) off =
-      subst (λ c. WasNamedLast c then)
+      subst (λ c. WasNamedLast o c then)
       (sym (set-control s.traced place place _ (reads-within s x.reply stage place _ f reads) refl))
       (either place (reads-known stage place _ at a reads) off)
   looks-aware stage place pid u at f a (step.passes_event reads _ _) off =
@@ -172,16 +257,18 @@ module _ (o : Options) (xs : List Exchange) (s : TrussState) (x : Exchange) (sam
   looks-aware stage place pid u at f a (step.shows_text {l = l} {from = from} {len = len}) off =
       elim a [
         | inl on ↦ not-leaving on off
-        | inr known ↦ named-on _ (no-poll (ReadingText place l from len) at (λ is. cc)) known
+        | inr known ↦ named-on _ (no-poll (ReadingText place l from len) at (λ is. cc)) (text-runs place l from len at) known
       ]
 
   closes-aware : (stage : Stage) (place : ℕ) (next : AfterClosing) (u : TrussState) → s.stage ≡ stage
       → Aware o xs s.leaving s.traced stage → Closes s x.reply stage place next u
       → Aware o then u.leaving u.traced (Closing place next)
   closes-aware stage place next u at a (step.refuses_child {parent = parent} {now = now} _ _) =
-      named-on _ (no-poll (OpeningChild parent place now) at (λ is. cc)) a.0
+      named-on _ (no-poll (OpeningChild parent place now) at (λ is. cc))
+      (child-runs parent place now at a.1) a.0
   closes-aware stage place next u at a (step.child_ended {parent = parent} _) =
-      named-on _ (no-poll (OpeningChild parent place child.Start) at (λ is. cc)) a.0
+      named-on _ (no-poll (OpeningChild parent place child.Start) at (λ is. cc))
+      (child-runs parent place child.Start at a.1) a.0
   closes-aware stage place next u at a (step.status_ended _) = tt
   closes-aware stage place next u at a (step.text_ended _) = tt
   closes-aware stage place next u at a (step.run_ended _) = tt
@@ -262,8 +349,9 @@ module _ (o : Options) (xs : List Exchange) (s : TrussState) (x : Exchange) (sam
   learns-aware stage next place t at f a (step.child_goes {parent = parent} {now = now} {next = to} after) =
       let within = last-within s.traced parent place f.0 in
       let control = child-control (traced_at s place) now in (
-        subst (λ c. WasNamedLast c then) (sym (set-control s.traced place parent t within control))
-            (named-on _ (no-poll (OpeningChild parent place now) at (λ is. cc)) a.0),
+        subst (λ c. WasNamedLast o c then) (sym (set-control s.traced place parent t within control))
+            (named-on _ (no-poll (OpeningChild parent place now) at (λ is. cc))
+            (child-runs parent place now at a.1) a.0),
         subst (λ c. AtChildStart o c then to) (sym (set-control s.traced place place t within control))
             (child-starts parent place now to at after),
       )
@@ -273,23 +361,27 @@ module _ (o : Options) (xs : List Exchange) (s : TrussState) (x : Exchange) (sam
       → Aware o then s.leaving (s.traced ++ newly_traced pid (handle_in x.reply) ∷ []) next
   opens-aware stage next pid at f a step.new_given = tt
   opens-aware stage next pid at f a (step.new_child {parent = parent}) = (
-    subst (λ (u : Traced). WasNamedLast u.control then)
+    subst (λ (u : Traced). WasNamedLast o u.control then)
         (sym (get_or_append_left s.traced (newly_traced pid (handle_in x.reply) ∷ []) nobody parent f))
-        (named-on _ (no-poll (OpeningChildControl parent pid) at (λ is. cc)) a),
+        (named-on _ (no-poll (OpeningChildControl parent pid) at (λ is. cc))
+        (control-runs parent pid at) a),
     tt,
   )
 
   returns-aware : (stage : Stage) (parent : ℕ) (u : TrussState) → s.stage ≡ stage → Fits s.traced stage
-      → Aware o xs s.leaving s.traced stage → Returns s x.reply stage parent u → NamedAt then u.traced parent
+      → Aware o xs s.leaving s.traced stage → Returns s x.reply stage parent u → NamedAt o then u.traced parent
   returns-aware stage parent u at f a (step.refuses_child_control {pid = pid} _ _) =
-      named-on _ (no-poll (OpeningChildControl parent pid) at (λ is. cc)) a
+      named-on _ (no-poll (OpeningChildControl parent pid) at (λ is. cc))
+      (control-runs parent pid at) a
   returns-aware stage parent u at f a (step.child_runs {place = place} _) =
-      named-on _ (no-poll (OpeningChild parent place child.Start) at (λ is. cc)) a.0
+      named-on _ (no-poll (OpeningChild parent place child.Start) at (λ is. cc))
+      (child-runs parent place child.Start at a.1) a.0
   returns-aware stage parent u at f a (step.child_closed {place = place} _) =
       let last : IsLast s.traced parent place = f.1 in
-      subst (λ (t : Traced). WasNamedLast t.control then)
+      subst (λ (t : Traced). WasNamedLast o t.control then)
       (sym (get_or-remove_below s.traced place nobody parent last.behind f.0))
-      (named-on _ (no-poll (Closing place (RunParent parent)) at (λ is. cc)) a)
+      (named-on _ (no-poll (Closing place (RunParent parent)) at (λ is. cc))
+      (closing-runs place (RunParent parent) at) a)
 
   ready-is : (r : Reply) (handle : ℕ) → ready_in r ≡ Some handle → r ≡ reply.Ready handle
   unfolding ready_in
@@ -298,20 +390,20 @@ module _ (o : Options) (xs : List Exchange) (s : TrussState) (x : Exchange) (sam
 
   polled : (place : ℕ) → s.stage ≡ Polling
       → option_and_then (λ handle. position (has_control handle) s.traced) (ready_in x.reply) ≡ Some place
-      → NamedAt then s.traced place
+      → NamedAt o then s.traced place
   unfolding call_of
   polled place at is = by (ready_in x.reply) refl is
     where
       by : (y : Option ℕ) → ready_in x.reply ≡ y
           → option_and_then (λ handle. position (has_control handle) s.traced) y ≡ Some place
-          → NamedAt then s.traced place
+          → NamedAt o then s.traced place
       by None ready found = absurd (none-some place found)
       by (Some handle) ready found =
           let p = position-Some (has_control handle) s.traced place nobody found in
           let control : (at_place s.traced place).control ≡ handle = eqb-true _ handle p.1 in
           let handles : List ℕ = map (λ (u : Traced). u.control) s.traced in
           let call_is : x.call ≡ call.Poll handles = sym (same_Some _ x.call (called Polling at)) in
-          subst (λ c. WasNamedLast c then) (sym control) (record {
+          subst (λ c. WasNamedLast o c then) (sym control) (record {
             before = xs;
             handles = handles;
             after = [];
@@ -320,6 +412,7 @@ module _ (o : Options) (xs : List Exchange) (s : TrussState) (x : Exchange) (sam
                 ∙ ap (λ (r : Reply). let y : Exchange = record { call = call.Poll handles; reply = r } in xs ++ y ∷ [])
                 (ready-is x.reply handle ready);
             none = All-nil IsNoPoll;
+            once = record { each = λ b a c r is. none-within b a _ is };
           })
 
   turns-aware : (stage next : Stage) → s.stage ≡ stage → Aware o xs s.leaving s.traced stage
@@ -348,9 +441,10 @@ module _ (o : Options) (xs : List Exchange) (s : TrussState) (x : Exchange) (sam
           → Aware o then s.leaving (slice_set s.traced place t) (Closing place to)
       by (RunParent parent) is g b =
           let last : IsLast s.traced parent place = g.1 in
-          subst (λ (u : Traced). WasNamedLast u.control then)
+          subst (λ (u : Traced). WasNamedLast o u.control then)
           (sym (get_or-set_other s.traced place parent t nobody (λ same. absurd (omega (arith, same, last.behind)))))
-          (named-on _ (no-poll (Closing place (RunParent parent)) is (λ e. cc)) b)
+          (named-on _ (no-poll (Closing place (RunParent parent)) is (λ e. cc))
+          (closing-runs place (RunParent parent) is) b)
       by OpenNext is g b = tt
       by GoOn is g b = tt
   step-aware stage v at f a (step.opens {next = next} {pid = pid} _ w) = opens-aware stage next pid at f a w
@@ -365,33 +459,12 @@ module _ (o : Options) (xs : List Exchange) (s : TrussState) (x : Exchange) (sam
 
 -- ---- a PCRUN
 
--- the first byte of what a call writes is the code of its message
-abbrev first_byte : Call → Option ℕ
-first_byte (call.Ctl handle bytes) = slice_get bytes 0
-first_byte _ = None
-
-code-first : (control : ℕ) (m : Message) → first_byte (message_call control m) ≡ Some (message_code m)
-unfolding message_code operands word_bytes
-code-first control message.Stop = refl
-code-first control _ = refl
-
--- so no other message is PCRUN
 module _ (o : Options) (xs : List Exchange) (s : TrussState) (control : ℕ) where
   abbrev run : Call
   run = message_call control (message.Run 0)
 
-  other-message : {A : Type 0} (c : ℕ) (m : Message) → (message_code m == message_code (message.Run 0)) ≡ false
-      → message_call c m ≡ run → A
-  other-message c m other is =
-      let code : message_code m ≡ message_code (message.Run 0) =
-      same_Some _ _ (sym (code-first c m) ∙ ap first_byte is ∙ code-first control (message.Run 0)) in
-      absurd (false≢true (sym other ∙ eq-eqb (message_code m) (message_code (message.Run 0)) code))
-
-  same-control : {a : ℕ} → message_call a (message.Run 0) ≡ run → a ≡ control
-  same-control is = cc
-
   ends-may : (c : ℕ) → HasEnded o c xs → message_call c (message.Run 0) ≡ run → MayRun o control xs
-  ends-may c w is = subst (λ n. MayRun o n xs) (same-control is) (opened w.earlier w.last w.is w.ends)
+  ends-may c w is = subst (λ n. MayRun o n xs) (same-control control is) (opened w)
 
   opening-runs : (t : Traced) (now : OpeningStep) → AtStart o t.control xs now
       → opening_call s.options t now ≡ run → MayRun o control xs
@@ -402,38 +475,29 @@ module _ (o : Options) (xs : List Exchange) (s : TrussState) (control : ℕ) whe
   opening-runs t opening.OpenMemory a is = cc
   opening-runs t (opening.AwaitStop until) a is = cc
   opening-runs t opening.ReadLwps a is = cc
-  opening-runs t opening.ClearModes a is = other-message t.control (message.Unset all_modes) refl is
-  opening-runs t opening.SetRelease a is = other-message t.control (message.Set rlc_mode) refl is
-  opening-runs t opening.Stop a is = other-message t.control message.Stop refl is
-  opening-runs t opening.TraceSignals a is = other-message t.control (message.Strace (traced_signals s.options)) refl is
-  opening-runs t opening.TraceFaults a is = other-message t.control (message.Sfault (traced_faults s.options)) refl is
-  opening-runs t opening.TraceEntries a is = other-message t.control (message.Sentry (traced_entries s.options)) refl is
-  opening-runs t opening.TraceExits a is = other-message t.control (message.Sexit (traced_exits s.options)) refl is
-  opening-runs t opening.Follow a is = other-message t.control (message.Set fork_mode) refl is
-
-  child-runs : (t : Traced) (now : ChildStep) → AtChildStart o t.control xs now → child_call t now ≡ run
-      → MayRun o control xs
-  unfolding child_call message_code
-  child-runs t child.Start a is = ends-may t.control a is
-  child-runs t child.SetRelease a is = other-message t.control (message.Set rlc_mode) refl is
-  child-runs t child.OpenStatus a is = cc
-  child-runs t child.OpenLstatus a is = cc
-  child-runs t child.OpenMemory a is = cc
+  opening-runs t opening.ClearModes a is = other-message control t.control (message.Unset all_modes) refl is
+  opening-runs t opening.SetRelease a is = other-message control t.control (message.Set rlc_mode) refl is
+  opening-runs t opening.Stop a is = other-message control t.control message.Stop refl is
+  opening-runs t opening.TraceSignals a is = other-message control t.control (message.Strace (traced_signals s.options)) refl is
+  opening-runs t opening.TraceFaults a is = other-message control t.control (message.Sfault (traced_faults s.options)) refl is
+  opening-runs t opening.TraceEntries a is = other-message control t.control (message.Sentry (traced_entries s.options)) refl is
+  opening-runs t opening.TraceExits a is = other-message control t.control (message.Sexit (traced_exits s.options)) refl is
+  opening-runs t opening.Follow a is = other-message control t.control (message.Set fork_mode) refl is
 
   freeing-runs : (pid : ℕ) (now : FreeingStep) → freeing_call pid now ≡ run → MayRun o control xs
   unfolding freeing_call message_code
   freeing-runs pid freeing.OpenControl is = cc
-  freeing-runs pid (freeing.SetRelease c) is = other-message c (message.Set rlc_mode) refl is
+  freeing-runs pid (freeing.SetRelease c) is = other-message control c (message.Set rlc_mode) refl is
   freeing-runs pid (freeing.Close c) is = cc
 
   stage-runs : (stage : Stage) → Aware o xs s.leaving s.traced stage → call_of s stage ≡ Some run
       → MayRun o control xs
   unfolding call_of message_code
   stage-runs (Opening place now) a is = opening-runs (traced_at s place) now a (same_Some _ _ is)
-  stage-runs (OpeningChild parent place now) a is = child-runs (traced_at s place) now a.1 (same_Some _ _ is)
+  stage-runs (OpeningChild parent place now) a is = opened (child-ends o xs control (traced_at s place) now a.1 (same_Some _ _ is))
   stage-runs (Running place) a is =
-      named (subst (λ c. WasNamedLast c xs) (same-control (same_Some _ _ is)) a)
-  stage-runs Unfollowing a is = other-message (traced_at s 0).control (message.Unset fork_mode) refl (same_Some _ _ is)
+      named (subst (λ c. WasNamedLast o c xs) (same-control control (same_Some _ _ is)) a)
+  stage-runs Unfollowing a is = other-message control (traced_at s 0).control (message.Unset fork_mode) refl (same_Some _ _ is)
   stage-runs (FreeingChild pid now) a is = freeing-runs pid now (same_Some _ _ is)
   stage-runs Finished a is = absurd (none-some run is)
   stage-runs _ a is = cc

@@ -83,7 +83,7 @@ unfolding text_range
 left-text l call makes true e is = ap text_range (sym (same_Some _ e is)) ∙ fork-text call l.arguments _ makes
 left-text l call makes false e is = absurd (none-some e is)
 
-event-text : (l : LwpStatus) (c : ℕ) (e : Event) → child_of l ≡ Some c → event_of l ≡ Some e → text_range e ≡ None
+pub event-text : (l : LwpStatus) (c : ℕ) (e : Event) → child_of l ≡ Some c → event_of l ≡ Some e → text_range e ≡ None
 unfolding event_of
 event-text l c e made is =
     let at = child-forked l c made in

@@ -127,6 +127,7 @@ module _ (f t : TrussState) (parent of control : ℕ) (stage : t.stage ≡ Openi
         granted = all-granted d.opening d.granted;
         lives = d.lives;
         ended = λ gone. subst (λ hs. Runs f control hs d.later) (sym (opened-first d.opening)) (d.ended gone);
+        silent = d.silent;
       })
       end-follows (failed d) = let b = d.broken in refused (record {
         errno = d.errno;

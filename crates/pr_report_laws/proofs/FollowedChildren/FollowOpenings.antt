@@ -1,4 +1,5 @@
-use Rattle.std.proofs.Common.{◌≡◌, ◌≢◌, ◌<◌, ◌++◌, ℕ, suc, Option, Some, None, List, [], ◌∷◌, length, take, refl, sym, subst, ap, ◌∙◌, arith, append_assoc}
+use Rattle.std.proofs.Common.{◌≡◌, ◌≢◌, ◌<◌, ◌≤◌, ◌++◌, ℕ, suc, Bool, true, false, Option, Some, None, List, [], ◌∷◌, length, take, refl, sym, subst, ap, ◌∙◌, arith, append_assoc}
+use Rattle.std.proofs.lemmas.Bool.{false≢true}
 use Rattle.std.proofs.lemmas.List.Elements.{All-cons, All-nil}
 use Rattle.std.proofs.lemmas.Option.{none-some, same_Some}
 use Rattle.std.specs.List.{All, cons_option, slice_get}
@@ -9,6 +10,7 @@ use Rattle.pr_model.specs.declared.calls.Reply.{Reply}
 use Rattle.pr_model.specs.declared.calls.Reply.TheVariants as reply
 use Rattle.pr_num.specs.declared.errnos.Errno.{Errno}
 use Rattle.pr_num.specs.declared.errnos.Errno.TheVariants.{Intr, Noent}
+use Rattle.pr_rec.specs.declared.lwps.LwpStatus.{LwpStatus}
 use Rattle.pr_truss.specs.Children.{child_learnt, child_step_after, with_child_answered, with_child_started, with_child_step_answered, with_refused_child_step}
 use Rattle.pr_truss.specs.Closings.{after_closing, closed_or_removed}
 use Rattle.pr_truss.specs.Feeding.{fed, with_reply}
@@ -21,14 +23,19 @@ use Rattle.pr_truss.specs.declared.replies.Answer.{Answer}
 use Rattle.pr_truss.specs.declared.replies.Answer.TheVariants.{Accepted, Interrupted, Gone, Refused}
 use Rattle.pr_truss.specs.declared.reports.Report.{Report}
 use Rattle.pr_truss.specs.declared.reports.Report.TheVariants.{CannotTrace}
+use Rattle.pr_truss.specs.declared.stages.AfterClosing.{AfterClosing}
 use Rattle.pr_truss.specs.declared.stages.AfterClosing.TheVariants.{RunParent}
 use Rattle.pr_truss.specs.declared.stages.ChildStep.{ChildStep}
 use Rattle.pr_truss.specs.declared.stages.ChildStep.TheVariants as child
+use Rattle.pr_truss.specs.declared.stages.Stage.{Stage}
 use Rattle.pr_truss.specs.declared.stages.Stage.TheVariants.{OpeningChild, Running, Closing}
 use Rattle.pr_truss_laws.proofs.AnswerLemmas.{IsAnswer, answer-is}
 use Rattle.pr_truss_laws.proofs.ClosesLemmas.{after-grown}
+use Rattle.pr_truss_laws.proofs.FedSteps.{fed-step}
 use Rattle.pr_truss_laws.proofs.FitLemmas.{fed-fits}
 use Rattle.pr_truss_laws.proofs.HeldLemmas.{ClosesFirst, Fits, IsFreshChild, Grown, close-fed, closes-first, closes-next, set-at}
+use Rattle.pr_truss_laws.proofs.ReplySteps as row
+use Rattle.pr_truss_laws.proofs.ReplySteps.{Closes, Looks, Reads, ReplyStep, Returns, Settles}
 use Rattle.pr_truss_laws.specs.Exchanges.{Exchange, IsGranted, Makes, calls_in, opened_by, truss_after, with_opened_by}
 use Rattle.pr_truss_laws.specs.Handles.{handles_of}
 use Rattle.pr_report_laws.proofs.Invariant.OpeningRuns.{child-fed, child-pid, child-started, child_left, next-left}
@@ -118,6 +125,64 @@ chain-step u r child.OpenLstatus next after f = rw (f.memory, f.lstatus) refl
 chain-step u r child.OpenMemory next after f = rw f refl
 chain-step u r child.Start next after f = absurd (none-some next after)
 
+-- ---- what is not reported
+
+-- a reply to the call of such a stage is reported in no case
+abbrev is_quiet : Stage → Bool
+is_quiet (Running place) = true
+is_quiet (Closing place next) = true
+is_quiet _ = false
+
+module _ (t : TrussState) (r : Reply) where
+  reads-loud : {A : Type 0} (stage : Stage) (place : ℕ) (l : Option LwpStatus) → is_quiet stage ≡ true
+      → Reads t r stage place l → A
+  reads-loud stage place l quiet (row.reads_status _) = absurd (false≢true quiet)
+  reads-loud stage place l quiet row.reads_none = absurd (false≢true quiet)
+  reads-loud stage place l quiet (row.reads_lwps _) = absurd (false≢true quiet)
+
+  looks-loud : {A : Type 0} (stage : Stage) (place : ℕ) (pid : Option ℕ) (u : TrussState) → is_quiet stage ≡ true
+      → Looks t r stage place pid u → A
+  looks-loud stage place pid u quiet (row.passes reads) = reads-loud stage place _ quiet reads
+  looks-loud stage place pid u quiet (row.passes_old reads _ _) = reads-loud stage place _ quiet reads
+  looks-loud stage place pid u quiet (row.passes_event reads _ _) = reads-loud stage place _ quiet reads
+  looks-loud stage place pid u quiet (row.shows reads _ _ _) = reads-loud stage place _ quiet reads
+  looks-loud stage place pid u quiet row.shows_text = absurd (false≢true quiet)
+
+  settles-quiet : (stage : Stage) (given : Bool) (u : TrussState) → is_quiet stage ≡ true → Settles t r stage given u
+      → u.reports ≡ t.reports
+  settles-quiet stage given u quiet (row.refuses_start _ _) = absurd (false≢true quiet)
+  settles-quiet stage given u quiet (row.refuses_control _ _) = absurd (false≢true quiet)
+  settles-quiet stage given u quiet (row.interrupts_text _ _) = absurd (false≢true quiet)
+  settles-quiet stage given u quiet _ = refl
+
+  closes-quiet : (stage : Stage) (place : ℕ) (next : AfterClosing) (u : TrussState) → is_quiet stage ≡ true
+      → Closes t r stage place next u → u.reports ≡ t.reports
+  closes-quiet stage place next u quiet (row.text_ended _) = absurd (false≢true quiet)
+  closes-quiet stage place next u quiet (row.refuses_free _ _) = absurd (false≢true quiet)
+  closes-quiet stage place next u quiet (row.refuses_opening _ _) = absurd (false≢true quiet)
+  closes-quiet stage place next u quiet (row.refuses_child _ _) = absurd (false≢true quiet)
+  closes-quiet stage place next u quiet _ = refl
+
+  returns-quiet : (stage : Stage) (parent : ℕ) (u : TrussState) → is_quiet stage ≡ true → Returns t r stage parent u
+      → u.reports ≡ t.reports
+  returns-quiet stage parent u quiet (row.refuses_child_control _ _) = absurd (false≢true quiet)
+  returns-quiet stage parent u quiet _ = refl
+
+  step-quiet : (stage : Stage) (v : TrussState) → is_quiet stage ≡ true → ReplyStep t r stage v → v.reports ≡ t.reports
+  step-quiet stage v quiet (row.settles {given = given} {u = u} w on) =
+      let staged = row.on-staged on in staged.reports ∙ settles-quiet stage given u quiet w
+  step-quiet stage v quiet (row.looks {place = place} {pid = pid} {u = u} w _) = looks-loud stage place pid u quiet w
+  step-quiet stage v quiet (row.closes {place = place} {next = next} {u = u} w) =
+      closes-quiet stage place next u quiet w
+  step-quiet stage v quiet (row.returns {parent = parent} {u = u} w) = returns-quiet stage parent u quiet w
+  step-quiet stage v quiet _ = refl
+
+quiet-few : (t : TrussState) (xs : List Exchange) → is_quiet t.stage ≡ true → length xs ≤ 1
+    → (truss_after t xs).reports ≡ t.reports
+quiet-few t [] quiet short = refl
+quiet-few t (x ∷ []) quiet short = step-quiet t x.reply t.stage (fed t x.reply) quiet (fed-step t x.reply)
+quiet-few t (x ∷ y ∷ xs) quiet short = absurd (omega (arith, short))
+
 -- ---- the parent runs
 
 module _ (f : TrussState) (control : ℕ) where
@@ -202,6 +267,7 @@ module _ (f : TrussState) (control pid : ℕ) (base : List Report) where
     pub granted : All IsGranted opening
     pub lives : last.reply ≢ reply.Fail Noent → Runs f control [] later
     pub ended : last.reply ≡ reply.Fail Noent → Runs f control (with_opened_by (handles_of u) opening) later
+    pub silent : length later ≤ 1 → f.reports ≡ base
 
   pub record Broken (u : Traced) (step : ChildStep) (errno : Errno) (xs : List Exchange) : Type 0 where
     pub opening : List Exchange
@@ -284,6 +350,7 @@ module _ (f : TrussState) (control pid : ℕ) (base : List Report) where
       granted = All-cons IsGranted x d.opening granted d.granted;
       lives = d.lives;
       ended = λ gone. subst (λ hs. Runs f control hs d.later) (sym (opened-then d.opening)) (d.ended gone);
+      silent = d.silent;
     })
     end-more (failed d) =
         failed (record {
@@ -317,9 +384,10 @@ module _ (f : TrussState) (control pid : ℕ) (base : List Report) where
     module _ (at : IsAt s u parent place child.Start) (call : x.call ≡ child_call u child.Start)
         (makes : Makes (fed s x.reply) xs) (last : truss_after (fed s x.reply) xs ≡ f) where
       started : (x.reply ≢ reply.Fail Noent → Runs f control [] xs)
-          → (x.reply ≡ reply.Fail Noent → Runs f control (handles_of u) xs) → ChildEnd u child.Start (x ∷ xs)
+          → (x.reply ≡ reply.Fail Noent → Runs f control (handles_of u) xs) → (length xs ≤ 1 → f.reports ≡ base)
+          → ChildEnd u child.Start (x ∷ xs)
       unfolding child_step_after
-      started lives ended =
+      started lives ended silent =
           whole (record {
             opening = [];
             last = x;
@@ -329,7 +397,14 @@ module _ (f : TrussState) (control pid : ℕ) (base : List Report) where
             granted = All-nil IsGranted;
             lives = lives;
             ended = ended;
+            silent = silent;
           })
+
+      -- a call after it reports nothing
+      reports-none : (v : TrussState) → is_quiet v.stage ≡ true → v.reports ≡ s.reports → truss_after v xs ≡ f
+          → length xs ≤ 1 → f.reports ≡ base
+      reports-none v quiet same ends short =
+          ap (λ (w : TrussState). w.reports) (sym ends) ∙ quiet-few v xs quiet short ∙ same ∙ at.reports
 
       noent-gone : x.reply ≡ reply.Fail Noent → answer_of x.reply ≡ Gone
       unfolding answer_of
@@ -339,8 +414,11 @@ module _ (f : TrussState) (control pid : ℕ) (base : List Report) where
       lives-on lives =
           let is = child-started s parent place x.reply at.stage lives in
           let m : Makes (with_stage s (Running parent)) xs = subst (λ v. Makes v xs) is makes in
-          started (λ not. runs-now f control (with_stage s (Running parent)) parent xs refl at.of m
-          (ap (λ v. truss_after v xs) (sym is) ∙ last)) (λ gone. absurd (lives (noent-gone gone)))
+          let ends : truss_after (with_stage s (Running parent)) xs ≡ f =
+          ap (λ v. truss_after v xs) (sym is) ∙ last in
+          started (λ not. runs-now f control (with_stage s (Running parent)) parent xs refl at.of m ends)
+          (λ gone. absurd (lives (noent-gone gone)))
+          (reports-none (with_stage s (Running parent)) refl refl ends)
 
       gone-fed : answer_of x.reply ≡ Gone → fed s x.reply ≡ with_stage s (Closing place (RunParent parent))
       unfolding fed with_reply with_child_answered with_child_started
@@ -359,6 +437,7 @@ module _ (f : TrussState) (control pid : ℕ) (base : List Report) where
           started (λ not. absurd (not (gone-is gone)))
           (λ is. closing-runs f control xs (with_stage s (Closing place (RunParent parent))) u parent place
           (record { stage = refl; behind = at.behind; within = at.within; child = at.child; of = at.of }) m ends)
+          (reports-none (with_stage s (Closing place (RunParent parent))) refl refl ends)
 
       start-end : (a : Answer) → answer_of x.reply ≡ a → ChildEnd u child.Start (x ∷ xs)
       start-end Gone is = ends-there is

@@ -1,9 +1,10 @@
 use Rattle.std.proofs.Common.{◌∙◌}
-use Rattle.pr_drive.specs.Starts.{first_seats}
-use Rattle.pr_drive.proofs.EntryLemmas.{goes-between}
+use Rattle.pr_drive.proofs.StepLemmas.{begins-so}
 use Rattle.pr_drive.proofs.readings.begin.Goals as goal
 
 pub returns : goal.returns
 returns c =
-    goes-between 0 (first_seats c.args.scenario) c.new-rounds.result.seats c.follow.new.self.seats c.finish_round.new.self.seats c.new.result
-    (c.new-rounds.ensures ∙ c.in_ok-seats.ensures.seats) c.in_ok-follow.ensures c.in_ok-finish_round.ensures.goes c.new.ensures
+    begins-so c.args.scenario c.in_ok-seats.seats c.deref.result.now c.new-rounds.result c.follow.new.self
+    c.finish_round.new.self c.new.result c.in_ok-seats.ensures.seats
+    (c.deref.ensures.value ∙ c.in_ok-seats.ensures.schedule) c.new-rounds.ensures c.in_ok-follow.ensures.follows
+    c.in_ok-follow.ensures.place c.in_ok-finish_round.ensures.round c.new.ensures

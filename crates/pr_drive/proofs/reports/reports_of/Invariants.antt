@@ -4,4 +4,5 @@ use Rattle.pr_drive.proofs.reports.reports_of.Given as goal
 
 -- what the controllers so far print
 abbrev pub invariant-loop-number : goal.invariant-loop-number
-invariant-loop-number l = l.reports.items ≡ reports_from l.seats.kernel.state.system.programs 0 (take l.number l.seats.controllers)
+invariant-loop-number l = l.reports.items ≡ reports_from l.seats.kernel.state.system.programs 0
+    (take l.number l.seats.controllers)

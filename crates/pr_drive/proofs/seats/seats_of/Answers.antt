@@ -9,5 +9,6 @@ use Rattle.pr_drive.proofs.seats.seats_of.Goals as goal
 pub new-requires-clause-mapped : goal.new-requires-clause-mapped
 new-requires-clause-mapped c =
     let parts = c.scenario.inside in
-    subst (λ (spawns : List ℕ). sum_by (λ place. size_at_start (slice_get parts.programs.items place)) spawns ≤ all_mappings_limit) (sym c.as_slice.ensures.value)
+    subst (λ (spawns : List ℕ). sum_by (λ place. size_at_start (slice_get parts.programs.items place)) spawns ≤
+    all_mappings_limit) (sym c.as_slice.ensures.value)
     (spawns-map _ (subst IsWithinLimits (sym c.scenario.view_is) c.requires.limits))

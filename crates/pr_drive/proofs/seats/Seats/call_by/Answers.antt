@@ -18,7 +18,9 @@ pub returns : goal.returns
 returns c =
     let within = among c.args.self.now _ _ c.self.view_is c.args.number c.args.call c.requires.next in
     λ until. on-both _ _ _ c.call_of_controller.result
-    (λ called fed. called-back c.args.self.now _ _ c.self.view_is c.args.number c.args.call c.call_of_controller.new.kern c.self.inside.controllers.items
-    c.index_mut.result.now c.call_of_controller.new.controller refl (omega (arith, within, seats-length c.self.inside.controllers.items)) c.index_mut.ensures.value
+    (λ called fed. called-back c.args.self.now _ _ c.self.view_is c.args.number c.args.call
+    c.call_of_controller.new.kern c.self.inside.controllers.items
+    c.index_mut.result.now c.call_of_controller.new.controller refl
+    (omega (arith, within, seats-length c.self.inside.controllers.items)) c.index_mut.ensures.value
     c.requires.next c.requires.place called fed until)
     c.call_of_controller.ensures.called c.call_of_controller.ensures.fed

@@ -8,5 +8,6 @@ returns-then-can-clause-next c = clock-here c.args.until c.args.self.now (sym c.
 
 pub returns-clause-next : goal.returns-clause-next
 returns-clause-next c =
-    if-ok _ _ c.first_controller.result (λ next e. e ∙ clock-past c.args.until c.args.self.now (sym c.in_ok-can.ensures ∙ c.if-can.false))
+    if-ok _ _ c.first_controller.result
+    (λ next e. e ∙ clock-past c.args.until c.args.self.now (sym c.in_ok-can.ensures ∙ c.if-can.false))
     (c.first_controller.ensures.first c.args.until)

@@ -6,5 +6,5 @@ use Rattle.pr_drive.proofs.sessions.Session.answer_messages.Given as goal
 abbrev pub invariant-loop-at : goal.invariant-loop-at
 invariant-loop-at l = record {
   made : MadeSoFar l.fn.script l.script l.fn.self l.self l.fn.out.items l.out.items;
-  far : l._at ≤ length l.self.kernel.history;
+  far : l._at ≤ length l.self.seats.kernel.history;
 }

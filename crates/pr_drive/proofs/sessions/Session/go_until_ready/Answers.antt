@@ -1,22 +1,44 @@
-use Rattle.std.proofs.Common.{◌∙◌, ap, arith, subst}
-use Rattle.pr_drive.specs.Going.{SeatsState}
-use Rattle.pr_drive.specs.Rounds.{GoesOnIf}
+use Rattle.std.proofs.Common.{◌≡◌, ◌∙◌, List, ap, arith}
+use Rattle.std.specs.List.{list_any}
+use Rattle.pr_model.specs.declared.calls.Call.{Call}
+use Rattle.pr_drive.specs.Exchanges.{is_answered_now, polls_of}
+use Rattle.pr_drive.specs.Rounds.{RoundsState}
 use Rattle.pr_drive.specs.declared.sessions.Session.TheInside.{Inside}
-use Rattle.pr_drive.proofs.EntryLemmas.{goes-places, goes-then}
-use Rattle.pr_drive.proofs.SessionLemmas.{on-count, on-goes, on-true, until-full}
+use Rattle.pr_drive.proofs.SessionLemmas.{on-true, unready-more, unready-places, until-full, until-ready}
+use Rattle.pr_drive.proofs.StepLemmas.{on-count}
 use Rattle.pr_drive.proofs.sessions.Session.go_until_ready.Goals as goal
+
+pub returns-then-ready : goal.returns-then-ready
+returns-then-ready c =
+    let all = c.in_ok-polls.ensures ∙ ap (λ (i : Inside). polls_of i.rounds.seats) c.self-inside.view_is
+    ∙ ap (λ (r : RoundsState). polls_of r.seats) c.self.view_is in
+    let is = c.some_answered-ready.ensures
+    ∙ ap (λ (i : Inside). list_any (λ (call : Call). is_answered_now call i.rounds.seats) c.deref.result.now)
+    c.self-inside-in-loop-at.view_is
+    ∙ ap (list_any (λ (call : Call). is_answered_now call c.loop-at.self-inside.rounds.seats)) c.deref.ensures.value in
+    until-ready c.in_ok-polls.polls.items c.some_answered-ready.result c.args.self.now c.loop-at.self-inside.rounds all is
+    c.if-ready.true c.loop-at.invariant.gone
 
 pub loop-at-preserved : goal.loop-at-preserved
 loop-at-preserved c =
-    let on = on-true c.in_ok-moved.moved c.loop-at.self c.step_on.new.self.seats c.if-not-moved.false
-    (subst (λ (s : SeatsState). GoesOnIf c.in_ok-moved.moved 0 s c.step_on.new.self.seats) c.self-in-loop-at.view_is c.in_ok-moved.ensures) in
+    let all = c.in_ok-polls.ensures ∙ ap (λ (i : Inside). polls_of i.rounds.seats) c.self-inside.view_is
+    ∙ ap (λ (r : RoundsState). polls_of r.seats) c.self.view_is in
+    let is = c.some_answered-ready.ensures
+    ∙ ap (λ (i : Inside). list_any (λ (call : Call). is_answered_now call i.rounds.seats) c.deref.result.now)
+    c.self-inside-in-loop-at.view_is
+    ∙ ap (list_any (λ (call : Call). is_answered_now call c.loop-at.self-inside.rounds.seats)) c.deref.ensures.value in
+    let on = on-true c.in_ok-moved.moved c.loop-at.self-inside.rounds c.step_on.new.self c.if-not-moved.false
+    c.in_ok-moved.ensures in
     record {
-      goes = goes-then 0 c.args.self.now c.loop-at.self c.step_on.new.self.seats c.loop-at.invariant.goes (on-goes c.loop-at.self c.step_on.new.self.seats on);
-      far = omega (arith, c.loop-at.invariant.far, on-count c.loop-at.self c.step_on.new.self.seats on);
+      gone = unready-more c.in_ok-polls.polls.items c.some_answered-ready.result c.args.self.now
+          c.loop-at.self-inside.rounds c.step_on.new.self all is c.if-ready.false c.loop-at.invariant.gone on;
+      far = omega (arith, c.loop-at.invariant.far, on-count c.loop-at.self-inside.rounds c.step_on.new.self on);
     }
 
 pub returns : goal.returns
 returns c =
-    let end = c.places-at-end.ensures ∙ ap (λ (i : Inside). i.rounds.seats.kernel.places) c.self-inside.view_is ∙ ap (λ (s : SeatsState). s.kernel.places) c.self.view_is in
-    until-full c.args.self.now c.loop-at.self c.loop-at._at c.loop-at.invariant.goes
-    (omega (arith, goes-places 0 c.args.self.now c.loop-at.self c.loop-at.invariant.goes, end, c.loop-at-test.false)) c.loop-at.invariant.far
+    let end = c.places-at-end.ensures ∙ ap (λ (i : Inside). i.rounds.seats.kernel.places) c.self-inside.view_is
+    ∙ ap (λ (r : RoundsState). r.seats.kernel.places) c.self.view_is in
+    let places = unready-places c.args.self.now c.loop-at.self-inside.rounds c.loop-at.invariant.gone in
+    until-full c.args.self.now c.loop-at.self-inside.rounds c.loop-at.invariant.gone
+    (omega (arith, places, end, c.loop-at-test.false, c.loop-at.invariant.far))

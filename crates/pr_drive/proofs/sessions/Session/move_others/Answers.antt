@@ -1,5 +1,5 @@
 use Rattle.std.proofs.Common.{◌∙◌, ap, length}
-use Rattle.pr_drive.specs.Going.{SeatsState}
+use Rattle.pr_drive.specs.Rounds.{RoundsState}
 use Rattle.pr_drive.specs.declared.sessions.Session.TheInside.{Inside}
 use Rattle.pr_drive.proofs.EntryLemmas.{on-ok}
 use Rattle.pr_drive.proofs.SessionLemmas.{others-told}
@@ -7,8 +7,9 @@ use Rattle.pr_drive.proofs.sessions.Session.move_others.Goals as goal
 
 pub returns : goal.returns
 returns c =
-    let same = ap (λ (i : Inside). i.rounds.seats) c.self-inside.view_is ∙ c.self.view_is in
+    let same = ap (λ (i : Inside). i.rounds) c.self-inside.view_is ∙ c.self.view_is in
     on-ok _ _ c.tell_moves.result
     (others-told c.args.times c.args.self.now c.go_for.new.self c.entries-from.result _ _
-    (c.entries-from.ensures.value ∙ ap (λ (s : SeatsState). length s.kernel.history) same) c.in_ok-go_for.ensures)
+    (c.entries-from.ensures.value ∙ ap (λ (r : RoundsState). length r.seats.kernel.history) same)
+    c.in_ok-go_for.ensures)
     c.tell_moves.ensures

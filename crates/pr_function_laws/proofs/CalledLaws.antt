@@ -1,0 +1,162 @@
+use Rattle.std.proofs.Common.{◌≡◌, ◌++◌, ℕ, List, [], ◌∷◌, append_assoc, refl, sym, subst, ap, ◌∙◌}
+use Rattle.pr_lawful.proofs.EndLemmas.{found-live}
+use Rattle.pr_line.specs.declared.options.Options.{Options}
+use Rattle.pr_model.specs.Lawful.{IsLawful}
+use Rattle.pr_model.specs.Legal.{IsLegal, after, state_after}
+use Rattle.pr_model.specs.State.{TracedState}
+use Rattle.pr_model.specs.declared.events.Entry.{Entry}
+use Rattle.pr_reached.proofs.EntryRanges.{records-range}
+use Rattle.pr_reached.proofs.ReachedLemmas.{later-reached}
+use Rattle.pr_reached.specs.ByteHistories.{HasBytes}
+use Rattle.pr_reached.specs.Reached.{IsReached}
+use Rattle.pr_lawful.proofs.HistoryLemmas.{history-state}
+use Rattle.pr_report_laws.proofs.Files.WatchHistories.{exchanges-both}
+use Rattle.pr_report_laws.proofs.SeenChildren.Splits.{state_after-both}
+use Rattle.pr_report_laws.proofs.Watching.HistoryParts.{legal-front}
+use Rattle.pr_rec.specs.declared.lwps.LwpStatus.{LwpStatus}
+use Rattle.pr_truss.specs.FunctionFeeding.{fed_functions}
+use Rattle.pr_truss.specs.Marks.{address_of}
+use Rattle.pr_truss.specs.NextCalls.{read_record}
+use Rattle.pr_truss.specs.Trusses.{TrussState, first_truss, traced_at}
+use Rattle.pr_truss.specs.declared.reports.Report.{Report}
+use Rattle.pr_truss.specs.declared.reports.Report.TheVariants.{Called}
+use Rattle.pr_truss_laws.specs.Exchanges.{Exchange, exchanges}
+use Rattle.pr_function_laws.proofs.OpenedLaws.{bytes-front, handle-is, status-handle, stop-function, stop-lwp, stop-there}
+use Rattle.pr_function_laws.proofs.TurnLemmas.{told-is-turn, turn-is-told}
+use Rattle.pr_function_laws.specs.Calls.{call_told}
+use Rattle.pr_function_laws.specs.CalledTurns.{CallsAreTurns, HasItsTurn, ReadsTwice, call_met, told_at_second}
+use Rattle.pr_function_laws.specs.Met.{arguments_of}
+use Rattle.pr_function_laws.specs.Opened.{IsFunctionRun, functions_at}
+use Rattle.pr_function_laws.specs.Runs.{functions_after}
+use Rattle.pr_function_laws.specs.Turns.{CompletesOnce, HasTrap, ReadsAgain, TellsItsTurn, TellsOfLwp, call_of_stop, told_again}
+
+-- In each history of truss with functions its calls are turns.
+
+functions-both : (t : TrussState) (xs ys : List Exchange)
+    → functions_after t (xs ++ ys) ≡ functions_after (functions_after t xs) ys
+functions-both t [] ys = refl
+functions-both t (x ∷ xs) ys = functions-both (fed_functions t x.reply) xs ys
+
+module _ (n k : ℕ) (o : Options) (s : TracedState) (h : List Entry) (run : IsFunctionRun n k o s h)
+    (reached : IsReached s) (bytes : HasBytes h) (before between later : List Entry) (e again : Entry) (place id : ℕ)
+    (r : ReadsTwice k o s h before e between again later place id) where
+  abbrev t : TrussState
+  t = functions_at k o before
+
+  abbrev now : TracedState
+  now = state_after s before
+
+  -- the history, parted before and behind the second read
+  place-is : h ≡ before ++ e ∷ ((between ++ again ∷ []) ++ later)
+  place-is =
+      r.is ∙ ap (λ (es : List Entry). before ++ e ∷ es) (sym (append_assoc between (again ∷ []) later))
+
+  front-is : h ≡ (before ++ e ∷ between) ++ again ∷ later
+  front-is = r.is ∙ sym (append_assoc before (e ∷ between) (again ∷ later))
+
+  reached-again : IsReached (state_after now (e ∷ between))
+  reached-again =
+      subst IsReached (state_after-both s before (e ∷ between))
+      (later-reached n s (before ++ e ∷ between) reached
+      (bytes-front (before ++ e ∷ between) (again ∷ later) (subst HasBytes front-is bytes))
+      (legal-front n s (before ++ e ∷ between) (again ∷ later) (subst (IsLegal n s) front-is run.legal)))
+
+  abbrev ns : ℕ
+  ns = status-handle n k o s h run reached bytes before (between ++ again ∷ []) later e place id place-is r.calm
+      r.breakpoint
+
+  again-is : ReadsAgain n k t place ns (traced_at t place).pid id now e between again
+  again-is =
+      let at = reached-again in
+      let lawful =
+      history-state n s (before ++ e ∷ between) run.lawful
+      (legal-front n s (before ++ e ∷ between) (again ∷ later) (subst (IsLegal n s) front-is run.legal)) in
+      let lawful_again = subst IsLawful (state_after-both s before (e ∷ between)) lawful in
+      let records = records-range (state_after now (e ∷ between)).system lawful_again.system at.in_range in
+      record {
+        stop = stop-there n k o s h run reached bytes before (between ++ again ∷ []) later e place id place-is r.calm
+            r.breakpoint;
+        y = r.y;
+        own = r.own;
+        reads = r.reads
+            ∙ ap read_record
+            (handle-is n k o s h run reached bytes before (between ++ again ∷ []) later e place id place-is r.calm
+            r.breakpoint);
+        process = r.process;
+        live = r.live;
+        ranged =
+            (records.processes (traced_at t place).pid r.process
+            (found-live (state_after now (e ∷ between)).system (traced_at t place).pid r.process r.live).0).status;
+      }
+
+  told-same : told_at_second k o s h before e between again later place id r
+      ≡ told_again n k t place ns (traced_at t place).pid id now e between again again-is
+  unfolding again-is
+  told-same =
+      ap (λ (u : TrussState). call_told u r.y.reply)
+      (ap (functions_after (first_truss o)) (exchanges-both k before (e ∷ between))
+      ∙ functions-both (first_truss o) (exchanges k before) (exchanges k (e ∷ between)))
+
+  its-turn : (report : Report) → told_at_second k o s h before e between again later place id r ≡ report ∷ []
+      → TellsItsTurn n k t place ns (traced_at t place).pid id now e between again again-is report
+  its-turn report is =
+      told-is-turn n k t place ns (traced_at t place).pid id now e between again again-is report
+      (sym told-same ∙ is)
+
+  abbrev met_lwp : LwpStatus
+  met_lwp = let b = r.breakpoint in let m = b.meets in m.l
+
+  abbrev met_function : ℕ
+  met_function = let b = r.breakpoint in let m = b.meets in m.function
+
+  -- the stop is the one of which the first read told
+  same-function : (let w = again-is in let it = w.stop in let m = it.meets in m.function) ≡ met_function
+  unfolding again-is
+  same-function =
+      stop-function n k o s h run reached bytes before (between ++ again ∷ []) later e place id place-is r.calm
+      r.breakpoint
+
+  same-lwp : (let w = again-is in let it = w.stop in let m = it.meets in m.l) ≡ met_lwp
+  unfolding again-is
+  same-lwp =
+      stop-lwp n k o s h run reached bytes before (between ++ again ∷ []) later e place id place-is r.calm r.breakpoint
+
+  call-same : call_of_stop n k t place ns (traced_at t place).pid id now e between again again-is
+      ≡ call_met k o s h before e between again later place id r
+  call-same =
+      ap (λ f. Called (traced_at t place).pid id f (arguments_of (let w = again-is in w.stop.meets.l))) same-function
+      ∙ ap (λ l. Called (traced_at t place).pid id met_function (arguments_of l)) same-lwp
+
+  pub call-there : (report : Report) → told_at_second k o s h before e between again later place id r ≡ report ∷ []
+      → report ≡ call_met k o s h before e between again later place id r
+  call-there report is = let it = its-turn report is in it.call ∙ call-same
+
+  pub turn-there : (report : Report) → told_at_second k o s h before e between again later place id r ≡ report ∷ []
+      → HasItsTurn k o s h before e between again later place id r
+  turn-there report is =
+      let it = its-turn report is in
+      subst
+      (λ (l : LwpStatus). CompletesOnce (traced_at t place).pid id (after now e) between
+      (address_of t.options met_function) (arguments_of l)) same-lwp
+      (subst
+      (λ (f : ℕ). CompletesOnce (traced_at t place).pid id (after now e) between (address_of t.options f)
+      (arguments_of (let w = again-is in w.stop.meets.l))) same-function it.turn)
+
+  pub told-there : HasTrap (traced_at t place).pid id between → TellsOfLwp r.y.reply id
+      → told_at_second k o s h before e between again later place id r
+      ≡ call_met k o s h before e between again later place id r ∷ []
+  unfolding again-is
+  told-there trap x =
+      told-same ∙ turn-is-told n k t place ns (traced_at t place).pid id now e between again again-is trap x
+      ∙ ap (λ c. c ∷ []) call-same
+
+pub calls-are-turns : (n k : ℕ) (o : Options) (s : TracedState) (h : List Entry) → IsFunctionRun n k o s h
+    → IsReached s → HasBytes h → CallsAreTurns k o s h
+calls-are-turns n k o s h run reached bytes = record {
+  call = λ before between later e again place id r report is.
+      call-there n k o s h run reached bytes before between later e again place id r report is;
+  turn = λ before between later e again place id r report is.
+      turn-there n k o s h run reached bytes before between later e again place id r report is;
+  told = λ before between later e again place id r trap x.
+      told-there n k o s h run reached bytes before between later e again place id r trap x;
+}

@@ -1,0 +1,538 @@
+use Rattle.std.proofs.Common.{◌≡◌, ◌<◌, ◌==◌, ◌++◌, ℕ, true, Option, Some, List, [], ◌∷◌, append_assoc, refl, sym, subst, ap, ◌∙◌, arith, inl, inr}
+use Rattle.std.proofs.lemmas.List.Elements.{All-head}
+use Rattle.std.proofs.lemmas.Option.{none-some, same_Some, slice_get_within}
+use Rattle.std.specs.List.{All, cons_option}
+use Rattle.std.specs.Option.{option_and_then}
+use Rattle.pr_lawful.proofs.EndLemmas.{found-live}
+use Rattle.pr_lawful.proofs.HandleLemmas.{handle-at}
+use Rattle.pr_lawful.proofs.HistoryLemmas.{history-state}
+use Rattle.pr_lawful.proofs.UseLemmas.{live-lawful}
+use Rattle.pr_line.specs.Events.{event_of}
+use Rattle.pr_line.specs.declared.events.Event.TheVariants as event
+use Rattle.pr_model.specs.Calls.{answer_to}
+use Rattle.pr_model.specs.Handles.{handle_of}
+use Rattle.pr_model.specs.Lawful.{IsLawful}
+use Rattle.pr_model.specs.Legal.{after, state_after}
+use Rattle.pr_model.specs.Points.{stop_at}
+use Rattle.pr_model.specs.Registers.{pc_of}
+use Rattle.pr_model.specs.Replies.{bytes_in, no_handle}
+use Rattle.pr_model.specs.State.{TracedLwp, TracedProcess, TracedState, lwp_of}
+use Rattle.pr_model.specs.Statuses.{lwpstatus_of, status_of, status_of_found}
+use Rattle.pr_model.specs.Stops.{representative}
+use Rattle.pr_model.specs.declared.calls.Call.{Call}
+use Rattle.pr_model.specs.declared.calls.File.TheVariants.{Status}
+use Rattle.pr_model.specs.declared.calls.Mode.TheVariants.{Read}
+use Rattle.pr_model.specs.declared.events.Act.TheVariants.{Turn}
+use Rattle.pr_model.specs.declared.events.Actor.TheVariants.{Lwp}
+use Rattle.pr_model.specs.declared.events.Did.TheVariants.{Faulted}
+use Rattle.pr_model.specs.declared.events.Entry.{Entry}
+use Rattle.pr_model.specs.declared.events.Turned.{Turned}
+use Rattle.pr_model.specs.declared.handles.Held.{Held}
+use Rattle.pr_model.specs.declared.stops.Point.{Point}
+use Rattle.pr_model.specs.declared.stops.Point.TheVariants.{Signal, Fault, Entry as AtEntry, Exit as AtExit}
+use Rattle.pr_model.specs.declared.stops.Stop.{Stop}
+use Rattle.pr_model.specs.declared.stops.Stop.TheVariants as stop
+use Rattle.pr_num.specs.ById.{IsRising}
+use Rattle.pr_num.specs.declared.faults.Flt.{Flt}
+use Rattle.pr_num.specs.declared.faults.Flt.TheVariants.{Bpt, Trace}
+use Rattle.pr_rec.specs.declared.lwps.LwpStatus.{LwpStatus}
+use Rattle.pr_report_laws.proofs.Files.WatchHistories.{exchanges-push}
+use Rattle.pr_report_laws.proofs.Machine.RecordLaws.{status-read}
+use Rattle.pr_report_laws.proofs.SeenChildren.Splits.{Compares, ahead, behind, compare, same}
+use Rattle.pr_report_laws.proofs.Watching.HistoryParts.{all-rest, legal-front, legal-rest}
+use Rattle.pr_truss.specs.Asides.{marks_at}
+use Rattle.pr_truss.specs.FunctionCalls.{next_function_call_of}
+use Rattle.pr_truss.specs.FunctionEvents.{step_of}
+use Rattle.pr_truss.specs.FunctionFeeding.{fed_functions}
+use Rattle.pr_truss.specs.Marks.{address_in, address_of, has_functions}
+use Rattle.pr_truss.specs.NextCalls.{read_record}
+use Rattle.pr_truss.specs.Records.{status_lwp}
+use Rattle.pr_truss.specs.Trusses.{TrussState, traced_at}
+use Rattle.pr_truss.specs.declared.marks.Stepped.{Stepped}
+use Rattle.pr_truss.specs.declared.processes.Traced.{Traced}
+use Rattle.pr_truss.specs.declared.reports.Report.{Report}
+use Rattle.pr_truss.specs.declared.reports.Report.TheVariants.{Called}
+use Rattle.pr_truss_laws.proofs.FrameLemmas.{was-made}
+use Rattle.pr_truss_laws.proofs.FunctionOptionLemmas.{fed_functions-options}
+use Rattle.pr_truss_laws.proofs.OpensLemmas.{held_by}
+use Rattle.pr_truss_laws.proofs.OverLemmas.{stays-made}
+use Rattle.pr_truss_laws.specs.Exchanges.{Exchange, exchanges}
+use Rattle.pr_reached.proofs.FitHistoryLemmas.{history-fits}
+use Rattle.pr_function_laws.proofs.AwayLemmas.{Away, IsKnownAs, Own, ReadsOwn, reads-own}
+use Rattle.pr_function_laws.proofs.BreakpointLemmas.{handles-same, lawful-now, live-now, looks-now, makes, own-entry, seen-then, stands}
+use Rattle.pr_function_laws.proofs.LiftLemmas.{LookCall, Looks, call-looks, met_at, patches, steps}
+use Rattle.pr_function_laws.proofs.MetLemmas.{event-breaks, found-function, fresh-stands}
+use Rattle.pr_function_laws.proofs.TurnPoints.{did_at}
+use Rattle.pr_function_laws.proofs.TurnReads.{ShownLwp, ShowsCall, fault-told, fresh-new, shown-lwp, shows-call, tells-call, told-stop}
+use Rattle.pr_function_laws.proofs.TurnStates.{IsBefore, Steps, Waits}
+use Rattle.pr_function_laws.proofs.TurnWalks as walks
+use Rattle.pr_function_laws.proofs.TurnWalks.{After, AreNoReads, Before, Comes, Files, Going, Turns, after-on, functions_on, walk}
+use Rattle.pr_function_laws.specs.Calls.{call_told}
+use Rattle.pr_function_laws.specs.Lifted.{GoesElsewhere, IsAtStopAtBreakpoint, ReadsOnlyLast, StepsNoCall}
+use Rattle.pr_function_laws.specs.Met.{arguments_of}
+use Rattle.pr_function_laws.specs.Runs.{MakesCalls, functions_after}
+use Rattle.pr_function_laws.specs.Stretches.{acts_by}
+use Rattle.pr_function_laws.specs.Turns.{CompletesOnce, HasOneTurn, HasTrap, IsNoTurnOf, ReadsAgain, TellsItsTurn, TellsOfLwp, call_of_stop, first_arguments, told_again}
+
+-- A call that is told at the read after a breakpoint is the one turn that the lwp had since, and the other way round.
+
+-- ---- lists of exchanges
+
+makes-front : (t : TrussState) (xs : List Exchange) (y : Exchange) → MakesCalls t (xs ++ y ∷ []) → MakesCalls t xs
+makes-front t [] y makes_all = tt
+makes-front t (x ∷ xs) y makes_all = (makes_all.0, makes-front (fed_functions t x.reply) xs y makes_all.1)
+
+makes-last : (t : TrussState) (xs : List Exchange) (y : Exchange) → MakesCalls t (xs ++ y ∷ [])
+    → next_function_call_of (functions_after t xs) ≡ Some y.call
+makes-last t [] y makes_all = makes_all.0
+makes-last t (x ∷ xs) y makes_all = makes-last (fed_functions t x.reply) xs y makes_all.1
+
+pub reads-none : (status : ℕ) (xs : List Exchange) (y : Exchange) → ReadsOnlyLast status (xs ++ y ∷ [])
+    → AreNoReads status xs
+reads-none status [] y last = tt
+reads-none status (x ∷ xs) y (inl quiet) = (quiet.0, reads-none status xs y quiet.1)
+reads-none status (x ∷ xs) y (inr ends) = absurd (nothing xs ends.1)
+  where
+    nothing : (zs : List Exchange) → zs ++ y ∷ [] ≡ [] → ⊥
+    nothing [] is = cc
+    nothing (z ∷ zs) is = cc
+
+has-after : (t : TrussState) (xs : List Exchange) → has_functions t.options ≡ true
+    → has_functions (functions_after t xs).options ≡ true
+has-after t [] has = has
+has-after t (x ∷ xs) has =
+    has-after (fed_functions t x.reply) xs (ap has_functions (fed_functions-options t x.reply) ∙ has)
+
+-- ---- one turn among entries
+
+turn-none : (pid id : ℕ) (t : Turned) → IsNoTurnOf pid id (record { actor = Lwp pid id; act = Turn t }) → ⊥
+turn-none pid id t w = w.other refl
+
+among-none : (pid id : ℕ) (t : Turned) (us vs : List Entry)
+    → All (IsNoTurnOf pid id) (us ++ record { actor = Lwp pid id; act = Turn t } ∷ vs) → ⊥
+among-none pid id t us vs none =
+    turn-none pid id t
+    (All-head (IsNoTurnOf pid id) (record { actor = Lwp pid id; act = Turn t }) vs
+    (all-rest (IsNoTurnOf pid id) us (record { actor = Lwp pid id; act = Turn t } ∷ vs) none))
+
+act-same : (t u : Turned) → Turn t ≡ Turn u → t ≡ u
+act-same t u is = cc
+
+turned-same : (pid id : ℕ) (t u : Turned)
+    → record { actor = Lwp pid id; act = Turn t } ≡ (let f : Entry = record { actor = Lwp pid id; act = Turn u } in f)
+    → t ≡ u
+turned-same pid id t u is = act-same t u (ap (λ (f : Entry). f.act) is)
+
+only-turn : (pid id : ℕ) (before later us vs h : List Entry) (t u : Turned) → HasOneTurn pid id before t later h
+    → h ≡ us ++ record { actor = Lwp pid id; act = Turn u } ∷ vs → t ≡ u
+only-turn pid id before later us vs h t u one is =
+    by (compare before us (record { actor = Lwp pid id; act = Turn t }) (record { actor = Lwp pid id; act = Turn u })
+    later vs (sym one.is ∙ is))
+  where
+    by : Compares before (record { actor = Lwp pid id; act = Turn t }) later us
+        (record { actor = Lwp pid id; act = Turn u }) vs → t ≡ u
+    by (behind between first second) =
+        absurd (among-none pid id u us between (subst (All (IsNoTurnOf pid id)) first one.none_before))
+    by (same first turn second) = turned-same pid id t u turn
+    by (ahead between first second) =
+        absurd (among-none pid id u between vs (subst (All (IsNoTurnOf pid id)) second one.none_later))
+
+-- ---- points
+
+trap-did : (point : Point) → stop_at point ≡ stop.Faulted Trace → did_at point ≡ Faulted Trace
+trap-did (Fault f) is = let same_fault : f ≡ Trace = cc in ap (λ x. Faulted x) same_fault
+trap-did (Signal g) is = cc
+trap-did (AtEntry call) is = cc
+trap-did (AtExit call) is = cc
+
+trap-stop : (point : Point) → did_at point ≡ Faulted Trace → stop_at point ≡ stop.Faulted Trace
+trap-stop (Fault f) is = let same_fault : f ≡ Trace = cc in ap (λ x. stop.Faulted x) same_fault
+trap-stop (Signal g) is = cc
+trap-stop (AtEntry call) is = cc
+trap-stop (AtExit call) is = cc
+
+open-few : (k m : ℕ) (s : TracedState) (held : Held) → IsLawful s → handle_of s.opens k m ≡ Some held → m < no_handle
+open-few k m s held lawful there =
+    omega (arith, slice_get_within s.opens m (Some held) (handle-at s.opens k m held there), lawful.places)
+
+-- ---- between the two reads
+
+module _ (n k : ℕ) (t : TrussState) (place ns pid id : ℕ) (s : TracedState) (e : Entry) (between : List Entry)
+    (again : Entry) (w : ReadsAgain n k t place ns pid id s e between again) where
+  abbrev here : IsAtStopAtBreakpoint n k t place ns pid id s e (between ++ again ∷ [])
+  here = w.stop
+
+  abbrev c : ℕ
+  c = (traced_at t place).control
+
+  abbrev first_lwp : LwpStatus
+  first_lwp = let m = here.meets in m.l
+
+  abbrev function : ℕ
+  function = let m = here.meets in m.function
+
+  abbrev met : Traced
+  met = met_at t place first_lwp function
+
+  abbrev regs : List ℕ
+  regs = first_lwp.regs
+
+  abbrev now : TracedState
+  now = after s e
+
+  abbrev begun : TrussState
+  begun = let x = here.x in fed_functions t x.reply
+
+  abbrev last_state : TracedState
+  last_state = state_after now between
+
+  abbrev met_later : TrussState
+  met_later = functions_after begun (exchanges k between)
+
+  -- ---- the first read
+
+  lwp-then : ShownLwp here.process first_lwp
+  lwp-then =
+      let m = here.meets in
+      let l = live-lawful s.system pid here.process (let it = here.lawful in it.system) here.live in
+      shown-lwp here.process first_lwp m.event l.rising
+      (seen-then n k t place ns pid id s e (between ++ again ∷ []) here)
+      (fresh-stands (traced_at t place) first_lwp m.event m.fresh)
+
+  first-id : first_lwp.id ≡ id
+  first-id = let told = here.told in told.its
+
+  -- the breakpoint
+  at-break : event_of first_lwp ≡ Some (event.Incurred Bpt (address_of t.options function))
+  unfolding address_of
+  at-break =
+      let m = here.meets in
+      let b = event-breaks t.options (marks_at t place) first_lwp.id m.event function m.at_breakpoint in
+      let f = found-function t.options b.pc function b.found in
+      fresh-stands (traced_at t place) first_lwp m.event m.fresh ∙ ap (λ x. Some x) b.is
+      ∙ ap (λ pc. Some (event.Incurred Bpt pc)) (sym f.1.1 ∙ ap address_in (sym f.1.0))
+
+  lwp-stop : (let x = lwp-then in x.lwp.control.stop) ≡ Some (stop.Faulted Bpt)
+  lwp-stop =
+      let x = lwp-then in
+      told-stop here.process first_lwp.id x.lwp Bpt (address_of t.options function)
+      (ap event_of (sym x.is) ∙ at-break)
+
+  status-regs : (p : TracedProcess) (own : ℕ) (l : TracedLwp) → (lwpstatus_of p own l).regs ≡ l.regs
+  unfolding lwpstatus_of
+  status-regs p own l = refl
+
+  lwp-regs : (let x = lwp-then in x.lwp.regs) ≡ regs
+  lwp-regs =
+      let x = lwp-then in
+      sym (ap (λ (y : LwpStatus). y.regs) x.is ∙ status-regs here.process first_lwp.id x.lwp)
+
+  incurred-pc : (f : Flt) (a b : ℕ) → Some (event.Incurred f a) ≡ Some (event.Incurred f b) → a ≡ b
+  incurred-pc f a b is = cc
+
+  stands-at : pc_of regs ≡ address_of t.options function
+  stands-at =
+      let x = lwp-then in
+      ap pc_of (sym lwp-regs)
+      ∙ incurred-pc Bpt (pc_of x.lwp.regs) (address_of t.options function)
+      (sym (fault-told here.process first_lwp.id x.lwp Bpt lwp-stop) ∙ ap event_of (sym x.is) ∙ at-break)
+
+  waits-then : Waits id regs here.process
+  waits-then =
+      let x = lwp-then in
+      record {
+        stands = stands n k t place ns pid id s e (between ++ again ∷ []) here;
+        all = here.stops;
+        own = λ l there.
+            let one : x.lwp ≡ l = same_Some x.lwp l (sym x.there ∙ ap (lwp_of here.process) first-id ∙ there) in
+            record {
+              holds = ap (λ (y : TracedLwp). y.regs) (sym one) ∙ lwp-regs;
+              stop = ap (λ (y : TracedLwp). y.control.stop) (sym one) ∙ lwp-stop;
+            };
+      }
+
+  files-now : Files n k pid id c ns met place regs now
+  files-now =
+      let f = here.files in
+      let same_handles = handles-same n k t place ns pid id s e (between ++ again ∷ []) here in
+      record { control = same_handles c ∙ f.control; status = same_handles ns ∙ f.reads }
+
+  first-before : Before n k pid id c ns met place regs begun now
+  first-before =
+      walks.looks (looks-now n k t place ns pid id s e (between ++ again ∷ []) here) files-now
+      (λ p live. subst (Waits id regs)
+      (same_Some here.process p (sym (live-now n k t place ns pid id s e (between ++ again ∷ []) here) ∙ live))
+      waits-then)
+
+  -- ---- on the way
+
+  pushed : exchanges k (between ++ again ∷ []) ≡ exchanges k between ++ w.y ∷ []
+  pushed =
+      exchanges-push k between again
+      ∙ ap (λ (o : Option Exchange). exchanges k between ++ cons_option o []) w.own
+
+  makes-all : MakesCalls begun (exchanges k between ++ w.y ∷ [])
+  makes-all =
+      subst (MakesCalls begun) pushed (makes n k t place ns pid id s e (between ++ again ∷ []) here).1
+
+  begun-has : has_functions begun.options ≡ true
+  begun-has = let x = here.x in ap has_functions (fed_functions-options t x.reply) ∙ here.has
+
+  no-call-front : StepsNoCall k pid id c now between
+  no-call-front =
+      let calls : StepsNoCall k pid id c now (between ++ again ∷ []) = here.no_call in
+      record {
+        each = λ before later f x p l is.
+            calls.each before (later ++ again ∷ []) f x p l
+            (ap (λ (es : List Entry). es ++ again ∷ []) is ∙ append_assoc before (f ∷ later) (again ∷ []));
+      }
+
+  going : Going n k pid id c ns met place regs begun now between
+  going =
+      let first = found-live s.system pid here.process here.live in
+      let lawful : IsLawful s = here.lawful in
+      record {
+        lawful = lawful-now n k t place ns pid id s e (between ++ again ∷ []) here;
+        made = stays-made n s e pid lawful here.legal.0 (was-made pid s.system here.process lawful.system first.0);
+        fit = history-fits n s (e ∷ []) lawful here.fit (here.legal.0, tt);
+        has = begun-has;
+        legal = legal-front n now between (again ∷ []) here.legal.1;
+        makes = makes-front begun (exchanges k between) w.y makes-all;
+        quiet = reads-none ns (exchanges k between) w.y (subst (ReadsOnlyLast ns) pushed here.reads_last);
+        no_call = no-call-front;
+      }
+
+  came : Comes n k pid id c ns met place regs begun now between
+  came = walk n k pid id c ns met place regs between begun now going first-before
+
+  -- ---- the second read
+
+  lawful-then : IsLawful last_state
+  lawful-then =
+      let g = going in history-state n now between g.lawful g.legal
+
+  next-call : next_function_call_of met_later ≡ Some (read_record (Some ns))
+  next-call = makes-last begun (exchanges k between) w.y makes-all ∙ ap (λ d. Some d) w.reads
+
+  later-has : has_functions met_later.options ≡ true
+  later-has = has-after begun (exchanges k between) begun-has
+
+  -- truss does not look at the process any more
+  look-acts : (d : Call) → LookCall (GoesElsewhere k pid last_state) c ns met place met_later.options d
+      → acts_by d ≡ Some c
+  look-acts d steps = refl
+  look-acts d (patches f code) = refl
+
+  not-looking : {A : Type 0} → Looks (GoesElsewhere k pid last_state) c ns met place met_later → A
+  not-looking look =
+      absurd (none-some c
+      (look-acts (read_record (Some ns))
+      (call-looks (GoesElsewhere k pid last_state) c ns met place met_later look later-has (read_record (Some ns))
+      next-call)))
+
+  -- what it is told
+  told-then : (f : Files n k pid id c ns met place regs last_state) → option_and_then status_lwp (bytes_in w.y.reply)
+      ≡ Some (status_of_found w.process (representative w.process))
+  unfolding status_of
+  told-then f =
+      let legal = legal-rest n now between (again ∷ []) here.legal.1 in
+      let own = own-entry n k last_state again w.y legal.0 w.own in
+      let sees =
+      status-read last_state k ns (held_by k pid 0 Status Read) f.status own.answer w.process w.live refl w.ranged
+      (ap (answer_to last_state k) (sym w.reads) ∙ own.is) in
+      ap (λ r. option_and_then status_lwp (bytes_in r)) (sym own.replied) ∙ sees.lwp
+
+  rises-then : IsRising w.process.lwps
+  rises-then =
+      let lawful = lawful-then in
+      let l = live-lawful last_state.system pid w.process lawful.system w.live in l.rising
+
+  abbrev last_lwp : LwpStatus
+  last_lwp = status_of_found w.process (representative w.process)
+
+  module _ (it : Away (GoesElsewhere k pid last_state) c ns met met_later)
+      (f : Files n k pid id c ns met place regs last_state) where
+    reading : ReadsOwn (GoesElsewhere k pid last_state) c ns met met_later
+    reading =
+        reads-own (GoesElsewhere k pid last_state) c ns met met_later it
+        (open-few k ns last_state (held_by k pid 0 Status Read) lawful-then f.status)
+        (λ goes. goes (held_by k pid 0 Status Read) f.status refl) later-has next-call
+
+    known : IsKnownAs met (traced_at met_later (let x = reading in x.place))
+    known =
+        let x = reading in
+        let own : Own (GoesElsewhere k pid last_state) c ns met (traced_at met_later x.place) = x.own in own.known
+
+    under-way : (marks_at met_later (let x = reading in x.place)).stepped ≡ Some (step_of first_lwp function)
+    under-way = let x = known in x.stepped
+
+    step-lwp : (step_of first_lwp function).lwp ≡ id
+    unfolding step_of
+    step-lwp = first-id
+
+    -- a call that is told there
+    module _ (rpt : Report) (is : call_told met_later w.y.reply ≡ rpt ∷ []) where
+      shows : ShowsCall met_later w.y.reply (let x = reading in x.place) (let x = reading in x.idle)
+          (let x = reading in x.reads) last_lwp (told-then f) rpt
+      shows =
+          let x = reading in
+          shows-call met_later w.y.reply x.place x.idle x.reads last_lwp (told-then f) rpt is
+
+      step-same : (let x = shows in x.step) ≡ step_of first_lwp function
+      step-same = let x = shows in same_Some _ _ (sym x.under_way ∙ under-way)
+
+      last-id : last_lwp.id ≡ id
+      last-id =
+          let x = shows in sym x.own ∙ ap (λ (y : Stepped). y.lwp) step-same ∙ step-lwp
+
+      call-is : rpt ≡ call_of_stop n k t place ns pid id s e between again w
+      unfolding step_of
+      call-is =
+          let x = shows in
+          let y = known in
+          x.is ∙ ap (λ (z : Stepped). Called (traced_at met_later (let r = reading in r.place)).pid z.lwp z.function
+          z.arguments) step-same
+          ∙ ap (λ number. Called number first_lwp.id function (arguments_of first_lwp)) y.pid
+          ∙ ap (λ own. Called (traced_at t place).pid own function (arguments_of first_lwp)) first-id
+
+      -- the lwp stands at the trace trap
+      record Trapped : Type 0 where
+        lwp : TracedLwp
+        there : lwp_of w.process id ≡ Some lwp
+        stop : lwp.control.stop ≡ Some (stop.Faulted Trace)
+
+      trapped : Trapped
+      trapped =
+          let x = shows in
+          let l = shown-lwp w.process last_lwp (event.Incurred Trace x.pc) rises-then refl x.stands in
+          record {
+            lwp = l.lwp;
+            there = ap (lwp_of w.process) (sym last-id) ∙ l.there;
+            stop = told-stop w.process last_lwp.id l.lwp Trace x.pc (ap event_of (sym l.is) ∙ x.stands);
+          }
+
+  -- ---- a call that is told is its turn
+
+  some-stop : (a b : Stop) → Some a ≡ Some b → a ≡ b
+  some-stop a b is = same_Some a b is
+
+  bpt-not : stop.Faulted Bpt ≡ stop.Faulted Trace → ⊥
+  bpt-not is = cc
+
+  -- one that has not had its turn stands at no trace trap
+  not-trapped : {A : Type 0} → IsBefore id regs w.process → (l : TracedLwp) → lwp_of w.process id ≡ Some l
+      → l.control.stop ≡ Some (stop.Faulted Trace) → A
+  not-trapped (inl waits) l there at =
+      let own = waits.own l there in absurd (bpt-not (same_Some _ _ (sym own.stop ∙ at)))
+  not-trapped (inr x) l there at =
+      let stepped = x.stepped in
+      let one : x.lwp ≡ l = same_Some x.lwp l (sym stepped.there ∙ there) in
+      absurd (none-some _ (sym x.no_stop ∙ ap (λ (y : TracedLwp). y.control.stop) one ∙ at))
+
+  regs-holds : (l : TracedLwp) → l.regs ≡ regs → pc_of l.regs ≡ address_of t.options function
+  regs-holds l is = ap pc_of is ∙ stands-at
+
+  completes : (before later : List Entry) (did : Turned) (point : Point)
+      → HasOneTurn pid id before did later between → Turns pid id regs (state_after now before) did point
+      → did_at point ≡ Faulted Trace
+      → CompletesOnce pid id now between (address_of t.options function) (arguments_of first_lwp)
+  completes before later did point one facts trap =
+      let x : Steps id regs facts.process = facts.steps in
+      let stepped = x.stepped in
+      record {
+        before = before;
+        turned = did;
+        later = later;
+        one = one;
+        completes = record {
+          process = facts.process;
+          live = facts.live;
+          lwp = x.lwp;
+          there = stepped.there;
+          in_program = stepped.in_program;
+          stands = regs-holds x.lwp x.holds;
+          holds = ap first_arguments x.holds;
+          ran = facts.ran (facts.did ∙ trap);
+          trapped = facts.did ∙ trap;
+        };
+      }
+
+  told-same : told_again n k t place ns pid id s e between again w ≡ call_told met_later w.y.reply
+  told-same =
+      ap (λ u. call_told u w.y.reply)
+      (after-on n k pid id c ns met place regs t e between
+      ∙ ap (λ o. functions_after (functions_on t o) (exchanges k between)) here.own)
+
+  tells-turn : (rpt : Report) → call_told met_later w.y.reply ≡ rpt ∷ []
+      → TellsItsTurn n k t place ns pid id s e between again w rpt
+  tells-turn rpt is = by came
+    where
+      by : Comes n k pid id c ns met place regs begun now between
+          → TellsItsTurn n k t place ns pid id s e between again w rpt
+      by (walks.no_turn none (walks.looks look f lives)) = not-looking look
+      by (walks.no_turn none (walks.aways it f lives)) =
+          let l = trapped it f rpt is in not-trapped (lives w.process w.live) l.lwp l.there l.stop
+      by (walks.one_turn before later did point one facts a) =
+          let f : Files n k pid id c ns met place regs last_state = a.files in
+          let l = trapped a.away f rpt is in
+          let had = a.had w.process w.live in
+          record {
+            call = call-is a.away f rpt is;
+            turn = completes before later did point one facts
+                (trap-did point (same_Some _ _ (sym (had.own l.lwp l.there) ∙ l.stop)));
+          }
+      by (walks.ends gone) = absurd (none-some w.process (sym gone ∙ w.live))
+
+  pub told-is-turn : (rpt : Report) → told_again n k t place ns pid id s e between again w ≡ rpt ∷ []
+      → TellsItsTurn n k t place ns pid id s e between again w rpt
+  told-is-turn rpt is = tells-turn rpt (sym told-same ∙ is)
+
+  -- ---- its turn is told
+
+  module _ (trap : HasTrap pid id between) (x : TellsOfLwp w.y.reply id) where
+    last-is : Files n k pid id c ns met place regs last_state → last_lwp ≡ x.l
+    last-is f = same_Some _ _ (sym (told-then f) ∙ x.told)
+
+    tells : (it : Away (GoesElsewhere k pid last_state) c ns met met_later)
+        → (f : Files n k pid id c ns met place regs last_state) → (pc : ℕ)
+        → event_of last_lwp ≡ Some (event.Incurred Trace pc)
+        → call_told met_later w.y.reply ≡ call_of_stop n k t place ns pid id s e between again w ∷ []
+    unfolding step_of
+    tells it f pc on =
+        let r = reading it f in
+        let y = known it f in
+        let m = here.meets in
+        let new = fresh-new (traced_at t place) first_lwp m.event m.fresh in
+        tells-call met_later w.y.reply r.place r.idle r.reads last_lwp (told-then f) pc (step_of first_lwp function) on
+        (under-way it f) (first-id ∙ sym (ap (λ (l : LwpStatus). l.id) (last-is f) ∙ x.its))
+        (ap (λ o. o == 0) y.old ∙ new.new) (y.seen ∙ new.unseen)
+        ∙ ap (λ number. Called number first_lwp.id function (arguments_of first_lwp) ∷ []) y.pid
+        ∙ ap (λ own. Called (traced_at t place).pid own function (arguments_of first_lwp) ∷ []) first-id
+
+    trap-told : (point : Point) → did_at point ≡ Faulted Trace
+        → (a : After n k pid id c ns met place regs point met_later last_state)
+        → call_told met_later w.y.reply ≡ call_of_stop n k t place ns pid id s e between again w ∷ []
+    trap-told point did a =
+        let f : Files n k pid id c ns met place regs last_state = a.files in
+        let had = a.had w.process w.live in
+        let same_lwp : last_lwp ≡ x.l = last-is f in
+        let l = shown-lwp w.process last_lwp x.event rises-then refl (ap event_of same_lwp ∙ x.stands) in
+        let own : last_lwp.id ≡ id = ap (λ (y : LwpStatus). y.id) same_lwp ∙ x.its in
+        tells a.away f (pc_of l.lwp.regs)
+        (ap event_of l.is
+        ∙ fault-told w.process last_lwp.id l.lwp Trace
+        (had.own l.lwp (ap (lwp_of w.process) (sym own) ∙ l.there) ∙ ap (λ y. Some y) (trap-stop point did)))
+
+    pub turn-is-told : told_again n k t place ns pid id s e between again w
+        ≡ call_of_stop n k t place ns pid id s e between again w ∷ []
+    turn-is-told = told-same ∙ by came
+      where
+        by : Comes n k pid id c ns met place regs begun now between
+            → call_told met_later w.y.reply ≡ call_of_stop n k t place ns pid id s e between again w ∷ []
+        by (walks.no_turn none b) =
+            absurd (among-none pid id trap.turned trap.before trap.later (subst (All (IsNoTurnOf pid id)) trap.is none))
+        by (walks.one_turn before later did point one facts a) =
+            let same_turn : did ≡ trap.turned =
+            only-turn pid id before later trap.before trap.later between did trap.turned one trap.is in
+            trap-told point (sym facts.did ∙ ap (λ (y : Turned). y.did) same_turn ∙ trap.trapped) a
+        by (walks.ends gone) = absurd (none-some w.process (sym gone ∙ w.live))

@@ -1,0 +1,25 @@
+ghost use Rattle.std.specs.Prelude.{ℕ, List};
+ghost use Rattle.pr_line.specs.declared.options.Options.{Options};
+ghost use Rattle.pr_model.specs.State.{TracedState};
+ghost use Rattle.pr_model.specs.declared.events.Entry.{Entry};
+ghost use Rattle.pr_reached.specs.ByteHistories.{HasBytes};
+ghost use Rattle.pr_reached.specs.Reached.{IsReached};
+ghost use Rattle.pr_function_laws.specs.Opened.{HoldsWhatItOpened, IsFunctionRun, LiftsForOneAlone};
+
+/// From the end of the opening of a process, until truss is interrupted or closes its files, truss has its own files of
+/// that process and nobody else has it open for writing; all its signals but SIGKILL and all its faults are traced, and
+/// so are fork, vfork and exec. This is so in each legal history.
+#[tactic(auto, using(crate::proofs::OpenedLaws::opens))]
+pub fn what_truss_opened_it_traces_alone()
+    ensures { (n k : ℕ) (o : Options) (s : TracedState) (h : List Entry) → IsFunctionRun n k o s h
+        → HoldsWhatItOpened k o s h }
+{}
+
+/// In each legal history from a state that the machine reaches, in which controllers write bytes: from each read that
+/// tells truss of an lwp at a breakpoint, until truss makes a call after its next read of the process, no other lwp of
+/// the process begins an instruction.
+#[tactic(auto, using(crate::proofs::OpenedLaws::opens))]
+pub fn each_breakpoint_is_lifted_for_one_lwp_alone()
+    ensures { (n k : ℕ) (o : Options) (s : TracedState) (h : List Entry) → IsFunctionRun n k o s h → IsReached s
+        → HasBytes h → LiftsForOneAlone k o s h }
+{}
