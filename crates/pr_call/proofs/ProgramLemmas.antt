@@ -14,7 +14,7 @@ use Rattle.pr_model.specs.Readers.{total_has_room}
 use Rattle.pr_model.specs.State.{TracedLwp, TracedProcess, TracedSystem, with_process, with_process_if}
 use Rattle.pr_model.specs.declared.events.Res.TheVariants.{Value, Error}
 use Rattle.pr_proc.specs.Refusals.{exec_refusal}
-use Rattle.pr_call.specs.Effects.{after_effect, may_lack_memory, outcome_of}
+use Rattle.pr_call.specs.Effects.{after_effect, is_granted, may_lack_memory, outcome_of}
 use Rattle.pr_call.specs.Processes.{exec_found, exec_of}
 use Rattle.pr_call.specs.declared.requests.Performed.TheVariants as performed
 
@@ -129,6 +129,16 @@ module _ (s : TracedSystem) (p : TracedProcess) (id : ℕ) (x : Effect) where
   pub run-lacks : (place : ℕ) → place < length s.programs → exec_found s p id (slice_get s.programs place) ≡ x
       → may_lack_memory x ≡ true
   run-lacks place within = lack-told (slice_get s.programs place) (some-at s.programs place within)
+
+  -- where nothing refuses it, it is granted
+  granted-told : (o : Option Program) → IsSome o → exec_found s p id o ≡ x
+      → ((g : Program) → o ≡ Some g → exec_refusal s p id g ≡ None) → is_granted x ≡ true
+  granted-told None some is free = absurd (cc)
+  granted-told (Some g) some is free = ap is_granted (sym is ∙ found-granted s p id (Some g) g refl (free g refl))
+
+  pub run-granted : (place : ℕ) → place < length s.programs → exec_found s p id (slice_get s.programs place) ≡ x
+      → ((g : Program) → slice_get s.programs place ≡ Some g → exec_refusal s p id g ≡ None) → is_granted x ≡ true
+  run-granted place within = granted-told (slice_get s.programs place) (some-at s.programs place within)
 
 -- a call that is refused leaves all as it was
 pub after-fails : (s : TracedSystem) (pid : ℕ) (p : TracedProcess) (id : ℕ) (l : TracedLwp) (e : Errno) (x : Effect) → fails e ≡ x → s ≡ after_effect pid p id l x s

@@ -102,7 +102,7 @@ fn target(sys: &Sys, pid: u32, id: u32, at: u64) -> Result<u32, Errno>
 }
 
 /// exec(2) by an lwp of a live process, of the program that a path names; memory that it borrowed goes back. ENOMEM:
-/// too much would be mapped. Memory runs out only where it is found, and the system then stays as it is.
+/// too much would be mapped. Memory runs out only where the call is granted, and the system then stays as it is.
 #[tactic(auto, using(crate::proofs::ProgramLemmas::running))]
 pub fn exec_by(
     alloc: Global,
@@ -116,6 +116,7 @@ pub fn exec_by(
     ensures system { IfOk result (λ outcome. ForSome (live_process sys.old pid) (λ p. ForSome (lwp_of p id) (λ l. sys.new ≡ after_effect pid p id l (exec_effect sys.old p id at) sys.old))) }
     ensures outcome { IfOk result (λ outcome. ForSome (live_process sys.old pid) (λ p. outcome ≡ outcome_of (exec_effect sys.old p id at))) }
     ensures memory { OnErr result (ForSome (live_process sys.old pid) (λ p. may_lack_memory (exec_effect sys.old p id at) ≡ true)) }
+    ensures granted { OnErr result (ForSome (live_process sys.old pid) (λ p. is_granted (exec_effect sys.old p id at) ≡ true)) }
     ensures err { OnErr result (sys.new ≡ sys.old) }
 {
     let place = match target(sys, pid, id, at) {

@@ -24,6 +24,9 @@ use std::alloc::Global;
 /// The most bytes of one call.
 const MOST: usize = TRANSFER_LIMIT as usize;
 
+/// As many bytes as most calls move: a buffer for so few is filled in no time.
+const FEW: usize = 64;
+
 /// Why a read is refused before the files are asked: EBADF, EINVAL, EFAULT, in this order. `None`: it is not.
 #[tactic(auto, using(crate::proofs::TransferLemmas::reading))]
 fn read_refusal(
@@ -147,6 +150,10 @@ fn read_into(
     if let Some(error) = read_refusal(files, fds, space, fd, at, size) {
         return Err(Refusal::Fails(error));
     }
+    if size <= FEW as u64 {
+        let mut buffer = [0; FEW];
+        return fill(files, fds, space, fd, at, &mut buffer[..size as usize]);
+    }
     let mut buffer = [0; MOST];
     fill(files, fds, space, fd, at, &mut buffer[..size as usize])
 }
@@ -202,6 +209,18 @@ fn write_from(
 {
     if let Some(error) = write_refusal(files, fds, space, fd, at, size) {
         return Err(Refusal::Fails(error));
+    }
+    if size <= FEW as u64 {
+        let mut buffer = [0; FEW];
+        return drain(
+            alloc,
+            files,
+            fds,
+            space,
+            fd,
+            at,
+            &mut buffer[..size as usize],
+        );
     }
     let mut buffer = [0; MOST];
     drain(

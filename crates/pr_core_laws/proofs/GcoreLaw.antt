@@ -12,12 +12,13 @@ use Rattle.pr_model.specs.State.{TracedState}
 use Rattle.pr_model.specs.declared.events.Entry.{Entry}
 use Rattle.pr_reached.specs.ByteHistories.{HasBytes}
 use Rattle.pr_reached.specs.InRange.{IsInRange}
-use Rattle.pr_tool_laws.proofs.ProtocolLemmas.{KeptByCalls, KeptByOthers, protocol-keeps}
+use Rattle.pr_tool_laws.proofs.ProtocolLemmas.{KeptByCalls, KeptByOthers, own-keeps}
 use Rattle.pr_tool_laws.proofs.StageLemmas.{state-called}
 use Rattle.pr_tools.specs.Handles.{nothing_open}
 use Rattle.pr_world.specs.Controllers.{after_reply, next_call}
 use Rattle.pr_world.specs.ControllerStates.{ControllerState, Gcore}
-use Rattle.pr_world.specs.Protocol.{Follows, controllers_at}
+use Rattle.pr_world.specs.Protocol.{controllers_at}
+use Rattle.pr_tool_laws.specs.OwnCalls.{AreOwnCalls}
 use Rattle.pr_core_laws.proofs.GcoreCalls.{called-stage}
 use Rattle.pr_core_laws.proofs.GcoreEnds.{ended-stage, shows}
 use Rattle.pr_core_laws.proofs.GcoreStages.{So, Stage, goes, open_at, others-stage}
@@ -68,13 +69,13 @@ module _ (n k pid : ℕ) (first : TracedState) where
 -- In the end it shows that, unless it was refused.
 pub shows-one-core : (controllers : List ControllerState) (n k pid : ℕ) (s : TracedState) (h : List Entry)
     (g : GcoreState) → IsLawful s → IsInRange s.system → HasBytes h
-    → slice_get controllers k ≡ Some (Gcore (first_gcore pid)) → IsLegal n s h → Follows controllers s h
+    → slice_get controllers k ≡ Some (Gcore (first_gcore pid)) → IsLegal n s h → AreOwnCalls controllers h
     → slice_get (controllers_at controllers h) k ≡ Some (Gcore g) → has_ended g ≡ true → g.refusal ≡ None
     → ShowsOneCore k pid s h (printed g)
 unfolding IsGcoreKept
 shows-one-core controllers n k pid s h g lawful ranged bytes starts legal follows ends ended accepted =
     let kept =
-    protocol-keeps n k s (IsGcoreKept n k pid s) (others-keep n k pid s) (calls-keep n k pid s) controllers h
+    own-keeps n k s (IsGcoreKept n k pid s) (others-keep n k pid s) (calls-keep n k pid s) controllers h
     (Gcore (first_gcore pid)) (Gcore g) legal follows starts ends (lawful, at_first n k pid s) in
     shows n k pid s h g lawful ranged bytes legal ended accepted
     (ended-stage n k pid s h (state_after s h) g ended accepted kept.1)

@@ -14,9 +14,10 @@ ghost use Rattle.pr_reached.specs.ByteHistories.{HasBytes};
 ghost use Rattle.pr_reached.specs.InRange.{IsInRange, IsStartInRange};
 ghost use Rattle.pr_world.specs.ControllerStates.{ControllerState};
 ghost use Rattle.pr_world.specs.ControllerStates as cores;
-ghost use Rattle.pr_world.specs.Protocol.{Follows, controllers_at};
+ghost use Rattle.pr_world.specs.Protocol.{controllers_at};
+ghost use Rattle.pr_tool_laws.specs.OwnCalls.{AreOwnCalls};
 
-/// In a legal history that follows the protocol of its controllers, from a lawful state in range or from a first state,
+/// In a legal history where these controllers make their own calls, from a lawful state in range or from a first state,
 /// and in which controllers write bytes, a gcore that has finished, and was not refused, prints the core of one state,
 /// although it reads file by file and piece by piece: of the one that it finds when it reads the descriptors. This is so
 /// where the process has no agent, and others spare it from gcore's read of its status on: its parent does not end, and
@@ -26,14 +27,14 @@ pub fn gcore_shows_one_state()
         (g : GcoreState)
         → IsLawful s → IsInRange s.system → HasBytes h
         → slice_get controllers k ≡ Some (cores.Gcore (first_gcore pid))
-        → IsLegal n s h → Follows controllers s h
+        → IsLegal n s h → AreOwnCalls controllers h
         → slice_get (controllers_at controllers h) k ≡ Some (cores.Gcore g) → has_ended g ≡ true → g.refusal ≡ None
         → ShowsOneCore k pid s h (printed g) }
     ensures first { (programs : List Program) (files : List StoredFile) (spawns : List ℕ)
         → (controllers : List ControllerState) (n k : ℕ) (pid : ℕ) (h : List Entry) (g : GcoreState)
         → IsStart programs files spawns → IsStartInRange programs files → HasBytes h
         → slice_get controllers k ≡ Some (cores.Gcore (first_gcore pid))
-        → IsLegal n (first_state programs files spawns) h → Follows controllers (first_state programs files spawns) h
+        → IsLegal n (first_state programs files spawns) h → AreOwnCalls controllers h
         → slice_get (controllers_at controllers h) k ≡ Some (cores.Gcore g) → has_ended g ≡ true → g.refusal ≡ None
         → ShowsOneCore k pid (first_state programs files spawns) h (printed g) }
 {}

@@ -1,6 +1,6 @@
 use Rattle.std.proofs.Common.{◌≡◌, ◌<◌, ◌+◌, ◌++◌, ◌||◌, ◌⊎◌, inl, inr, ℕ, suc, Bool, true, false, List, [], ◌∷◌}
-use Rattle.std.proofs.Common.{Option, Some, None, Result, Ok, Err, All, length, nat_lt, cond, refl, sym, ap, subst, ◌∙◌}
-use Rattle.std.proofs.Common.{arith, append-nil, length-append}
+use Rattle.std.proofs.Common.{Option, Some, None, Result, Ok, Err, length, cond, refl, sym, ap, subst, ◌∙◌}
+use Rattle.std.proofs.Common.{arith, length-append}
 use Rattle.std.proofs.lemmas.Bool.{le-ltb, lt-ltb}
 use Rattle.std.proofs.lemmas.List.Elements.{All-head, All-tail}
 use Rattle.std.proofs.lemmas.Option.{same_Some}
@@ -13,7 +13,7 @@ use Rattle.pr_asks.specs.declared.asks.Ask.TheVariants as ask
 use Rattle.pr_asks.specs.declared.asks.Kind.{Kind}
 use Rattle.pr_model.specs.Calls.{Answer, answer_to}
 use Rattle.pr_model.specs.Legal.{IsLegalEntry, after}
-use Rattle.pr_model.specs.LwpTurns.{LwpTurn, turn_of}
+use Rattle.pr_model.specs.LwpTurns.{LwpTurn}
 use Rattle.pr_model.specs.State.{TracedState}
 use Rattle.pr_model.specs.declared.calls.Call.{Call}
 use Rattle.pr_model.specs.declared.events.Act.{Act}
@@ -21,11 +21,11 @@ use Rattle.pr_model.specs.declared.events.Act.TheVariants.{Call as Called, Turn,
 use Rattle.pr_model.specs.declared.events.Actor.{Actor}
 use Rattle.pr_model.specs.declared.events.Actor.TheVariants.{Controller, Lwp, Clock}
 use Rattle.pr_model.specs.declared.events.Entry.{Entry}
-use Rattle.pr_run_laws.specs.ScenarioRuns.{first_world, history_after, world_after}
+use Rattle.pr_run_laws.specs.ScenarioRuns.{first_world, world_after}
 use Rattle.pr_scen.specs.Scenarios.{Scenario}
 use Rattle.pr_world.proofs.RunLemmas.{next-leads}
 use Rattle.pr_world.specs.ControllerStates.{ControllerState}
-use Rattle.pr_world.specs.Controllers.{call_by, is_clock_awaited}
+use Rattle.pr_world.specs.Controllers.{is_clock_awaited}
 use Rattle.pr_world.specs.Moves.{Does, IsMachines, Leads, entry_of}
 use Rattle.pr_world.specs.Protocol.{controllers_after}
 use Rattle.pr_world.specs.Runs.{IsTold, after_moves, after_next}
@@ -33,9 +33,10 @@ use Rattle.pr_world.specs.Worlds.{Pick, WorldState, can_act, first_lwp, first_sc
 use Rattle.pr_world.specs.Worlds.{next_in_rounds, next_pick, with_pick}
 use Rattle.pr_drive.specs.Alone.{IsPartOfRun, OnlyLetOthers, lets_others}
 use Rattle.pr_drive.specs.Exchanges.{Answers, GoesFor, GoesUntil, MadeAll, MadeFewer, StopsReady}
-use Rattle.pr_drive.specs.Going.{IsMove, IsOwnCall, Moved, MovesIf, SeatsState, Stayed, after_entry, can_move}
+use Rattle.pr_tool_laws.specs.OwnCalls.{IsOwnCall}
+use Rattle.pr_drive.specs.Going.{IsMove, Moved, MovesIf, SeatsState, Stayed, after_entry, can_move}
 use Rattle.pr_drive.specs.Going.{has_place, outside_of, world_of}
-use Rattle.pr_drive.specs.Rounds.{AreSteps, AreStepsOn, FinishesRound, FollowsSchedule, IsAtRest, IsStep, IsStepOn}
+use Rattle.pr_drive.specs.Rounds.{AreSteps, AreStepsOn, FinishesRound, FollowsSchedule, IsAtRest, IsStepOn}
 use Rattle.pr_drive.specs.Rounds.{Rests, RoundsState, after_step, after_steps, first_controllers, first_place, last_at}
 use Rattle.pr_drive.specs.Rounds.{next_from, next_left, next_on, place_behind}
 use Rattle.pr_drive.specs.declared.places.Place.TheVariants as place

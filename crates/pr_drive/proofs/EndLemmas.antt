@@ -1,34 +1,31 @@
-use Rattle.std.proofs.Common.{◌≡◌, ◌≢◌, ◌<◌, ◌≤◌, ◌+◌, ◌++◌, ◌⊎◌, inl, inr, ℕ, Bool, true, false, List, [], ◌∷◌, Option}
-use Rattle.std.proofs.Common.{Some, None, Result, Ok, Err, IfOk, OnOk, OnErr, length, take, refl, sym, ap, subst, ◌∙◌}
+use Rattle.std.proofs.Common.{◌≡◌, ◌+◌, ◌++◌, ◌⊎◌, inl, inr, ℕ, Bool, true, false, List, [], ◌∷◌, Option}
+use Rattle.std.proofs.Common.{Some, None, Result, Ok, Err, OnErr, length, refl, sym, ap, subst, ◌∙◌}
 use Rattle.std.proofs.Common.{arith, append_assoc, append-nil, length-append}
 use Rattle.std.proofs.lemmas.List.{take_all}
-use Rattle.std.specs.List.{flat_map}
-use Rattle.std.specs.Result.{IsErrOf}
 use Rattle.pr_asks.specs.Asks.{ask_of, name_of}
 use Rattle.pr_asks.specs.declared.asks.Ask.{Ask}
 use Rattle.pr_asks.specs.declared.asks.Kind.{Kind}
-use Rattle.pr_io.specs.Faults.{Rose}
 use Rattle.pr_io.specs.Known.{with_end}
 use Rattle.pr_io.specs.Writing.{AppendsFront}
 use Rattle.pr_io.specs.declared.sources.ReadEnd.{ReadEnd}
 use Rattle.pr_io.specs.declared.sources.ReadEnd.TheVariants as read
 use Rattle.pr_output.specs.Output.{AppendsSome, refusal_text}
-use Rattle.pr_output.specs.Puts.{Puts}
 use Rattle.pr_output.specs.declared.cuts.Cut.{Cut}
 use Rattle.pr_output.specs.declared.cuts.Cut.TheVariants as write
 use Rattle.pr_drive.specs.Exchanges.{Answers, Writes}
-use Rattle.pr_drive.specs.Inputs.{Input, Took}
+use Rattle.pr_drive.specs.Inputs.{Asked, AskedInVain, Input, Took}
 use Rattle.pr_drive.specs.Rounds.{FinishesRound, RoundsState}
 use Rattle.pr_drive.specs.Sessions.{AnsweredAll, AnsweredIf, AnsweredLine, AnsweredNext, AnsweredNone, AnsweredSome}
-use Rattle.pr_drive.specs.Sessions.{AnswersLine, AnswersRead, AsksEnd, CameOf, CutAnswer, CutAt, CutAtLine, CutLine}
-use Rattle.pr_drive.specs.Sessions.{CutNext, Exchange, Exchanged, Exchanges, IsEnd, NoMore, PassesTurn, PutAnswer}
-use Rattle.pr_drive.specs.Sessions.{RefusesLine, Stand, came_of, is_end, is_last, last_number, replies_of}
+use Rattle.pr_drive.specs.Sessions.{AnsweredUnread, UnreadNext}
+use Rattle.pr_drive.specs.Sessions.{AnswersRead, AsksEnd, CameOf, CutAnswer, CutAt}
+use Rattle.pr_drive.specs.Sessions.{CutNext, Exchange, Exchanged, Exchanges, PutAnswer}
+use Rattle.pr_drive.specs.Sessions.{Stand, came_of, is_end, is_last, last_number, replies_of}
 use Rattle.pr_drive.specs.Statuses.{cut_off, read_off}
 use Rattle.pr_drive.specs.declared.answers.Came.{Came}
 use Rattle.pr_drive.specs.declared.answers.Came.TheVariants as came
 use Rattle.pr_drive.specs.declared.ends.CutOff.{CutOff}
 use Rattle.pr_drive.specs.declared.ends.CutOff.TheVariants as cut
-use Rattle.pr_drive.proofs.InputLemmas.{Takes, takes-none, takes-some}
+use Rattle.pr_drive.proofs.InputLemmas.{Takes, takes-asked, takes-none, takes-some}
 
 -- How lines are answered, from a source to a sink.
 
@@ -217,12 +214,28 @@ next-answered there came.Still number line old new a b d v w yes_there h last on
   written = one.written;
 }
 
+-- it was asked for, and nothing was written for it
+pub next-asked : (number : ℕ) (old : Input) (left : Option (List ℕ)) (a : RoundsState) (v : Option (List ℕ))
+    → Asked old left → CutNext number (stand old a) left v v
+next-asked number old left a v asked = inl (record { asked = asked; unwritten = refl })
+
+pub next-unread : (old : Input) (left : Option (List ℕ)) (a : RoundsState) (v : Option (List ℕ)) → AskedInVain old left
+    → UnreadNext (stand old a) left v v
+next-unread old left a v asked = record { asked = asked; unwritten = refl }
+
 -- the session is cut off at it
 pub next-cut : (there : Bool) (number : ℕ) (line : List ℕ) (old new : Input) (a : RoundsState) (v w : Option (List ℕ))
-    → there ≡ true → Takes there line old new → CutAt number line a v w → CutNext number (stand old a) v w
-next-cut there number line old new a v w yes_there h (inl none) = inl none
-next-cut there number line old new a v w yes_there h (inr one) = inr
-    (record { line = line; rest = new; took = takes-some there line old new yes_there h; cut = one })
+    → there ≡ true → Takes there line old new → CutAt number line a v w → CutNext number (stand old a) new.left v w
+next-cut there number line old new a v w yes_there h (inl none) =
+    inl (record { asked = takes-asked there line old new h; unwritten = none })
+next-cut there number line old new a v w yes_there h (inr one) =
+    inr (record {
+      line = line;
+      rest = new;
+      took = takes-some there line old new yes_there h;
+      left_is = refl;
+      cut = one;
+    })
 
 -- or in the others' turn behind it, where the reply is written whole
 whole : (old new : Option (List ℕ)) (text : List ℕ) → new ≡ with_end old text → AppendsSome old new text
@@ -230,24 +243,26 @@ whole old new text all = record
     { count = length text; appended = all ∙ ap (with_end old) (sym (take_all (length text) text (omega arith))) }
 
 answered-cut : (number : ℕ) (line : List ℕ) (over : Bool) (old new : Input) (a b : RoundsState) (v w : Option (List ℕ))
-    → Took line old new → AnsweredLine number line over a b v w → CutNext number (stand old a) v w
+    → Took line old new → AnsweredLine number line over a b v w → CutNext number (stand old a) new.left v w
 answered-cut number line over old new a b v w taken one =
     inr (record {
       line = line;
       rest = new;
       took = taken;
+      left_is = refl;
       cut = record
           { over = over; new = b; text = one.text; answers = one.answers; written = whole v w one.text one.written };
     })
 
 pub pass-cut : (there : Bool) (c : Came) (number : ℕ) (line : List ℕ) (old new : Input) (a b : RoundsState)
     (v w : Option (List ℕ)) → there ≡ true → Takes there line old new → CameOf c number line a b v w
-    → CutNext number (stand old a) v w
-pass-cut there came.End number line old new a b v w yes_there h end = inl end.unwritten
-pass-cut there came.Over number line old new a b v w yes_there h one = answered-cut number line true old new a b v w
-    (takes-some there line old new yes_there h) one
-pass-cut there came.Still number line old new a b v w yes_there h one = answered-cut number line false old new a b v w
-    (takes-some there line old new yes_there h) one
+    → CutNext number (stand old a) new.left v w
+pass-cut there came.End number line old new a b v w yes_there h end =
+    inl (record { asked = takes-asked there line old new h; unwritten = end.unwritten })
+pass-cut there came.Over number line old new a b v w yes_there h one =
+    answered-cut number line true old new a b v w (takes-some there line old new yes_there h) one
+pass-cut there came.Still number line old new a b v w yes_there h one =
+    answered-cut number line false old new a b v w (takes-some there line old new yes_there h) one
 
 -- ---- one line after another
 
@@ -323,13 +338,23 @@ so-far-last above count a b v w last far = record {
   no_more = inr (sym far.number ∙ last, refl);
 }
 
-pub so-far-cut : (above count : ℕ) (a b : Stand) (v w z : Option (List ℕ)) → AnsweredSoFar above count a b v w
-    → CutNext (count + 1) b w z → AnsweredSome above a v z
-so-far-cut above count a b v w z far cut = record {
+pub so-far-cut : (above count : ℕ) (a b : Stand) (left v w z : Option (List ℕ)) → AnsweredSoFar above count a b v w
+    → CutNext (count + 1) b left w z → AnsweredSome above a left v z
+so-far-cut above count a b left v w z far cut = record {
   exchanges = far.exchanges;
   reached = b;
   answered = far.answered;
   replies = w;
   written = far.written;
-  cut = subst (λ (n : ℕ). CutNext n b w z) (ap (λ (n : ℕ). n + 1) far.number) cut;
+  cut = subst (λ (n : ℕ). CutNext n b left w z) (ap (λ (n : ℕ). n + 1) far.number) cut;
+}
+
+pub so-far-unread : (above count : ℕ) (a b : Stand) (left v w z : Option (List ℕ)) → AnsweredSoFar above count a b v w
+    → UnreadNext b left w z → AnsweredUnread above a left v z
+so-far-unread above count a b left v w z far unread = record {
+  exchanges = far.exchanges;
+  reached = b;
+  answered = far.answered;
+  written = unread.unwritten ∙ far.written;
+  asked = unread.asked;
 }

@@ -1,10 +1,9 @@
-use Rattle.std.proofs.Common.{◌≡◌, ◌<◌, ◌≤◌, ◌+◌, ◌++◌, ◌⊎◌, inl, inr, ℕ, Bool, true, false, List, [], ◌∷◌, Option}
-use Rattle.std.proofs.Common.{Some, None, Result, Ok, Err, IfOk, OnOk, length, refl, sym, ap, subst, ◌∙◌, arith}
+use Rattle.std.proofs.Common.{◌≡◌, ◌+◌, ◌++◌, ℕ, Bool, true, false, List, [], ◌∷◌}
+use Rattle.std.proofs.Common.{Result, Ok, Err, IfOk, OnOk, length, refl, sym, ap, subst, ◌∙◌}
 use Rattle.std.proofs.Common.{append_assoc, append-nil, length-append}
-use Rattle.pr_kern.specs.Kernels.{Kernel}
 use Rattle.pr_model.specs.declared.events.Actor.{Actor}
 use Rattle.pr_model.specs.declared.events.Entry.{Entry}
-use Rattle.pr_drive.specs.Going.{IsMove, Moved, MovesIf, SeatsState, Stayed, after_entries, after_entry}
+use Rattle.pr_drive.specs.Going.{IsMove, Moved, MovesIf, SeatsState, after_entries, after_entry}
 
 -- Moves, one after another.
 

@@ -1,5 +1,5 @@
 use Rattle.std.proofs.Common.{◌≡◌, ◌≢◌, ◌<◌, ◌≤◌, ◌+◌, ◌-◌, ◌++◌, ◌&&◌, ◌||◌, ◌⊎◌, inl, inr, ℕ, zero, suc, Bool, true}
-use Rattle.std.proofs.Common.{false, not, cond, List, [], ◌∷◌, Option, Some, None, filter, is_some, length, map, refl}
+use Rattle.std.proofs.Common.{false, not, cond, List, [], ◌∷◌, Option, Some, None, filter, is_some, map, refl}
 use Rattle.std.proofs.Common.{sym, ap, subst, ◌∙◌, arith, append_assoc, append-nil}
 use Rattle.std.proofs.lemmas.Bool.{and_parts, cases_eq, or_parts}
 use Rattle.std.specs.List.{list_any, range_with_len}
@@ -10,7 +10,6 @@ use Rattle.pr_model.specs.Legal.{IsLegalEntry, after, after_call, after_turn}
 use Rattle.pr_model.specs.LwpTurns.{LwpTurn, turn_of}
 use Rattle.pr_model.specs.State.{Places, TracedState}
 use Rattle.pr_model.specs.declared.calls.Call.{Call}
-use Rattle.pr_model.specs.declared.calls.Call.TheVariants.{Poll}
 use Rattle.pr_model.specs.declared.events.Act.{Act}
 use Rattle.pr_model.specs.declared.events.Act.TheVariants.{Call as Called, Turn, Tick}
 use Rattle.pr_model.specs.declared.events.Actor.{Actor}
@@ -188,7 +187,8 @@ pub polls-begin : (s : SeatsState) (polls : List Call) → polls ≡ [] → poll
 unfolding polls_of
 polls-begin s polls none = ap (λ (xs : List Call). xs ++ polls_from s 0) none
 
-polls-next : (s : SeatsState) (k : ℕ) → k < handle_limit → polls_from s k ≡ polls_if k (is_open s k) ++ polls_from s (k + 1)
+polls-next : (s : SeatsState) (k : ℕ) → k < handle_limit
+    → polls_from s k ≡ polls_if k (is_open s k) ++ polls_from s (k + 1)
 polls-next s k within = polls-by s k (is_open s k) within refl ∙ of (is_open s k)
   where
     of : (b : Bool) → map poll_of (cond b (k ∷ filter (is_open s) (range_with_len (k + 1) (handle_limit - (k + 1))))

@@ -1,5 +1,7 @@
-use Rattle.std.proofs.Common.{◌≡◌, ◌<◌, ◌≤◌, ◌+◌, ◌++◌, ◌⊎◌, inl, inr, ℕ, Bool, true, false, List, [], ◌∷◌, Option}
-use Rattle.std.proofs.Common.{Some, None, Result, Ok, Err, length, refl, sym, ap, subst, ◌∙◌, arith}
+use Rattle.std.proofs.Common.{◌≡◌, ◌<◌, ◌+◌, ◌++◌, ◌⊎◌, inl, inr, ℕ, Bool, true, false, List, [], ◌∷◌, Option}
+use Rattle.std.proofs.Common.{Some, Result, Ok, Err, IfOk, IfSome, length, refl, sym, ap, subst, ◌∙◌, arith}
+use Rattle.std.specs.List.{All}
+use Rattle.std.proofs.lemmas.List.Elements.{All-append, All-cons, All-nil}
 use Rattle.pr_api.specs.Entries.{call_entry}
 use Rattle.pr_asks.specs.declared.asks.Ask.{Ask}
 use Rattle.pr_asks.specs.declared.asks.Ask.TheVariants as ask
@@ -8,31 +10,46 @@ use Rattle.pr_asks.specs.Asks.{ask_of}
 use Rattle.pr_model.specs.Legal.{IsLegal, IsLegalEntry, after, state_after}
 use Rattle.pr_model.specs.State.{TracedState}
 use Rattle.pr_model.specs.declared.calls.Call.{Call}
+use Rattle.pr_model.specs.declared.calls.Reply.{Reply}
 use Rattle.pr_model.specs.declared.events.Act.{Act}
 use Rattle.pr_model.specs.declared.events.Act.TheVariants.{Call as Called, Turn, Tick}
 use Rattle.pr_model.specs.declared.events.Actor.{Actor}
 use Rattle.pr_model.specs.declared.events.Actor.TheVariants.{Controller as ByNumber, Lwp, Clock}
 use Rattle.pr_model.specs.declared.events.Entry.{Entry}
+use Rattle.pr_reached.specs.ByteHistories.{IsOfBytes}
+use Rattle.pr_run_laws.proofs.ByteLemmas.{IsOtherOfBytes, fed-lines, script-bytes}
+use Rattle.pr_run_laws.specs.ScenarioRanges.{IsLineOfBytes}
 use Rattle.pr_run_laws.specs.ScenarioRuns.{controllers_of, first_state_of}
 use Rattle.pr_scen.specs.Scenarios.{Scenario}
-use Rattle.pr_scen.specs.Scripts.{ScriptState}
+use Rattle.pr_scen.specs.Scripts.{ScriptState, fed, next_call_of}
+use Rattle.pr_tool_laws.specs.OwnCalls.{AreOwnCalls, IsOwnCall}
 use Rattle.pr_world.proofs.ProtocolLemmas.{controllers_at-count}
 use Rattle.pr_world.specs.ControllerStates.{ControllerState}
 use Rattle.pr_world.specs.Protocol.{controllers_after, controllers_at}
-use Rattle.pr_drive.specs.Exchanges.{Answers, AnswersCall, AnswersMessages, GaveUp, GoesFor, GoesUntil, HasEnded}
-use Rattle.pr_drive.specs.Exchanges.{IsTakenBack, Made, MadeMessages, MakesNone, MovesNot, MovesOne}
-use Rattle.pr_drive.specs.Going.{Called as OutsideCalled, IsMove, IsOwnCall, SeatsState, after_entries, after_entry}
+use Rattle.pr_drive.specs.Exchanges.{Answers, AnswersCall, GaveUp, GoesFor, GoesUntil}
+use Rattle.pr_drive.specs.Exchanges.{Made, MadeMessages, MakesNone, MovesNot, MovesOne}
+use Rattle.pr_drive.specs.Going.{Called as OutsideCalled, SeatsState, after_entries, after_entry}
 use Rattle.pr_drive.specs.Going.{outside_of}
 use Rattle.pr_drive.specs.Rounds.{AreStepsOn, RoundsState, after_steps, first_controllers}
 use Rattle.pr_drive.specs.Served.{Begins}
-use Rattle.pr_drive.specs.Sessions.{AnsweredAll, AnswersRead, AreOwnCalls, Exchange, Exchanged, Exchanges}
-use Rattle.pr_drive.specs.Sessions.{IsHistoryFrom, Keeps, PassesTurn, Stand}
+use Rattle.pr_drive.specs.Sessions.{AnsweredAll, AnswersRead, Exchange, Exchanged, Exchanges, IsHistoryFrom}
+use Rattle.pr_drive.specs.Sessions.{PassesTurn, Stand}
 use Rattle.pr_drive.specs.Starts.{first_seats}
+use Rattle.pr_drive.proofs.AskBytes.{AsksForBytes, HasLines, asks-bytes}
 use Rattle.pr_drive.proofs.EntryLemmas.{AreMoves, Goes, entries-append, entries-history, entries-places, goes-then}
-use Rattle.pr_drive.proofs.EntryLemmas.{moved-goes, stayed-goes}
+use Rattle.pr_drive.proofs.EntryLemmas.{moved-goes}
 use Rattle.pr_drive.proofs.StepLemmas.{finish-goes, follows-goes, for-seats, on-go, until-seats, waits-goes}
 
--- What a session keeps: its history is legal, and each controller of the scenario made its own calls.
+-- What a session keeps: its history is legal, each controller of the scenario made its own calls, and what the outside
+-- wrote is bytes.
+
+-- From one moment to another these entries came.
+pub record Keeps (old new : SeatsState) : Type 0 where
+  pub entries : List Entry
+  pub legal : IsLegal (outside_of old + 1) old.kernel.state entries
+  pub own : AreOwnCalls old.controllers entries
+  pub bytes : All (IsOtherOfBytes (outside_of old)) entries
+  pub is : new ≡ after_entries entries old
 
 -- ---- one history behind another
 
@@ -92,8 +109,28 @@ moves-own : (es : List Entry) (until : ℕ) (s : SeatsState) → AreMoves until 
 moves-own [] until s moves = tt
 moves-own (e ∷ es) until s moves = (moves.0.own, moves-own es until (after_entry e s) moves.1)
 
+-- what the others write is asked by another law
+move-other : (n : ℕ) (s : TracedState) (actor : Actor) (act : Act)
+    → IsLegalEntry n s (record { actor = actor; act = act })
+    → IsOtherOfBytes n (record { actor = actor; act = act })
+unfolding IsLegalEntry IsOtherOfBytes
+move-other n s (ByNumber k) (Called c r) h = λ past. absurd (omega (arith, h.0, past))
+move-other n s (Lwp p l) (Turn t) h = tt
+move-other n s Clock (Tick m) h = tt
+move-other n s _ _ h = absurd h
+
+moves-bytes : (n : ℕ) (es : List Entry) (until : ℕ) (s : SeatsState) → outside_of s ≡ n → AreMoves until s es
+    → All (IsOtherOfBytes n) es
+moves-bytes n [] until s is moves = All-nil (IsOtherOfBytes n)
+moves-bytes n (e ∷ es) until s is moves =
+    All-cons (IsOtherOfBytes n) e es
+    (move-other n s.kernel.state e.actor e.act
+    (subst (λ (m : ℕ). IsLegalEntry m s.kernel.state e) is moves.0.legal))
+    (moves-bytes n es until (after_entry e s) (entry-outside e s ∙ is) moves.1)
+
 pub keeps-none : (s : SeatsState) → Keeps s s
-keeps-none s = record { entries = []; legal = tt; own = tt; is = refl }
+keeps-none s =
+    record { entries = []; legal = tt; own = tt; bytes = All-nil (IsOtherOfBytes (outside_of s)); is = refl }
 
 pub keeps-same : (a b : SeatsState) → b ≡ a → Keeps a b
 keeps-same a b same = subst (λ (s : SeatsState). Keeps a s) (sym same) (keeps-none a)
@@ -114,6 +151,8 @@ keeps-then a b c first second =
       legal = IsLegal-append (outside_of a + 1) a.kernel.state xs ys first.legal legal;
       own = AreOwn-append a.controllers xs ys first.own
           (subst (λ (cs : List ControllerState). AreOwnCalls cs ys) fed second.own);
+      bytes = All-append (IsOtherOfBytes (outside_of a)) xs ys first.bytes
+          (subst (λ (n : ℕ). All (IsOtherOfBytes n) ys) outside second.bytes);
       is = second.is ∙ ap (after_entries ys) first.is ∙ sym (entries-append xs ys a);
     }
 
@@ -122,6 +161,7 @@ goes-keep until a b goes = record {
   entries = goes.entries;
   legal = moves-legal (outside_of a) goes.entries until a refl goes.moves;
   own = moves-own goes.entries until a goes.moves;
+  bytes = moves-bytes (outside_of a) goes.entries until a refl goes.moves;
   is = goes.is;
 }
 
@@ -134,11 +174,17 @@ outside-legal : (s : SeatsState) (c : Call) (t : SeatsState) (called : OutsideCa
 unfolding IsLegalEntry
 outside-legal s c t called = (omega arith, (called.answer.state, called.answered))
 
-pub called-keep : (c : Call) (a b : SeatsState) → OutsideCalled c a b → Keeps a b
-called-keep c a b called = record {
+outside-bytes : (n : ℕ) (c : Call) (r : Reply) → IsOfBytes c → IsOtherOfBytes n (call_entry n c r)
+unfolding IsOtherOfBytes
+outside-bytes n c r bytes = λ past. bytes
+
+pub called-keep : (c : Call) (a b : SeatsState) → IsOfBytes c → OutsideCalled c a b → Keeps a b
+called-keep c a b bytes called = record {
   entries = call_entry (outside_of a) c called.answer.reply ∷ [];
   legal = (outside-legal a c b called, tt);
   own = (outside-own a.controllers c called.answer.reply, tt);
+  bytes = All-cons (IsOtherOfBytes (outside_of a)) (call_entry (outside_of a) c called.answer.reply) []
+      (outside-bytes (outside_of a) c called.answer.reply bytes) (All-nil (IsOtherOfBytes (outside_of a)));
   is = called.is;
 }
 
@@ -150,21 +196,33 @@ waits-keep c a b gave_up =
     (goes-keep _ a.seats gave_up.last.seats (waits-goes gave_up.rounds c a gave_up.last gave_up.waits))
     (keeps-same gave_up.last.seats b.seats gave_up.rests.same)
 
-made-keep : (c : Call) (a b : RoundsState) → Made c a b → Keeps a.seats b.seats
-made-keep c a b made =
+made-keep : (c : Call) (a b : RoundsState) → IsOfBytes c → Made c a b → Keeps a.seats b.seats
+made-keep c a b bytes made =
     keeps-then a.seats made.ready.seats b.seats
     (goes-keep _ a.seats made.ready.seats (waits-goes made.rounds c a made.ready made.waits))
-    (called-keep c made.ready.seats b.seats made.called)
+    (called-keep c made.ready.seats b.seats bytes made.called)
 
-messages-keep : (texts : List (List ℕ)) (script after : ScriptState) (a b : RoundsState)
+-- what a script calls next is of bytes, and so is what it calls behind its reply
+next-bytes : (script : ScriptState) (c : Call) → HasLines script → next_call_of script ≡ Some c → IsOfBytes c
+next-bytes script c lines next =
+    subst (λ (o : Option Call). IfSome o IsOfBytes) next (script-bytes script lines)
+
+fed-has : (script after : ScriptState) (r : Reply) → HasLines script → after ≡ fed script r → HasLines after
+fed-has script after r lines is =
+    subst HasLines (sym is) (subst (All IsLineOfBytes) (sym (fed-lines script r)) lines)
+
+messages-keep : (texts : List (List ℕ)) (script after : ScriptState) (a b : RoundsState) → HasLines script
     → MadeMessages script after a b texts → Keeps a.seats b.seats
-messages-keep [] script after a b made = keeps-same a.seats b.seats (ap (λ (r : RoundsState). r.seats) made.1)
-messages-keep (text ∷ texts) script after a b made =
+messages-keep [] script after a b lines made = keeps-same a.seats b.seats (ap (λ (r : RoundsState). r.seats) made.1)
+messages-keep (text ∷ texts) script after a b lines made =
     let m = made.1 in
-    let d = made.2.0.made in
-    let first = keeps-then a.seats d.seats m.seats (made-keep made.2.0.next.call a d made.2.0.next.made.made)
-    (goes-keep _ d.seats m.seats (finish-goes _ d m made.2.0.round)) in
-    keeps-then a.seats m.seats b.seats first (messages-keep texts made.0 after m b made.2.1)
+    let one = made.2.0 in
+    let d = one.made in
+    let bytes = next-bytes script one.next.call lines one.next.next in
+    let first = keeps-then a.seats d.seats m.seats (made-keep one.next.call a d bytes one.next.made.made)
+    (goes-keep _ d.seats m.seats (finish-goes _ d m one.round)) in
+    let more = fed-has script made.0 one.next.made.made.called.answer.reply lines one.next.got in
+    keeps-then a.seats m.seats b.seats first (messages-keep texts made.0 after m b more made.2.1)
 
 none-keep : (script : ScriptState) (a b : RoundsState) (text : List ℕ) → MakesNone script a b text
     → Keeps a.seats b.seats
@@ -176,10 +234,10 @@ one-keep : (actor : Actor) (a b : RoundsState) (text : List ℕ) → MovesOne ac
 one-keep actor a b text (inl one) = goes-keep 0 a.seats b.seats (moved-goes 0 actor a.seats b.seats one.moved)
 one-keep actor a b text (inr not_moved) = keeps-same a.seats b.seats not_moved.stayed.same
 
-call-keep : (over : Bool) (c : Call) (a b : RoundsState) (text : List ℕ) → AnswersCall over c a b text
+call-keep : (over : Bool) (c : Call) (a b : RoundsState) (text : List ℕ) → IsOfBytes c → AnswersCall over c a b text
     → Keeps a.seats b.seats
-call-keep true c a b text made = made-keep c a b made.made
-call-keep false c a b text back = waits-keep c a b back.gave_up
+call-keep true c a b text bytes made = made-keep c a b bytes made.made
+call-keep false c a b text bytes back = waits-keep c a b back.gave_up
 
 on-keep : (es : List Entry) (a b : RoundsState) → AreStepsOn 0 a es → b.seats ≡ (after_steps es a).seats
     → Keeps a.seats b.seats
@@ -194,21 +252,23 @@ for-keep times a b moves = on-keep moves.entries a b moves.steps (for-seats time
 until-keep : (a b : RoundsState) → GoesUntil a b → Keeps a.seats b.seats
 until-keep a b moves = on-keep moves.entries a b moves.steps (until-seats a b moves)
 
-answers-keep : (asked : Ask) (over : Bool) (a b : RoundsState) (text : List ℕ) → Answers asked over a b text
-    → Keeps a.seats b.seats
-answers-keep (ask.Call c) over a b text h = call-keep over c a b text h
-answers-keep (ask.Messages script) over a b text h =
-    keeps-then a.seats h.1.reached.seats b.seats (messages-keep h.1.replies script h.1.after a h.1.reached h.1.made)
+answers-keep : (asked : Ask) (over : Bool) (a b : RoundsState) (text : List ℕ) → AsksForBytes asked
+    → Answers asked over a b text → Keeps a.seats b.seats
+answers-keep (ask.Call c) over a b text bytes h = call-keep over c a b text bytes h
+answers-keep (ask.Messages script) over a b text bytes h =
+    keeps-then a.seats h.1.reached.seats b.seats
+    (messages-keep h.1.replies script h.1.after a h.1.reached bytes h.1.made)
     (none-keep h.1.after h.1.reached b h.1.last h.1.end)
-answers-keep (ask.Moves times) over a b text h = for-keep times a b h.1.moves
-answers-keep (ask.Move actor) over a b text h = one-keep actor a b text h.1
-answers-keep ask.Run over a b text h = until-keep a b h.1.moves
-answers-keep ask.End over a b text h = keeps-same a.seats b.seats (ap (λ (r : RoundsState). r.seats) h.1.same)
+answers-keep (ask.Moves times) over a b text bytes h = for-keep times a b h.1.moves
+answers-keep (ask.Move actor) over a b text bytes h = one-keep actor a b text h.1
+answers-keep ask.Run over a b text bytes h = until-keep a b h.1.moves
+answers-keep ask.End over a b text bytes h = keeps-same a.seats b.seats (ap (λ (r : RoundsState). r.seats) h.1.same)
 
 line-keep : (number : ℕ) (read : Result Ask Kind) (over : Bool) (a b : RoundsState) (text : List ℕ)
-    → AnswersRead number read over a b text → Keeps a.seats b.seats
-line-keep number (Err kind) over a b text h = keeps-same a.seats b.seats (ap (λ (r : RoundsState). r.seats) h.1.same)
-line-keep number (Ok asked) over a b text h = answers-keep asked over a b text h.1
+    → IfOk read AsksForBytes → AnswersRead number read over a b text → Keeps a.seats b.seats
+line-keep number (Err kind) over a b text bytes h =
+    keeps-same a.seats b.seats (ap (λ (r : RoundsState). r.seats) h.1.same)
+line-keep number (Ok asked) over a b text bytes h = answers-keep asked over a b text bytes h.1
 
 pass-keep : (over : Bool) (a b : RoundsState) → PassesTurn over a b → Keeps a.seats b.seats
 pass-keep true a b h = goes-keep 0 a.seats b.seats (finish-goes 0 a b h)
@@ -220,7 +280,7 @@ seats_at a = a.rounds.seats
 exchanged-keep : (number : ℕ) (x : Exchange) (a b : Stand) → Exchanged number x a b → Keeps (seats_at a) (seats_at b)
 exchanged-keep number x a b h =
     keeps-then (seats_at a) h.answered.seats (seats_at b)
-    (line-keep number (ask_of x.line) h.over a.rounds h.answered x.reply h.answers)
+    (line-keep number (ask_of x.line) h.over a.rounds h.answered x.reply (asks-bytes x.line) h.answers)
     (pass-keep h.over h.answered b.rounds h.passes)
 
 exchanges-keep : (xs : List Exchange) (number : ℕ) (a b : Stand) → Exchanges number xs a b
@@ -264,3 +324,13 @@ history-from s last keeps =
           ∙ ap (controllers_at (controllers_of s)) (sym all);
       places = ap (λ (x : SeatsState). x.kernel.places) keeps.is ∙ entries-places es first;
     }
+
+-- what others than the controllers of the scenario wrote is bytes
+pub others-bytes : (s : Scenario) (last : SeatsState) → Keeps (first_seats s) last
+    → All (IsOtherOfBytes (length (controllers_of s))) last.kernel.history
+unfolding first_seats
+others-bytes s last keeps =
+    let first = first_seats s in
+    let all : last.kernel.history ≡ keeps.entries = ap (λ (x : SeatsState). x.kernel.history) keeps.is
+    ∙ entries-history keeps.entries first in
+    subst (All (IsOtherOfBytes (length (controllers_of s)))) (sym all) keeps.bytes

@@ -1,4 +1,5 @@
 mod AloneLemmas
+mod AskBytes
 mod BesideLemmas
 mod EndLemmas
 mod EntryLemmas
@@ -13,4 +14,3 @@ mod SeatLemmas
 mod ServeLemmas
 mod SessionLemmas
 mod StepLemmas
-mod WriteLemmas

@@ -1,5 +1,5 @@
-use Rattle.std.proofs.Common.{◌≡◌, ◌<◌, ◌+◌, ◌++◌, ℕ, Bool, true, false, Option, Some, None, IfSome, is_some, List, []}
-use Rattle.std.proofs.Common.{◌∷◌, length, map, slice_get, slice_set, refl, sym, ap, subst, ◌∙◌, arith}
+use Rattle.std.proofs.Common.{◌≡◌, ◌<◌, ◌+◌, ℕ, true, Option, Some, None, is_some, List}
+use Rattle.std.proofs.Common.{length, map, slice_get, slice_set, refl, sym, ap, subst, ◌∙◌, arith}
 use Rattle.std.specs.Option.{ForSome, option_map}
 use Rattle.std.proofs.lemmas.List.{map-set}
 use Rattle.std.proofs.lemmas.Option.{same_Some, slice_get_past}
@@ -16,15 +16,14 @@ use Rattle.pr_model.specs.declared.calls.Call.{Call}
 use Rattle.pr_model.specs.declared.calls.Reply.{Reply}
 use Rattle.pr_model.specs.declared.events.Actor.{Actor}
 use Rattle.pr_model.specs.declared.events.Actor.TheVariants.{Controller as ByNumber, Lwp, Clock}
-use Rattle.pr_model.specs.declared.events.Entry.{Entry}
 use Rattle.pr_num.specs.Limits.{clock_limit}
 use Rattle.pr_world.proofs.MoveLemmas.{acts-early, fed-set, last-reply, with_call}
 use Rattle.pr_world.specs.ControllerStates.{ControllerState, state_of}
 use Rattle.pr_world.specs.Controllers.{after_reply, call_by, feed_at, with_fed}
 use Rattle.pr_world.specs.Protocol.{controllers_after}
-use Rattle.pr_world.specs.Worlds.{can_act}
 use Rattle.pr_world.specs.declared.controllers.Controller.{Controller}
-use Rattle.pr_drive.specs.Going.{Called, IsMove, IsOwnCall, Moved, SeatsState, after_entry, can_move, outside_of}
+use Rattle.pr_tool_laws.specs.OwnCalls.{IsOwnCall}
+use Rattle.pr_drive.specs.Going.{Called, Moved, SeatsState, after_entry, can_move, outside_of}
 use Rattle.pr_drive.specs.Going.{world_of}
 use Rattle.pr_drive.proofs.SeatLemmas.{controller-can, lwp-can, seat-at}
 

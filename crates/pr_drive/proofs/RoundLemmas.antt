@@ -1,4 +1,4 @@
-use Rattle.std.proofs.Common.{◌≡◌, ◌<◌, ◌≤◌, ◌+◌, ◌-◌, ◌⊎◌, inl, inr, ℕ, zero, suc, Bool, true, false, Option, Some}
+use Rattle.std.proofs.Common.{◌≡◌, ◌≤◌, ◌+◌, ◌-◌, ◌⊎◌, inl, inr, ℕ, zero, suc, Bool, true, false, Option, Some}
 use Rattle.std.proofs.Common.{None, is_some, List, [], ◌∷◌, length, cond, find, refl, sym, ap, subst, ◌∙◌, arith}
 use Rattle.std.specs.List.{range_with_len}
 use Rattle.std.specs.Option.{option_map, option_or}
@@ -18,9 +18,9 @@ use Rattle.pr_world.proofs.SearchLemmas.{search-end}
 use Rattle.pr_world.specs.Worlds.{WorldState, as_lwp, can_act, clock_if_awaited, controller_acts, first_controller}
 use Rattle.pr_world.specs.Worlds.{first_lwp, from_controller, from_lwp, next_in_round, next_in_rounds}
 use Rattle.pr_drive.specs.Going.{IsMove, Moved, NobodyMoves, NoneCanMove, SeatsState, SomeCanMove, after_entry}
-use Rattle.pr_drive.specs.Going.{can_move, has_place, outside_of, world_of}
+use Rattle.pr_drive.specs.Going.{can_move, has_place, world_of}
 use Rattle.pr_drive.specs.Rounds.{GoesOnIf, IsAtRest, IsStep, IsStepOn, MovesOn, Rests, RoundsState, Steps, StepsIf}
-use Rattle.pr_drive.specs.Rounds.{after_step, first_place, from_clock, from_lwps, last_at, next_from, next_left}
+use Rattle.pr_drive.specs.Rounds.{first_place, from_clock, from_lwps, last_at, next_from, next_left}
 use Rattle.pr_drive.specs.Rounds.{next_on, place_behind}
 use Rattle.pr_drive.specs.declared.places.Place.{Place}
 use Rattle.pr_drive.specs.declared.places.Place.TheVariants as place

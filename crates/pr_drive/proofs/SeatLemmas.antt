@@ -17,7 +17,7 @@ use Rattle.pr_num.proofs.ListLemmas.{drop-at}
 use Rattle.pr_num.specs.Limits.{all_mappings_limit, clock_limit, process_limit}
 use Rattle.pr_parts.specs.FileTables.{names_differ}
 use Rattle.pr_scen.specs.Scenarios.{IsWithinLimits, Scenario}
-use Rattle.pr_world.specs.ControllerStates.{ControllerState, state_of}
+use Rattle.pr_world.specs.ControllerStates.{state_of}
 use Rattle.pr_world.specs.Controllers.{awaits_clock, call_by, is_clock_awaited}
 use Rattle.pr_world.proofs.SearchLemmas.{search-end, search-here, search-on}
 use Rattle.pr_world.specs.Worlds.{can_act, controller_acts, first_controller, is_answered}

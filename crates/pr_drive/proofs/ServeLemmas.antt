@@ -1,34 +1,33 @@
-use Rattle.std.proofs.Common.{◌≡◌, ◌≢◌, ◌⊎◌, inl, inr, ℕ, Bool, true, false, List, [], Option, Result, Ok, Err, IfOk}
-use Rattle.std.proofs.Common.{OnErr, refl, sym, ap, subst, ◌∙◌}
+use Rattle.std.proofs.Common.{◌≡◌, ◌≢◌, ◌⊎◌, inl, inr, ℕ, Bool, List, [], Option, Result, Ok, Err}
+use Rattle.std.proofs.Common.{refl, sym, ap, subst}
 use Rattle.std.specs.Result.{IsErrOf}
 use Rattle.pr_input.specs.Kinds.{kind_name}
 use Rattle.pr_io.specs.Faults.{Rose}
-use Rattle.pr_io.specs.Known.{with_end}
 use Rattle.pr_output.specs.Output.{AppendsSome, refusal_text}
 use Rattle.pr_run_laws.proofs.ScenarioRangeLemmas.{scenario-range}
-use Rattle.pr_run_laws.specs.ScenarioRuns.{controllers_of, first_state_of}
 use Rattle.pr_scen.specs.Refusals.{ScenFault}
 use Rattle.pr_drive.specs.Going.{SeatsState}
 use Rattle.pr_drive.specs.Inputs.{Input, from_start}
 use Rattle.pr_drive.specs.Rounds.{RoundsState}
-use Rattle.pr_drive.specs.Served.{AnsweredLines, CutInEnd, CutInLines, CutRefusal, CutsEnd, Drove, Ends, IsWhole}
+use Rattle.pr_drive.specs.Served.{AnsweredLines, CutAbove, CutsEnd, Drove, Ends}
+use Rattle.pr_drive.specs.Served.{IsWhole, UnreadAbove, WasUnread}
 use Rattle.pr_drive.specs.Served.{Opened, OpensAs, RefusedText, RefusedWhole, TellsEnd, TellsRefusal, WasCut, WasCutOff}
-use Rattle.pr_drive.specs.Served.{WasDriven, WasEnded, WasRefused, WasTold}
-use Rattle.pr_drive.specs.Sessions.{AnsweredAll, AnsweredSome, Stand}
+use Rattle.pr_drive.specs.Served.{WasDriven, WasEnded}
+use Rattle.pr_drive.specs.Sessions.{AnsweredAll, AnsweredSome, AnsweredUnread, Stand}
 use Rattle.pr_drive.specs.Starts.{first_seats}
 use Rattle.pr_drive.specs.Statuses.{EndsAs, status_of}
 use Rattle.pr_drive.specs.declared.ends.CutOff.{CutOff}
 use Rattle.pr_drive.specs.declared.ends.CutOff.TheVariants as cut
 use Rattle.pr_drive.specs.declared.ends.Status.{Status}
-use Rattle.pr_drive.specs.declared.ends.Status.TheVariants.{Done, Usage, Refused, Spent, Stuck, ReadFailed, WriteFailed}
-use Rattle.pr_drive.specs.declared.ends.Status.TheVariants.{OutOfMemory}
+use Rattle.pr_drive.specs.declared.ends.Status.TheVariants.{Done, Spent, Stuck}
 use Rattle.pr_drive.specs.declared.readings.Opening.{Opening}
 use Rattle.pr_drive.specs.declared.readings.Opening.TheVariants as opening
 use Rattle.pr_drive.proofs.AloneLemmas.{alone-runs}
 use Rattle.pr_drive.proofs.BesideLemmas.{kept-beside}
 use Rattle.pr_drive.proofs.EndLemmas.{stand}
-use Rattle.pr_drive.proofs.InputLemmas.{input}
-use Rattle.pr_drive.proofs.KeptLemmas.{all-keep, begins-keep, history-from, keeps-then}
+use Rattle.pr_drive.proofs.InputLemmas.{input, unasked}
+use Rattle.pr_drive.proofs.KeptLemmas.{all-keep, begins-keep, history-from, keeps-then, others-bytes}
+use Rattle.pr_drive.proofs.ReadLemmas.{cut-asking, took-none}
 
 -- What a call of the program does.
 
@@ -43,10 +42,10 @@ lines-answered : (old : Ends) (left : Option (List ℕ)) (above : ℕ) (first : 
     → AnsweredLines old left replies opened.opened.scenario end.rounds.seats
 lines-answered old left above first begun end replies opened left_is all =
     let s = opened.opened.scenario in
-    let history =
-    history-from s end.rounds.seats
-    (keeps-then (first_seats s) first.seats end.rounds.seats (begins-keep s first opened.opened.begins)
-    (all-keep above (stand begun first) end old.written replies all)) in
+    let keeps =
+    keeps-then (first_seats s) first.seats end.rounds.seats (begins-keep s first opened.opened.begins)
+    (all-keep above (stand begun first) end old.written replies all) in
+    let history = history-from s end.rounds.seats keeps in
     record {
       above = above;
       begun = stand begun first;
@@ -59,7 +58,7 @@ lines-answered old left above first begun end replies opened left_is all =
       history = history;
       kept =
           kept-beside s end.rounds.seats.kernel.history (scenario-range opened.text s opened.opened.read) history.legal
-          history.own;
+          history.own (others-bytes s end.rounds.seats keeps);
       alone = alone-runs s above (stand begun first) end old.written replies all opened.opened.begins;
     }
 
@@ -91,9 +90,43 @@ session-cut quiet old new above first begun end replies opened left_is all cuts 
 
 pub lines-cut : (quiet : Bool) (old new : Ends) (above : ℕ) (first : RoundsState) (begun : Input)
     → Opened above first (from_start old.left) begun
-    → AnsweredSome above (stand begun first) old.written new.written → WasCut quiet old new
-lines-cut quiet old new above first begun opened some = inr
-    (inr (inl (record { above = above; begun = stand begun first; opened = opened; answered = some })))
+    → AnsweredSome above (stand begun first) new.left old.written new.written → WasCut quiet old new
+lines-cut quiet old new above first begun opened some =
+    inr (inr (inl (record { above = above; begun = stand begun first; opened = opened; answered = some })))
+
+-- a read failed behind lines of the outside
+pub lines-unread : (old new : Ends) (above : ℕ) (first : RoundsState) (begun : Input)
+    → Opened above first (from_start old.left) begun
+    → AnsweredUnread above (stand begun first) new.left old.written new.written → WasUnread old new
+lines-unread old new above first begun opened unread =
+    inr (record { above = above; begun = stand begun first; opened = opened; answered = unread })
+
+-- above the mark
+pub cut-before : (quiet : Bool) (held : List ℕ) (old new : Ends) → held ≡ [] → CutAbove (input held old.left) new.left
+    → new.written ≡ old.written → WasCut quiet old new
+cut-before quiet held old new none cut same =
+    inl (record {
+      above = subst (λ (x : List ℕ). CutAbove (input x old.left) new.left) none cut;
+      unwritten = same;
+    })
+
+pub cut-unread : (quiet : Bool) (old new : Ends) → new.left ≡ old.left → new.written ≡ old.written
+    → WasCut quiet old new
+cut-unread quiet old new left same =
+    let begun = took-none [] (from_start old.left) refl in
+    inl (record {
+      above = subst (CutAbove (from_start old.left)) (sym left)
+          (cut-asking [] 0 (from_start old.left) (from_start old.left) old.left begun (unasked [] old.left));
+      unwritten = same;
+    })
+
+pub unread-before : (held : List ℕ) (old new : Ends) → held ≡ [] → UnreadAbove (input held old.left) new.left
+    → new.written ≡ old.written → WasUnread old new
+unread-before held old new none unread same =
+    inl (record {
+      above = subst (λ (x : List ℕ). UnreadAbove (input x old.left) new.left) none unread;
+      unwritten = same;
+    })
 
 pub refused-told : (quiet : Bool) (old new : Ends) (status : Status) (fault : ScenFault) (begun : Input)
     → RefusedText fault (from_start old.left) begun ⊎ RefusedWhole fault (from_start old.left) begun
@@ -103,9 +136,10 @@ refused-told quiet old new status fault begun refused left_is told = inl
 
 pub refused-cut : (quiet : Bool) (old new : Ends) (fault : ScenFault) (begun : Input)
     → RefusedText fault (from_start old.left) begun ⊎ RefusedWhole fault (from_start old.left) begun
+    → new.left ≡ begun.left
     → AppendsSome old.written new.written (refusal_text fault.line (kind_name fault.kind)) → WasCut quiet old new
-refused-cut quiet old new fault begun refused some = inr
-    (inl (record { fault = fault; input = begun; refused = refused; written = some }))
+refused-cut quiet old new fault begun refused left_is some =
+    inr (inl (record { fault = fault; input = begun; refused = refused; left_is = left_is; written = some }))
 
 -- ---- from an opening on
 
@@ -174,14 +208,15 @@ pub held-whole : (quiet : Bool) (old new : Ends) (status : Status) → WasDriven
 held-whole quiet old new status h reads writes = drove-whole quiet old new status h (reads (λ e. cc)) (writes (λ e. cc))
 
 pub drove-cut : (quiet : Bool) (old new : Ends) (c : CutOff) → WasCut quiet old new
+    → (c ≡ cut.ReadFailed → WasUnread old new)
     → (c ≡ cut.ReadFailed → Rose old.read_faults new.read_faults)
     → (c ≡ cut.WriteFailed → Rose old.write_faults new.write_faults)
     → ((c ≡ cut.ReadFailed → ⊥) → new.read_faults ≡ old.read_faults)
     → ((c ≡ cut.WriteFailed → ⊥) → new.write_faults ≡ old.write_faults) → Drove quiet old new (status_of c)
 unfolding status_of
-drove-cut quiet old new cut.ReadFailed h unread unwritten reads writes = record {
+drove-cut quiet old new cut.ReadFailed h vain unread unwritten reads writes = record {
   told = λ whole. absurd (whole.read refl);
-  read_cut = λ e. h;
+  read_cut = λ e. vain refl;
   read_failed = λ e. unread refl;
   write_cut = λ e. h;
   write_failed = λ e. cc;
@@ -189,9 +224,9 @@ drove-cut quiet old new cut.ReadFailed h unread unwritten reads writes = record 
   no_read_fault = λ differs. absurd (differs refl);
   no_write_fault = λ differs. writes (λ e. cc);
 }
-drove-cut quiet old new cut.WriteFailed h unread unwritten reads writes = record {
+drove-cut quiet old new cut.WriteFailed h vain unread unwritten reads writes = record {
   told = λ whole. absurd (whole.wrote refl);
-  read_cut = λ e. h;
+  read_cut = λ e. cc;
   read_failed = λ e. cc;
   write_cut = λ e. h;
   write_failed = λ e. unwritten refl;
@@ -199,9 +234,9 @@ drove-cut quiet old new cut.WriteFailed h unread unwritten reads writes = record
   no_read_fault = λ differs. reads (λ e. cc);
   no_write_fault = λ differs. absurd (differs refl);
 }
-drove-cut quiet old new cut.NoMemory h unread unwritten reads writes = record {
+drove-cut quiet old new cut.NoMemory h vain unread unwritten reads writes = record {
   told = λ whole. absurd (whole.had_memory refl);
-  read_cut = λ e. h;
+  read_cut = λ e. cc;
   read_failed = λ e. cc;
   write_cut = λ e. h;
   write_failed = λ e. cc;
@@ -211,13 +246,14 @@ drove-cut quiet old new cut.NoMemory h unread unwritten reads writes = record {
 }
 
 pub held-cut : (quiet : Bool) (old new : Ends) (c : CutOff) (status : Status) → status ≡ status_of c
-    → WasCut quiet old new → (IsErrOf {T = Status} (Err c) cut.ReadFailed → Rose old.read_faults new.read_faults)
+    → WasCut quiet old new → (IsErrOf {T = Status} (Err c) cut.ReadFailed → WasUnread old new)
+    → (IsErrOf {T = Status} (Err c) cut.ReadFailed → Rose old.read_faults new.read_faults)
     → (IsErrOf {T = Status} (Err c) cut.WriteFailed → Rose old.write_faults new.write_faults)
     → (◌≢◌ {A = Result Status CutOff} (Err c) (Err cut.ReadFailed) → new.read_faults ≡ old.read_faults)
     → (◌≢◌ {A = Result Status CutOff} (Err c) (Err cut.WriteFailed) → new.write_faults ≡ old.write_faults)
     → Drove quiet old new status
-held-cut quiet old new c status is h unread unwritten reads writes =
+held-cut quiet old new c status is h vain unread unwritten reads writes =
     subst (Drove quiet old new) (sym is)
-    (drove-cut quiet old new c h (λ e. unread (ap Err e)) (λ e. unwritten (ap Err e))
+    (drove-cut quiet old new c h (λ e. vain (ap Err e)) (λ e. unread (ap Err e)) (λ e. unwritten (ap Err e))
     (λ differs. reads (λ e. differs (same-err {T = Status} c cut.ReadFailed e)))
     (λ differs. writes (λ e. differs (same-err {T = Status} c cut.WriteFailed e))))

@@ -1,25 +1,23 @@
-use Rattle.std.proofs.Common.{◌≡◌, ◌<◌, ◌≤◌, ◌+◌, ◌++◌, ◌&&◌, ◌⊎◌, inl, inr, ℕ, suc, Bool, true, false, List, [], ◌∷◌}
-use Rattle.std.proofs.Common.{Option, Some, None, codes, drop, is_some, length, refl, sym, ap, subst, ◌∙◌, arith}
+use Rattle.std.proofs.Common.{◌≡◌, ◌<◌, ◌≤◌, ◌++◌, ◌&&◌, ◌⊎◌, inl, inr, ℕ, suc, Bool, true, false, List, [], ◌∷◌}
+use Rattle.std.proofs.Common.{Some, None, codes, drop, is_some, length, refl, sym, ap, subst, ◌∙◌, arith}
 use Rattle.std.proofs.Common.{append_assoc, append-nil, length-append}
 use Rattle.std.proofs.lemmas.Bool.{and_parts, le-ltb, lt-ltb, ltb-true}
-use Rattle.std.proofs.lemmas.Option.{same_Some}
-use Rattle.std.specs.List.{flat_map, list_any}
+use Rattle.std.specs.List.{list_any}
 use Rattle.std.specs.Option.{ForSome}
 use Rattle.pr_api.specs.Entries.{call_entry, last_reply_of}
 use Rattle.pr_asks.specs.Replies.{count_line, reply_line}
 use Rattle.pr_model.specs.Calls.{answer_to}
 use Rattle.pr_model.specs.declared.calls.Call.{Call}
-use Rattle.pr_model.specs.declared.calls.Reply.{Reply}
 use Rattle.pr_model.specs.declared.events.Actor.{Actor}
 use Rattle.pr_model.specs.declared.events.Entry.{Entry}
 use Rattle.pr_plain.specs.HistoryText.{entries_text}
 use Rattle.pr_scen.specs.Scripts.{ScriptState, fed, next_call_of}
 use Rattle.pr_world.proofs.MoveLemmas.{last-reply}
 use Rattle.pr_world.specs.Controllers.{wait_end_of}
-use Rattle.pr_drive.specs.Exchanges.{AnswersCall, AnswersMessages, AnswersNext, GoesFor, GoesUntil, GaveUp, HasEnded}
-use Rattle.pr_drive.specs.Exchanges.{HasNoneReady, IsNever, IsTakenBack, Made, MadeAll, MadeCall, MadeFewer}
+use Rattle.pr_drive.specs.Exchanges.{AnswersCall, AnswersMessages, AnswersNext, GoesFor, GoesUntil, GaveUp}
+use Rattle.pr_drive.specs.Exchanges.{HasNoneReady, IsNever, Made}
 use Rattle.pr_drive.specs.Exchanges.{MadeMessage, MadeMessages, MadeNext, MakesIf, MakesNone, MovesNot, MovesOne}
-use Rattle.pr_drive.specs.Exchanges.{MovesOthers, NoneReadyBefore, RunsOthers, StopsReady, TookBack, Waited, WaitsFor}
+use Rattle.pr_drive.specs.Exchanges.{MovesOthers, NoneReadyBefore, RunsOthers, Waited, WaitsFor}
 use Rattle.pr_drive.specs.Exchanges.{WaitsIf, Writes, all_of, came_text, is_answered_now, is_open, polls_of, wait_of}
 use Rattle.pr_drive.specs.Going.{Called, Moved, MovesIf, NobodyMoves, NoneCanMove, SeatsState, Stayed, has_place}
 use Rattle.pr_drive.specs.Going.{outside_of}
@@ -405,7 +403,8 @@ pub unready-more : (polls : List Call) (ready : Bool) (a b c : RoundsState) → 
 unready-more polls ready a b c all is fails far one =
     let place : has_place b.seats ≡ true = lt-ltb (length b.seats.kernel.history) b.seats.kernel.places
     one.step.move.place in
-    let none : HasNoneReady b.seats = none-ready a.seats b.seats (unready-open a b far) polls all (sym is ∙ fails) place in
+    let none : HasNoneReady b.seats =
+    none-ready a.seats b.seats (unready-open a b far) polls all (sym is ∙ fails) place in
     record {
       entries = far.entries ++ one.entry ∷ [];
       steps = push-on 0 far.entries one.entry a far.steps

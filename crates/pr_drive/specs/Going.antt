@@ -6,14 +6,11 @@ use Rattle.pr_kern.specs.Kernels.{Kernel, with_entry}
 use Rattle.pr_model.specs.Calls.{Answer, answer_to}
 use Rattle.pr_model.specs.Legal.{IsLegalEntry, after}
 use Rattle.pr_model.specs.declared.calls.Call.{Call as AnyCall}
-use Rattle.pr_model.specs.declared.events.Act.{Act}
-use Rattle.pr_model.specs.declared.events.Act.TheVariants.{Call}
 use Rattle.pr_model.specs.declared.events.Actor.{Actor}
-use Rattle.pr_model.specs.declared.events.Actor.TheVariants.{Controller}
 use Rattle.pr_model.specs.declared.events.Entry.{Entry}
 use Rattle.pr_world.specs.ControllerStates.{ControllerState}
-use Rattle.pr_world.specs.Controllers.{call_by}
 use Rattle.pr_world.specs.Protocol.{controllers_after}
+use Rattle.pr_tool_laws.specs.OwnCalls.{IsOwnCall}
 use Rattle.pr_world.specs.Worlds.{WorldState, can_act}
 
 -- A kernel with the controllers of a scenario, beside which one more controller calls it from outside: it has the
@@ -57,14 +54,6 @@ after_entry e s = record {
   kernel = with_entry (after s.kernel.state e) e s.kernel;
   controllers = controllers_after s.controllers e;
 }
-
--- whether a call of one of these controllers is the one that it makes next
-unfoldable pub IsOwnCall : List ControllerState → Entry → Type 0
-IsOwnCall controllers e = by e.actor e.act
-  where
-    by : Actor → Act → Type 0
-    by (Controller k) (Call c r) = k < length controllers → call_by controllers k ≡ Some c
-    by _ _ = Unit {0}
 
 -- An entry is the move of one of the others: it can move, there is a place, and it does what the machine does then, and
 -- a controller what it calls next.

@@ -1,7 +1,7 @@
 use Rattle.std.specs.Prelude.{◌≡◌, ℕ, List, [], Option}
 use Rattle.std.specs.Io.KnownBytes.{IsAtEnd}
 use Rattle.pr_io.specs.Known.{with_front}
-use Rattle.pr_lines.specs.Lines.{ReadsToNewline, TookLine}
+use Rattle.pr_lines.specs.Lines.{ReadNoNewline, ReadsToNewline, TookLine}
 
 -- What comes from outside, line by line.
 
@@ -28,3 +28,11 @@ pub record FoundEnd (a b : Input) : Type 0 where
   pub same : to_come b ≡ to_come a
   pub end : IsAtEnd (to_come b)
   pub read : ReadsToNewline a.held a.left b.left
+
+-- The next line was asked for. That much is left of the source: nothing was read once the line's end was there.
+pub record Asked (a : Input) (left : Option (List ℕ)) : Type 0 where
+  pub read : ReadsToNewline a.held a.left left
+
+-- The next line was asked for, and its end has not come: what is held and what was read has no newline.
+pub record AskedInVain (a : Input) (left : Option (List ℕ)) : Type 0 where
+  pub read : ReadNoNewline a.held a.left left

@@ -10,4 +10,3 @@ pub mod Served
 pub mod Sessions
 pub mod Starts
 pub mod Statuses
-pub mod WholeWrites

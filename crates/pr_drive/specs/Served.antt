@@ -18,10 +18,10 @@ use Rattle.pr_text.specs.TextLines.{newline}
 use Rattle.pr_drive.specs.Alone.{IsPartOfRun, OnlyLetOthers}
 use Rattle.pr_drive.specs.Beside.{IsKeptBeside}
 use Rattle.pr_drive.specs.Going.{SeatsState}
-use Rattle.pr_drive.specs.Inputs.{FoundEnd, Input, Took, from_start}
+use Rattle.pr_drive.specs.Inputs.{Asked, AskedInVain, FoundEnd, Input, Took, from_start}
 use Rattle.pr_drive.specs.Reports.{reports_from}
 use Rattle.pr_drive.specs.Rounds.{FinishesRound, FollowsSchedule, RoundsState, first_controllers}
-use Rattle.pr_drive.specs.Sessions.{AnsweredAll, AnsweredSome, IsHistoryFrom, Stand}
+use Rattle.pr_drive.specs.Sessions.{AnsweredAll, AnsweredSome, AnsweredUnread, IsHistoryFrom, Stand}
 use Rattle.pr_drive.specs.Starts.{first_seats}
 use Rattle.pr_drive.specs.Statuses.{EndsAs, number}
 use Rattle.pr_drive.specs.declared.readings.Above.{Above}
@@ -50,35 +50,40 @@ TookLines (line ∷ lines) old new = (m : Input) × (Took line old m × TookLine
 abbrev pub text_of : List (List ℕ) → List ℕ
 text_of lines = flat_map (λ line. line ++ newline ∷ []) lines
 
--- Lines above the mark were taken, of which none is the mark.
+-- Lines above the mark were taken, of which none is the mark, and which a scenario may have.
 pub record TookAbove (lines : List (List ℕ)) (old new : Input) : Type 0 where
   pub took : TookLines lines old new
   pub above : All (λ line. is_mark line ≡ false) lines
+  pub within : length (text_of lines) ≤ scenario_limit
 
 -- The text above the mark was taken, and the mark.
 pub record TookText (text : List ℕ) (above : ℕ) (old new : Input) : Type 0 where
   pub lines : List (List ℕ)
   pub count : above ≡ length lines
   pub is : text ≡ text_of lines
-  pub within : length text ≤ scenario_limit
   pub reached : Input
   pub took : TookAbove lines old reached
   pub last : List ℕ
   pub is_last : is_mark last ≡ true
   pub mark : Took last reached new
 
--- There is no mark.
+-- There is no mark, and no more above the end than a scenario may have.
 pub record NoMark (old new : Input) : Type 0 where
   pub lines : List (List ℕ)
   pub reached : Input
   pub took : TookAbove lines old reached
   pub end : FoundEnd reached new
 
--- More stands above the mark than a scenario may have.
+-- More stands above the mark than a scenario may have: the line that was taken last, which is not the mark, is the
+-- first one for which it has no room.
 pub record TooMuch (old new : Input) : Type 0 where
   pub lines : List (List ℕ)
-  pub took : TookAbove lines old new
-  pub above : scenario_limit < length (text_of lines)
+  pub reached : Input
+  pub took : TookAbove lines old reached
+  pub last : List ℕ
+  pub is_last : is_mark last ≡ false
+  pub line : Took last reached new
+  pub above : scenario_limit < length (text_of (lines ++ last ∷ []))
 
 -- a refusal of the scenario as a whole
 abbrev pub whole : ScenKind → ScenFault
@@ -180,7 +185,7 @@ pub record WasEnded (quiet : Bool) (above : ℕ) (a : Stand) (left before after 
   pub answered : AnsweredAll above a end before replies
   pub told : TellsEnd quiet end.rounds.seats status replies after
 
--- Lines were answered, and the session was cut off in its end.
+-- Lines were answered, and the session was cut off in its end. So much is left of the source.
 pub record CutBehind (quiet : Bool) (above : ℕ) (a : Stand) (left before after : Option (List ℕ)) : Type 0 where
   pub end : Stand
   pub left_is : left ≡ end.input.left
@@ -189,7 +194,7 @@ pub record CutBehind (quiet : Bool) (above : ℕ) (a : Stand) (left before after
   pub cut : CutsEnd quiet end.rounds.seats replies after
 
 abbrev pub WasCutOff : Bool → ℕ → Stand → Option (List ℕ) → Option (List ℕ) → Option (List ℕ) → Type 0
-WasCutOff quiet above a left before after = AnsweredSome above a before after
+WasCutOff quiet above a left before after = AnsweredSome above a left before after
     ⊎ CutBehind quiet above a left before after
 
 -- The refusal of a scenario was written.
@@ -234,11 +239,32 @@ WasDriven quiet old new status = WasRefused old new status ⊎ WasTold quiet old
 
 -- ---- a session that is cut off
 
+-- Lines above the mark were taken, and then a line was asked for; it is the mark where it was taken and more was done.
+-- So much is left of the source.
+pub record CutAbove (old : Input) (left : Option (List ℕ)) : Type 0 where
+  pub lines : List (List ℕ)
+  pub reached : Input
+  pub took : TookAbove lines old reached
+  pub asked : Asked reached left
+
+-- Lines above the mark were taken, and then a read failed, before the end of the next line had come.
+pub record UnreadAbove (old : Input) (left : Option (List ℕ)) : Type 0 where
+  pub lines : List (List ℕ)
+  pub reached : Input
+  pub took : TookAbove lines old reached
+  pub asked : AskedInVain reached left
+
+-- before the first line of the outside
+pub record CutBefore (old new : Ends) : Type 0 where
+  pub above : CutAbove (from_start old.left) new.left
+  pub unwritten : new.written ≡ old.written
+
 -- while the refusal was written
 pub record CutRefusal (old new : Ends) : Type 0 where
   pub fault : ScenFault
   pub input : Input
   pub refused : RefusedText fault (from_start old.left) input ⊎ RefusedWhole fault (from_start old.left) input
+  pub left_is : new.left ≡ input.left
   pub written : AppendsSome old.written new.written (refusal_text fault.line (kind_name fault.kind))
 
 -- while lines were answered
@@ -246,7 +272,7 @@ pub record CutInLines (old new : Ends) : Type 0 where
   pub above : ℕ
   pub begun : Stand
   pub opened : Opened above begun.rounds (from_start old.left) begun.input
-  pub answered : AnsweredSome above begun old.written new.written
+  pub answered : AnsweredSome above begun new.left old.written new.written
 
 -- while the end was told
 pub record CutInEnd (quiet : Bool) (old new : Ends) : Type 0 where
@@ -256,10 +282,28 @@ pub record CutInEnd (quiet : Bool) (old new : Ends) : Type 0 where
   pub answered : AnsweredLines old new.left replies scenario last
   pub cut : CutsEnd quiet last replies new.written
 
--- Nothing was written, or a prefix of what is written of a session.
+-- Nothing was written, or a prefix of what is written of a session; and what is left of the source.
 abbrev pub WasCut : Bool → Ends → Ends → Type 0
-WasCut quiet old new = (new.written ≡ old.written)
-    ⊎ (CutRefusal old new ⊎ (CutInLines old new ⊎ CutInEnd quiet old new))
+WasCut quiet old new = CutBefore old new ⊎ (CutRefusal old new ⊎ (CutInLines old new ⊎ CutInEnd quiet old new))
+
+-- ---- a read that failed
+
+-- above the mark
+pub record UnreadBefore (old new : Ends) : Type 0 where
+  pub above : UnreadAbove (from_start old.left) new.left
+  pub unwritten : new.written ≡ old.written
+
+-- after lines of the outside: all replies to them had been written
+pub record UnreadBehind (old new : Ends) : Type 0 where
+  pub above : ℕ
+  pub begun : Stand
+  pub opened : Opened above begun.rounds (from_start old.left) begun.input
+  pub answered : AnsweredUnread above begun new.left old.written new.written
+
+-- A read failed before the end of a line had come, and what was written are the replies to the lines before: so that,
+-- whenever more is read of the source than up to the end of a line, all that is to be written for those is written.
+abbrev pub WasUnread : Ends → Ends → Type 0
+WasUnread old new = UnreadBefore old new ⊎ UnreadBehind old new
 
 -- what a source and a sink tell, by what each of them tells
 abbrev pub ends_of : {S K : Type 0} → (S → Option (List ℕ)) → (S → ℕ) → (K → Option (List ℕ)) → (K → ℕ) → S → K → Ends
@@ -282,7 +326,7 @@ pub record IsWhole (status : Status) : Type 0 where
 -- that failed that of the sink.
 pub record Drove (quiet : Bool) (old new : Ends) (status : Status) : Type 0 where
   pub told : IsWhole status → WasDriven quiet old new status
-  pub read_cut : status ≡ ReadFailed → WasCut quiet old new
+  pub read_cut : status ≡ ReadFailed → WasUnread old new
   pub read_failed : status ≡ ReadFailed → Rose old.read_faults new.read_faults
   pub write_cut : status ≡ WriteFailed → WasCut quiet old new
   pub write_failed : status ≡ WriteFailed → Rose old.write_faults new.write_faults

@@ -1,4 +1,4 @@
-use Rattle.std.specs.Prelude.{◌≡◌, ◌⊎◌, ◌+◌, ◌-◌, ◌^◌, ℕ, Bool, true, false, List, [], ◌∷◌, ◌++◌, Option, Result, Ok}
+use Rattle.std.specs.Prelude.{◌≡◌, ◌⊎◌, ◌+◌, ◌-◌, ◌^◌, ℕ, Bool, true, false, List, [], ◌∷◌, Option, Result, Ok}
 use Rattle.std.specs.Prelude.{Err, length}
 use Rattle.std.specs.List.{flat_map}
 use Rattle.pr_asks.specs.Asks.{ask_of, name_of}
@@ -8,13 +8,13 @@ use Rattle.pr_asks.specs.declared.asks.Kind.{Kind}
 use Rattle.pr_io.specs.Known.{with_end}
 use Rattle.pr_model.specs.Legal.{IsLegal, state_after}
 use Rattle.pr_model.specs.State.{TracedState}
-use Rattle.pr_model.specs.declared.events.Entry.{Entry}
 use Rattle.pr_output.specs.Output.{AppendsSome, refusal_text}
+use Rattle.pr_tool_laws.specs.OwnCalls.{AreOwnCalls}
 use Rattle.pr_world.specs.ControllerStates.{ControllerState}
-use Rattle.pr_world.specs.Protocol.{controllers_after, controllers_at}
+use Rattle.pr_world.specs.Protocol.{controllers_at}
 use Rattle.pr_drive.specs.Exchanges.{Answers}
-use Rattle.pr_drive.specs.Going.{IsOwnCall, SeatsState, after_entries, outside_of}
-use Rattle.pr_drive.specs.Inputs.{FoundEnd, Input, Took}
+use Rattle.pr_drive.specs.Going.{SeatsState}
+use Rattle.pr_drive.specs.Inputs.{Asked, AskedInVain, FoundEnd, Input, Took}
 use Rattle.pr_drive.specs.Rounds.{FinishesRound, RoundsState}
 use Rattle.pr_drive.specs.declared.answers.Came.{Came}
 use Rattle.pr_drive.specs.declared.answers.Came.TheVariants as came
@@ -159,16 +159,27 @@ abbrev pub AnsweredIf : Bool → ℕ → Stand → Stand → Option (List ℕ) �
 AnsweredIf true number a b before after = AnsweredNext number a b before after
 AnsweredIf false number a b before after = AnsweredNone a b before after
 
--- A line was taken, and the session was cut off at it.
-pub record CutAtLine (number : ℕ) (a : Stand) (before after : Option (List ℕ)) : Type 0 where
+-- The next line was asked for, and nothing was written for it. So much is left of the source.
+pub record CutAsking (a : Stand) (left before after : Option (List ℕ)) : Type 0 where
+  pub asked : Asked a.input left
+  pub unwritten : after ≡ before
+
+-- A line was taken, nothing was read behind it, and the session was cut off at it.
+pub record CutAtLine (number : ℕ) (a : Stand) (left before after : Option (List ℕ)) : Type 0 where
   pub line : List ℕ
   pub rest : Input
   pub took : Took line a.input rest
+  pub left_is : left ≡ rest.left
   pub cut : CutLine number line a.rounds before after
 
--- So it is where a session is cut off, or nothing was written.
-abbrev pub CutNext : ℕ → Stand → Option (List ℕ) → Option (List ℕ) → Type 0
-CutNext number a before after = (after ≡ before) ⊎ CutAtLine number a before after
+-- So it is where a session is cut off.
+abbrev pub CutNext : ℕ → Stand → Option (List ℕ) → Option (List ℕ) → Option (List ℕ) → Type 0
+CutNext number a left before after = CutAsking a left before after ⊎ CutAtLine number a left before after
+
+-- A read for the next line failed, before its end had come. Nothing was written for it.
+pub record UnreadNext (a : Stand) (left before after : Option (List ℕ)) : Type 0 where
+  pub asked : AskedInVain a.input left
+  pub unwritten : after ≡ before
 
 -- ---- all lines
 
@@ -190,31 +201,28 @@ pub record AnsweredAll (above : ℕ) (a b : Stand) (before after : Option (List 
   pub no_more : NoMore (above + length exchanges) reached b
 
 -- Lines were answered, and then the session was cut off: all that was written are the replies to these lines, and
--- perhaps a prefix of that to the next one.
-pub record AnsweredSome (above : ℕ) (a : Stand) (before after : Option (List ℕ)) : Type 0 where
+-- perhaps a prefix of that to the next one. So much is left of the source.
+pub record AnsweredSome (above : ℕ) (a : Stand) (left before after : Option (List ℕ)) : Type 0 where
   pub exchanges : List Exchange
   pub reached : Stand
   pub answered : Exchanges (above + 1) exchanges a reached
   pub replies : Option (List ℕ)
   pub written : replies ≡ with_end before (replies_of exchanges)
-  pub cut : CutNext (above + length exchanges + 1) reached replies after
+  pub cut : CutNext (above + length exchanges + 1) reached left replies after
+
+-- Lines were answered, and all that was written are the replies to them; and then a read failed, before the end of the
+-- next line had come.
+pub record AnsweredUnread (above : ℕ) (a : Stand) (left before after : Option (List ℕ)) : Type 0 where
+  pub exchanges : List Exchange
+  pub reached : Stand
+  pub answered : Exchanges (above + 1) exchanges a reached
+  pub written : after ≡ with_end before (replies_of exchanges)
+  pub asked : AskedInVain reached.input left
 
 -- ---- the history
 
--- every call of a controller of the scenario in a history is the one that it makes after the replies that it got so far
-abbrev pub AreOwnCalls : List ControllerState → List Entry → Type 0
-AreOwnCalls controllers [] = Unit {0}
-AreOwnCalls controllers (e ∷ es) = IsOwnCall controllers e × AreOwnCalls (controllers_after controllers e) es
-
--- What a session keeps: these entries came, which are legal, with one more controller than the scenario has; each of
--- those made its own calls; the machine is in the state after them, and each controller has got its replies.
-pub record Keeps (old new : SeatsState) : Type 0 where
-  pub entries : List Entry
-  pub legal : IsLegal (outside_of old + 1) old.kernel.state entries
-  pub own : AreOwnCalls old.controllers entries
-  pub is : new ≡ after_entries entries old
-
--- The history of a session that began with this state and these controllers, and with places for so many entries.
+-- The history of a session that began with this state and these controllers, and with places for so many entries. It is
+-- legal with one more controller than the scenario has; each of those made its own calls, and got its replies.
 pub record IsHistoryFrom (first : TracedState) (controllers : List ControllerState) (turns : ℕ) (s : SeatsState) : Type
     0 where
   pub legal : IsLegal (length controllers + 1) first s.kernel.history

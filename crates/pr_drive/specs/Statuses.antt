@@ -1,5 +1,6 @@
-use Rattle.std.specs.Prelude.{◌≡◌, ◌⊎◌, ℕ, true, false}
+use Rattle.std.specs.Prelude.{◌≡◌, ◌≢◌, ◌⊎◌, ℕ, true, false, Err, IsErrOf, Result}
 use Rattle.std.specs.List.{list_all}
+use Rattle.pr_io.specs.Faults.{Rose}
 use Rattle.pr_io.specs.declared.sources.ReadEnd.{ReadEnd}
 use Rattle.pr_io.specs.declared.sources.ReadEnd.TheVariants as read
 use Rattle.pr_output.specs.declared.cuts.Cut.{Cut}
@@ -38,6 +39,14 @@ cut_off write.NoMemory = cut.NoMemory
 abbrev pub read_off : ReadEnd → CutOff
 read_off read.Failed = cut.ReadFailed
 read_off _ = cut.NoMemory
+
+-- What the counts of faults of the source and of the sink tell: only a read that failed raises the one, and only a
+-- write that failed the other.
+pub record CountsFaults {T : Type 0} (result : Result T CutOff) (reads reads' writes writes' : ℕ) : Type 0 where
+  pub unread : IsErrOf result cut.ReadFailed → Rose reads reads'
+  pub unwritten : IsErrOf result cut.WriteFailed → Rose writes writes'
+  pub no_read_fault : result ≢ Err cut.ReadFailed → reads' ≡ reads
+  pub no_write_fault : result ≢ Err cut.WriteFailed → writes' ≡ writes
 
 -- ---- how a session has ended
 

@@ -4,8 +4,9 @@ ghost use Rattle.pr_asks.specs.Asks.{name_of};
 ghost use Rattle.pr_io.specs.Faults.{Rose};
 ghost use Rattle.pr_io.specs.Known.{with_end};
 ghost use Rattle.pr_drive.specs.Rounds.{FinishesRound};
-ghost use Rattle.pr_drive.specs.Sessions.{AnsweredAll, AnsweredIf, AnsweredSome, CameOf, CutAnswer, CutAt, CutNext};
-ghost use Rattle.pr_drive.specs.Sessions.{PutAnswer, came_of, is_end, is_last};
+ghost use Rattle.pr_drive.specs.Sessions.{AnsweredAll, AnsweredIf, AnsweredSome, AnsweredUnread, CameOf, CutAnswer};
+ghost use Rattle.pr_drive.specs.Sessions.{CutAt, CutNext, PutAnswer, UnreadNext, came_of, is_end, is_last};
+ghost use Rattle.pr_drive.specs.Statuses.{CountsFaults};
 ghost use Rattle.pr_output.specs.Output.{AppendsSome, refusal_text};
 
 use crate::ends::CutOff;
@@ -155,11 +156,12 @@ fn answer_next<S: Source, K: Sink>(
         (K.written sink.old) (K.written sink.new)) }
     ensures cut { OnErr result (CutNext number
         (record { input = record { held = lines.old.held; left = S.left source.old }; rounds = session.old })
-        (K.written sink.old) (K.written sink.new)) }
-    ensures unread { IsErrOf result CutOff.ReadFailed → Rose (S.faults source.old) (S.faults source.new) }
-    ensures unwritten { IsErrOf result CutOff.WriteFailed → Rose (K.faults sink.old) (K.faults sink.new) }
-    ensures no_read_fault { result ≢ Err CutOff.ReadFailed → S.faults source.new ≡ S.faults source.old }
-    ensures no_write_fault { result ≢ Err CutOff.WriteFailed → K.faults sink.new ≡ K.faults sink.old }
+        (S.left source.new) (K.written sink.old) (K.written sink.new)) }
+    ensures unended { IsErrOf result CutOff.ReadFailed → UnreadNext
+        (record { input = record { held = lines.old.held; left = S.left source.old }; rounds = session.old })
+        (S.left source.new) (K.written sink.old) (K.written sink.new) }
+    ensures faults { CountsFaults result
+        (S.faults source.old) (S.faults source.new) (K.faults sink.old) (K.faults sink.new) }
 {
     let there = lines.next(source, line)?;
     if !there {
@@ -189,11 +191,12 @@ pub fn answer_lines<S: Source, K: Sink>(
         (K.written sink.old) (K.written sink.new)) }
     ensures cut { OnErr result (AnsweredSome above
         (record { input = record { held = lines.old.held; left = S.left source.old }; rounds = session.old })
-        (K.written sink.old) (K.written sink.new)) }
-    ensures unread { IsErrOf result CutOff.ReadFailed → Rose (S.faults source.old) (S.faults source.new) }
-    ensures unwritten { IsErrOf result CutOff.WriteFailed → Rose (K.faults sink.old) (K.faults sink.new) }
-    ensures no_read_fault { result ≢ Err CutOff.ReadFailed → S.faults source.new ≡ S.faults source.old }
-    ensures no_write_fault { result ≢ Err CutOff.WriteFailed → K.faults sink.new ≡ K.faults sink.old }
+        (S.left source.new) (K.written sink.old) (K.written sink.new)) }
+    ensures unended { IsErrOf result CutOff.ReadFailed → AnsweredUnread above
+        (record { input = record { held = lines.old.held; left = S.left source.old }; rounds = session.old })
+        (S.left source.new) (K.written sink.old) (K.written sink.new) }
+    ensures faults { CountsFaults result
+        (S.faults source.old) (S.faults source.new) (K.faults sink.old) (K.faults sink.new) }
 {
     let mut line = Vec::new(alloc);
     let mut reply = Vec::new(alloc);

@@ -1,6 +1,6 @@
 //! The scenario is read, up to the line below it.
 ghost use Rattle.std.specs.Prelude.{◌≡◌, ◌≢◌, ◌<◌, ◌≤◌, ◌++◌, ◌∷◌, [], Err, IfOk, IsErrOf, OnErr, OnOk, length};
-ghost use Rattle.pr_drive.specs.Served.{Begins, IsAbove, OpensAs, OpensText, is_mark, whole};
+ghost use Rattle.pr_drive.specs.Served.{Begins, CutAbove, IsAbove, OpensAs, OpensText, UnreadAbove, is_mark, whole};
 ghost use Rattle.pr_io.specs.Faults.{Rose};
 ghost use Rattle.pr_num.specs.Limits.{controller_limit, scenario_limit};
 ghost use Rattle.pr_scen.specs.Scenarios.{IsWithinLimits};
@@ -67,6 +67,10 @@ fn read_above<S: Source>(
     ensures above { IfOk result (λ above. IsAbove above text.new.items
         (record { held = lines.old.held; left = S.left source.old })
         (record { held = lines.new.held; left = S.left source.new })) }
+    ensures cut { OnErr result
+        (CutAbove (record { held = lines.old.held; left = S.left source.old }) (S.left source.new)) }
+    ensures unended { IsErrOf result CutOff.ReadFailed
+        → UnreadAbove (record { held = lines.old.held; left = S.left source.old }) (S.left source.new) }
     ensures unread { IsErrOf result CutOff.ReadFailed → Rose (S.faults source.old) (S.faults source.new) }
     ensures no_fault { result ≢ Err CutOff.ReadFailed → S.faults source.new ≡ S.faults source.old }
     ensures not_written { result ≢ Err CutOff.WriteFailed }
@@ -96,6 +100,10 @@ pub fn read_opening<S: Source>(
     ensures opens { IfOk result (λ opening. OpensAs opening
         (record { held = lines.old.held; left = S.left source.old })
         (record { held = lines.new.held; left = S.left source.new })) }
+    ensures cut { OnErr result
+        (CutAbove (record { held = lines.old.held; left = S.left source.old }) (S.left source.new)) }
+    ensures unended { IsErrOf result CutOff.ReadFailed
+        → UnreadAbove (record { held = lines.old.held; left = S.left source.old }) (S.left source.new) }
     ensures unread { IsErrOf result CutOff.ReadFailed → Rose (S.faults source.old) (S.faults source.new) }
     ensures no_fault { result ≢ Err CutOff.ReadFailed → S.faults source.new ≡ S.faults source.old }
     ensures not_written { result ≢ Err CutOff.WriteFailed }

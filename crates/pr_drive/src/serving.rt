@@ -1,7 +1,9 @@
 //! Sessions from a source to a sink.
 ghost use Rattle.std.specs.Prelude.{◌≡◌, ◌≢◌, Err, IfOk, IsErrOf, OnErr};
 ghost use Rattle.pr_drive.specs.Served.{CutsEnd, Drove, EndsWith, TellsEnd, TellsRefusal, WasCut, WasCutOff, WasDriven};
-ghost use Rattle.pr_drive.specs.Served.{WasEnded, ends_of, usage_line};
+ghost use Rattle.pr_drive.specs.Served.{WasEnded, WasUnread, ends_of, usage_line};
+ghost use Rattle.pr_drive.specs.Sessions.{AnsweredUnread};
+ghost use Rattle.pr_drive.specs.Statuses.{CountsFaults};
 ghost use Rattle.pr_drive.specs.declared.ends.Status.TheVariants.{OutOfMemory, ReadFailed, Usage, WriteFailed};
 ghost use Rattle.pr_input.specs.Kinds.{kind_name};
 ghost use Rattle.pr_io.specs.Known.{with_end};
@@ -69,10 +71,11 @@ fn go_on<S: Source, K: Sink>(
     ensures cut { OnErr result (WasCutOff quiet above
         (record { input = record { held = lines.old.held; left = S.left source.old }; rounds = session })
         (S.left source.new) (K.written sink.old) (K.written sink.new)) }
-    ensures unread { IsErrOf result CutOff.ReadFailed → Rose (S.faults source.old) (S.faults source.new) }
-    ensures unwritten { IsErrOf result CutOff.WriteFailed → Rose (K.faults sink.old) (K.faults sink.new) }
-    ensures no_read_fault { result ≢ Err CutOff.ReadFailed → S.faults source.new ≡ S.faults source.old }
-    ensures no_write_fault { result ≢ Err CutOff.WriteFailed → K.faults sink.new ≡ K.faults sink.old }
+    ensures unended { IsErrOf result CutOff.ReadFailed → AnsweredUnread above
+        (record { input = record { held = lines.old.held; left = S.left source.old }; rounds = session })
+        (S.left source.new) (K.written sink.old) (K.written sink.new) }
+    ensures faults { CountsFaults result
+        (S.faults source.old) (S.faults source.new) (K.faults sink.old) (K.faults sink.new) }
 {
     answer_lines(alloc, &mut session, above, lines, source, sink)?;
     tell_end(alloc, quiet, &session, sink)
@@ -104,10 +107,11 @@ fn drive<S: Source, K: Sink>(
     ensures cut { OnErr result (WasCut quiet
         (ends_of S.left S.faults K.written K.faults source.old sink.old)
         (ends_of S.left S.faults K.written K.faults source.new sink.new)) }
-    ensures unread { IsErrOf result CutOff.ReadFailed → Rose (S.faults source.old) (S.faults source.new) }
-    ensures unwritten { IsErrOf result CutOff.WriteFailed → Rose (K.faults sink.old) (K.faults sink.new) }
-    ensures no_read_fault { result ≢ Err CutOff.ReadFailed → S.faults source.new ≡ S.faults source.old }
-    ensures no_write_fault { result ≢ Err CutOff.WriteFailed → K.faults sink.new ≡ K.faults sink.old }
+    ensures unended { IsErrOf result CutOff.ReadFailed → WasUnread
+        (ends_of S.left S.faults K.written K.faults source.old sink.old)
+        (ends_of S.left S.faults K.written K.faults source.new sink.new) }
+    ensures faults { CountsFaults result
+        (S.faults source.old) (S.faults source.new) (K.faults sink.old) (K.faults sink.new) }
 {
     let mut lines = Lines::new(alloc)?;
     let opening = read_opening(alloc, &mut lines, source)?;

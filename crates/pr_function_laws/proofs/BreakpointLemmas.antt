@@ -140,7 +140,8 @@ pub record IsOwnEntry (k : ℕ) (s : TracedState) (e : Entry) (x : Exchange) : T
   pub later : answer.state ≡ after s e
 
 -- a call that opens nothing and closes nothing leaves the handles
-pub own-handles : (k : ℕ) (s : TracedState) (e : Entry) (x : Exchange) → IsOwnEntry k s e x → keeps_handles x.call ≡ true
+pub own-handles : (k : ℕ) (s : TracedState) (e : Entry) (x : Exchange) → IsOwnEntry k s e x
+    → keeps_handles x.call ≡ true
     → (m : ℕ) → handle_of (after s e).opens k m ≡ handle_of s.opens k m
 own-handles k s e x own plain m =
     ap (λ (u : TracedState). handle_of u.opens k m) (sym own.later)
@@ -259,7 +260,7 @@ module _ (n k pid id : ℕ) (s : TracedState) (lawful : IsLawful s) (made : pid 
           elsewhere (record { actor = Clock; act = act.Tick m }) legal (λ own same. cc) other
       others-in _ _ legal other = absurd legal
 
-    others-stand : (e : Entry) → IsLegalEntry n s e → e.actor ≢ Controller k → Stands (after s e)
+    pub others-stand : (e : Entry) → IsLegalEntry n s e → e.actor ≢ Controller k → Stands (after s e)
     others-stand e legal other = by (live_process s.system pid) refl
       where
         by : (o : Option TracedProcess) → live_process s.system pid ≡ o → Stands (after s e)
@@ -420,14 +421,14 @@ module _ (n k pid id c ns : ℕ) (met : Traced) (place : ℕ) where
   }
 
   module _ (s : TracedState) (lawful : IsLawful s) (made : pid < s.system.made) where
-    sole-by : HasControl k pid c s → HasNoOtherWriter k pid s.opens
+    pub sole-by : HasControl k pid c s → HasNoOtherWriter k pid s.opens
     sole-by control =
         exclusive-sole s k c (record { controller = k; pid = pid; lwp = 0; file = Ctl; mode = WriteExcl }) lawful
         control
         refl
 
     module _ (e : Entry) (legal : IsLegalEntry n s e) where
-      over-later : live_process s.system pid ≡ None → live_process (after s e).system pid ≡ None
+      pub over-later : live_process s.system pid ≡ None → live_process (after s e).system pid ≡ None
       over-later none = stays-over n s e pid lawful legal made none
 
       -- an entry of others
@@ -492,7 +493,7 @@ module _ (n k pid id c ns : ℕ) (met : Traced) (place : ℕ) where
           plain (runs is) = ap keeps_handles is
           plain (writes bytes is begins) = ap keeps_handles is
 
-          keeps : Keeps s (after s e)
+          pub keeps : Keeps s (after s e)
           keeps = same-keeps s (after s e) (opens-later (plain sent)) control
 
           -- it is told of no end where there is none
@@ -507,7 +508,7 @@ module _ (n k pid id c ns : ℕ) (met : Traced) (place : ℕ) where
               begins (ap (answer_to s k) (sym is) ∙ own.is) in
               left.not_gone
 
-          gone-over : answer_of x.reply ≡ Gone → live_process (after s e).system pid ≡ None
+          pub gone-over : answer_of x.reply ≡ Gone → live_process (after s e).system pid ≡ None
           gone-over gone = by (live_process s.system pid) refl
             where
               by : (o : Option TracedProcess) → live_process s.system pid ≡ o
@@ -517,7 +518,7 @@ module _ (n k pid id c ns : ℕ) (met : Traced) (place : ℕ) where
                   let refuses = gone-refuses x.reply gone in
                   absurd (not-gone sent p live (own.replied ∙ refuses.is))
 
-          stand-later : (function : ℕ) (code : List ℕ) → x.call ≡ write_code_call t.options c function code
+          pub stand-later : (function : ℕ) (code : List ℕ) → x.call ≡ write_code_call t.options c function code
               → (p : TracedProcess) → live_process (after s e).system pid ≡ Some p → StandsAtFault p id
           stand-later function code is q later = by (live_process s.system pid) refl
             where
@@ -823,7 +824,7 @@ module _ (n k : ℕ) (t : TrussState) (place ns pid id : ℕ) (s : TracedState) 
       told-fault w.process id m.l m.event seen-then (fresh-stands (traced_at t place) m.l m.event m.fresh) w.told
       w.not_lent
 
-  own-met : Own (GoesElsewhere k pid s) c ns met met
+  pub own-met : Own (GoesElsewhere k pid s) c ns met met
   own-met =
       let f = w.files in
       record {

@@ -113,7 +113,7 @@ module _ (Q : ℕ → Type 0) (c ns : ℕ) (met : Traced) (place : ℕ) where
     abbrev stopped : TrussState
     stopped = with_stage (with_marks t place stepping) (Running place)
 
-    begun-is : with_step_begun t place meets.l meets.function
+    pub begun-is : with_step_begun t place meets.l meets.function
         ≡ with_aside stopped
         (patching place (put_back (marks_at t place)) (with_function no_functions meets.function) false)
     unfolding with_step_begun with_patches with_stop_over
@@ -121,7 +121,7 @@ module _ (Q : ℕ → Type 0) (c ns : ℕ) (met : Traced) (place : ℕ) where
         ap (λ b. with_aside (cond b (with_closing (with_marks t place stepping) place) stopped)
         (patching place (put_back (marks_at t place)) (with_function no_functions meets.function) false)) meets.stays
 
-    met-is : fed_functions t x.reply ≡ with_step_begun t place meets.l meets.function
+    pub met-is : fed_functions t x.reply ≡ with_step_begun t place meets.l meets.function
     unfolding fed_functions with_aside_answered with_function_reply with_function_status_answered with_function_stop
         with_function_event
     met-is =
@@ -161,7 +161,7 @@ module _ (Q : ℕ → Type 0) (c ns : ℕ) (met : Traced) (place : ℕ) where
     patch-looks None (Some function) busy d is = (function, (code_of t.options function, sym is))
     patch-looks None None busy d is = absurd (false≢true busy)
 
-    ran-looks : (d : Call) → function_call_of t t.stage ≡ Some d → d ≡ message_call c (message.Run step_flags)
+    pub ran-looks : (d : Call) → function_call_of t t.stage ≡ Some d → d ≡ message_call c (message.Run step_flags)
     unfolding function_call_of
     ran-looks d is =
         let own : Own Q c ns met (traced_at t place) = l.own in

@@ -6,6 +6,7 @@ pub mod Opened
 pub mod Returns
 pub mod Runs
 pub mod Soon
+pub mod Steppable
 pub mod Steps
 pub mod Stretches
 pub mod Turns

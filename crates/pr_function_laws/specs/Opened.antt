@@ -1,6 +1,8 @@
 -- What truss with calls of functions has of each process that it has opened: its own files of it, alone, and all signals
 -- and faults of it traced.
-use Rattle.std.specs.Prelude.{◌≡◌, ◌≢◌, ◌<◌, ◌==◌, ◌++◌, ℕ, Bool, true, false, not, All, List, ◌∷◌, None, Some, length}
+use Rattle.std.specs.Prelude.{◌≡◌, ◌≢◌, ◌<◌, ◌==◌, ◌++◌, ℕ, Bool, true, false, not, All, List, ◌∷◌, None, Some, length, slice_get}
+use Rattle.pr_line.specs.Functions.{function_limit}
+use Rattle.pr_line.specs.declared.functions.Function.{Function}
 use Rattle.pr_line.specs.declared.options.Options.{Options}
 use Rattle.pr_model.specs.Lawful.{IsLawful}
 use Rattle.pr_model.specs.Legal.{IsLegal, after, state_after}
@@ -8,7 +10,6 @@ use Rattle.pr_model.specs.State.{TracedControl, TracedProcess, TracedState, has_
 use Rattle.pr_model.specs.declared.calls.Reply.TheVariants.{Fail}
 use Rattle.pr_model.specs.declared.events.Entry.{Entry}
 use Rattle.pr_num.specs.declared.errnos.Errno.TheVariants.{Intr}
-use Rattle.pr_num.specs.declared.faults.Flt.{Flt}
 use Rattle.pr_truss.specs.FunctionCalls.{with_copying}
 use Rattle.pr_truss.specs.Marks.{has_functions}
 use Rattle.pr_truss.specs.Messages.{traced_entries, traced_exits}
@@ -17,8 +18,9 @@ use Rattle.pr_truss.specs.declared.stages.Stage.{Stage}
 use Rattle.pr_truss.specs.declared.stages.Stage.TheVariants.{Opening, Closing}
 use Rattle.pr_truss_laws.specs.Exchanges.{Exchange, exchange_of, exchanges}
 use Rattle.pr_truss_laws.specs.Handles.{HasNoOtherWriter, HasNothingOpen}
-use Rattle.pr_function_laws.specs.Lifted.{HoldsFiles, MeetsBreakpoint, ReadsOnlyLast, StepsNoCall}
+use Rattle.pr_function_laws.specs.Lifted.{HoldsFiles, MeetsBreakpoint, ReadsOnlyLast}
 use Rattle.pr_function_laws.specs.Runs.{MakesCalls, functions_after}
+use Rattle.pr_function_laws.specs.Steppable.{IsSteppable, StepsItsCode}
 use Rattle.pr_function_laws.specs.Steps.{StopsAtAll}
 use Rattle.pr_function_laws.specs.Stretches.{OthersOnlyStop}
 
@@ -79,25 +81,31 @@ pub record HoldsWhatItOpened (k : ℕ) (o : Options) (first : TracedState) (h : 
 -- ---- its stops at breakpoints
 
 -- In the first of these entries truss reads that the lwp of this id of the process at a place stands at a breakpoint.
--- The record tells that the lwp is at a fault and has no signal to act on first; and the process has lent its memory to
--- nobody. Truss is not interrupted in these entries, makes no call any more once it has read the
--- status of the process again, and steps the lwp where its next instruction is no system call.
+-- The process has lent its memory to nobody. The function is one of the first 16 and begins with an instruction that is
+-- no system call, as each does that truss was given. Truss is not interrupted in these entries, and makes no call any
+-- more once it has read the status of the process again.
 pub record ReadsBreakpoint (k : ℕ) (t : TrussState) (place id : ℕ) (s : TracedState) (e : Entry)
     (between : List Entry) : Type 0 where
   pub x : Exchange
   pub own : exchange_of k e ≡ Some x
   pub meets : MeetsBreakpoint t x place
   pub its : meets.l.id ≡ id
-  pub fault : Flt
-  pub at_fault : meets.l.fault ≡ Some fault
-  pub no_signal : meets.l.signal ≡ None
+  pub f : Function
+  pub named : slice_get t.options.functions meets.function ≡ Some f
+  pub few : meets.function < function_limit
+  pub steppable : IsSteppable f
   pub not_lent : (p : TracedProcess) → live_process s.system (traced_at t place).pid ≡ Some p → p.borrower ≡ None
   pub reads_last : (status : ℕ) → (traced_at t place).status ≡ Some status → ReadsOnlyLast status (exchanges k between)
-  pub no_call : StepsNoCall k (traced_at t place).pid id (traced_at t place).control (after s e) between
 
--- From each of them on, as long as truss has not been interrupted, no other lwp of the process begins an instruction.
+-- From each of them on, as long as truss has not been interrupted, no other lwp of the process begins an instruction;
+-- and where truss steps the lwp the first instruction of the function stands at its address again.
 pub record LiftsForOneAlone (k : ℕ) (o : Options) (first : TracedState) (h : List Entry) : Type 0 where
   pub each : (before between later : List Entry) (e : Entry) (place id : ℕ) → h ≡ before ++ e ∷ (between ++ later)
       → All WasNotInterrupted (exchanges k before)
       → ReadsBreakpoint k (functions_at k o before) place id (state_after first before) e between
       → OthersOnlyStop (traced_at (functions_at k o before) place).pid id between
+  pub code : (before between later : List Entry) (e : Entry) (place id : ℕ) → h ≡ before ++ e ∷ (between ++ later)
+      → All WasNotInterrupted (exchanges k before)
+      → (w : ReadsBreakpoint k (functions_at k o before) place id (state_after first before) e between)
+      → StepsItsCode k (traced_at (functions_at k o before) place).pid id
+      (traced_at (functions_at k o before) place).control w.f (after (state_after first before) e) between

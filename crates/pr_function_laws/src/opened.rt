@@ -17,7 +17,8 @@ pub fn what_truss_opened_it_traces_alone()
 
 /// In each legal history from a state that the machine reaches, in which controllers write bytes: from each read that
 /// tells truss of an lwp at a breakpoint, until truss makes a call after its next read of the process, no other lwp of
-/// the process begins an instruction.
+/// the process begins an instruction; and wherever truss steps that lwp, it is at the address of the function, whose
+/// first instruction is what can be fetched there.
 #[tactic(auto, using(crate::proofs::OpenedLaws::opens))]
 pub fn each_breakpoint_is_lifted_for_one_lwp_alone()
     ensures { (n k : ℕ) (o : Options) (s : TracedState) (h : List Entry) → IsFunctionRun n k o s h → IsReached s

@@ -1,10 +1,11 @@
-ghost use Rattle.std.specs.Prelude.{◌≡◌, ◌≢◌, ◌+◌, ◌-◌, ◌^◌, ◌++◌, ◌<◌, ◌≤◌, [], length, drop, take, true, false, Err, IfOk, IfSome, IsErrOf, OnOk};
+ghost use Rattle.std.specs.Prelude.{◌≡◌, ◌≢◌, ◌+◌, ◌-◌, ◌^◌, ◌++◌, ◌<◌, ◌≤◌, [], length, drop, take, true, false};
+ghost use Rattle.std.specs.Prelude.{Err, IfOk, IfSome, IsErrOf, OnErr, OnOk};
 ghost use Rattle.std.specs.Io.KnownBytes.{IsAtEnd};
 ghost use Rattle.std.specs.List.{list_any, position};
 ghost use Rattle.pr_io.specs.Faults.{Rose};
 ghost use Rattle.pr_io.specs.Known.{with_front};
-ghost use Rattle.pr_io.specs.Reading.{CameAbove};
-ghost use Rattle.pr_lines.specs.Lines.{ReadsToNewline, TakesLine, TookHeld, line_bytes, piece_bytes};
+ghost use Rattle.pr_io.specs.Reading.{CameAbove, CameWithin};
+ghost use Rattle.pr_lines.specs.Lines.{ReadNoNewline, ReadsToNewline, TakesLine, TookHeld, line_bytes, piece_bytes};
 ghost use Rattle.pr_text.specs.TextLines.{is_newline};
 
 use pr_io::{ReadEnd, Source};
@@ -131,6 +132,8 @@ impl Lines {
         ensures end { IfOk result (λ more. more ≡ false → IsAtEnd (S.left source.new)) }
         ensures failed { IsErrOf result ReadEnd.Failed → Rose (S.faults source.old) (S.faults source.new) }
         ensures no_fault { result ≢ Err ReadEnd.Failed → S.faults source.new ≡ S.faults source.old }
+        ensures lost { OnErr result (CameWithin piece_bytes (S.left source.old) (S.left source.new)) }
+        ensures kept { IsErrOf result ReadEnd.Failed → S.left source.new ≡ S.left source.old }
         ensures short { result ≢ Err ReadEnd.TooLong }
     {
         let count = source.read(self.piece.as_mut_slice())?;
@@ -141,15 +144,17 @@ impl Lines {
 
     /// Takes the next line, without its newline; the last one may lack it. Says whether there was a line. Of one with
     /// more bytes than a line may have one byte more than that is kept. Nothing is read where a whole line is held, nor
-    /// once its end has come.
+    /// once its end has come, also where this fails; and a read that fails is one before which no end has come.
     pub fn next<S: Source>(&mut self, source: &mut S, line: &mut Vec<u8>) -> Result<bool, ReadEnd>
         ensures takes { IfOk result (λ there. TakesLine there line.new.items
             (with_front self.old.held (S.left source.old)) (with_front self.new.held (S.left source.new))) }
-        ensures read { OnOk result (ReadsToNewline self.old.held (S.left source.old) (S.left source.new)) }
+        ensures read { ReadsToNewline self.old.held (S.left source.old) (S.left source.new) }
         ensures unread { list_any is_newline self.old.held ≡ true → source.new ≡ source.old }
         // More bytes came than can be counted.
         ensures long { IsErrOf result ReadEnd.TooLong
             → CameAbove (2 ^ 64 - 2) (with_front self.old.held (S.left source.old)) (S.left source.new) }
+        ensures unended { IsErrOf result ReadEnd.Failed
+            → ReadNoNewline self.old.held (S.left source.old) (S.left source.new) }
         ensures failed { IsErrOf result ReadEnd.Failed → Rose (S.faults source.old) (S.faults source.new) }
         ensures no_fault { result ≢ Err ReadEnd.Failed → S.faults source.new ≡ S.faults source.old }
     {

@@ -3,6 +3,7 @@ pub mod CallReading
 pub mod Cuts
 pub mod DecimalWords
 pub mod EntryForms
+pub mod EntryLines
 pub mod EntryReading
 pub mod Forms
 pub mod Generated

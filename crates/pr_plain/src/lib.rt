@@ -5,6 +5,7 @@ mod actors;
 mod call_readers;
 mod calls;
 mod entries;
+mod entry_lines;
 mod entry_readers;
 mod generated;
 mod laws;
@@ -22,6 +23,7 @@ mod word_readers;
 mod words;
 
 pub use entries::{write_entry, write_heading, write_status};
+pub use entry_lines::EntryLines;
 pub use generated::generated_pieces;
 pub use laws::{
     a_history_is_in_its_text, a_line_is_its_words, a_text_grows_at_its_end, a_text_is_its_lines,

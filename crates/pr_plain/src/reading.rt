@@ -2,60 +2,18 @@
 ghost use Rattle.std.specs.Prelude.{◌≡◌, ◌+◌, ◌*◌, ◌<◌, ◌≤◌, ◌^◌, List, [], length, IfOk, IfErr};
 ghost use Rattle.pr_model.specs.declared.events.Entry.{Entry as AnyEntry};
 ghost use Rattle.pr_plain.specs.Histories.{BeginsWith, Refuses};
-ghost use Rattle.pr_plain.specs.EntryReading.{or_line, next_entry, next_heading, entries_in, history_of};
-ghost use Rattle.pr_plain.specs.WordReading.{word_at};
-ghost use Rattle.pr_plain.specs.Readings.{Answers, LineGave};
+ghost use Rattle.pr_plain.specs.EntryLines.{entries_left};
+ghost use Rattle.pr_plain.specs.EntryReading.{history_of};
+ghost use Rattle.pr_plain.specs.Readings.{Answers};
 
-use crate::entry_readers::{entry_in, heading_in};
-use crate::pieces::Pieces;
-use crate::refusals::{HistRefusal, Refused};
-use pr_model::{Entry, History};
+use crate::entry_lines::EntryLines;
+use crate::refusals::HistRefusal;
+use pr_model::History;
 use pr_num::NoMemory;
 use std::alloc::Global;
 
 /// Room is kept for one entry in so many bytes of text: the line `0 1/1 ran` has so many, its newline counted.
 const BYTES_PER_ENTRY: usize = 10;
-
-/// What a line answered, with the number of the line where it is refused.
-fn at_line(line: u32, answer: Result<Entry, Refused>) -> Result<Entry, HistRefusal>
-    ensures { LineGave line answer result }
-{
-    match answer {
-        Ok(entry) => Ok(entry),
-        Err(Refused::Malformed) => Err(HistRefusal::Line(line)),
-        Err(Refused::NoMemory(error)) => Err(HistRefusal::from(error)),
-    }
-}
-
-/// Takes the next line, which has this number.
-fn next_line<'a>(lines: &mut Pieces<'a>, line: u32) -> Result<&'a [u8], HistRefusal>
-    ensures { Answers (λ w. (w.now, lines.new)) result (or_line line (word_at lines.old)) }
-{
-    lines.next().ok_or(HistRefusal::Line(line))
-}
-
-/// Takes the entry of a number off the next line, which has a number of its own.
-#[tactic(auto, unfolding(crate::specs::EntryReading::next_entry))]
-fn next_entry(
-    alloc: Global,
-    lines: &mut Pieces<'_>,
-    line: u32,
-    number: u64,
-) -> Result<Entry, HistRefusal>
-    ensures { Answers (λ e. (e, lines.new)) result (next_entry line number lines.old) }
-{
-    let bytes = next_line(lines, line)?;
-    at_line(line, entry_in(alloc, number, bytes))
-}
-
-/// Takes the heading off the first line, and tells how many entries there are.
-#[tactic(auto, unfolding(crate::specs::EntryReading::next_heading))]
-fn next_heading(lines: &mut Pieces<'_>, line: u32) -> Result<u64, HistRefusal>
-    ensures { Answers (λ count. (count, lines.new)) result (next_heading line lines.old) }
-{
-    let bytes = next_line(lines, line)?;
-    heading_in(bytes).ok_or(HistRefusal::Line(line))
-}
 
 /// A history without entries, and with room for so many: for no more than a text has, whatever its heading says.
 fn empty_history(alloc: Global, room: usize, text: &[u8]) -> Result<History, NoMemory>
@@ -68,22 +26,21 @@ fn empty_history(alloc: Global, room: usize, text: &[u8]) -> Result<History, NoM
     Ok(history)
 }
 
-/// The entries of a history of so many, in lines that count from `first`; `history` has none yet.
+/// The entries that lines have; `history` has none yet.
 #[tactic(auto, using(crate::proofs::EntryLoop::entries_read))]
 fn read_entries(
     alloc: Global,
-    lines: &mut Pieces<'_>,
-    count: u64,
-    first: u32,
+    lines: EntryLines<'_>,
     history: History,
 ) -> Result<History, HistRefusal>
-    requires lines { first + length lines.old < 2 ^ 32 }
+    requires unread { lines.read ≡ 0 }
     requires empty { history.entries ≡ [] }
-    ensures { Answers (λ h. h.entries) result (entries_in first count 0 lines.old) }
+    ensures { Answers (λ h. h.entries) result (entries_left lines.entry) }
 {
+    let mut lines = lines;
     let mut history = history;
-    for number in 0..count {
-        let entry = next_entry(alloc, lines, first + number as u32, number)?;
+    for number in 0..lines.count() {
+        let entry = lines.next(alloc)?;
         history.reserve(1)?;
         history.push(entry);
     }
@@ -96,11 +53,14 @@ fn read_text(alloc: Global, text: &[u8], first_line: u32) -> Result<History, His
     requires { first_line + length text.now < 2 ^ 32 }
     ensures { Answers (λ h. h.entries) result (history_of first_line text.now) }
 {
-    let mut lines = Pieces::of(text, b'\n');
-    let count = next_heading(&mut lines, first_line)?;
-    let room = count.min((text.len() / BYTES_PER_ENTRY) as u64) as usize;
-    let history = empty_history(alloc, room, text)?;
-    read_entries(alloc, &mut lines, count, first_line + 1, history)
+    match EntryLines::of(text, first_line) {
+        Err(line) => Err(HistRefusal::Line(line)),
+        Ok(lines) => {
+            let room = lines.count().min((text.len() / BYTES_PER_ENTRY) as u64) as usize;
+            let history = empty_history(alloc, room, text)?;
+            read_entries(alloc, lines, history)
+        }
+    }
 }
 
 /// The history that a text begins with: a heading that tells how many entries there are, and each entry on a line of its

@@ -1,5 +1,5 @@
-use Rattle.std.proofs.Common.{nat_le, nat_lt, ◌≡◌, ◌⊎◌, ◌&&◌, ◌+◌, ◌%◌, ◌^◌, ◌<◌, ◌≤◌, ◌∷◌, ◌++◌, ℕ, zero, suc, Bool, true, false, List, [], Option, Some, None, Result, Ok, Err, is_ok, length, refl, subst, ap, ◌∙◌, inl, inr, arith}
-use Rattle.std.proofs.lemmas.Bool.{and_parts, cases_Bool, leb-true, ltb-true}
+use Rattle.std.proofs.Common.{nat_le, nat_lt, ◌≡◌, ◌⊎◌, ◌&&◌, ◌+◌, ◌%◌, ◌^◌, ◌<◌, ◌≤◌, ◌∷◌, ◌++◌, ℕ, zero, suc, Bool, true, false, List, [], Option, Some, None, Result, Ok, Err, is_ok, length, refl, sym, subst, ap, ◌∙◌, inl, inr, arith}
+use Rattle.std.proofs.lemmas.Bool.{and_parts, cases_Bool, false≢true, leb-true, ltb-true}
 use Rattle.std.specs.Int.Bits.{and_zero_r}
 use Rattle.std.specs.List.{find}
 use Rattle.pr_mem.proofs.LawLemmas.{byte_for-with_bytes}
@@ -118,6 +118,15 @@ any-bytes need space from (suc n) bytes is =
     of (Err bad) first zs rest it = absurd (cc)
     of (Ok b) first (Err bad) rest it = absurd (cc)
     of (Ok b) first (Ok xs) rest it = rw (any-byte need space from b first, rest xs refl) it
+
+-- what can be accessed somehow is mapped
+pub any-ok : (need : ℕ) (space : Space) (at n : ℕ) → is_ok (bytes_for need space at n) ≡ true
+    → is_ok (bytes_for 0 space at n) ≡ true
+any-ok need space at n ok = by (bytes_for need space at n) refl
+  where
+    by : (r : Result (List ℕ) BadByte) → bytes_for need space at n ≡ r → is_ok (bytes_for 0 space at n) ≡ true
+    by (Ok bytes) is = ap is_ok (any-bytes need space at n bytes is)
+    by (Err bad) is = absurd (false≢true (sym (ap is_ok is) ∙ ok))
 
 -- the front of what is read is read alone
 pub first-bytes : (need : ℕ) (space : Space) (from : ℕ) (xs ys : List ℕ)

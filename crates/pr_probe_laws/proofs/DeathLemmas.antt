@@ -1,16 +1,26 @@
-use Rattle.std.proofs.Common.{◌≡◌, ◌≢◌, ◌⊎◌, ◌==◌, ℕ, Bool, false, cond, is_none, Option, Some, None, refl, sym, subst, ap, ◌∙◌, inl, inr}
-use Rattle.std.proofs.lemmas.Bool.{cases_eq}
+use Rattle.std.proofs.Common.{◌≡◌, ◌≢◌, ◌⊎◌, ◌==◌, ◌&&◌, ◌∷◌, ℕ, Bool, true, false, cond, is_none, List, [], Option, Some, None, refl, sym, subst, ap, ◌∙◌, inl, inr}
+use Rattle.std.proofs.lemmas.Bool.{cases_eq, eq-eqb, false≢true}
 use Rattle.std.proofs.lemmas.Option.{none-some, same_Some}
 use Rattle.std.specs.Option.{option_and_then, option_map}
 use Rattle.pr_keeps.proofs.LoanLemmas.{loans_passed-keep}
 use Rattle.pr_lawful.proofs.EndLemmas.{buried}
 use Rattle.pr_lawful.proofs.FileLemmas.{choice}
+use Rattle.pr_model.specs.Changes.{Change, Ending, all_changed, changed, signals}
 use Rattle.pr_model.specs.Generation.{signalled}
-use Rattle.pr_model.specs.Lives.{orphaned, with_lender_of, with_loan_back, with_loans_passed, with_parent_signalled, with_this_ended, zombie}
+use Rattle.pr_model.specs.LwpTurns.{settled, with_counted}
+use Rattle.pr_model.specs.Lives.{ended_if_live, orphaned, with_ended, with_lender_of, with_loan_back, with_loans_passed, with_parent_signalled, with_this_ended, zombie}
 use Rattle.pr_model.specs.Machines.{traced}
-use Rattle.pr_model.specs.State.{TracedProcess, TracedSystem, if_live, live_process, process_of, with_process}
+use Rattle.pr_model.specs.Moves.{moved}
+use Rattle.pr_model.specs.Points.{after_meeting}
+use Rattle.pr_model.specs.Rows.{Row}
+use Rattle.pr_model.specs.Signals.{generated, is_kill}
+use Rattle.pr_model.specs.State.{TracedLwp, TracedProcess, TracedSystem, if_live, live_process, process_of, with_lwp, with_lwp_of, with_process}
+use Rattle.pr_model.specs.Transitions.{after_transition, ended_if}
 use Rattle.pr_num.proofs.ByIdLaws.{under-change_under, under-change_under_other, under-map_each}
 use Rattle.pr_num.specs.ById.{change_under, under}
+use Rattle.pr_num.specs.Signals.{signal_number}
+use Rattle.pr_num.specs.declared.infos.Info.{Info}
+use Rattle.pr_num.specs.declared.signals.Sig.{Sig}
 use Rattle.pr_num.specs.declared.signals.Sig.TheVariants.{Cld}
 use Rattle.pr_truss_laws.proofs.FrameLemmas.{ended-same, lender_of-undisturbed, loan_back-undisturbed, orphaned-undisturbed, told-undisturbed}
 use Rattle.pr_truss_laws.specs.Stills.{IsUndisturbed}
@@ -94,3 +104,68 @@ module _ (pid : ℕ) where
       (λ lender u dead. alone-dead lender (with_loan_back pid p) u (loan_back-undisturbed pid p) dead)
       (λ borrower u dead. alone-dead borrower (with_lender_of pid p) u (lender_of-undisturbed pid p) dead) dies
       (buried-dead p status s))
+
+  -- what does not live
+  none-dead : (s : TracedSystem) → live_process s pid ≡ None → IsDead s
+  unfolding live_process
+  none-dead s none = record { over = λ x there. by x there (is_none x.ended) refl }
+    where
+      by : (x : TracedProcess) → process_of s pid ≡ Some x → (b : Bool) → is_none x.ended ≡ b → is_none x.ended ≡ false
+      by x there false is = is
+      by x there true is =
+          absurd (none-some x
+          (sym none ∙ ap (option_and_then if_live) there ∙ ap (λ (b : Bool). cond b (Some x) None) is))
+
+  -- another process is changed
+  other-dead : (other : ℕ) (f : TracedProcess → TracedProcess) (s : TracedSystem) → other ≢ pid → IsDead s
+      → IsDead (with_process other f s)
+  unfolding with_process
+  other-dead other f s differs dead = record {
+    over = λ y there. dead.over y (sym (under-change_under_other other pid f differs s.processes) ∙ there);
+  }
+
+  -- SIGKILL is sent to it
+  pub generated-dead : (own : Option ℕ) (g : Sig) (info : Info) (s : TracedSystem) → is_kill g ≡ true
+      → IsDead (generated traced pid own g info s)
+  unfolding generated with_ended
+  generated-dead own g info s deadly =
+      choice IsDead (is_kill g) _ _ (λ kill. by (live_process s pid) refl)
+      (λ other. absurd (false≢true (sym other ∙ deadly)))
+    where
+      by : (o : Option TracedProcess) → live_process s pid ≡ o
+          → IsDead (ended_if_live traced pid (signal_number g) s o)
+      by None none = none-dead s none
+      by (Some p) live = ended-dead p (signal_number g) s
+
+-- A turn of an lwp of one process that sends SIGKILL to another one.
+pub record Kills (acting target : ℕ) (row : Row) : Type 0 where
+  pub g : Sig
+  pub info : Info
+  pub deadly : is_kill g ≡ true
+  pub other : (is_kill g && (target == acting)) ≡ false
+  pub changes : row.transition.changes ≡ signals target g info ∷ []
+  pub on : row.transition.ending ≡ None
+
+-- That does not live then.
+pub killed-none : (s : TracedSystem) (acting : ℕ) (p : TracedProcess) (id : ℕ) (l : TracedLwp) (row : Row)
+    (target : ℕ) → Kills acting target row → live_process (settled s acting p id l row).system target ≡ None
+unfolding settled after_transition all_changed changed with_lwp_of
+killed-none s acting p id l row target it =
+    dead-none target _
+    (other-dead target acting (after_meeting row.point id) _ apart
+    (other-dead target acting (with_counted row.did row.begun) _ apart
+    (subst (λ (o : Option Ending). IsDead target (ended_if traced acting p id l o moved_on)) (sym it.on)
+    (other-dead target acting (with_lwp id (moved traced row.transition.move)) _ apart
+    (subst (λ (cs : List Change). IsDead target (all_changed traced acting p id l cs s)) (sym it.changes)
+    (subst (λ (b : Bool). IsDead target (cond b s (generated traced target None it.g it.info s))) (sym it.other)
+    (generated-dead target None it.g it.info s it.deadly)))))))
+  where
+    moved_on : TracedSystem
+    moved_on =
+        with_process acting (with_lwp id (moved traced row.transition.move))
+        (all_changed traced acting p id l row.transition.changes s)
+
+    apart : acting ≢ target
+    apart same =
+        false≢true (sym it.other ∙ ap (λ (b : Bool). b && (target == acting)) it.deadly
+        ∙ eq-eqb target acting (sym same))

@@ -52,6 +52,7 @@ use Rattle.pr_report_laws.proofs.Machine.PollLaws.{FindsReady, IsRefusal, poll-r
 use Rattle.pr_tools.specs.Handles.{handle_at}
 use Rattle.pr_tools.specs.Replies.{bytes_read}
 use Rattle.pr_truss_laws.proofs.TakenLemmas.{ReadsAs, target-live}
+use Rattle.pr_probe_laws.proofs.AgentMemory.{still-allowed}
 use Rattle.pr_probe_laws.proofs.AgentCalls.{agent_writer, polled, registered, run}
 use Rattle.pr_probe_laws.proofs.AgentTurns.{IsAgent, IsPlanted, IsReadyFor, asks}
 use Rattle.pr_probe_laws.proofs.FilePlaces.{HasFile, HasFirst}
@@ -60,7 +61,7 @@ use Rattle.pr_probe_laws.proofs.HiddenMessages.{agent-used, exit-reads, was-read
 use Rattle.pr_probe_laws.proofs.HiddenPlain.{is_special}
 use Rattle.pr_probe_laws.proofs.HiddenTidy.{code-tidy, plant-tidy, registers-tidy, stack-tidy}
 use Rattle.pr_hidden.specs.Tidiness.{IsTidyMessage}
-use Rattle.pr_probe_laws.proofs.HiddenStages.{Hides, HidesAgent, HidesBoth, HidesOut, HidesStack, StandsOut, Where, saved_patches}
+use Rattle.pr_probe_laws.proofs.HiddenStages.{Hides, HidesAgent, HidesBoth, HidesOut, HidesStack, StandsOut, saved_patches}
 use Rattle.pr_probe_laws.proofs.LeavingRows.{GoesOut, IsGone, Leaving, at_exit, exit_registers, in_exit, out_of_call}
 use Rattle.pr_probe_laws.proofs.MemoryMessages.{code-written, stack-written, write_bytes, writer_of}
 use Rattle.pr_probe_laws.proofs.SetCalls.{control, control-stands, its, open-system, sent-by, taken}
@@ -69,6 +70,7 @@ use Rattle.pr_probe_laws.proofs.SetStages.{Knows}
 use Rattle.pr_probe_laws.proofs.StatusSets.{same-system}
 use Rattle.pr_probe_laws.proofs.TextCalls.{agent, agent-polled, agent-sent, agent-stands}
 use Rattle.pr_probe_laws.proofs.TextMessages.{agent-made, agent-read, code-planted, kind-reads, planted-size, registers-read, run-agent, runs-on}
+use Rattle.pr_probe_laws.proofs.RoomStages.{Where}
 use Rattle.pr_probe_laws.proofs.TextStages.{IsAsking, Making, Reads, Rests, Stands, WithAgent, in_program, on_its_way}
 use Rattle.pr_probe_laws.specs.HiddenProbes.{StandsSaved, is_hiding}
 
@@ -174,9 +176,15 @@ untraced-out p w = record {
 }
 
 -- memory is written, which nobody but the agent would do
-written-gone : (space : Space) (p : TracedProcess) → IsGone p → IsGone (with_space space p)
+written-gone : (at : ℕ) (bytes : List ℕ) (p : TracedProcess) → IsGone p
+    → IsGone (with_space (with_bytes at bytes p.space) p)
 unfolding with_space
-written-gone space p gone = record { halts = record { each = gone.halts.each }; own = gone.own }
+written-gone at bytes p gone = record {
+  halts = record { each = gone.halts.each };
+  own = gone.own;
+  text = still-allowed 0 p.space at bytes text_base code_size ∙ gone.text;
+  answer = still-allowed 0 p.space at bytes stack_base stack_size ∙ gone.answer;
+}
 
 -- ---- what is written over
 
@@ -525,7 +533,7 @@ module _ (who : Hiders) (none : (k : ℕ) → who.functions k ≡ []) (k : ℕ) 
           },
           λ q live.
               subst IsGone (same_Some (with_space space x) q (sym written.now ∙ live))
-              (written-gone space x (gone x written.live)),
+              (written-gone text_base p.code x (gone x written.live)),
         )
 
     writes-stack : (p u : ProbeState) → HasFirst k pid 6 s.opens p.opened

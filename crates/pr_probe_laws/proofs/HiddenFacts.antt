@@ -2,6 +2,7 @@ use Rattle.std.proofs.Common.{◌≡◌, ◌≢◌, ◌⊎◌, ◌∷◌, ◌++�
 use Rattle.std.proofs.lemmas.Bool.{cases_eq}
 use Rattle.std.proofs.lemmas.List.{append_assoc}
 use Rattle.std.specs.Option.{option_and_then}
+use Rattle.std.proofs.lemmas.Option.{slice_get_within}
 use Rattle.pr_api.specs.Entries.{call_entry}
 use Rattle.pr_model.specs.Legal.{IsLegal, IsLegalEntry, after, state_after}
 use Rattle.pr_model.specs.LwpTurns.{turn_of}
@@ -18,12 +19,13 @@ use Rattle.pr_probe.specs.Probes.{ProbeState, fed, first_probe, next_call_of}
 use Rattle.pr_reached.proofs.ReachedLemmas.{later-reached}
 use Rattle.pr_reached.specs.ByteHistories.{HasBytes}
 use Rattle.pr_reached.specs.Reached.{IsReached}
-use Rattle.pr_tool_laws.proofs.ProtocolLemmas.{KeptByCalls, KeptByOthers, fed-other, fed-own, protocol-keeps}
+use Rattle.pr_tool_laws.proofs.ProtocolLemmas.{KeptByCalls, KeptByOthers, fed-other, fed-own, own-keeps}
 use Rattle.pr_tool_laws.proofs.StandingLemmas.{IsOther}
 use Rattle.pr_tool_laws.proofs.WholeLemmas.{front-bytes, front-legal}
 use Rattle.pr_world.specs.ControllerStates.{ControllerState, Probe}
 use Rattle.pr_world.specs.Controllers.{after_reply, call_by, next_call, with_fed}
-use Rattle.pr_world.specs.Protocol.{Follows, FollowsAt, controllers_after, controllers_at}
+use Rattle.pr_tool_laws.specs.OwnCalls.{AreOwnCalls, IsOwnCall}
+use Rattle.pr_world.specs.Protocol.{controllers_after, controllers_at}
 use Rattle.pr_model.specs.Calls.{answer_to}
 use Rattle.pr_probe_laws.proofs.HiddenPlain.{IsInOrder, first-order, order-fed}
 use Rattle.pr_probe_laws.proofs.SetLaw as sets
@@ -32,7 +34,8 @@ use Rattle.pr_probe_laws.proofs.SetStages.{Knows}
 use Rattle.pr_probe_laws.proofs.TextLaw as text
 use Rattle.pr_probe_laws.proofs.TextLaw.{IsProbeReading, calls-read, others-read}
 use Rattle.pr_probe_laws.proofs.TextStages.{IsAsking, Making, Reads, asking, whole-place}
-use Rattle.pr_probe_laws.specs.HiddenProbes.{IsLeftAlone, IsHidingAfter}
+use Rattle.pr_probe_laws.specs.ShownDescriptors.{HasRoom, WasUnlent}
+use Rattle.pr_probe_laws.specs.HiddenProbes.{IsAsSeen, IsLeftAlone, IsHidingAfter}
 
 -- What is known of an apfiles after each front of a history.
 
@@ -81,26 +84,24 @@ module _ (k : ℕ) where
   own-feeds controllers p c r is = fed-own controllers k r (Probe p) is
 
   -- and is the one that comes next
-  pub next-is : (controllers : List ControllerState) (s : TracedState) (p : ProbeState) (c : Call) (r : Reply)
-      → slice_get controllers k ≡ Some (Probe p) → FollowsAt controllers s (call_entry k c r)
+  pub next-is : (controllers : List ControllerState) (p : ProbeState) (c : Call) (r : Reply)
+      → slice_get controllers k ≡ Some (Probe p) → IsOwnCall controllers (call_entry k c r)
       → next_call_of p ≡ Some c
-  unfolding FollowsAt call_by next_call
-  next-is controllers s p c r is follows = sym (ap (option_and_then next_call) is) ∙ follows
+  unfolding IsOwnCall call_by next_call
+  next-is controllers p c r is own =
+      sym (ap (option_and_then next_call) is) ∙ own (slice_get_within controllers k (Probe p) is)
 
 -- ---- fronts
 
-pub follows-front : (controllers : List ControllerState) (s : TracedState) (front back : List Entry)
-    → Follows controllers s (front ++ back) → Follows controllers s front
-follows-front controllers s [] back follows = tt
-follows-front controllers s (e ∷ front) back follows =
-    (follows.0, follows-front (controllers_after controllers e) (after s e) front back follows.1)
+pub own-front : (controllers : List ControllerState) (front back : List Entry)
+    → AreOwnCalls controllers (front ++ back) → AreOwnCalls controllers front
+own-front controllers [] back own = tt
+own-front controllers (e ∷ front) back own = (own.0, own-front (controllers_after controllers e) front back own.1)
 
-pub follows-there : (controllers : List ControllerState) (s : TracedState) (front : List Entry) (e : Entry)
-    (back : List Entry) → Follows controllers s (front ++ e ∷ back)
-    → FollowsAt (controllers_at controllers front) (state_after s front) e
-follows-there controllers s [] e back follows = follows.0
-follows-there controllers s (x ∷ front) e back follows =
-    follows-there (controllers_after controllers x) (after s x) front e back follows.1
+pub own-there : (controllers : List ControllerState) (front : List Entry) (e : Entry) (back : List Entry)
+    → AreOwnCalls controllers (front ++ e ∷ back) → IsOwnCall (controllers_at controllers front) e
+own-there controllers [] e back own = own.0
+own-there controllers (x ∷ front) e back own = own-there (controllers_after controllers x) front e back own.1
 
 pub legal-there : (n : ℕ) (s : TracedState) (front : List Entry) (e : Entry) (back : List Entry)
     → IsLegal n s (front ++ e ∷ back) → IsLegalEntry n (state_after s front) e
@@ -122,7 +123,7 @@ legal-call n s j c r legal = (legal.1.0, legal.1.1)
 -- ---- the facts
 
 module _ (n : ℕ) (controllers : List ControllerState) (first : TracedState) (h : List Entry) (reached : IsReached first)
-    (bytes : HasBytes h) (legal : IsLegal n first h) (follows : Follows controllers first h) where
+    (bytes : HasBytes h) (legal : IsLegal n first h) (own : AreOwnCalls controllers h) where
   pub reached-at : (front back : List Entry) → h ≡ front ++ back → IsReached (state_after first front)
   reached-at front back place =
       later-reached n first front reached (front-bytes front back (subst HasBytes place bytes))
@@ -154,21 +155,18 @@ module _ (n : ℕ) (controllers : List ControllerState) (first : TracedState) (h
     unfolding IsProbeKnown IsProbeReading InOrder
     facts front back place p is =
         let its_legal = front-legal n first front back (subst (λ (es : List Entry). IsLegal n first es) place legal) in
-        let its_follows =
-        follows-front controllers first front back
-        (subst (λ (es : List Entry). Follows controllers first es) place follows)
-        in
+        let its_own = own-front controllers front back (subst (AreOwnCalls controllers) place own) in
         let known =
-        protocol-keeps n k first (IsProbeKnown n k pid first) (others-known n k pid first) (calls-known n k pid first)
-        controllers front (Probe (first_probe pid)) (Probe p) its_legal its_follows starts is
+        own-keeps n k first (IsProbeKnown n k pid first) (others-known n k pid first) (calls-known n k pid first)
+        controllers front (Probe (first_probe pid)) (Probe p) its_legal its_own starts is
         (reached.lawful, λ none. sets.at_first n k pid first) in
         let read =
-        protocol-keeps n k first (IsProbeReading n k pid first) (others-read n k pid first) (calls-read n k pid first)
-        controllers front (Probe (first_probe pid)) (Probe p) its_legal its_follows starts is
+        own-keeps n k first (IsProbeReading n k pid first) (others-read n k pid first) (calls-read n k pid first)
+        controllers front (Probe (first_probe pid)) (Probe p) its_legal its_own starts is
         (reached.lawful, λ none. text.at_first n k pid first) in
         let order =
-        protocol-keeps n k first InOrder others-order calls-order controllers front (Probe (first_probe pid)) (Probe p)
-        its_legal its_follows starts is (first-order pid) in
+        own-keeps n k first InOrder others-order calls-order controllers front (Probe (first_probe pid)) (Probe p)
+        its_legal its_own starts is (first-order pid) in
         record { knows = known.1; reads = read.1; order = order }
 
     -- on which conditions its agent asks
@@ -179,14 +177,7 @@ module _ (n : ℕ) (controllers : List ControllerState) (first : TracedState) (h
       sole =
           alone.sole front back p place way m.began.before (m.began.later ++ asking k pid first front m) m.began.opened
           (whole-place k pid first front m);
-      room =
-          alone.room m.front (m.asked ++ back) (call_entry k m.make m.made) making-place
-          (record {
-            call = m.make;
-            used = m.granted.0;
-            is = ap (λ (r : Reply). call_entry k m.make r) m.granted.1;
-            sends = m.makes;
-          }) m.process m.lives;
+      room = by (probe-at k controllers m.front (first_probe pid, starts));
       ranged = λ f b split.
           let there = reached-at f (b ++ back)
           (place ∙ ap (λ (es : List Entry). es ++ back) split ∙ append_assoc f b back) in
@@ -197,3 +188,18 @@ module _ (n : ℕ) (controllers : List ControllerState) (first : TracedState) (h
         making-place =
             place ∙ ap (λ (es : List Entry). es ++ back) m.place
             ∙ append_assoc m.front (call_entry k m.make m.made ∷ m.asked) back
+
+        by : (q : ProbeState) × (slice_get (controllers_at controllers m.front) k ≡ Some (Probe q))
+            → WasUnlent k pid first m.front ⊎ HasRoom m.process
+        by was = of (alone.as_seen m.front (m.asked ++ back) (call_entry k m.make m.made) was.0 making-place
+            (record {
+              call = m.make;
+              used = m.granted.0;
+              is = ap (λ (r : Reply). call_entry k m.make r) m.granted.1;
+              sends = m.makes;
+            }) was.1 m.process m.lives)
+          where
+            of : WasUnlent k pid first m.front ⊎ IsAsSeen was.0 m.process
+                → WasUnlent k pid first m.front ⊎ HasRoom m.process
+            of (inl unlent) = inl unlent
+            of (inr seen) = inr seen.room

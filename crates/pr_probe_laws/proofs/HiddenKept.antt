@@ -1,4 +1,4 @@
-use Rattle.std.proofs.Common.{◌≡◌, ◌≢◌, ◌⊎◌, ℕ, Bool, true, false, List, Some, refl, sym, subst, ap, ◌∙◌, inl, inr}
+use Rattle.std.proofs.Common.{◌≡◌, ◌≢◌, ◌⊎◌, ℕ, Bool, true, false, List, Some, is_ok, refl, sym, subst, ap, ◌∙◌, inl, inr}
 use Rattle.std.proofs.lemmas.Bool.{false≢true}
 use Rattle.std.proofs.lemmas.Option.{same_Some}
 use Rattle.pr_hidden.proofs.OrderLemmas.{live-made}
@@ -20,7 +20,9 @@ use Rattle.pr_model.specs.declared.events.Did.{Did}
 use Rattle.pr_model.specs.declared.events.Entry.{Entry}
 use Rattle.pr_num.proofs.ByIdLaws.{All-under}
 use Rattle.pr_num.specs.Agents.{agent_id}
-use Rattle.pr_num.specs.Layout.{text_base}
+use Rattle.pr_num.specs.Layout.{stack_base, text_base}
+use Rattle.pr_num.specs.Spaces.{Space, bytes_for}
+use Rattle.pr_probe.specs.AgentCode.{code_size, stack_size}
 use Rattle.pr_probe.specs.Probes.{ProbeState}
 use Rattle.pr_probe.specs.TracedSets.{agent_sets}
 use Rattle.pr_probe.specs.declared.probe_stages.ProbeFile.TheVariants.{AgentControl, AgentStatus}
@@ -34,9 +36,10 @@ use Rattle.pr_probe_laws.proofs.AgentEntries.{others-left, pends_as}
 use Rattle.pr_probe_laws.proofs.AgentMoves.{asking-moves}
 use Rattle.pr_probe_laws.proofs.AgentTurns.{IsAgent, IsFetchable, IsPlanted, Position}
 use Rattle.pr_probe_laws.proofs.HiddenCovers.{AreAlike}
-use Rattle.pr_probe_laws.proofs.HiddenStages.{Asked, AsksNow, Hides, HidesAgent, HidesBoth, HidesOut, HidesStack, Made, StandsOut, Where, asked-at, made-at, runs, saved_patches, stands}
+use Rattle.pr_probe_laws.proofs.HiddenStages.{Asked, AsksNow, Hides, HidesAgent, HidesBoth, HidesOut, HidesStack, Made, StandsOut, asked-at, made-at, runs, saved_patches, stands}
 use Rattle.pr_probe_laws.proofs.HiddenTurns.{did-is, is-settled}
 use Rattle.pr_probe_laws.proofs.LeavingRows.{GoesOut, IsGone, Leaving, Turns, at_exit, in_exit, leaving-turn, out_of_call}
+use Rattle.pr_probe_laws.proofs.RoomStages.{Where}
 use Rattle.pr_probe_laws.proofs.TextStages.{IsAsking, Making, Reads, Rests, Runs, WithAgent, agent-alike, in_program, on_its_way, stands-still}
 use Rattle.pr_probe_laws.specs.HiddenProbes.{StandsSaved, is_signal_turn}
 
@@ -81,10 +84,15 @@ module _ (n k pid : ℕ) (first : TracedState) (h : List Entry) (lawful : IsLawf
               subst (λ (z : TracedProcess). IsHalting z × KeepsMemory x z) (same_Some x y (sym live ∙ there))
               (here.halts, record { own = λ own. (own, refl) });
         } in
-        let after_it =
-        (others-halt n s k pid lawful sole (live-made s.system pid x lawful.system live) actor it x legal other halts).each
-        q later in
-        record { halts = after_it.0; own = (after_it.1.own here.own).0 }
+        let made = live-made s.system pid x lawful.system live in
+        let after_it = (others-halt n s k pid lawful sole made actor it x legal other halts).each q later in
+        let memory = after_it.1.own here.own in
+        record {
+          halts = after_it.0;
+          own = memory.0;
+          text = ap (λ (sp : Space). is_ok (bytes_for 0 sp text_base code_size)) memory.1 ∙ here.text;
+          answer = ap (λ (sp : Space). is_ok (bytes_for 0 sp stack_base stack_size)) memory.1 ∙ here.answer;
+        }
 
     module _ (no_agent : actor ≢ Lwp pid agent_id) where
       out-on : (P : TracedLwp → Type 0) → ((l j : TracedLwp) → j ≡ pends_as l j → P l → P j)

@@ -18,15 +18,19 @@ use Rattle.pr_lawful.proofs.EndLemmas.{found-live}
 use Rattle.pr_lawful.proofs.HandleLemmas.{control-writes, handle-at}
 use Rattle.pr_lending.proofs.LoanLemmas.{borrower-found, lender-found}
 use Rattle.pr_model.proofs.HistoryLemmas.{state_after-push}
-use Rattle.pr_model.specs.Calls.{Answer, answer_to, controlled}
+use Rattle.pr_model.specs.Calls.{Answer, answer_to, controlled, kill_answer}
 use Rattle.pr_model.specs.ControlMessages.{aim_of, control_answer, control_handle, held_answer, tail_of, target_of}
 use Rattle.pr_model.specs.Handles.{handle_of, is_control, is_writable}
 use Rattle.pr_model.specs.Lawful.{IsFitting, IsLawful}
 use Rattle.pr_model.specs.Legal.{IsLegal, IsLegalEntry, after, after_call, after_turn, state_after}
 use Rattle.pr_model.specs.Passive.{is_passive_act, is_passive_message}
+use Rattle.pr_model.specs.Readers.{life_of}
 use Rattle.pr_model.specs.Replies.{number_of}
 use Rattle.pr_model.specs.LwpTurns.{LwpTurn, turn_of}
+use Rattle.pr_model.specs.Machines.{traced}
 use Rattle.pr_model.specs.Rows.{row_for}
+use Rattle.pr_model.specs.SignalCalls.{Sending, sending, sends, with_sent}
+use Rattle.pr_model.specs.Signals.{generated, is_kill}
 use Rattle.pr_model.specs.State.{TracedLwp, TracedProcess, TracedState, TracedSystem, live_process, lwp_of}
 use Rattle.pr_model.specs.declared.calls.Call as calls
 use Rattle.pr_model.specs.declared.calls.Call.TheVariants as call
@@ -45,9 +49,11 @@ use Rattle.pr_num.proofs.ByIdLaws.{All-under}
 use Rattle.pr_num.proofs.SearchLemmas.{All-at}
 use Rattle.pr_num.specs.Agents.{agent_id}
 use Rattle.pr_num.specs.Control.{stop_again}
+use Rattle.pr_num.specs.Infos.{killed_by}
 use Rattle.pr_num.specs.Messages.{first_message, spelling}
 use Rattle.pr_num.specs.Spaces.{IsSpace}
 use Rattle.pr_num.specs.declared.errnos.Errno.{Errno}
+use Rattle.pr_num.specs.declared.signals.Sig.{Sig}
 use Rattle.pr_num.specs.declared.messages.Message.{Message}
 use Rattle.pr_num.specs.declared.messages.Message.TheVariants as message
 use Rattle.pr_probe.proofs.FedLemmas.{fed-back, refusal-counts}
@@ -63,26 +69,32 @@ use Rattle.pr_reached.specs.Reached.{IsReached}
 use Rattle.pr_tool_laws.proofs.StandingLemmas.{IsOther}
 use Rattle.pr_truss_laws.specs.Handles.{HasNoOtherWriter}
 use Rattle.pr_world.specs.ControllerStates.{ControllerState, Probe}
-use Rattle.pr_world.specs.Protocol.{Follows, FollowsAt, controllers_after, controllers_at}
+use Rattle.pr_tool_laws.specs.OwnCalls.{AreOwnCalls, IsOwnCall}
+use Rattle.pr_world.specs.Protocol.{controllers_after, controllers_at}
+use Rattle.pr_probe_laws.proofs.AcceptedCalls.{takes}
 use Rattle.pr_probe_laws.proofs.HiddenCalls.{IsBareAfter, makes, special-names, special-tidy, step-hides}
 use Rattle.pr_probe_laws.proofs.HiddenCovers.{AreAlike, HaveNoFaults, agent-turned, alike-self, bare-turned, called-faults, covers-push, ctl-apart, ctl-other, ctl-plain, is_plain, plain-tidy, stopped-turned, tidy-called, turned-faults, turned-other, turned-own}
 use Rattle.pr_probe_laws.proofs.AgentTurns.{asks}
+use Rattle.pr_probe_laws.proofs.DeathLemmas.{dead-none, generated-dead}
 use Rattle.pr_probe_laws.proofs.HiddenPlain.{ComesToHide, IsInOrder, comes-to-hide, is_over, is_special, order-fed, plain-of}
 use Rattle.pr_probe_laws.proofs.SetCalls.{control-stands, sent-by, taken}
 use Rattle.pr_probe_laws.proofs.HiddenMessages.{agent-used}
 use Rattle.pr_probe_laws.proofs.TextMessages.{agent-read}
 use Rattle.pr_probe_laws.specs.PutBack.{SendsTo}
-use Rattle.pr_probe_laws.proofs.HiddenFacts.{Facts, asks-at, controllers-push, facts, follows-there, legal-call, legal-there, legal-turn, next-is, others-leave, own-feeds, probe-at, reached-at}
+use Rattle.pr_probe_laws.proofs.HiddenFacts.{Facts, asks-at, controllers-push, facts, legal-call, legal-there}
+use Rattle.pr_probe_laws.proofs.HiddenFacts.{legal-turn}
+use Rattle.pr_probe_laws.proofs.HiddenFacts.{next-is, others-leave, own-feeds, own-there, probe-at, reached-at}
 use Rattle.pr_probe_laws.proofs.HiddenKept.{agent-goes, hides-on}
 use Rattle.pr_probe_laws.proofs.HiddenStages.{Hides, IsHeld, held-at, hidden-is, kept-apart, small-at}
 use Rattle.pr_probe_laws.proofs.HiddenTurns.{agent-spares, agent-tidy, clear-spares, clear-tidy, stops-tidy}
 use Rattle.pr_probe_laws.proofs.FilePlaces.{held_of}
-use Rattle.pr_probe_laws.proofs.SetStages.{Began, Knows, Works, fair-now}
-use Rattle.pr_probe_laws.proofs.TextStages.{IsAsking, Making}
+use Rattle.pr_probe_laws.proofs.SetStages.{AllBack, Began, IsFair, Knows, Works, began-still, fair-front, fair-now}
+use Rattle.pr_probe_laws.proofs.TextStages.{Comes, IsAsking, Making, Reads, TracesWith}
 use Rattle.pr_probe_laws.proofs.StepCalls.{called-unstepped, untouched-unstepped}
 use Rattle.pr_probe_laws.proofs.StepTurns.{turn-plain, turn-unstepped}
+use Rattle.pr_probe_laws.specs.ShownDescriptors.{WasUnlent}
 use Rattle.pr_probe_laws.specs.StepMarks.{IsUnstepped}
-use Rattle.pr_probe_laws.specs.HiddenProbes.{AreLeftAlone, AreProbes, IsLeftAlone, IsHidingAfter, LivesAlone, is_hiding, is_signal_turn}
+use Rattle.pr_probe_laws.specs.HiddenProbes.{AreLeftAlone, AreProbes, IsAsSeen, IsLeftAlone, IsHidingAfter, IsAlive, MakesAgent, StandsSaved, is_hiding, is_signal_turn}
 
 -- Each apfiles is tidy.
 
@@ -164,24 +176,53 @@ first-pid : (a b : ℕ) → first_probe a ≡ first_probe b → a ≡ b
 unfolding first_probe
 first-pid a b same = ap (λ (p : ProbeState). p.pid) same
 
--- no close comes while something is hidden
+-- a process that a controller kills does not live then
+kill-gone : (s : TracedState) (j pid number : ℕ) (a : Answer) (g : Sig)
+    → answer_to s j (call.Kill pid number) ≡ Some a → sending pid number (life_of s.system pid) ≡ sends g
+    → is_kill g ≡ true → live_process a.state.system pid ≡ None
+unfolding answer_to kill_answer with_sent
+kill-gone s j pid number a g given sending_is deadly =
+    ap (λ (x : Answer). live_process x.state.system pid) (sym (same_Some _ a given))
+    ∙ ap (λ (x : Sending). live_process (with_sent traced pid (killed_by 0) x s.system) pid) sending_is
+    ∙ dead-none pid (generated traced pid None g (killed_by 0) s.system)
+    (generated-dead pid None g (killed_by 0) s.system deadly)
+
+-- which calls come while something is hidden
+is_hiding_call : calls.Call → Bool
+is_hiding_call (call.Open pid id file mode) = true
+is_hiding_call (call.Ctl number bytes) = true
+is_hiding_call (call.Read number offset size) = true
+is_hiding_call (call.Poll numbers) = true
+is_hiding_call _ = false
+
+hiding-calls : (p : ProbeState) (g : ProbeStage) (c : calls.Call) → is_hiding g ≡ true → call_of p g ≡ Some c
+    → is_hiding_call c ≡ true
+unfolding is_hiding call_of asking_call is_hiding_call
+hiding-calls p (stage.Open f) c hides is = sym (ap is_hiding_call (same_Some _ c is))
+hiding-calls p stage.PlantCode c hides is = sym (ap is_hiding_call (same_Some _ c is))
+hiding-calls p (stage.Asking d SetRegisters) c hides is = sym (ap is_hiding_call (same_Some _ c is))
+hiding-calls p (stage.Asking d RunAgent) c hides is = sym (ap is_hiding_call (same_Some _ c is))
+hiding-calls p (stage.Asking d Await) c hides is = sym (ap is_hiding_call (same_Some _ c is))
+hiding-calls p (stage.Asking d ReadAgent) c hides is = sym (ap is_hiding_call (same_Some _ c is))
+hiding-calls p (stage.Asking d ReadKind) c hides is = sym (ap is_hiding_call (same_Some _ c is))
+hiding-calls p stage.UntraceExits c hides is = sym (ap is_hiding_call (same_Some _ c is))
+hiding-calls p stage.SetExit c hides is = sym (ap is_hiding_call (same_Some _ c is))
+hiding-calls p stage.RunExit c hides is = sym (ap is_hiding_call (same_Some _ c is))
+hiding-calls p stage.AwaitExit c hides is = sym (ap is_hiding_call (same_Some _ c is))
+hiding-calls p stage.WriteCode c hides is = sym (ap is_hiding_call (same_Some _ c is))
+hiding-calls p stage.WriteStack c hides is = sym (ap is_hiding_call (same_Some _ c is))
+hiding-calls p _ c hides is = absurd (false≢true hides)
+
+-- no close, and nobody is killed
 no-close : (p : ProbeState) (g : ProbeStage) (number : ℕ) → is_hiding g ≡ true
     → call_of p g ≡ Some (call.Close number) → ⊥
-unfolding is_hiding call_of asking_call
-no-close p (stage.Open f) number hides is = absurd (let both = same_Some _ (call.Close number) is in cc)
-no-close p stage.PlantCode number hides is = absurd (let both = same_Some _ (call.Close number) is in cc)
-no-close p (stage.Asking d SetRegisters) number hides is = absurd (let both = same_Some _ (call.Close number) is in cc)
-no-close p (stage.Asking d RunAgent) number hides is = absurd (let both = same_Some _ (call.Close number) is in cc)
-no-close p (stage.Asking d Await) number hides is = absurd (let both = same_Some _ (call.Close number) is in cc)
-no-close p (stage.Asking d ReadAgent) number hides is = absurd (let both = same_Some _ (call.Close number) is in cc)
-no-close p (stage.Asking d ReadKind) number hides is = absurd (let both = same_Some _ (call.Close number) is in cc)
-no-close p stage.UntraceExits number hides is = absurd (let both = same_Some _ (call.Close number) is in cc)
-no-close p stage.SetExit number hides is = absurd (let both = same_Some _ (call.Close number) is in cc)
-no-close p stage.RunExit number hides is = absurd (let both = same_Some _ (call.Close number) is in cc)
-no-close p stage.AwaitExit number hides is = absurd (let both = same_Some _ (call.Close number) is in cc)
-no-close p stage.WriteCode number hides is = absurd (let both = same_Some _ (call.Close number) is in cc)
-no-close p stage.WriteStack number hides is = absurd (let both = same_Some _ (call.Close number) is in cc)
-no-close p _ number hides is = absurd (false≢true hides)
+unfolding is_hiding_call
+no-close p g number hides is = false≢true (hiding-calls p g (call.Close number) hides is)
+
+no-kill : (p : ProbeState) (g : ProbeStage) (pid number : ℕ) → is_hiding g ≡ true
+    → call_of p g ≡ Some (call.Kill pid number) → ⊥
+unfolding is_hiding_call
+no-kill p g pid number hides is = false≢true (hiding-calls p g (call.Kill pid number) hides is)
 
 -- a message that is passive is plain
 passive-plain : (m : Message) → is_passive_message m ≡ true → is_plain m ≡ true
@@ -212,7 +253,7 @@ All-there P (x ∷ front) e back all = All-there P front e back (All-tail P x (f
 -- ---- what is hidden after each front
 
 module _ (n : ℕ) (who : Hiders) (controllers : List ControllerState) (first : TracedState) (h : List Entry)
-    (reached : IsReached first) (bytes : HasBytes h) (legal : IsLegal n first h) (follows : Follows controllers first h)
+    (reached : IsReached first) (bytes : HasBytes h) (legal : IsLegal n first h) (theirs : AreOwnCalls controllers h)
     (are : AreProbes who controllers) (passive : IsPassiveBut who h)
     (alone : (k pid : ℕ) → who.probes k ≡ true → slice_get controllers k ≡ Some (Probe (first_probe pid))
     → IsLeftAlone k pid controllers first h) (first_unstepped : IsUnstepped first.system) where
@@ -254,7 +295,7 @@ module _ (n : ℕ) (who : Hiders) (controllers : List ControllerState) (first : 
     s = state_after first front
 
     here : IsReached s
-    here = reached-at n controllers first h reached bytes legal follows front back place
+    here = reached-at n controllers first h reached bytes legal theirs front back place
 
     module _ (pid : ℕ) (b : IsHiddenBy pid front) where
       hiding : is_hiding b.p.stage ≡ true
@@ -266,14 +307,14 @@ module _ (n : ℕ) (who : Hiders) (controllers : List ControllerState) (first : 
       its : IsLeftAlone b.k pid controllers first h
       its = alone b.k pid b.one.hider b.one.starts
 
-      fact : Facts n controllers first h reached bytes legal follows b.k pid b.one.starts front b.p
-      fact = facts n controllers first h reached bytes legal follows b.k pid b.one.starts front back place b.p b.one.is
+      fact : Facts n controllers first h reached bytes legal theirs b.k pid b.one.starts front b.p
+      fact = facts n controllers first h reached bytes legal theirs b.k pid b.one.starts front back place b.p b.one.is
 
-      lives : LivesAlone pid s
+      lives : IsAlive pid s
       lives = its.lives front back b.p place way
 
       ask : (m : Making b.k pid first front) → IsAsking b.k pid first front m
-      ask = asks-at n controllers first h reached bytes legal follows b.k pid b.one.starts its front back place b.p way
+      ask = asks-at n controllers first h reached bytes legal theirs b.k pid b.one.starts its front back place b.p way
 
       work : IsAtWork b.k pid first front s b.p
       work = works b.k pid first front s b.p b.p.stage hiding (fact.knows b.one.accepted)
@@ -285,7 +326,7 @@ module _ (n : ℕ) (who : Hiders) (controllers : List ControllerState) (first : 
             sole =
                 its.sole front back b.p place way work.began.before work.began.later work.began.opened work.began.place;
             ranged = λ f r split.
-                (reached-at n controllers first h reached bytes legal follows f (r ++ back)
+                (reached-at n controllers first h reached bytes legal theirs f (r ++ back)
                 (place ∙ ap (λ (es : List Entry). es ++ back) split ∙ append_assoc f r back)).in_range;
           })
 
@@ -301,9 +342,8 @@ module _ (n : ℕ) (who : Hiders) (controllers : List ControllerState) (first : 
         where
           its_work : IsAtWork k pid first front s p
           its_work =
-              works k pid first front s p p.stage hides
-              ((facts n controllers first h reached bytes legal follows k pid one.starts front back place p one.is).knows
-              one.accepted)
+              let so = facts n controllers first h reached bytes legal theirs k pid one.starts front back place p one.is in
+              works k pid first front s p p.stage hides (so.knows one.accepted)
 
           by : (k ≡ b.k) ⊎ (k ≢ b.k) → k ≡ b.k
           by (inl same) = same
@@ -318,7 +358,7 @@ module _ (n : ℕ) (who : Hiders) (controllers : List ControllerState) (first : 
     -- ---- lenders
 
     module _ (kept : Kept front) where
-      -- of a process that has lent its memory nothing is written over, nor of one that has borrowed it
+      -- of a process that has lent its memory nothing is written over
       lender-bare : (lender pid : ℕ) (p : TracedProcess) → live_process s.system pid ≡ Some p → p.lender ≡ Some lender
           → (at front lender).patches ≡ []
       lender-bare lender pid p live lends = by (kept.covering lender)
@@ -332,23 +372,20 @@ module _ (n : ℕ) (who : Hiders) (controllers : List ControllerState) (first : 
               let lent = borrower-found s.system lender l.process (found-live s.system lender l.process l.lives).0 in
               absurd (none-some pid (sym (held lender b).own ∙ sym lent ∙ borrowed))
 
-      borrower-bare : (lender pid : ℕ) (p : TracedProcess) → live_process s.system pid ≡ Some p → p.lender ≡ Some lender
-          → (at front pid).patches ≡ []
-      borrower-bare lender pid p live lends = by (kept.covering pid)
-        where
-          by : IsBare pid front ⊎ IsHiddenBy pid front → (at front pid).patches ≡ []
-          by (inl bare) = bare.patches
-          by (inr b) =
-              let l = lives pid b in
-              let same : l.process ≡ p = same_Some l.process p (sym l.lives ∙ live) in
-              absurd (none-some lender (sym (ap (λ (x : TracedProcess). x.lender) (sym same) ∙ l.owns) ∙ lends))
-
-      may-end : (pid : ℕ) → MayEnd (at front) s.system pid
-      may-end pid = record {
+      bare-ends : (pid : ℕ) → IsBare pid front → MayEnd (at front) s.system pid
+      bare-ends pid bare = record {
         returnable = λ p live. record {
-          alike = λ lender lends. lender-bare lender pid p live lends ∙ sym (borrower-bare lender pid p live lends);
+          alike = λ lender lends. lender-bare lender pid p live lends ∙ sym bare.patches;
         };
       }
+
+      -- a process of which nothing is hidden may end, and no other one ends
+      may-end : (pid : ℕ) → (IsHiddenBy pid front → ⊥) → MayEnd (at front) s.system pid
+      may-end pid never = by (kept.covering pid)
+        where
+          by : IsBare pid front ⊎ IsHiddenBy pid front → MayEnd (at front) s.system pid
+          by (inl bare) = bare-ends pid bare
+          by (inr b) = absurd (never b)
 
   -- ---- an entry
 
@@ -372,10 +409,8 @@ module _ (n : ℕ) (who : Hiders) (controllers : List ControllerState) (first : 
     legal_here : IsLegalEntry n t e
     legal_here = legal-there n first front e back (subst (λ (es : List Entry). IsLegal n first es) place legal)
 
-    follows_here : FollowsAt (controllers_at controllers front) t e
-    follows_here =
-        follows-there controllers first front e back
-        (subst (λ (es : List Entry). Follows controllers first es) place follows)
+    own_here : IsOwnCall (controllers_at controllers front) e
+    own_here = own-there controllers front e back (subst (AreOwnCalls controllers) place theirs)
 
     lawful : IsLawful t
     lawful = (here front rest place).lawful
@@ -438,6 +473,19 @@ module _ (n : ℕ) (who : Hiders) (controllers : List ControllerState) (first : 
       is = same-after b.k other ∙ b.one.is;
       accepted = b.one.accepted;
     }
+
+    -- its process lives on
+    lives-on : (pid : ℕ) (b : IsHiddenBy pid front) → IsOther b.k actor it → IsAlive pid (after t e)
+    lives-on pid b other =
+        let one = stays-one pid b other in
+        subst (IsAlive pid) state-longer
+        ((its front rest place pid b).lives longer back b.p place_longer
+        (record { is = one.is; hides = hiding front rest place pid b }))
+
+    not-gone : (pid : ℕ) (b : IsHiddenBy pid front) → IsOther b.k actor it
+        → live_process (after t e).system pid ≡ None → ⊥
+    not-gone pid b other gone =
+        let l = lives-on pid b other in none-some l.process (sym gone ∙ l.lives)
 
     stays-hidden : (pid : ℕ) (b : IsHiddenBy pid front) → IsOther b.k actor it
         → AreAlike (at front pid) (new pid) → ((at front pid).agent ≡ true → actor ≢ Lwp pid agent_id)
@@ -523,15 +571,25 @@ module _ (n : ℕ) (who : Hiders) (controllers : List ControllerState) (first : 
       spares : IsSparingTurn who (at front) u acting id turned.did
       covering : IsBare acting (front ++ turn_entry ∷ []) ⊎ IsHiddenBy acting (front ++ turn_entry ∷ [])
 
+    -- whom the turn kills
+    kills : (target : ℕ) → live_process turn.system target ≡ None → MayEnd (at front) u.system target
+    kills target gone =
+        may-end front (turn_entry ∷ back) place kept target
+        (λ b.
+        not-gone front by_lwp (act.Turn turned) back place kept target b tt
+        (ap (λ (x : TracedSystem). live_process x target) turned-state ∙ gone))
+
     bare-own : IsBare acting front → Own
     bare-own bare =
         let no_step = turn-plain u.system acting id turn had kept.unstepped in
-        let ends = may-end front (turn_entry ∷ back) place kept in
+        let ends = bare-ends front (turn_entry ∷ back) place kept acting bare in
         let left = bare-turned who none (at front) u acting id turned.did bare.patches bare.agent in
         let own = turned-own who none (at front) u acting id turned.did in
         record {
-          tidy = clear-tidy who (at front) kept.faults u acting id turn had bare.patches bare.agent ends no_step;
-          spares = clear-spares who (at front) kept.faults u acting id turn had bare.patches bare.agent ends no_step;
+          tidy =
+              clear-tidy who (at front) kept.faults u acting id turn had bare.patches bare.agent ends no_step kills;
+          spares =
+              clear-spares who (at front) kept.faults u acting id turn had bare.patches bare.agent ends no_step kills;
           covering =
               inl (stays-bare front by_lwp (act.Turn turned) back place kept acting bare
               (alike-new acting
@@ -544,7 +602,7 @@ module _ (n : ℕ) (who : Hiders) (controllers : List ControllerState) (first : 
     hidden-own : IsHiddenBy acting front → Own
     hidden-own b = by (keeps_lwp (at front acting) id) refl
       where
-        l : LivesAlone acting u
+        l : IsAlive acting u
         l = lives front (turn_entry ∷ back) place acting b
 
         own : made_of acting ≡ cover_turned who (at front) u acting id turned.did (at front acting)
@@ -582,7 +640,7 @@ module _ (n : ℕ) (who : Hiders) (controllers : List ControllerState) (first : 
                 (way front (turn_entry ∷ back) place acting b) turned
                 (ap (λ (i : ℕ). record { actor = Lwp acting i; act = act.Turn turned }) is.1) in
                 let one = stays-one front by_lwp (act.Turn turned) back place kept acting b tt in
-                let later : LivesAlone acting (state_after first (front ++ turn_entry ∷ [])) =
+                let later : IsAlive acting (state_after first (front ++ turn_entry ∷ [])) =
                 (its front (turn_entry ∷ back) place acting b).lives (front ++ turn_entry ∷ []) back b.p
                 (place_longer front by_lwp (act.Turn turned) back place kept)
                 (record { is = one.is; hides = hiding front (turn_entry ∷ back) place acting b }) in
@@ -745,7 +803,7 @@ module _ (n : ℕ) (who : Hiders) (controllers : List ControllerState) (first : 
       starts : slice_get controllers j ≡ Some (Probe (first_probe pid))
       is : slice_get (controllers_at controllers front) j ≡ Some (Probe p)
       next : next_call_of p ≡ Some c
-      fact : Facts n controllers first h reached bytes legal follows j pid starts front p
+      fact : Facts n controllers first h reached bytes legal theirs j pid starts front p
       later : slice_get (controllers_at controllers (front ++ called_entry ∷ [])) j ≡ Some (Probe (fed p r))
 
     caller : who.probes j ≡ true → (pid : ℕ) × ((p : ProbeState) × IsCaller pid p)
@@ -760,10 +818,10 @@ module _ (n : ℕ) (who : Hiders) (controllers : List ControllerState) (first : 
               starts = starts.at;
               is = now.1;
               next =
-                  next-is j (controllers_at controllers front) v now.0 c r now.1
-                  (follows_here front (Controller j) (act.Call c r) back place kept);
+                  next-is j (controllers_at controllers front) now.0 c r now.1
+                  (own_here front (Controller j) (act.Call c r) back place kept);
               fact =
-                  facts n controllers first h reached bytes legal follows j starts.pid starts.at front
+                  facts n controllers first h reached bytes legal theirs j starts.pid starts.at front
                   (called_entry ∷ back) place now.0 now.1;
               later =
                   ap (λ (cs : List ControllerState). slice_get cs j)
@@ -776,8 +834,8 @@ module _ (n : ℕ) (who : Hiders) (controllers : List ControllerState) (first : 
     next-of : (pid : ℕ) (p : ProbeState) → IsOne pid front j p → call_of p p.stage ≡ Some c
     unfolding next_call_of
     next-of pid p one =
-        next-is j (controllers_at controllers front) v p c r one.is
-        (follows_here front (Controller j) (act.Call c r) back place kept)
+        next-is j (controllers_at controllers front) p c r one.is
+        (own_here front (Controller j) (act.Call c r) back place kept)
 
     -- the message of a caller that was refused, or is at a plain stage
     caller-plain : (pid : ℕ) (p : ProbeState) → IsCaller pid p → is_special p.stage ≡ false → (number : ℕ)
@@ -970,12 +1028,47 @@ module _ (n : ℕ) (who : Hiders) (controllers : List ControllerState) (first : 
               | inr not ↦ not
             ]
 
+    -- what it has saved stands there when its agent is made
+    saved-there : (pid : ℕ) (p : ProbeState) → IsCaller pid p → p.refusal ≡ None → p.stage ≡ stage.MakeAgent
+        → (u : ProbeState) → fed p r ≡ u → is_hiding u.stage ≡ true
+        → MakesAgent j pid controllers first front called_entry → (q : TracedProcess)
+        → live_process v.system pid ≡ Some q → StandsSaved p q.space
+    unfolding Reads
+    saved-there pid p it accepted is u fed_is hides makes_it q live =
+        by ((alone j pid it.hider it.starts).as_seen front back called_entry p place makes_it it.is q live)
+      where
+        known : Comes j pid first front v p 4 (TracesWith j pid first front p AllBack)
+        known = subst (λ (g : ProbeStage). Reads j pid first front v p g) is (it.fact.reads accepted)
+
+        place_on : h ≡ (front ++ called_entry ∷ []) ++ back
+        place_on = place_longer front (Controller j) (act.Call c r) back place kept
+
+        fair : IsFair j pid first front known.began
+        fair =
+            fair-front j pid first front called_entry known.began
+            (record {
+              sole =
+                  (alone j pid it.hider it.starts).sole (front ++ called_entry ∷ []) back u place_on
+                  (record { is = it.later ∙ ap (λ (x : ProbeState). Some (Probe x)) fed_is; hides = hides })
+                  (began-still j pid first front called_entry known.began).before
+                  (began-still j pid first front called_entry known.began).later
+                  (began-still j pid first front called_entry known.began).opened
+                  (began-still j pid first front called_entry known.began).place;
+              ranged = λ f rest split.
+                  (reached-at n controllers first h reached bytes legal theirs f (rest ++ back)
+                  (place_on ∙ ap (λ (es : List Entry). es ++ back) split ∙ append_assoc f rest back)).in_range;
+            })
+
+        by : WasUnlent j pid first front ⊎ IsAsSeen p q → StandsSaved p q.space
+        by (inl unlent) = ((known.so fair).1 unlent q live).saved
+        by (inr seen) = seen.saved
+
     -- its agent is made
     making : (pid : ℕ) (p : ProbeState) → IsCaller pid p → IsBare pid front → p.refusal ≡ None
         → p.stage ≡ stage.MakeAgent → refusal_in stage.MakeAgent r ≡ None
         → IsHiddenBy pid (front ++ called_entry ∷ [])
     unfolding fed accepted advanced with_next stage_after next_call_of call_of Knows Hides is_passed_over place_of
-        file_of
+        file_of is_hiding
     making pid p it bare accepted_so is granted =
         let at_make : call_of p stage.MakeAgent ≡ Some c =
         ap (call_of p) (sym is) ∙ it.next in
@@ -1011,13 +1104,13 @@ module _ (n : ℕ) (who : Hiders) (controllers : List ControllerState) (first : 
         (at front) p u refl refl known.holds at_make
         accepts bare.patches
         (λ q live.
-        (alone j pid it.hider it.starts).saved front back called_entry p place
+        saved-there pid p it accepted_so is u fed_is refl
         (record {
           call = c;
           used = got.0;
           is = ap (λ (x : Reply). call_entry j c x) got.1;
           sends = sends;
-        }) it.is q live) in
+        }) q live) in
         moved-on front (Controller j) (act.Call c r) back place kept pid j u
         (record {
           hider = it.hider;
@@ -1115,16 +1208,22 @@ module _ (n : ℕ) (who : Hiders) (controllers : List ControllerState) (first : 
 
       next : next_call_of p ≡ Some c
       next =
-          next-is j (controllers_at controllers front) v p c r one.is
-          (follows_here front (Controller j) (act.Call c r) back place kept)
+          next-is j (controllers_at controllers front) p c r one.is
+          (own_here front (Controller j) (act.Call c r) back place kept)
 
-      right : refusal_in p.stage r ≡ None
-      right =
-          (its front (called_entry ∷ back) place pid mine).accepted front back c r p place
-          (way front (called_entry ∷ back) place pid mine)
-
-      known : Facts n controllers first h reached bytes legal follows j pid one.starts front p
+      known : Facts n controllers first h reached bytes legal theirs j pid one.starts front p
       known = fact front (called_entry ∷ back) place pid mine
+
+      -- it is refused nothing
+      right : refusal_in p.stage r ≡ None
+      unfolding next_call_of
+      right =
+          let l = lives front (called_entry ∷ back) place pid mine in
+          takes j pid first front c a (lawful front (Controller j) (act.Call c r) back place kept) given (at front)
+          (ask front (called_entry ∷ back) place pid mine) l.process l.lives
+          ((its front (called_entry ∷ back) place pid mine).handles front back c r p place
+          (way front (called_entry ∷ back) place pid mine)) p p.stage (known.knows one.accepted)
+          (known.reads one.accepted) hides_it next
 
       now-fed : fed p r ≡ accepted p r p.stage
       unfolding fed
@@ -1341,8 +1440,23 @@ module _ (n : ℕ) (who : Hiders) (controllers : List ControllerState) (first : 
     call-tidy : IsTidyCall who (at front) v j c r
     call-tidy = by c refl r refl
       where
-        ends-so : (pid number : ℕ) → MayKill (at front) v.system pid number
-        ends-so pid number g sends deadly = may-end front (called_entry ∷ back) place kept pid
+        -- whom a controller kills
+        ends-so : (pid number : ℕ) → c ≡ call.Kill pid number → MayKill (at front) v.system pid number
+        ends-so pid number is g sending_is deadly =
+            may-end front (called_entry ∷ back) place kept pid (λ b. of b (cases_eq j b.k))
+          where
+            gone : live_process a.state.system pid ≡ None
+            gone = kill-gone v j pid number a g (ap (answer_to v j) (sym is) ∙ given) sending_is deadly
+
+            of : (b : IsHiddenBy pid front) → (j ≡ b.k) ⊎ (j ≢ b.k) → ⊥
+            of b (inr apart) =
+                not-gone front (Controller j) (act.Call c r) back place kept pid b apart
+                (ap (λ (x : TracedState). live_process x.system pid) called-state ∙ gone)
+            of b (inl same) =
+                let one = subst (λ (k : ℕ). IsOne pid front k b.p) (sym same) b.one in
+                no-kill b.p b.p.stage pid number
+                (hides-hiding pid (at front pid) v.system b.p b.p.stage b.hides)
+                (next-of pid b.p one ∙ ap (λ (d : calls.Call). Some d) is)
 
         shut-so : (number : ℕ) → c ≡ call.Close number → (o : Option Held) → handle_of v.opens j number ≡ o
             → IsTidyClose who j (at front) v.system o
@@ -1379,7 +1493,7 @@ module _ (n : ℕ) (who : Hiders) (controllers : List ControllerState) (first : 
             (λ held q m len there target read.
             message-tidy number sent is used used_is held q m len there target read)
         by (call.Close number) is reply.Done done = shut-so number is (handle_of v.opens j number) refl
-        by (call.Kill pid number) is reply.Done done = ends-so pid number
+        by (call.Kill pid number) is reply.Done done = ends-so pid number is
         by _ is _ got = tt
 
     call-steps : Steps front called_entry
@@ -1459,9 +1573,9 @@ module _ (n : ℕ) (who : Hiders) (controllers : List ControllerState) (first : 
 
 -- So programs see nothing of it.
 pub apfiles-hidden : (n : ℕ) (who : Hiders) (controllers : List ControllerState) (s : TracedState) (h : List Entry)
-    → IsReached s → IsUntouched s.system → HasBytes h → IsLegal n s h → Follows controllers s h
+    → IsReached s → IsUntouched s.system → HasBytes h → IsLegal n s h → AreOwnCalls controllers h
     → AreLeftAlone who controllers s h → IsHidden who s h
-apfiles-hidden n who controllers s h reached untouched bytes legal follows are =
+apfiles-hidden n who controllers s h reached untouched bytes legal theirs are =
     hidden-later n who s h reached.lawful untouched legal are.passive
-    (apfiles-spares n who controllers s h reached bytes legal follows are.probes are.passive are.alone (untouched-unstepped s.system untouched))
-    (apfiles-tidy n who controllers s h reached bytes legal follows are.probes are.passive are.alone (untouched-unstepped s.system untouched))
+    (apfiles-spares n who controllers s h reached bytes legal theirs are.probes are.passive are.alone (untouched-unstepped s.system untouched))
+    (apfiles-tidy n who controllers s h reached bytes legal theirs are.probes are.passive are.alone (untouched-unstepped s.system untouched))

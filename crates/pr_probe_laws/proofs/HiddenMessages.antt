@@ -27,7 +27,7 @@ use Rattle.pr_probe_laws.proofs.TextMessages.{spelt-reads}
 
 -- The messages by which apfiles hides something, as they are read and answered.
 
-exit-words : All IsWord exit_registers
+pub exit-words : All IsWord exit_registers
 unfolding agent_registers
 exit-words =
     All-from_recursion IsWord exit_registers (

@@ -18,6 +18,7 @@ use Rattle.pr_truss_laws.specs.Stills.{will_stop}
 use Rattle.pr_probe_laws.proofs.AgentTurns.{IsAgent, IsFetchable, IsPlanted, IsReady, IsReadyFor}
 use Rattle.pr_probe_laws.proofs.LeavingRows.{GoesOut, IsGone, Leaving}
 use Rattle.pr_probe_laws.specs.HiddenProbes.{StandsSaved}
+use Rattle.pr_probe_laws.proofs.RoomStages.{Where}
 use Rattle.pr_probe_laws.proofs.TextStages.{Asks, IsAsked, IsAsking, IsBack, IsFree, IsMade, Making, Reads, Rests, Runs, Stands, WithAgent}
 
 -- What is hidden of the process of an apfiles, by its stage.
@@ -53,19 +54,15 @@ pub record StandsOut (P : TracedLwp → Type 0) (q : TracedProcess) : Type 0 whe
   pub so : P agent
 
 module _ (pid : ℕ) where
-  -- something is so of the process, where it lives
-  abbrev pub Where : (TracedProcess → Type 0) → TracedSystem → Type 0
-  Where P s = (q : TracedProcess) → live_process s pid ≡ Some q → P q
-
   -- the agent was made, and nothing is written over yet
   pub record HidesAgent (c : Cover) (s : TracedSystem) (p : ProbeState) : Type 0 where
     pub none : c.patches ≡ []
     pub agent_is : c.agent ≡ true
-    pub stands : Where (λ q. StandsSaved p q.space) s
+    pub stands : Where pid (λ q. StandsSaved p q.space) s
 
   -- the agent goes out, or it is gone
   abbrev pub HidesOut : Cover → TracedSystem → ProbeState → Type 0
-  HidesOut c s p = (HidesBoth true c p × Where GoesOut s) ⊎ (HidesBoth false c p × Where IsGone s)
+  HidesOut c s p = (HidesBoth true c p × Where pid GoesOut s) ⊎ (HidesBoth false c p × Where pid IsGone s)
 
   -- what is hidden at a stage; at others nothing is
   unfoldable pub Hides : Cover → TracedSystem → ProbeState → ProbeStage → Type 0
@@ -74,11 +71,11 @@ module _ (pid : ℕ) where
   Hides c s p stage.PlantCode = HidesAgent c s p
   Hides c s p (stage.Asking d step) = HidesBoth true c p
   Hides c s p stage.UntraceExits = HidesBoth true c p
-  Hides c s p stage.SetExit = HidesBoth true c p × Where (StandsOut Rests) s
-  Hides c s p stage.RunExit = HidesBoth true c p × Where (StandsOut Leaving) s
+  Hides c s p stage.SetExit = HidesBoth true c p × Where pid (StandsOut Rests) s
+  Hides c s p stage.RunExit = HidesBoth true c p × Where pid (StandsOut Leaving) s
   Hides c s p stage.AwaitExit = HidesOut c s p
-  Hides c s p stage.WriteCode = HidesBoth false c p × Where IsGone s
-  Hides c s p stage.WriteStack = HidesStack c p × Where IsGone s
+  Hides c s p stage.WriteCode = HidesBoth false c p × Where pid IsGone s
+  Hides c s p stage.WriteStack = HidesStack c p × Where pid IsGone s
   Hides c s p _ = ⊥
 
 -- ---- what its process is like then

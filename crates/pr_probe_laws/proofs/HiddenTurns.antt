@@ -1,4 +1,4 @@
-use Rattle.std.proofs.Common.{◌≡◌, ◌≢◌, ℕ, true, false, [], Option, Some, refl, sym, subst, ap, ◌∙◌}
+use Rattle.std.proofs.Common.{◌≡◌, ◌≢◌, ℕ, true, false, [], Option, Some, None, refl, sym, subst, ap, ◌∙◌}
 use Rattle.std.proofs.lemmas.Bool.{false≢true}
 use Rattle.std.proofs.lemmas.Option.{none-some, same_Some}
 use Rattle.pr_hidden.specs.Covers.{Covers, keeps_lwp}
@@ -16,6 +16,7 @@ use Rattle.pr_model.specs.declared.events.Did.TheVariants.{Faulted, Stopped}
 use Rattle.pr_num.specs.declared.faults.Flt.TheVariants.{Trace}
 use Rattle.pr_truss_laws.proofs.StillLemmas.{row-directed}
 use Rattle.pr_truss_laws.specs.Stills.{stands_still}
+use Rattle.pr_probe_laws.proofs.DeathLemmas.{killed-none}
 use Rattle.pr_probe_laws.proofs.AgentEntries.{false-if, must-be, or-second}
 use Rattle.pr_probe_laws.proofs.HiddenCovers.{HaveNoFaults}
 use Rattle.pr_probe_laws.proofs.HiddenStages.{IsHeld}
@@ -68,16 +69,22 @@ module _ (who : Hiders) (covers : Covers) (clean : HaveNoFaults covers) (s : Tra
   -- ---- nothing is hidden of its process
 
   module _ (bare : (covers pid).patches ≡ []) (no_agent : (covers pid).agent ≡ false)
-      (kills : (target : ℕ) → MayEnd covers s.system target) (unstepped : did_so ≢ Faulted Trace) where
+      (may_end : MayEnd covers s.system pid) (unstepped : did_so ≢ Faulted Trace)
+      (kills : (target : ℕ) → live_process t.system target ≡ None → MayEnd covers s.system target) where
     clear-move : (p : TracedProcess) (l : TracedLwp) → live_process s.system pid ≡ Some p → lwp_of p id ≡ Some l
         → IsTidyMove who covers s pid p id l did_so
     clear-move p l live there =
-        let back = (kills pid).returnable p live in
+        let back = may_end.returnable p live in
         record {
           beside_agent = λ is. absurd (false≢true (sym no_agent ∙ is));
           never_posted = λ is. absurd (false≢true (sym (clean pid id) ∙ is));
           own_steps = λ is. absurd (unstepped is);
-          changes = row-tidy covers s.system pid p id l bare back kills;
+          changes =
+              row-tidy covers s.system pid p id l bare back
+              (λ target killed.
+              kills target
+              (ap (λ (x : LwpTurn). live_process x.system target) (is-settled s pid id t turn p l live there)
+              ∙ killed-none s.system pid p id l (row_for s.system pid p id l) target killed));
           returns = λ how is. back;
         }
 

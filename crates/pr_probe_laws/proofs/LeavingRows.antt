@@ -1,4 +1,4 @@
-use Rattle.std.proofs.Common.{length, ◌≡◌, ◌≢◌, ◌==◌, ◌⊎◌, ◌+◌, ℕ, Bool, true, false, cond, List, [], Option, Some, None, Ok, refl, sym, subst, ap, ◌∙◌, inl, inr, arith}
+use Rattle.std.proofs.Common.{is_ok, length, ◌≡◌, ◌≢◌, ◌==◌, ◌⊎◌, ◌+◌, ℕ, Bool, true, false, cond, List, [], Option, Some, None, Ok, refl, sym, subst, ap, ◌∙◌, inl, inr, arith}
 use Rattle.std.proofs.lemmas.Bool.{cases_eq}
 use Rattle.std.proofs.lemmas.Option.{none-some, same_Some}
 use Rattle.pr_hidden.specs.Covers.{Patch}
@@ -30,9 +30,9 @@ use Rattle.pr_num.proofs.ByIdLaws.{under-change_under_other, under-without_id, u
 use Rattle.pr_num.proofs.InstructionLemmas.{spelled-read}
 use Rattle.pr_num.specs.Agents.{agent_id}
 use Rattle.pr_num.specs.ById.{IsRising, change_under, under, without_id}
-use Rattle.pr_num.specs.Control.{prot_exec, watch_exec}
+use Rattle.pr_num.specs.Control.{prot_exec, prot_write, watch_exec}
 use Rattle.pr_num.specs.Instructions.{HasImmediate, fields_of, instruction_bytes, instruction_in}
-use Rattle.pr_num.specs.Layout.{text_base}
+use Rattle.pr_num.specs.Layout.{stack_base, text_base}
 use Rattle.pr_num.specs.Spaces.{bytes_for}
 use Rattle.pr_num.specs.Syscalls.{syscall_number}
 use Rattle.pr_num.specs.Words.{word_bytes}
@@ -41,10 +41,10 @@ use Rattle.pr_num.specs.declared.instructions.Instruction.TheVariants.{Sys}
 use Rattle.pr_num.specs.declared.mappings.Area.{Area}
 use Rattle.pr_num.specs.declared.syscalls.Sysno.{Sysno}
 use Rattle.pr_num.specs.declared.syscalls.Sysno.TheVariants.{Fstat, LwpExit}
-use Rattle.pr_probe.specs.AgentCode.{agent_registers, exit_pc, planted}
+use Rattle.pr_probe.specs.AgentCode.{agent_registers, code_size, exit_pc, planted, stack_size}
 use Rattle.pr_truss_laws.proofs.StillLemmas.{live-changed}
 use Rattle.pr_truss_laws.specs.Stills.{IsHalting, will_stop}
-use Rattle.pr_probe_laws.proofs.AgentMemory.{last-bytes}
+use Rattle.pr_probe_laws.proofs.AgentMemory.{any-ok, last-bytes}
 use Rattle.pr_probe_laws.proofs.AgentMoves.{QuietRow, in_call, in_program, quiet-row, way-out-row, way_out}
 use Rattle.pr_probe_laws.proofs.AgentRows.{unwatched}
 use Rattle.pr_probe_laws.proofs.AgentTurns.{IsAgent, IsLike, IsPlanted, IsReadyFor, later-agent, later-entry, later-ready, settled-live, turned}
@@ -109,10 +109,12 @@ pub record GoesOut (q : TracedProcess) : Type 0 where
   pub running : agent.control.stop ≡ None
   pub at : Leaving agent
 
--- it is there no more, and each other lwp stands still or will stop
+-- it is there no more, each other lwp stands still or will stop, and what was written over is mapped
 pub record IsGone (q : TracedProcess) : Type 0 where
   pub halts : IsHalting q
   pub own : q.borrower ≡ None
+  pub text : is_ok (bytes_for 0 q.space text_base code_size) ≡ true
+  pub answer : is_ok (bytes_for 0 q.space stack_base stack_size) ≡ true
 
 module _ (s : TracedSystem) (pid : ℕ) (p : TracedProcess) (l : TracedLwp) (live : live_process s pid ≡ Some p)
     (rising : IsRising p.lwps) (there : lwp_of p agent_id ≡ Some l) (ready : IsReadyFor 0 IsPlanted p)
@@ -232,6 +234,8 @@ module _ (s : TracedSystem) (pid : ℕ) (p : TracedProcess) (l : TracedLwp) (liv
     gone-halts = record {
       halts = record { each = λ id k at_id. by id k at_id (cases_eq agent_id id) };
       own = ready.own;
+      text = any-ok prot_exec p.space text_base code_size (ap is_ok ready.code);
+      answer = any-ok prot_write p.space stack_base stack_size ready.stack;
     }
       where
         changed : List (ℕ × TracedLwp)

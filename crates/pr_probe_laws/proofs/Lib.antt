@@ -1,3 +1,4 @@
+pub mod AcceptedCalls
 pub mod AgentCalls
 pub mod AgentEntries
 pub mod AgentMemory
@@ -9,6 +10,7 @@ pub mod FileEntries
 pub mod FileKinds
 pub mod FilePlaces
 pub mod FileRows
+pub mod GrantedCalls
 pub mod HiddenCalls
 pub mod HiddenCovers
 pub mod HiddenFacts
@@ -24,6 +26,14 @@ pub mod MemoryMessages
 pub mod ProbeCalls
 pub mod ProbeLaw
 pub mod ProbeStages
+pub mod ReasonLaw
+pub mod ReasonStages
+pub mod RoomCalls
+pub mod RoomFrames
+pub mod RoomReads
+pub mod RoomStages
+pub mod RunAgainLaw
+pub mod RunAgainStages
 pub mod SetCalls
 pub mod SetFrames
 pub mod SetLaw

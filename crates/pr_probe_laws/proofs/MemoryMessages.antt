@@ -63,7 +63,7 @@ pub record IsWriteOf (at : ℕ) (bytes : List ℕ) : Type 0 where
   pub tail : tail_of (message.Write at (length bytes)) (write_bytes at bytes) ≡ bytes
 
 -- three words are 24 bytes at least
-words-long : (n a b c : ℕ) (rest : List ℕ) → n ≤ 24
+pub words-long : (n a b c : ℕ) (rest : List ℕ) → n ≤ 24
     → nat_lt (length (words_bytes (a ∷ b ∷ c ∷ []) ++ rest)) n ≡ false
 words-long n a b c rest few =
     let whole = length-append (words_bytes (a ∷ b ∷ c ∷ [])) rest in
@@ -76,7 +76,7 @@ two-read : (bytes : List ℕ) → nat_lt (length bytes) 24 ≡ false
 unfolding two_words
 two-read bytes long = rw long refl
 
-write-read : (bytes : List ℕ) (at size : ℕ) → nat_lt (length bytes) 24 ≡ false → nth_word bytes 1 ≡ at
+pub write-read : (bytes : List ℕ) (at size : ℕ) → nat_lt (length bytes) 24 ≡ false → nth_word bytes 1 ≡ at
     → nth_word bytes 2 ≡ size → message_read 23 bytes ≡ Ok (message.Write at size)
 unfolding message_read
 write-read bytes at size long first second =
@@ -90,7 +90,7 @@ all-taken size bytes long =
     ap (take size) (append-nil bytes) ∙ take_all size bytes (omega (arith, long))
 
 -- the bytes of a message that writes so many bytes
-abbrev written_as : ℕ → ℕ → List ℕ → List ℕ
+abbrev pub written_as : ℕ → ℕ → List ℕ → List ℕ
 written_as at n bytes =
     words_bytes (message_code (message.Write at n) ∷ operands (message.Write at n)) ++ bytes ++ replicate (padding n) 0
 
@@ -105,7 +105,7 @@ sized-write at n bytes long reads tail = record {
 }
 
 -- the bytes as they are where the length is that of whole words
-abbrev unpadded : ℕ → ℕ → List ℕ → List ℕ
+abbrev pub unpadded : ℕ → ℕ → List ℕ → List ℕ
 unpadded at n bytes = words_bytes (23 ∷ at ∷ n ∷ []) ++ bytes ++ []
 
 pub code-written : (bytes : List ℕ) → length bytes ≡ code_size → IsWriteOf text_base bytes

@@ -8,11 +8,12 @@ use Rattle.pr_probe.proofs.FedLemmas.{ended-closes}
 use Rattle.pr_probe.specs.Probes.{ProbeState, fed, first_probe, has_ended}
 use Rattle.pr_probe.specs.declared.probe_stages.ProbeStage.{ProbeStage}
 use Rattle.pr_probe.specs.declared.probe_stages.ProbeStage.TheVariants.{Close}
-use Rattle.pr_tool_laws.proofs.ProtocolLemmas.{KeptByCalls, KeptByOthers, protocol-keeps}
+use Rattle.pr_tool_laws.proofs.ProtocolLemmas.{KeptByCalls, KeptByOthers, own-keeps}
 use Rattle.pr_tool_laws.proofs.StageLemmas.{state-called}
 use Rattle.pr_world.specs.Controllers.{after_reply, next_call}
 use Rattle.pr_world.specs.ControllerStates.{ControllerState, Probe}
-use Rattle.pr_world.specs.Protocol.{Follows, controllers_at}
+use Rattle.pr_world.specs.Protocol.{controllers_at}
+use Rattle.pr_tool_laws.specs.OwnCalls.{AreOwnCalls}
 use Rattle.pr_probe_laws.proofs.ProbeCalls.{called-so}
 use Rattle.pr_probe_laws.proofs.ProbeStages.{BothBack, So, others-hold, so-still}
 use Rattle.pr_probe_laws.specs.PutBack.{PutsBack}
@@ -55,12 +56,12 @@ module _ (n k pid : ℕ) (first : TracedState) where
 -- In the end it has done that, unless it was refused.
 pub puts-back : (controllers : List ControllerState) (n k : ℕ) (pid : ℕ) (s : TracedState) (h : List Entry)
     (p : ProbeState) → slice_get controllers k ≡ Some (Probe (first_probe pid)) → IsLegal n s h
-    → Follows controllers s h → slice_get (controllers_at controllers h) k ≡ Some (Probe p) → has_ended p ≡ true
+    → AreOwnCalls controllers h → slice_get (controllers_at controllers h) k ≡ Some (Probe p) → has_ended p ≡ true
     → p.refusal ≡ None → PutsBack k pid s h
 unfolding IsProbeKept
 puts-back controllers n k pid s h p starts legal follows ends ended accepted =
     let kept =
-    protocol-keeps n k s (IsProbeKept n k pid s) (others-kept n k pid s) (calls-kept n k pid s) controllers h
+    own-keeps n k s (IsProbeKept n k pid s) (others-kept n k pid s) (calls-kept n k pid s) controllers h
     (Probe (first_probe pid)) (Probe p) legal follows starts ends (λ none. at_first n k pid s) in
     let both = all-back n k pid s h p (kept accepted) (ended-closes p ended) in
     record {

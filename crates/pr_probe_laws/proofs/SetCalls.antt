@@ -1,5 +1,6 @@
 use Rattle.std.proofs.Common.{cond, ◌≡◌, ◌≢◌, ◌⊎◌, ◌<◌, ◌+◌, ◌∷◌, ◌++◌, ℕ, Bool, true, false, List, [], Option, Some, None, option_map, refl, sym, subst, ap, ◌∙◌, inl, inr, arith}
 use Rattle.std.proofs.lemmas.List.Elements.{All-nil}
+use Rattle.std.specs.List.{All}
 use Rattle.std.proofs.lemmas.Option.{none-some, same_Some}
 use Rattle.pr_api.specs.Entries.{call_entry}
 use Rattle.pr_core_laws.proofs.ReadLemmas.{status-gone, status-there}
@@ -67,7 +68,7 @@ use Rattle.pr_probe_laws.proofs.ProbeCalls.{asked-next, granted}
 use Rattle.pr_probe_laws.proofs.StatusSets.{bytes-given, proper-sets, same-system, keeps_system, status-sets}
 use Rattle.pr_probe_laws.proofs.SetMessages.{set-done, setting, still-lives, without-none}
 use Rattle.pr_probe_laws.proofs.SetStages.{AllBack, Began, EntriesBack, FaultsBack, Goes, HasLeft, IsFair, IsProper, Knows, Leaves, Looks, NoneBack, Noted, Put, SignalsBack, Untouched, Works, began-still, fair-front, found, left-still, noted-still, ranged-now}
-use Rattle.pr_probe_laws.specs.SetsBack.{ClosesAtMost, HoldsControl, WasTraced, sets_in_control, sets_on}
+use Rattle.pr_probe_laws.specs.SetsBack.{ClosesAtMost, HoldsControl, IsNoCall, WasTraced, sets_in_control, sets_on}
 
 -- What a call of apfiles makes of what it knows of the traced sets.
 
@@ -203,7 +204,7 @@ module _ (k pid : ℕ) (first : TracedState) (h : List Entry) (c : Call) (a : An
   opened_by f p = record p { opened = with_handle p.opened (place_of f) (opened_in a.reply) }
 
   -- the control file, which is the first
-  begins : (p : ProbeState) → (p.pid ≡ pid) × (p.opened ≡ nothing_open)
+  begins : (p : ProbeState) → (p.pid ≡ pid) × (p.opened ≡ nothing_open) × All (IsNoCall k) h
       → Some (call.Open p.pid (lwp_of Control) (file_of Control) (mode_of Control)) ≡ Some c
       → ((e : Errno) → a.reply ≢ reply.Fail e) → Looks k pid first longer a.state (opened_by Control p) 1
   unfolding place_of lwp_of file_of mode_of
@@ -213,6 +214,7 @@ module _ (k pid : ℕ) (first : TracedState) (h : List Entry) (c : Call) (a : An
       opened = a.reply;
       later = [];
       place = ap (λ (d : Call). h ++ call_entry k d a.reply ∷ []) (its-open Control p so.0 same accepts);
+      first_call = so.2;
     };
     its = so.0;
     holds = open-first Control p so.0 same accepts
@@ -424,16 +426,16 @@ module _ (k pid : ℕ) (first : TracedState) (h : List Entry) (c : Call) (a : An
         file = refl;
       }
 
+  pub only-closes : (o : Option ℕ) → option_map call.Close o ≡ Some c → ClosesAtMost k it
+  only-closes None is d r call_is = absurd (none-some c is)
+  only-closes (Some handle) is d r call_is =
+      let made : act.Call c a.reply ≡ act.Call d r = ap (λ (x : Entry). x.act) call_is in
+      let its : c ≡ d = cc in
+      record { handle = handle; is = sym its ∙ sym (same_Some (call.Close handle) c is) }
+
   closes : (p : ProbeState) → Leaves k pid first AllBack h s p ⊎ HasLeft k pid first h
       → option_map call.Close (last_open p.opened) ≡ Some c → HasLeft k pid first longer
-  closes p (inr left) same = left-still k pid first h it (of (last_open p.opened) same) left
-    where
-      of : (o : Option ℕ) → option_map call.Close o ≡ Some c → ClosesAtMost k it
-      of None is d r call_is = absurd (none-some c is)
-      of (Some handle) is d r call_is =
-          let made : act.Call c a.reply ≡ act.Call d r = ap (λ (x : Entry). x.act) call_is in
-          let its : c ≡ d = cc in
-          record { handle = handle; is = sym its ∙ sym (same_Some (call.Close handle) c is) }
+  closes p (inr left) same = left-still k pid first h it (only-closes (last_open p.opened) same) left
   closes p (inl going) same = of (last_open p.opened) same
     where
       of : (o : Option ℕ) → option_map call.Close o ≡ Some c → HasLeft k pid first longer

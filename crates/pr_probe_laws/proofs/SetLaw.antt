@@ -1,5 +1,6 @@
 use Rattle.std.proofs.Common.{◌≡◌, ◌⊎◌, ◌∷◌, ◌++◌, ◌-◌, ℕ, zero, suc, true, List, [], Option, Some, None, is_none, option_map, slice_get, refl, sym, subst, ap, ◌∙◌, inl, inr, arith}
 use Rattle.std.proofs.lemmas.Bool.{false≢true}
+use Rattle.std.proofs.lemmas.List.Elements.{All-nil}
 use Rattle.std.proofs.lemmas.List.{append_assoc}
 use Rattle.std.proofs.lemmas.Option.{none-some}
 use Rattle.pr_api.specs.Entries.{call_entry}
@@ -21,17 +22,18 @@ use Rattle.pr_probe.specs.declared.probe_stages.ProbeStage.TheVariants.{Close}
 use Rattle.pr_reached.proofs.HistoryRanges.{history-range}
 use Rattle.pr_reached.specs.ByteHistories.{HasBytes}
 use Rattle.pr_reached.specs.InRange.{IsInRange}
-use Rattle.pr_tool_laws.proofs.ProtocolLemmas.{KeptByCalls, KeptByOthers, protocol-keeps}
+use Rattle.pr_tool_laws.proofs.ProtocolLemmas.{KeptByCalls, KeptByOthers, own-keeps}
 use Rattle.pr_tool_laws.proofs.StageLemmas.{state-called}
 use Rattle.pr_tool_laws.proofs.WholeLemmas.{front-bytes, front-legal}
 use Rattle.pr_tools.specs.Handles.{handle_at, last_open, places_to_last}
 use Rattle.pr_tools.specs.declared.handles.Opened.{Opened}
 use Rattle.pr_world.specs.ControllerStates.{ControllerState, Probe}
 use Rattle.pr_world.specs.Controllers.{after_reply, next_call}
-use Rattle.pr_world.specs.Protocol.{Follows, controllers_at}
+use Rattle.pr_world.specs.Protocol.{controllers_at}
+use Rattle.pr_tool_laws.specs.OwnCalls.{AreOwnCalls}
 use Rattle.pr_probe_laws.proofs.SetCalls.{called-knows}
 use Rattle.pr_probe_laws.proofs.SetStages.{AllBack, HasLeft, Knows, Leaves, knows-still}
-use Rattle.pr_probe_laws.specs.SetsBack.{HoldsControl, SetsBack}
+use Rattle.pr_probe_laws.specs.SetsBack.{HoldsControl, IsNoCall, SetsBack}
 
 -- apfiles sets the traced sets back.
 
@@ -79,7 +81,7 @@ module _ (n k pid : ℕ) (first : TracedState) where
 
   pub at_first : Knows k pid first [] first (first_probe pid) (first_probe pid).stage
   unfolding Knows first_probe
-  at_first = (refl, refl)
+  at_first = (refl, refl, All-nil (IsNoCall k))
 
   -- who has finished has closed a file
   has-left : (h : List Entry) (s : TracedState) (p : ProbeState) → has_ended p ≡ true
@@ -106,13 +108,13 @@ module _ (n k pid : ℕ) (first : TracedState) where
 -- In the end it has done that, unless it was refused.
 pub sets-back : (controllers : List ControllerState) (n k : ℕ) (pid : ℕ) (s : TracedState) (h : List Entry)
     (p : ProbeState) → IsLawful s → IsInRange s.system → HasBytes h
-    → slice_get controllers k ≡ Some (Probe (first_probe pid)) → IsLegal n s h → Follows controllers s h
+    → slice_get controllers k ≡ Some (Probe (first_probe pid)) → IsLegal n s h → AreOwnCalls controllers h
     → slice_get (controllers_at controllers h) k ≡ Some (Probe p) → has_ended p ≡ true → p.refusal ≡ None
     → SetsBack k pid s h
 unfolding IsProbeKnown
 sets-back controllers n k pid s h p lawful ranged bytes starts legal follows ends ended accepted =
     let kept =
-    protocol-keeps n k s (IsProbeKnown n k pid s) (others-known n k pid s) (calls-known n k pid s) controllers h
+    own-keeps n k s (IsProbeKnown n k pid s) (others-known n k pid s) (calls-known n k pid s) controllers h
     (Probe (first_probe pid)) (Probe p) legal follows starts ends (lawful, λ none. at_first n k pid s) in
     of (has-left n k pid s h (state_after s h) p ended (kept.1 accepted))
   where
@@ -134,6 +136,7 @@ sets-back controllers n k pid s h p lawful ranged bytes starts legal follows end
           reply = left.reply;
           after = left.after;
           place = left.place ∙ ap (λ (es : List Entry). es ++ rest) b.place;
+          first_call = b.first_call;
           holds = subst (λ (es : List Entry). HoldsControl k pid (state_after s es).opens) b.place left.holds;
           closes = left.closes;
           back = λ sole q live.

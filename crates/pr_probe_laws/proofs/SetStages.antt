@@ -7,6 +7,7 @@ use Rattle.pr_model.specs.Handles.{handle_of}
 use Rattle.pr_model.specs.Lawful.{IsLawful}
 use Rattle.pr_model.specs.Legal.{IsLegalEntry, after, state_after}
 use Rattle.pr_model.specs.State.{TracedProcess, TracedState, TracedSystem, live_process}
+use Rattle.pr_model.specs.declared.calls.Call.{Call}
 use Rattle.pr_model.specs.declared.calls.Call.TheVariants as call
 use Rattle.pr_model.specs.declared.calls.Reply.{Reply}
 use Rattle.pr_model.specs.declared.events.Act.{Act}
@@ -31,7 +32,7 @@ use Rattle.pr_truss_laws.specs.Handles.{HasNoOtherWriter}
 use Rattle.pr_probe_laws.proofs.FilePlaces.{HasFirst, held_of, keeps-first}
 use Rattle.pr_probe_laws.proofs.SetFrames.{others-sets}
 use Rattle.pr_probe_laws.proofs.SetMessages.{AreProper}
-use Rattle.pr_probe_laws.specs.SetsBack.{ClosesAtMost, HoldsControl, IsSoleIn, WasTraced, opening_entry, sets_on}
+use Rattle.pr_probe_laws.specs.SetsBack.{ClosesAtMost, HoldsControl, IsNoCall, IsSoleIn, WasTraced, opening_entry, sets_on}
 
 -- The stages of apfiles, with what it knows of the sets by which its process was traced when it came.
 
@@ -62,6 +63,7 @@ module _ (k pid : ℕ) (first : TracedState) where
     pub opened : Reply
     pub later : List Entry
     pub place : h ≡ before ++ opening_entry k pid opened ∷ later
+    pub first_call : All (IsNoCall k) before
 
   abbrev pub since : (h : List Entry) → Began h → List Entry
   since h b = opening_entry k pid b.opened ∷ b.later
@@ -76,6 +78,7 @@ module _ (k pid : ℕ) (first : TracedState) where
     opened = b.opened;
     later = b.later ++ e ∷ [];
     place = place-still h b.before (opening_entry k pid b.opened) b.later e b.place;
+    first_call = b.first_call;
   }
 
   -- ---- under which conditions
@@ -155,7 +158,7 @@ module _ (k pid : ℕ) (first : TracedState) where
 
   -- what is so at a stage of a probe that was not refused
   unfoldable pub Knows : List Entry → TracedState → ProbeState → ProbeStage → Type 0
-  Knows h s p (stage.Open Control) = (p.pid ≡ pid) × (p.opened ≡ nothing_open)
+  Knows h s p (stage.Open Control) = (p.pid ≡ pid) × (p.opened ≡ nothing_open) × All (IsNoCall k) h
   Knows h s p (stage.Open Status) = Looks h s p 1
   Knows h s p (stage.Open Lstatus) = Looks h s p 2
   Knows h s p (stage.Open Map) = Looks h s p 3
@@ -190,18 +193,29 @@ module _ (k pid : ℕ) (first : TracedState) where
   -- ---- an entry later
 
   -- what others do is no call of its own
+  pub others-call : (actor : Actor) (it : Act) → IsOther k actor it → (c : Call) (r : Reply)
+      → record { actor = actor; act = it } ≡ call_entry k c r → ⊥
+  others-call (Controller j) (act.Call d v) other c r same =
+      other (let by : Controller j ≡ Controller k = ap (λ (x : Entry). x.actor) same in cc)
+  others-call (Controller j) (act.Turn t) other c r same =
+      let it : act.Turn t ≡ act.Call c r = ap (λ (x : Entry). x.act) same in cc
+  others-call (Controller j) (act.Tick m) other c r same =
+      let it : act.Tick m ≡ act.Call c r = ap (λ (x : Entry). x.act) same in cc
+  others-call (Lwp acting id) it other c r same =
+      let by : Lwp acting id ≡ Controller k = ap (λ (x : Entry). x.actor) same in cc
+  others-call Clock it other c r same =
+      let by : Clock ≡ Controller k = ap (λ (x : Entry). x.actor) same in cc
+
   pub others-close : (actor : Actor) (it : Act) → IsOther k actor it
       → ClosesAtMost k (record { actor = actor; act = it })
-  others-close (Controller j) (act.Call d v) other c r same =
-      absurd (other (let by : Controller j ≡ Controller k = ap (λ (x : Entry). x.actor) same in cc))
-  others-close (Controller j) (act.Turn t) other c r same =
-      absurd (let it : act.Turn t ≡ act.Call c r = ap (λ (x : Entry). x.act) same in cc)
-  others-close (Controller j) (act.Tick m) other c r same =
-      absurd (let it : act.Tick m ≡ act.Call c r = ap (λ (x : Entry). x.act) same in cc)
-  others-close (Lwp acting id) it other c r same =
-      absurd (let by : Lwp acting id ≡ Controller k = ap (λ (x : Entry). x.actor) same in cc)
-  others-close Clock it other c r same =
-      absurd (let by : Clock ≡ Controller k = ap (λ (x : Entry). x.actor) same in cc)
+  others-close actor it other c r same = absurd (others-call actor it other c r same)
+
+  pub no-call-on : (h : List Entry) (actor : Actor) (it : Act) → IsOther k actor it → All (IsNoCall k) h
+      → All (IsNoCall k) (h ++ (record { actor = actor; act = it }) ∷ [])
+  no-call-on h actor it other none =
+      let e : Entry = record { actor = actor; act = it } in
+      All-append (IsNoCall k) h (e ∷ []) none
+      (All-cons (IsNoCall k) e [] (others-call actor it other) (All-nil (IsNoCall k)))
 
   pub left-still : (h : List Entry) (e : Entry) → ClosesAtMost k e → HasLeft h → HasLeft (h ++ e ∷ [])
   left-still h e close it = record {
@@ -300,7 +314,7 @@ module _ (k pid : ℕ) (first : TracedState) where
 
     pub knows-still : (p : ProbeState) (g : ProbeStage) → Knows h s p g → Knows longer next p g
     unfolding Knows
-    knows-still p (stage.Open Control) so = so
+    knows-still p (stage.Open Control) so = (so.0, so.1, no-call-on h actor it other so.2)
     knows-still p (stage.Open Status) so = looks-on p 1 (omega arith) so
     knows-still p (stage.Open Lstatus) so = looks-on p 2 (omega arith) so
     knows-still p (stage.Open Map) so = looks-on p 3 (omega arith) so

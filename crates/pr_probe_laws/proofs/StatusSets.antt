@@ -66,7 +66,7 @@ unfolding bytes_in
 bytes-given bytes r is = ap bytes_read is
 
 -- one read has all of a status
-status-back : (s : TracedSystem) (pid : ℕ) (p : TracedProcess) → IsStatus (status_of s pid p)
+pub status-back : (s : TracedSystem) (pid : ℕ) (p : TracedProcess) → IsStatus (status_of s pid p)
     → record_read status_ranges (part_read (status_bytes (status_of s pid p)) 0 read_limit)
     ≡ Ok (status_words_of (status_of s pid p))
 unfolding status_bytes

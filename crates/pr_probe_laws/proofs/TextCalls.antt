@@ -1,7 +1,8 @@
-use Rattle.std.proofs.Common.{cond, nat_lt, is_some, ◌≡◌, ◌≢◌, ◌⊎◌, ◌<◌, ◌≤◌, ◌+◌, ◌-◌, ◌∷◌, ◌++◌, ℕ, Bool, true, false, List, [], Option, Some, None, Ok, length, refl, sym, subst, ap, ◌∙◌, inl, inr, arith}
+use Rattle.std.proofs.Common.{cond, nat_lt, is_some, ◌≡◌, ◌≢◌, ◌⊎◌, ◌<◌, ◌≤◌, ◌+◌, ◌-◌, ◌∷◌, ◌++◌, ℕ, Bool, true, false, List, [], Option, Some, None, Ok, length, take, refl, sym, subst, ap, ◌∙◌, inl, inr, arith}
 use Rattle.std.proofs.lemmas.Bool.{false≢true, ltb-false, ltb-true}
 use Rattle.std.proofs.lemmas.List.{append_assoc}
 use Rattle.std.proofs.lemmas.Option.{same_Some}
+use Rattle.std.specs.List.{All}
 use Rattle.pr_api.specs.Entries.{call_entry}
 use Rattle.pr_keeps.proofs.LoanLemmas.{own-space}
 use Rattle.pr_model.specs.Readers.{space_seen}
@@ -20,7 +21,7 @@ use Rattle.pr_model.specs.Statuses.{errno_in, error_of, lwpstatus_of}
 use Rattle.pr_model.specs.declared.lwps.Phase.{Phase}
 use Rattle.pr_model.specs.declared.lwps.Phase.TheVariants as phase
 use Rattle.pr_num.specs.declared.messages.Message.{Message}
-use Rattle.pr_probe_laws.specs.SetsBack.{IsSoleIn}
+use Rattle.pr_probe_laws.specs.SetsBack.{IsNoCall, IsSoleIn}
 use Rattle.pr_model.specs.declared.calls.Call.{Call}
 use Rattle.pr_model.specs.declared.calls.Call.TheVariants as call
 use Rattle.pr_model.specs.declared.calls.File.TheVariants as file
@@ -34,21 +35,20 @@ use Rattle.pr_num.specs.Layout.{stack_base, text_base}
 use Rattle.pr_num.specs.Limits.{descriptor_limit, read_limit}
 use Rattle.pr_num.specs.Messages.{spelling}
 use Rattle.pr_num.specs.Records.{lwpstatus_ranges}
-use Rattle.pr_num.specs.Sets.{has_number, union_word, with_number}
-use Rattle.pr_num.specs.Signals.{signal_number}
-use Rattle.pr_num.specs.Syscalls.{syscall_number}
 use Rattle.pr_num.specs.Spaces.{Space, bytes_for}
 use Rattle.pr_num.specs.Words.{word_bytes}
 use Rattle.pr_num.specs.declared.errnos.Errno.{Errno}
+use Rattle.pr_num.specs.declared.errnos.Errno.TheVariants.{Busy, Fault}
 use Rattle.pr_num.specs.declared.files.FdKind.{FdKind}
 use Rattle.pr_num.specs.declared.messages.Message.TheVariants as message
 use Rattle.pr_num.specs.declared.syscalls.Sysno.TheVariants.{Fstat}
 use Rattle.pr_parts.specs.AddressSpaces.{with_bytes}
-use Rattle.pr_probe.proofs.FedLemmas.{fed-back, fed-by, kind-kept, map-by, not-refused, poll-by, run-next-by}
-use Rattle.pr_probe.specs.AgentCode.{planted}
+use Rattle.pr_probe.proofs.FedLemmas.{fed-back, fed-by, kind-kept, not-refused, poll-by, run-next-by}
+use Rattle.pr_probe.specs.AgentCode.{code_size, planted, stack_size}
 use Rattle.pr_probe.specs.DescriptorLines.{kind_in}
 use Rattle.pr_probe.specs.ProbeStages.{asking_after, file_of, is_asking_passed_over, is_passed_over, lwp_of, mode_of, place_of, stage_after, stage_asked, stage_opened}
-use Rattle.pr_probe.specs.Probes.{ProbeState, accepted, advanced, after_poll, asked, asking_accepted, asking_call, at_stage, call_of, fed, next_call_of, refusal_in, set_call, shows_open, with_answer, with_kind, with_next, with_status}
+use Rattle.pr_probe.specs.Probes.{ProbeState, accepted, advanced, after_poll, asked, asking_accepted, asking_call, at_stage, call_of, fed, next_call_of, refusal_in, refused, set_call, shows_open, with_answer, with_kind, with_map, with_next, with_status}
+use Rattle.pr_probe.specs.Regions.{has_room}
 use Rattle.pr_probe.specs.TracedSets.{agent_sets, kind_after, no_sets, set_word, trace_message}
 use Rattle.pr_probe.specs.declared.descriptor_lines.OpenDescriptor.{OpenDescriptor}
 use Rattle.pr_probe.specs.declared.probe_stages.AskingStep.{AskingStep}
@@ -70,36 +70,28 @@ use Rattle.pr_tools.specs.Handles.{handle_at, nothing_open, with_handle}
 use Rattle.pr_tools.specs.Replies.{bytes_read}
 use Rattle.pr_tools.specs.declared.handles.Opened.{Opened}
 use Rattle.pr_truss_laws.proofs.OpensLemmas.{keeps_handles}
+use Rattle.pr_truss_laws.specs.Stills.{IsHalting}
 use Rattle.pr_probe_laws.proofs.AgentCalls.{agent-lives, agent_writer, polled, registered, run}
 use Rattle.pr_probe_laws.proofs.AgentTurns.{IsFetchable, IsPlanted, asks}
 use Rattle.pr_lawful.proofs.CallLemmas.{call-state}
 use Rattle.pr_probe_laws.proofs.FileEntries.{call-stay, kinds-stay}
 use Rattle.pr_probe_laws.proofs.FilePlaces.{HasFile, HasFirst, held_of, none-first}
 use Rattle.pr_probe_laws.proofs.MemoryMessages.{read-given, read_bytes, write_bytes, writer_of}
+use Rattle.pr_probe_laws.proofs.RoomCalls.{agent-proper, looks, rooms, saves-code, saves-stack, sets, stops, where-same}
+use Rattle.pr_probe_laws.proofs.RoomStages.{HasBoth, HasCode, IsLooked, IsRoomy, Unlent, Where}
 use Rattle.pr_probe_laws.proofs.SetCalls.{back-on, control, control-stands, entries-on, exits-on, faults-on, handles-stay, its, its-open, open-first, open-system, sent-by, signals-on, taken, word-proper}
 use Rattle.pr_probe_laws.proofs.SetMessages.{set-done, setting, still-lives}
-use Rattle.pr_probe_laws.proofs.SetStages.{AllBack, Began, EntriesBack, FaultsBack, IsFair, IsProper, NoneBack, SignalsBack, began-still, fair-front, since}
+use Rattle.pr_probe_laws.proofs.SetStages.{AllBack, Began, EntriesBack, FaultsBack, IsFair, NoneBack, SignalsBack, began-still, fair-front, since}
 use Rattle.pr_probe_laws.proofs.StatusSets.{bytes-given, same-system}
 use Rattle.pr_probe_laws.proofs.HiddenMessages.{agent-used}
 use Rattle.pr_probe_laws.proofs.TextMessages.{agent-made, agent-read, asked-agent, asked-so, changed-fds, changed-with, code-planted, kind-reads, made-with, planted-size, planted-with, read-stays, registers-read, run-agent, run-so}
 use Rattle.pr_probe_laws.proofs.TextReads.{agent-shows, agent-there, found-all, found-first, found-open, found-shut, kind-back, kind-noted, shows}
-use Rattle.pr_probe_laws.proofs.TextStages.{Asks, Comes, HasFound, HasShown, IsAll, IsAnsweredOf, IsAsked, IsAsking, IsBack, IsFree, IsKnown, IsMade, IsOut, IsRanged, IsToAsk, Making, Nothing, Reads, Runs, SameKinds, Stands, TellsKind, TracesSo, WithAgent, asking-front, found-still, making-still, on_its_way, ranged-now, shown-still}
+use Rattle.pr_probe_laws.proofs.TextStages.{Asks, Comes, HasFound, HasShown, IsAll, IsAnsweredOf, IsAsked, IsAsking, IsBack, IsFree, IsKnown, IsMade, IsOut, IsRanged, IsToAsk, Making, Nothing, Reads, Runs, SameKinds, Stands, TellsKind, TracesSo, TracesWith, WithAgent, asking-front, found-still, making-still, on_its_way, ranged-now, shown-still}
 use Rattle.pr_probe_laws.specs.PutBack.{SendsTo}
 use Rattle.pr_probe_laws.specs.SetsBack.{sets_on}
-use Rattle.pr_probe_laws.specs.ShownDescriptors.{kind_at}
+use Rattle.pr_probe_laws.specs.ShownDescriptors.{HasRoom, WasUnlent, kind_at}
 
 -- What a call of apfiles makes of what its agent was answered.
-
--- the sets of the agent are such as a process can have
-agent-proper : IsProper agent_sets
-unfolding agent_sets with_number union_word syscall_number has_number signal_number
-agent-proper = record {
-  signals_fit = omega arith;
-  no_kill = refl;
-  faults_fit = omega arith;
-  entries_fit = omega arith;
-  exits_fit = omega arith;
-}
 
 -- one descriptor after another
 module _ (pid : ℕ) where
@@ -159,7 +151,7 @@ module _ (k pid : ℕ) (first : TracedState) (h : List Entry) (c : Call) (a : An
   opened_by f p = record p { opened = with_handle p.opened (place_of f) (opened_in a.reply) }
 
   begins : (p : ProbeState) → (p.pid ≡ pid) × (p.opened ≡ nothing_open) × (p.lines ≡ [])
-      → Some (call.Open p.pid (lwp_of Control) (file_of Control) (mode_of Control)) ≡ Some c
+      × All (IsNoCall k) h → Some (call.Open p.pid (lwp_of Control) (file_of Control) (mode_of Control)) ≡ Some c
       → ((e : Errno) → a.reply ≢ reply.Fail e)
       → Comes k pid first longer a.state (opened_by Control p) 1 (Nothing k pid first)
   unfolding place_of lwp_of file_of mode_of
@@ -171,6 +163,7 @@ module _ (k pid : ℕ) (first : TracedState) (h : List Entry) (c : Call) (a : An
       place =
           ap (λ (d : Call). h ++ call_entry k d a.reply ∷ [])
           (its-open k pid first h c a lawful given Control p so.0 same accepts);
+      first_call = so.3;
     };
     its = so.0;
     none = so.2;
@@ -196,31 +189,46 @@ module _ (k pid : ℕ) (first : TracedState) (h : List Entry) (c : Call) (a : An
       (files-stay d same keeps many p.opened before.holds))
       (λ b fair nothing. so) before
 
+  -- with what becomes known of the process
+  comes-with : (d : Call) → Some d ≡ Some c → keeps_handles d ≡ true → (p u : ProbeState)
+      (F G : TracedSystem → Type 0) → u.pid ≡ p.pid → u.opened ≡ p.opened → u.lines ≡ p.lines
+      → ((b : Began k pid first h) → IsFair k pid first h b → F s.system → G a.state.system)
+      → Comes k pid first h s p 4 F → Comes k pid first longer a.state u 4 G
+  comes-with d same keeps p u F G its_pid files lines on before =
+      comes-called p u 4 4 F G its_pid lines
+      (subst (λ (o : Opened). HasFirst k pid 4 a.state.opens o) (sym files)
+      (files-stay d same keeps 4 p.opened before.holds)) on before
+
   -- one of the sets is set for the agent
   comes-traced : (R S : TracedSets → TracedSets → Type 0) (kind : SetKind) → back-on R S kind → (p u : ProbeState)
       → u.pid ≡ p.pid → u.opened ≡ p.opened → u.lines ≡ p.lines
-      → Comes k pid first h s p 4 (TracesSo k pid first R) → Some (set_call p kind agent_sets) ≡ Some c
-      → ((e : Errno) → a.reply ≢ reply.Fail e) → Comes k pid first longer a.state u 4 (TracesSo k pid first S)
+      → u.code ≡ p.code → u.stack ≡ p.stack → Comes k pid first h s p 4 (TracesWith k pid first h p R)
+      → Some (set_call p kind agent_sets) ≡ Some c → ((e : Errno) → a.reply ≢ reply.Fail e)
+      → Comes k pid first longer a.state u 4 (TracesWith k pid first longer u S)
   unfolding with_control
-  comes-traced R S kind on p u its_pid files lines before same accepts =
-      comes-called p u 4 4 (TracesSo k pid first R) (TracesSo k pid first S) its_pid lines
+  comes-traced R S kind on p u its_pid files lines code stack before same accepts =
+      comes-called p u 4 4 (TracesWith k pid first h p R) (TracesWith k pid first longer u S) its_pid lines
       (subst (λ (o : Opened). HasFirst k pid 4 a.state.opens o) (sym files)
       (files-stay _ same refl 4 p.opened before.holds))
-      (λ b fair so q live.
-      let some : 0 < 4 = omega arith in
-      let file = control k pid first h c a lawful given p 4 some before.holds in
-      let stands = control-stands k pid first h c a lawful given p 4 some before.holds in
-      let sent = sent-by k pid first h c a lawful given p 4 some before.holds _ same in
-      let lives = still-lives s k file.number pid a stands accepts _ sent in
-      let x : TracedProcess = lives.process in
-      let w : ℕ = set_word agent_sets kind in
-      let now =
-      set-done s k file.number pid a stands accepts x lives.live kind w (word-proper kind agent_sets agent-proper) sent
-      in
-      let is : with_control (setting kind w) x ≡ q =
-      same_Some (with_control (setting kind w) x) q (sym now ∙ live) in
-      subst (λ (y : TracedProcess). S agent_sets (sets_on y)) is (on agent_sets x agent-proper (so x lives.live)))
-      before
+      (λ b fair known. (
+        traced known.0,
+        sets k pid first h c a lawful given p u kind code stack before.holds same accepts known.1,
+      )) before
+    where
+      traced : TracesSo k pid first R s.system → TracesSo k pid first S a.state.system
+      traced so q live =
+          let some : 0 < 4 = omega arith in
+          let file = control k pid first h c a lawful given p 4 some before.holds in
+          let stands = control-stands k pid first h c a lawful given p 4 some before.holds in
+          let sent = sent-by k pid first h c a lawful given p 4 some before.holds _ same in
+          let lives = still-lives s k file.number pid a stands accepts _ sent in
+          let x : TracedProcess = lives.process in
+          let w : ℕ = set_word agent_sets kind in
+          let proper = word-proper kind agent_sets agent-proper in
+          let now = set-done s k file.number pid a stands accepts x lives.live kind w proper sent in
+          let is : with_control (setting kind w) x ≡ q =
+          same_Some (with_control (setting kind w) x) q (sym now ∙ live) in
+          subst (λ (y : TracedProcess). S agent_sets (sets_on y)) is (on agent_sets x agent-proper (so x lives.live))
 
   -- ---- the agent is made
 
@@ -257,7 +265,7 @@ module _ (k pid : ℕ) (first : TracedState) (h : List Entry) (c : Call) (a : An
           ap (λ (es : List Entry). es ++ it ∷ []) split ∙ append_assoc front back (it ∷ [])
 
   agent-made-here : (p u : ProbeState) → u.pid ≡ p.pid → u.opened ≡ p.opened → u.lines ≡ p.lines
-      → Comes k pid first h s p 4 (TracesSo k pid first AllBack)
+      → Comes k pid first h s p 4 (TracesWith k pid first h p AllBack)
       → Some (call.Ctl (number_of (handle_at p.opened (place_of Control))) (spelling (message.Agent (asks 0)) []))
       ≡ Some c
       → ((e : Errno) → a.reply ≢ reply.Fail e) → Asks k pid first longer a.state u 4 (IsMade k pid first u.lines)
@@ -287,11 +295,19 @@ module _ (k pid : ℕ) (first : TracedState) (h : List Entry) (c : Call) (a : An
             let fair = fair-here before.began ask.sole ask.ranged in
             let is : with_agent (asks 0) made.process ≡ q = same_Some (with_agent (asks 0) made.process) q
             (sym made.now ∙ live) in
-            let back = before.so fair made.process made.live in (
+            let known = before.so fair in
+            let back = known.0 made.process made.live in (
               lines ∙ before.none,
-              subst (WithAgent IsFetchable Stands) is (made-with made.process ask.room back made.own made.lets),
+              subst (WithAgent IsFetchable Stands) is
+                  (made-with made.process (roomy known.1 made.process made.live ask.room) back made.own made.lets),
             );
       }
+    where
+      -- there is room for it
+      roomy : Unlent k pid first h (HasBoth p) s.system → (q : TracedProcess) → live_process s.system pid ≡ Some q
+          → WasUnlent k pid first h ⊎ HasRoom q → HasRoom q
+      roomy so q live (inl was) = (so was q live).roomy.room
+      roomy so q live (inr room) = room
 
   -- ---- with the agent
 
@@ -731,6 +747,25 @@ module _ (k pid : ℕ) (first : TracedState) (h : List Entry) (c : Call) (a : An
       kinds-read (at_stage p (stage.Asking d ReadKind)) d so same
       (taken k pid first h c a lawful given (stage.Asking d ReadKind) (λ e. refl) right)
 
+  -- the mappings have room
+  maps : (p : ProbeState) → Reads k pid first h s (at_stage p stage.ReadMap) stage.ReadMap
+      → Some (call.Read (number_of (handle_at p.opened (place_of Map))) 0 read_limit) ≡ Some c
+      → Next (with_map (at_stage p stage.ReadMap) (bytes_read a.reply))
+  unfolding Reads with_map advanced with_next stage_after
+  maps p so same = by p.watched refl (has_room (bytes_read a.reply)) refl
+    where
+      by : (w : Bool) → p.watched ≡ w → (room : Bool) → has_room (bytes_read a.reply) ≡ room
+          → Next (cond w (refused (at_stage p stage.ReadMap) Busy)
+          (cond room (at_stage p stage.SaveCode) (refused (at_stage p stage.ReadMap) Fault)))
+      by true is room seen = λ none. not-refused (at_stage p stage.ReadMap) Busy none
+      by false is true seen = λ none.
+          comes-with _ same refl (at_stage p stage.ReadMap) (at_stage p stage.SaveCode)
+          (Unlent k pid first h (IsLooked (at_stage p stage.ReadMap))) (Unlent k pid first longer IsRoomy)
+          refl refl refl
+          (λ b fair known.
+          rooms k pid first h c a lawful given (at_stage p stage.ReadMap) so.holds is seen same b fair known) so
+      by false is false seen = λ none. not-refused (at_stage p stage.ReadMap) Fault none
+
   step-on : (p : ProbeState) (g : ProbeStage) → Reads k pid first h s (at_stage p g) g
       → call_of (at_stage p g) g ≡ Some c → refusal_in g a.reply ≡ None → Next (accepted (at_stage p g) a.reply g)
   unfolding Reads call_of accepted advanced with_next with_status stage_after stage_opened place_of kind_after
@@ -761,31 +796,54 @@ module _ (k pid : ℕ) (first : TracedState) (h : List Entry) (c : Call) (a : An
       (taken k pid first h c a lawful given (stage.Open AgentStatus) (λ e. refl) right))
   step-on p stage.ReadFirst so same right =
       λ none. comes-plain _ same refl _ _ 4 (Nothing k pid first) tt refl refl refl so
-  step-on p stage.Stop so same right =
-      λ none. comes-plain _ same refl _ _ 4 (Nothing k pid first) tt refl refl refl so
-  step-on p stage.AwaitStop so same right =
-      λ none. comes-plain _ same refl _ _ 4 (Nothing k pid first) tt refl refl refl so
+  step-on p stage.Stop so same right = λ none.
+      comes-with _ same refl (at_stage p stage.Stop) _ (Nothing k pid first) (Where pid IsHalting) refl refl refl
+      (λ b fair known.
+      stops k pid first h c a lawful given (at_stage p stage.Stop) so.holds same
+      (taken k pid first h c a lawful given stage.Stop (λ e. refl) right)) so
+  step-on p stage.AwaitStop so same right = λ none.
+      comes-with _ same refl (at_stage p stage.AwaitStop) _ (Where pid IsHalting) (Where pid IsHalting) refl refl refl
+      (λ b fair known.
+      where-same k pid first h c a lawful given IsHalting
+      (same-system s k _ a refl (its k pid first h c a lawful given _ same)) known) so
   step-on p stage.ReadStatus so same right =
-      λ none. comes-plain _ same refl _ _ 4 (Nothing k pid first) tt refl refl refl so
-  step-on p stage.ReadMap so same right =
-      map-by Next (at_stage p stage.ReadMap) (bytes_read a.reply)
-      (λ e none. not-refused (at_stage p stage.ReadMap) e none)
-      (λ none. comes-plain _ same refl _ _ 4 (Nothing k pid first) tt refl refl refl so)
+      let seen : ProbeState = with_status (at_stage p stage.ReadStatus) (bytes_read a.reply) in
+      λ none.
+      comes-with _ same refl (at_stage p stage.ReadStatus) (at_stage seen stage.ReadMap) (Where pid IsHalting)
+      (Unlent k pid first longer (IsLooked (at_stage seen stage.ReadMap))) refl refl refl
+      (λ b fair known.
+      looks k pid first h c a lawful given (at_stage p stage.ReadStatus) (at_stage seen stage.ReadMap) so.holds refl
+      same b fair known) so
+  step-on p stage.ReadMap so same right = maps p so same
   step-on p stage.SaveCode so same right =
-      λ none. comes-plain _ same refl _ _ 4 (Nothing k pid first) tt refl refl refl so
+      let u : ProbeState = record (at_stage p stage.SaveStack) { code = take code_size (bytes_read a.reply) } in
+      λ none.
+      comes-with _ same refl (at_stage p stage.SaveCode) u (Unlent k pid first h IsRoomy)
+      (Unlent k pid first longer (HasCode u)) refl refl refl
+      (λ b fair known.
+      saves-code k pid first h c a lawful given (at_stage p stage.SaveCode) u so.holds refl same
+      (taken k pid first h c a lawful given stage.SaveCode (λ e. refl) right) known) so
   step-on p stage.SaveStack so same right =
-      λ none. comes-plain _ same refl _ _ 4 (TracesSo k pid first NoneBack) (λ q live. tt) refl refl refl so
+      let u : ProbeState = record (at_stage p (stage.Trace Signals)) { stack = take stack_size (bytes_read a.reply) } in
+      λ none.
+      comes-with _ same refl (at_stage p stage.SaveStack) u
+      (Unlent k pid first h (HasCode (at_stage p stage.SaveStack))) (TracesWith k pid first longer u NoneBack) refl refl refl
+      (λ b fair known. (
+        λ q live. tt,
+        saves-stack k pid first h c a lawful given (at_stage p stage.SaveStack) u so.holds refl refl same
+            (taken k pid first h c a lawful given stage.SaveStack (λ e. refl) right) known,
+      )) so
   step-on p (stage.Trace Signals) so same right =
-      λ none. comes-traced NoneBack SignalsBack Signals signals-on _ _ refl refl refl so same
+      λ none. comes-traced NoneBack SignalsBack Signals signals-on _ _ refl refl refl refl refl so same
       (taken k pid first h c a lawful given (stage.Trace Signals) (λ e. refl) right)
   step-on p (stage.Trace Faults) so same right =
-      λ none. comes-traced SignalsBack FaultsBack Faults faults-on _ _ refl refl refl so same
+      λ none. comes-traced SignalsBack FaultsBack Faults faults-on _ _ refl refl refl refl refl so same
       (taken k pid first h c a lawful given (stage.Trace Faults) (λ e. refl) right)
   step-on p (stage.Trace Entries) so same right =
-      λ none. comes-traced FaultsBack EntriesBack Entries entries-on _ _ refl refl refl so same
+      λ none. comes-traced FaultsBack EntriesBack Entries entries-on _ _ refl refl refl refl refl so same
       (taken k pid first h c a lawful given (stage.Trace Entries) (λ e. refl) right)
   step-on p (stage.Trace Exits) so same right =
-      λ none. comes-traced EntriesBack AllBack Exits exits-on _ _ refl refl refl so same
+      λ none. comes-traced EntriesBack AllBack Exits exits-on _ _ refl refl refl refl refl so same
       (taken k pid first h c a lawful given (stage.Trace Exits) (λ e. refl) right)
   step-on p stage.MakeAgent so same right =
       λ none. agent-made-here _ _ refl refl refl so same

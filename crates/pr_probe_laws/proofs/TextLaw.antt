@@ -1,4 +1,5 @@
-use Rattle.std.proofs.Common.{true, ◌≡◌, ◌∷◌, ◌++◌, ℕ, List, [], Some, None, is_some, slice_get, refl, sym, subst, ap, ◌∙◌}
+use Rattle.std.proofs.Common.{true, ◌≡◌, ◌⊎◌, ◌∷◌, ◌++◌, ℕ, List, [], Some, None, is_some, slice_get, refl, sym, subst, ap, ◌∙◌}
+use Rattle.std.proofs.lemmas.List.Elements.{All-nil}
 use Rattle.std.proofs.lemmas.List.{append_assoc}
 use Rattle.pr_api.specs.Entries.{call_entry}
 use Rattle.pr_lawful.proofs.CallLemmas.{call-state}
@@ -17,18 +18,19 @@ use Rattle.pr_probe.specs.declared.probe_stages.ProbeStage.{ProbeStage}
 use Rattle.pr_reached.proofs.ReachedLemmas.{later-reached}
 use Rattle.pr_reached.specs.ByteHistories.{HasBytes}
 use Rattle.pr_reached.specs.Reached.{IsReached}
-use Rattle.pr_tool_laws.proofs.ProtocolLemmas.{KeptByCalls, KeptByOthers, protocol-keeps}
+use Rattle.pr_tool_laws.proofs.ProtocolLemmas.{KeptByCalls, KeptByOthers, own-keeps}
 use Rattle.pr_tool_laws.proofs.StageLemmas.{state-called}
 use Rattle.pr_tool_laws.proofs.WholeLemmas.{front-bytes, front-legal}
 use Rattle.pr_world.specs.ControllerStates.{ControllerState, Probe}
 use Rattle.pr_world.specs.Controllers.{after_reply, next_call}
-use Rattle.pr_world.specs.Protocol.{Follows, controllers_at}
+use Rattle.pr_world.specs.Protocol.{controllers_at}
+use Rattle.pr_tool_laws.specs.OwnCalls.{AreOwnCalls}
 use Rattle.pr_probe_laws.proofs.AgentTurns.{asks}
 use Rattle.pr_probe_laws.proofs.TextCalls.{called-reads}
 use Rattle.pr_probe_laws.proofs.TextStages.{HasShown, IsAsking, IsRanged, Reads, reads-still}
 use Rattle.pr_probe_laws.specs.PutBack.{SendsTo}
-use Rattle.pr_probe_laws.specs.SetsBack.{opening_entry}
-use Rattle.pr_probe_laws.specs.ShownDescriptors.{ShowsDescriptors, ShowsOneState}
+use Rattle.pr_probe_laws.specs.SetsBack.{IsNoCall, opening_entry}
+use Rattle.pr_probe_laws.specs.ShownDescriptors.{HasRoom, WasUnlent, ShowsDescriptors, ShowsOneState}
 
 -- The text of apfiles is that of one state.
 
@@ -64,7 +66,7 @@ module _ (n k pid : ℕ) (first : TracedState) where
 
   pub at_first : Reads k pid first [] first (first_probe pid) (first_probe pid).stage
   unfolding Reads first_probe
-  at_first = (refl, refl, refl)
+  at_first = (refl, refl, refl, All-nil (IsNoCall k))
 
   -- who has finished has shown what it was answered
   has-shown : (h : List Entry) (s : TracedState) (p : ProbeState) → has_ended p ≡ true
@@ -82,13 +84,13 @@ text-is p pid ended accepted its = rw (ended, accepted, its) refl
 -- In the end its text is that of the state that its last look finds, unless it was refused.
 pub shows-one : (controllers : List ControllerState) (n k : ℕ) (pid : ℕ) (s : TracedState) (h : List Entry)
     (p : ProbeState) → IsReached s → HasBytes h
-    → slice_get controllers k ≡ Some (Probe (first_probe pid)) → IsLegal n s h → Follows controllers s h
+    → slice_get controllers k ≡ Some (Probe (first_probe pid)) → IsLegal n s h → AreOwnCalls controllers h
     → slice_get (controllers_at controllers h) k ≡ Some (Probe p) → has_ended p ≡ true → p.refusal ≡ None
     → ShowsOneState k pid s h (printed p)
 unfolding IsProbeReading
 shows-one controllers n k pid s h p reached bytes starts legal follows ends ended accepted =
     let kept =
-    protocol-keeps n k s (IsProbeReading n k pid s) (others-read n k pid s) (calls-read n k pid s) controllers h
+    own-keeps n k s (IsProbeReading n k pid s) (others-read n k pid s) (calls-read n k pid s) controllers h
     (Probe (first_probe pid)) (Probe p) legal follows starts ends (reached.lawful, λ none. at_first n k pid s) in
     let shown = has-shown n k pid s h (state_after s h) p ended (kept.1 accepted) in
     of shown.0 shown.1
@@ -120,6 +122,7 @@ shows-one controllers n k pid s h p reached bytes starts legal follows ends ende
           reply = it.reply;
           after = it.after;
           place = it.place ∙ ap (λ (es : List Entry). es ++ rest) front_is;
+          first_call = b.first_call;
           makes =
               subst (λ (es : List Entry). SendsTo k pid (message.Agent (asks 0)) [] (state_after s es) m.make) b.place
               m.makes;
@@ -130,9 +133,11 @@ shows-one controllers n k pid s h p reached bytes starts legal follows ends ende
           lives =
               subst (λ (es : List Entry). live_process (state_after s es).system pid ≡ Some m.process) b.place m.lives;
           shown = λ sole room.
+              let asks_so : WasUnlent k pid s m.front ⊎ HasRoom m.process =
+              subst (λ (es : List Entry). WasUnlent k pid s es ⊎ HasRoom m.process) (sym b.place) room in
               let ask : IsAsking k pid s it.front m = record {
                 sole = sole;
-                room = room;
+                room = asks_so;
                 ranged = λ front back split.
                     front-ranged front (back ++ rest)
                     (it.place ∙ ap (λ (es : List Entry). es ++ rest) split ∙ append_assoc front back rest);

@@ -73,7 +73,7 @@ spelt-reads m words count columns none =
     subst (ReadsAs m)
     (sym (ap first_message (sym (append-nil bytes)) ∙ spelt_is_read bytes [] m [] spells)) refl
 
-asked-words : (d : ℕ) → d < descriptor_limit → All IsWord (agent_registers d text_base)
+pub asked-words : (d : ℕ) → d < descriptor_limit → All IsWord (agent_registers d text_base)
 unfolding agent_registers
 asked-words d small =
     All-from_recursion IsWord (agent_registers d text_base) (

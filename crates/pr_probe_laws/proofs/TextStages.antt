@@ -3,6 +3,7 @@ use Rattle.pr_model.specs.LwpTurns.{LwpTurn, is_held_back, turn_of}
 use Rattle.pr_model.specs.Readers.{has_lent}
 use Rattle.std.proofs.lemmas.Bool.{false≢true}
 use Rattle.std.proofs.Common.{is_some, not, ◌==◌, ◌||◌, ◌&&◌, ◌≡◌, ◌⊎◌, ◌<◌, ◌≤◌, ◌+◌, ◌∷◌, ◌++◌, ℕ, zero, suc, Bool, true, List, [], Option, Some, None, Ok, Result, length, option_map, refl, sym, subst, ap, ◌∙◌, inl, inr, arith}
+use Rattle.std.specs.List.{All}
 use Rattle.std.proofs.lemmas.List.{append_assoc, append-nil}
 use Rattle.std.proofs.lemmas.Option.{same_Some}
 use Rattle.pr_api.specs.Entries.{call_entry}
@@ -57,6 +58,7 @@ use Rattle.pr_tool_laws.proofs.StandingLemmas.{IsOther, others-keep}
 use Rattle.pr_tool_laws.proofs.ToolLemmas.{place-still}
 use Rattle.pr_tools.specs.Handles.{nothing_open}
 use Rattle.pr_truss_laws.specs.Handles.{HasNoOtherWriter}
+use Rattle.pr_truss_laws.specs.Stills.{IsHalting}
 use Rattle.pr_probe_laws.proofs.AgentEntries.{Becomes, had_turn, is_left, lived-before, others-become, pends_as}
 use Rattle.pr_probe_laws.proofs.AgentMemory.{first-bytes}
 use Rattle.pr_probe_laws.proofs.AgentRows.{AfterAgent, agent-turn, goes_on, is_back}
@@ -64,11 +66,13 @@ use Rattle.pr_probe_laws.proofs.AgentTurns.{IsUnheld, IsAgent, IsFetchable, IsPl
 use Rattle.pr_lawful.proofs.HistoryLemmas.{history-state}
 use Rattle.pr_probe_laws.proofs.FileEntries.{entry-stay, kinds-stay}
 use Rattle.pr_probe_laws.proofs.FilePlaces.{HasFirst, held_of, keeps-first}
+use Rattle.pr_probe_laws.proofs.RoomFrames.{IsKept}
+use Rattle.pr_probe_laws.proofs.RoomStages.{HasBoth, HasCode, IsLooked, IsRoomy, Unlent, Where, both-kept, code-kept, looked-kept, roomy-kept, unlent-on, where-on}
 use Rattle.pr_probe_laws.proofs.SetFrames.{others-sets}
-use Rattle.pr_probe_laws.proofs.SetStages.{AllBack, Began, EntriesBack, FaultsBack, IsFair, NoneBack, SignalsBack, began-still, fair-front, fair-now, since}
+use Rattle.pr_probe_laws.proofs.SetStages.{AllBack, Began, EntriesBack, FaultsBack, IsFair, NoneBack, SignalsBack, began-still, fair-front, fair-now, no-call-on, since}
 use Rattle.pr_probe_laws.specs.PutBack.{SendsTo}
-use Rattle.pr_probe_laws.specs.SetsBack.{IsSoleIn, sets_on}
-use Rattle.pr_probe_laws.specs.ShownDescriptors.{HasRoom, descriptors_from, kind_at, open_descriptors}
+use Rattle.pr_probe_laws.specs.SetsBack.{IsNoCall, IsSoleIn, sets_on}
+use Rattle.pr_probe_laws.specs.ShownDescriptors.{HasRoom, WasUnlent, descriptors_from, kind_at, open_descriptors}
 
 -- The stages of apfiles, with what its agent was answered.
 
@@ -281,11 +285,11 @@ module _ (k pid : ℕ) (first : TracedState) where
     pub range : IsInRange s
     pub fit : IsFitSystem s
 
-  -- No other controller has the process open for writing since then, there was room for the agent, and each state is in
-  -- range and fit.
+  -- No other controller has the process open for writing since then, the process had lent its memory to nobody when its
+  -- status was read, or there was room for the agent all the same, and each state is in range and fit.
   pub record IsAsking (h : List Entry) (m : Making h) : Type 0 where
     pub sole : IsSoleIn k pid first m.began.before (whole h m)
-    pub room : HasRoom m.process
+    pub room : WasUnlent k pid first m.front ⊎ HasRoom m.process
     pub ranged : (front back : List Entry) → h ≡ front ++ back → IsRanged (state_after first front).system
 
   pub sole-now : (h : List Entry) (m : Making h) → IsAsking h m → HasNoOtherWriter k pid (state_after first h).opens
@@ -346,6 +350,10 @@ module _ (k pid : ℕ) (first : TracedState) where
   -- these of the sets are those of the agent
   abbrev pub TracesSo : (TracedSets → TracedSets → Type 0) → TracedSystem → Type 0
   TracesSo R s = (q : TracedProcess) → live_process s pid ≡ Some q → R agent_sets (sets_on q)
+
+  -- and there is room for the agent, with all saved, unless the process had lent its memory
+  abbrev pub TracesWith : List Entry → ProbeState → (TracedSets → TracedSets → Type 0) → TracedSystem → Type 0
+  TracesWith h p R s = TracesSo R s × Unlent k pid first h (HasBoth p) s
 
   -- the agent stands, and nothing was asked
   abbrev pub IsMade : List OpenDescriptor → TracedSystem → TracedProcess → Type 0
@@ -410,6 +418,7 @@ module _ (k pid : ℕ) (first : TracedState) where
   -- what is so at a stage of a probe that was not refused
   unfoldable pub Reads : List Entry → TracedState → ProbeState → ProbeStage → Type 0
   Reads h s p (stage.Open Control) = (p.pid ≡ pid) × (p.opened ≡ nothing_open) × (p.lines ≡ [])
+      × All (IsNoCall k) h
   Reads h s p (stage.Open Status) = Comes h s p 1 Nothing
   Reads h s p (stage.Open Lstatus) = Comes h s p 2 Nothing
   Reads h s p (stage.Open Map) = Comes h s p 3 Nothing
@@ -417,16 +426,16 @@ module _ (k pid : ℕ) (first : TracedState) where
   Reads h s p (stage.Open AgentStatus) = Asks h s p 5 (IsMade p.lines)
   Reads h s p stage.ReadFirst = Comes h s p 4 Nothing
   Reads h s p stage.Stop = Comes h s p 4 Nothing
-  Reads h s p stage.AwaitStop = Comes h s p 4 Nothing
-  Reads h s p stage.ReadStatus = Comes h s p 4 Nothing
-  Reads h s p stage.ReadMap = Comes h s p 4 Nothing
-  Reads h s p stage.SaveCode = Comes h s p 4 Nothing
-  Reads h s p stage.SaveStack = Comes h s p 4 Nothing
-  Reads h s p (stage.Trace Signals) = Comes h s p 4 (TracesSo NoneBack)
-  Reads h s p (stage.Trace Faults) = Comes h s p 4 (TracesSo SignalsBack)
-  Reads h s p (stage.Trace Entries) = Comes h s p 4 (TracesSo FaultsBack)
-  Reads h s p (stage.Trace Exits) = Comes h s p 4 (TracesSo EntriesBack)
-  Reads h s p stage.MakeAgent = Comes h s p 4 (TracesSo AllBack)
+  Reads h s p stage.AwaitStop = Comes h s p 4 (Where pid IsHalting)
+  Reads h s p stage.ReadStatus = Comes h s p 4 (Where pid IsHalting)
+  Reads h s p stage.ReadMap = Comes h s p 4 (Unlent k pid first h (IsLooked p))
+  Reads h s p stage.SaveCode = Comes h s p 4 (Unlent k pid first h IsRoomy)
+  Reads h s p stage.SaveStack = Comes h s p 4 (Unlent k pid first h (HasCode p))
+  Reads h s p (stage.Trace Signals) = Comes h s p 4 (TracesWith h p NoneBack)
+  Reads h s p (stage.Trace Faults) = Comes h s p 4 (TracesWith h p SignalsBack)
+  Reads h s p (stage.Trace Entries) = Comes h s p 4 (TracesWith h p FaultsBack)
+  Reads h s p (stage.Trace Exits) = Comes h s p 4 (TracesWith h p EntriesBack)
+  Reads h s p stage.MakeAgent = Comes h s p 4 (TracesWith h p AllBack)
   Reads h s p stage.PlantCode = Asks h s p 6 (IsMade p.lines)
   Reads h s p (stage.Asking d SetRegisters) = Asks h s p 6 (IsFree p.lines d)
   Reads h s p (stage.Asking d RunAgent) = Asks h s p 6 (IsToAsk p.lines d)
@@ -516,7 +525,8 @@ module _ (k pid : ℕ) (first : TracedState) where
       becomes : (C : Result (List ℕ) BadByte → Type 0) → IsReady C x → (l : TracedLwp) → lwp_of x agent_id ≡ Some l
           → Becomes agent_sets.exits C s.system pid x l q
       becomes C ready l there =
-          others-become agent_sets.exits C n s k pid lawful (sole-now h m front) x before ready l there actor it legal other q later
+          others-become agent_sets.exits C n s k pid lawful (sole-now h m front) x before ready l there actor it legal other
+          q later
 
       kinds : q.fds ≡ x.fds → SameKinds s.system.files x.fds next.system.files q.fds
       kinds same =
@@ -677,15 +687,37 @@ module _ (k pid : ℕ) (first : TracedState) where
         → Comes (h ++ e ∷ []) next p many Nothing
     nothing-on p many some so = comes-on p many some so.holds Nothing Nothing (λ b fair known. tt) so
 
-    sets-on-still : (R : TracedSets → TracedSets → Type 0) (p : ProbeState) → Comes h s p 4 (TracesSo R)
-        → Comes (h ++ e ∷ []) next p 4 (TracesSo R)
+    sets-on-still : (R : TracedSets → TracedSets → Type 0) (p : ProbeState) → Comes h s p 4 (TracesWith h p R)
+        → Comes (h ++ e ∷ []) next p 4 (TracesWith (h ++ e ∷ []) p R)
     sets-on-still R p so =
-        comes-on p 4 (omega arith) so.holds (TracesSo R) (TracesSo R)
-        (λ b fair known. traces-on p 4 (omega arith) so.holds R b fair known) so
+        comes-on p 4 (omega arith) so.holds (TracesWith h p R) (TracesWith (h ++ e ∷ []) p R)
+        (λ b fair known. (
+          traces-on p 4 (omega arith) so.holds R b fair known.0,
+          unlent-on k pid first n h lawful actor it legal other (made p 4 (omega arith) so.holds) b fair (HasBoth p)
+              (λ x here. here.roomy.still.halts) (λ x q kept here. both-kept x q kept p here) known.1,
+        )) so
+
+    halts-on : (p : ProbeState) → Comes h s p 4 (Where pid IsHalting)
+        → Comes (h ++ e ∷ []) next p 4 (Where pid IsHalting)
+    halts-on p so =
+        comes-on p 4 (omega arith) so.holds (Where pid IsHalting) (Where pid IsHalting)
+        (λ b fair known.
+        where-on k pid first n h lawful actor it legal other (made p 4 (omega arith) so.holds) b fair IsHalting
+        (λ x here. here) (λ x q kept here. kept.halts) known) so
+
+    unlent-still : (P : TracedProcess → Type 0) → ((x : TracedProcess) → P x → IsHalting x)
+        → ((x q : TracedProcess) → IsKept x q → P x → P q) → (p : ProbeState)
+        → Comes h s p 4 (Unlent k pid first h P) → Comes (h ++ e ∷ []) next p 4 (Unlent k pid first (h ++ e ∷ []) P)
+    unlent-still P halts keeps p so =
+        comes-on p 4 (omega arith) so.holds (Unlent k pid first h P) (Unlent k pid first (h ++ e ∷ []) P)
+        (λ b fair known.
+        unlent-on k pid first n h lawful actor it legal other (made p 4 (omega arith) so.holds) b fair P halts keeps
+        known) so
 
     pub reads-still : (p : ProbeState) (g : ProbeStage) → Reads h s p g → Reads (h ++ e ∷ []) next p g
     unfolding Reads
-    reads-still p (stage.Open Control) so = so
+    reads-still p (stage.Open Control) so =
+        (so.0, so.1, so.2, no-call-on k pid first h actor it other so.3)
     reads-still p (stage.Open Status) so = nothing-on p 1 (omega arith) so
     reads-still p (stage.Open Lstatus) so = nothing-on p 2 (omega arith) so
     reads-still p (stage.Open Map) so = nothing-on p 3 (omega arith) so
@@ -697,11 +729,16 @@ module _ (k pid : ℕ) (first : TracedState) where
         (λ m ask x q before later. made-still m ask x q before later p.lines) so
     reads-still p stage.ReadFirst so = nothing-on p 4 (omega arith) so
     reads-still p stage.Stop so = nothing-on p 4 (omega arith) so
-    reads-still p stage.AwaitStop so = nothing-on p 4 (omega arith) so
-    reads-still p stage.ReadStatus so = nothing-on p 4 (omega arith) so
-    reads-still p stage.ReadMap so = nothing-on p 4 (omega arith) so
-    reads-still p stage.SaveCode so = nothing-on p 4 (omega arith) so
-    reads-still p stage.SaveStack so = nothing-on p 4 (omega arith) so
+    reads-still p stage.AwaitStop so =
+        halts-on p so
+    reads-still p stage.ReadStatus so =
+        halts-on p so
+    reads-still p stage.ReadMap so =
+        unlent-still (IsLooked p) (λ x here. here.still.halts) (λ x q kept here. looked-kept x q kept p here) p so
+    reads-still p stage.SaveCode so =
+        unlent-still IsRoomy (λ x here. here.still.halts) (λ x q kept here. roomy-kept x q kept here) p so
+    reads-still p stage.SaveStack so =
+        unlent-still (HasCode p) (λ x here. here.roomy.still.halts) (λ x q kept here. code-kept x q kept p here) p so
     reads-still p (stage.Trace Signals) so = sets-on-still NoneBack p so
     reads-still p (stage.Trace Faults) so = sets-on-still SignalsBack p so
     reads-still p (stage.Trace Entries) so = sets-on-still FaultsBack p so

@@ -7,7 +7,7 @@ use Rattle.pr_num.specs.Infos.{killed_by, queued_by}
 use Rattle.pr_num.specs.Layout.{heap_base, break_limit}
 use Rattle.pr_num.specs.Limits.{last_lwp, lwp_limit, process_limit, sleep_limit, transfer_limit}
 use Rattle.pr_num.specs.Programs.{Program, rounded}
-use Rattle.pr_num.specs.Signals.{signal_of_number}
+use Rattle.pr_num.specs.Signals.{signal_number, signal_of_number}
 use Rattle.pr_num.specs.Spaces.{Space, bytes_for, first_space, mapped_size, mapping_limit}
 use Rattle.pr_num.specs.Words.{word_bytes}
 use Rattle.pr_num.specs.declared.errnos.Errno.{Errno}
@@ -29,7 +29,7 @@ use Rattle.pr_parts.specs.declared.files.FileNo.{FileNo}
 use Rattle.pr_parts.specs.declared.files.FileNo.TheVariants as no
 use Rattle.pr_parts.specs.declared.files.Stat.{Stat}
 use Rattle.pr_model.specs.CallEffects.{call_effect}
-use Rattle.pr_model.specs.Changes.{Effect, does, sleeps, ends, fails, gives, reaps, space_is}
+use Rattle.pr_model.specs.Changes.{Effect, does, sleeps, ends, ends_process, fails, gives, reaps, signals, space_is}
 use Rattle.pr_model.specs.FileCallRows.{close_effect, dup_effect, file_effect, fstat_effect, lseek_effect, open_effect, pipe_effect, read_effect, refusal_effect, word_size, write_effect}
 use Rattle.pr_model.specs.LwpCalls.{can_be_named, lwp_continue_effect, lwp_create_effect, lwp_suspend_effect}
 use Rattle.pr_model.specs.MemoryCalls.{brk_effect, can_write, is_mapped_range, mmap_effect, mprotect_effect, munmap_effect, path_at, prot_limit, unless_too_big}
@@ -43,8 +43,9 @@ use Rattle.pr_model.specs.declared.frames.Frame.{Frame}
 -- What a system call changes is tidy, where nothing is written over in its process: a line a call.
 
 module _ (covers : Covers) (s : TracedSystem) (pid : ℕ) (p : TracedProcess) (id : ℕ) (l : TracedLwp)
-    (bare : (covers pid).patches ≡ []) (back : IsReturnable covers pid p)
-    (kills : (target : ℕ) → MayEnd covers s target) where
+    (bare : (covers pid).patches ≡ []) (back : IsReturnable covers pid p) (Does : Effect → Type 0)
+    (kills : (target : ℕ) (g : Sig) (info : Info) → is_kill g ≡ true → (is_kill g && eqb target pid) ≡ false
+    → Does (gives 0 (signals target g info ∷ [])) → MayEnd covers s target) where
   unfoldable pub IsTidyEffect : Effect → Type 0
   IsTidyEffect (does result changes) = AreTidyChanges covers pid p id l changes s
   IsTidyEffect sleeps = Unit {0}
@@ -227,14 +228,22 @@ module _ (covers : Covers) (s : TracedSystem) (pid : ℕ) (p : TracedProcess) (i
 
   -- ---- signals
 
-  send-tidy : (target number : ℕ) (info : Info) → IsTidyEffect (send_effect pid target number info (life_of s target))
+  -- one that kills another process does just that
+  send-tidy : (target number : ℕ) (info : Info) → Does (send_effect pid target number info (life_of s target))
+      → IsTidyEffect (send_effect pid target number info (life_of s target))
   unfolding send_effect sent_effect IsTidyEffect
   send-tidy target number info = by (sending target number (life_of s target))
     where
-      by : (x : Sending) → IsTidyEffect (sent_effect pid target info x)
-      by (refuses e) = tt
-      by sends_nothing = tt
-      by (sends g) = one-of (is_kill g && eqb target pid) _ _ tt ((λ deadly. kills target), tt)
+      of : (g : Sig) (b : Bool) → (is_kill g && eqb target pid) ≡ b
+          → Does (cond b (ends (ends_process (signal_number g))) (gives 0 (signals target g info ∷ [])))
+          → IsTidyEffect (cond b (ends (ends_process (signal_number g))) (gives 0 (signals target g info ∷ [])))
+      of g true own doing = tt
+      of g false other doing = ((λ deadly. kills target g info deadly other doing), tt)
+
+      by : (x : Sending) → Does (sent_effect pid target info x) → IsTidyEffect (sent_effect pid target info x)
+      by (refuses e) doing = tt
+      by sends_nothing doing = tt
+      by (sends g) doing = of g (is_kill g && eqb target pid) refl doing
 
   sigaction-tidy : (number disposition : ℕ) → IsTidyEffect (sigaction_effect p.dispositions number disposition)
   unfolding sigaction_effect IsTidyEffect
@@ -266,41 +275,42 @@ module _ (covers : Covers) (s : TracedSystem) (pid : ℕ) (p : TracedProcess) (i
 
   -- ---- the calls
 
-  pub call-tidy : (since : ℕ) (call : Sysno) (args : List ℕ) → IsTidyEffect (call_effect s pid p id l since call args)
+  pub call-tidy : (since : ℕ) (call : Sysno) (args : List ℕ) → Does (call_effect s pid p id l since call args)
+      → IsTidyEffect (call_effect s pid p id l since call args)
   unfolding call_effect exit_effect dup_effect lseek_effect sigmask_effect lwp_continue_effect IsTidyEffect
-  call-tidy since sys.Exit args = tt
-  call-tidy since sys.Fork args = fork-tidy args
-  call-tidy since sys.Read args = read-tidy (slice_index args 0) (slice_index args 1) (slice_index args 2)
-  call-tidy since sys.Write args = write-tidy (slice_index args 0) (slice_index args 1) (slice_index args 2)
-  call-tidy since sys.Open args = open-tidy (slice_index args 0) (slice_index args 1)
-  call-tidy since sys.Close args = close-tidy (slice_index args 0)
-  call-tidy since sys.Wait args =
+  call-tidy since sys.Exit args doing = tt
+  call-tidy since sys.Fork args doing = fork-tidy args
+  call-tidy since sys.Read args doing = read-tidy (slice_index args 0) (slice_index args 1) (slice_index args 2)
+  call-tidy since sys.Write args doing = write-tidy (slice_index args 0) (slice_index args 1) (slice_index args 2)
+  call-tidy since sys.Open args doing = open-tidy (slice_index args 0) (slice_index args 1)
+  call-tidy since sys.Close args doing = close-tidy (slice_index args 0)
+  call-tidy since sys.Wait args doing =
       wait-tidy (children_of s pid) (slice_index args 0)
-  call-tidy since sys.Getpid args = tt
-  call-tidy since sys.Getppid args = tt
-  call-tidy since sys.Exec args = exec-tidy (slice_index args 0)
-  call-tidy since sys.Pipe args = pipe-tidy (slice_index args 0)
-  call-tidy since sys.Dup args = file-tidy (duplicated s.files p.fds (slice_index args 0))
-  call-tidy since sys.Lseek args =
+  call-tidy since sys.Getpid args doing = tt
+  call-tidy since sys.Getppid args doing = tt
+  call-tidy since sys.Exec args doing = exec-tidy (slice_index args 0)
+  call-tidy since sys.Pipe args doing = pipe-tidy (slice_index args 0)
+  call-tidy since sys.Dup args doing = file-tidy (duplicated s.files p.fds (slice_index args 0))
+  call-tidy since sys.Lseek args doing =
       file-tidy (sought s.files p.fds (slice_index args 0) (slice_index args 1))
-  call-tidy since sys.Kill args = send-tidy (slice_index args 0) (slice_index args 1) (killed_by pid)
-  call-tidy since sys.Sigaction args = sigaction-tidy (slice_index args 0) (slice_index args 1)
-  call-tidy since sys.Sigmask args = if-it-can (ltb (slice_index args 0) _) _ _ (tt, tt)
-  call-tidy since sys.Pause args = tt
-  call-tidy since sys.Sigreturn args = sigreturn-tidy
-  call-tidy since sys.Brk args = brk-tidy (slice_index args 0)
-  call-tidy since sys.Mmap args = mmap-tidy (slice_index args 0) (slice_index args 1)
-  call-tidy since sys.Munmap args = munmap-tidy (slice_index args 0) (slice_index args 1)
-  call-tidy since sys.Mprotect args =
+  call-tidy since sys.Kill args doing = send-tidy (slice_index args 0) (slice_index args 1) (killed_by pid) doing
+  call-tidy since sys.Sigaction args doing = sigaction-tidy (slice_index args 0) (slice_index args 1)
+  call-tidy since sys.Sigmask args doing = if-it-can (ltb (slice_index args 0) _) _ _ (tt, tt)
+  call-tidy since sys.Pause args doing = tt
+  call-tidy since sys.Sigreturn args doing = sigreturn-tidy
+  call-tidy since sys.Brk args doing = brk-tidy (slice_index args 0)
+  call-tidy since sys.Mmap args doing = mmap-tidy (slice_index args 0) (slice_index args 1)
+  call-tidy since sys.Munmap args doing = munmap-tidy (slice_index args 0) (slice_index args 1)
+  call-tidy since sys.Mprotect args doing =
       mprotect-tidy (slice_index args 0) (slice_index args 1) (slice_index args 2)
-  call-tidy since sys.Time args = tt
-  call-tidy since sys.Sleep args = sleep-tidy since (slice_index args 0)
-  call-tidy since sys.LwpCreate args =
+  call-tidy since sys.Time args doing = tt
+  call-tidy since sys.Sleep args doing = sleep-tidy since (slice_index args 0)
+  call-tidy since sys.LwpCreate args doing =
       create-tidy (slice_index args 0) (slice_index args 1) (slice_index args 2)
-  call-tidy since sys.LwpExit args = tt
-  call-tidy since sys.LwpSuspend args = suspend-tidy (slice_index args 0)
-  call-tidy since sys.LwpContinue args = if-it-can (can_be_named p (slice_index args 0)) _ _ (tt, tt)
-  call-tidy since sys.Fstat args = fstat-tidy (slice_index args 0) (slice_index args 1)
-  call-tidy since sys.Sigqueue args =
-      send-tidy (slice_index args 0) (slice_index args 1) (queued_by pid (slice_index args 2))
-  call-tidy since sys.Vfork args = vfork-tidy args
+  call-tidy since sys.LwpExit args doing = tt
+  call-tidy since sys.LwpSuspend args doing = suspend-tidy (slice_index args 0)
+  call-tidy since sys.LwpContinue args doing = if-it-can (can_be_named p (slice_index args 0)) _ _ (tt, tt)
+  call-tidy since sys.Fstat args doing = fstat-tidy (slice_index args 0) (slice_index args 1)
+  call-tidy since sys.Sigqueue args doing =
+      send-tidy (slice_index args 0) (slice_index args 1) (queued_by pid (slice_index args 2)) doing
+  call-tidy since sys.Vfork args doing = vfork-tidy args

@@ -1,4 +1,4 @@
-use Rattle.std.proofs.Common.{◌≡◌, ◌+◌, ◌-◌, ◌*◌, ◌&&◌, ◌%◌, ◌^◌, ℕ, zero, suc, Bool, true, ltb, length, List, [], Option, Some, None, Result, Ok, Err, refl, ap, ◌∙◌}
+use Rattle.std.proofs.Common.{◌≡◌, ◌+◌, ◌-◌, ◌*◌, ◌&&◌, ◌%◌, ◌^◌, ◌∷◌, ℕ, zero, suc, Bool, true, false, eqb, ltb, length, List, [], Option, Some, None, Result, Ok, Err, refl, ap, ◌∙◌}
 use Rattle.pr_hidden.specs.Covers.{Covers}
 use Rattle.pr_hidden.specs.Following.{IsReturnable, MayEnd, SparesPatches}
 use Rattle.pr_hidden.specs.Sparing.{are_spared, spares_call, spares_data, spares_decoded, spares_fetched, spares_gap, spares_instruction}
@@ -12,6 +12,7 @@ use Rattle.pr_model.specs.Changes.{Change, Effect}
 use Rattle.pr_model.specs.InstructionEffects as instruction
 use Rattle.pr_model.specs.InstructionEffects.{Decoded, InstructionEffect, Store, decoded, enters_call, faults_itself, instruction_effect, leaves as leaves_call, loads, stores}
 use Rattle.pr_model.specs.Rows.{Row, entered_row, executed_row, handler_row, incurred_row, interrupted_row, own_taken_row, performed_row, posted_row, ran_row, requested_row, returned_row, row_for, shared_taken_row, watched_row}
+use Rattle.pr_model.specs.Signals.{is_kill}
 use Rattle.pr_model.specs.State.{TracedLwp, TracedProcess, TracedSystem}
 use Rattle.pr_model.specs.Transitions.{Transition, died, dropped, entered, handled, incurred, interrupted, job_stopped, own_taken, performed, posted, ran, requested, returned, shared_taken, stored_in, trapped}
 use Rattle.pr_num.proofs.BoolLemmas.{either}
@@ -25,17 +26,20 @@ use Rattle.pr_num.specs.Spaces.{Space, bytes_for}
 use Rattle.pr_num.specs.Control.{prot_exec}
 use Rattle.pr_model.specs.Registers.{arguments, pc_of}
 use Rattle.pr_num.specs.declared.instructions.Instruction.{Instruction}
+use Rattle.pr_num.specs.declared.infos.Info.{Info}
 use Rattle.pr_num.specs.declared.mappings.BadByte.{BadByte}
+use Rattle.pr_num.specs.declared.signals.Sig.{Sig}
 use Rattle.pr_num.specs.declared.syscalls.Sysno.{Sysno}
 use Rattle.pr_num.specs.declared.syscalls.Sysno.TheVariants as sys
 use Rattle.pr_parts.specs.AddressSpaces.{gap_in}
+use Rattle.pr_probe_laws.proofs.DeathLemmas.{Kills}
 use Rattle.pr_probe_laws.proofs.TidyEffects.{IsTidyEffect, call-tidy}
 
 -- The turns of a process of which nothing is hidden are tidy, and they spare what is written over, since nothing is.
 
 module _ (covers : Covers) (s : TracedSystem) (pid : ℕ) (p : TracedProcess) (id : ℕ) (l : TracedLwp)
     (bare : (covers pid).patches ≡ []) (back : IsReturnable covers pid p)
-    (kills : (target : ℕ) → MayEnd covers s target) where
+    (kills : (target : ℕ) → Kills pid target (row_for s pid p id l) → MayEnd covers s target) where
   unfoldable pub IsTidyRow : Row → Type 0
   IsTidyRow row = AreTidyChanges covers pid p id l row.transition.changes s
 
@@ -55,35 +59,58 @@ module _ (covers : Covers) (s : TracedSystem) (pid : ℕ) (p : TracedProcess) (i
   executed-tidy (instruction.faults f address) = tt
   executed-tidy (instruction.runs_into_watch address regs store) = stored-tidy store
 
+  module _ (woken : Bool) (call : Sysno) (args : List ℕ) (since : ℕ) where
+    -- the turn is that of a call that does this
+    abbrev Does : Effect → Type 0
+    Does effect = row_for s pid p id l ≡ performed_row woken call args since effect
+
+    kills-by : (target : ℕ) (g : Sig) (info : Info) → is_kill g ≡ true → (is_kill g && eqb target pid) ≡ false
+        → Does (change.gives 0 (change.signals target g info ∷ [])) → MayEnd covers s target
+    unfolding performed_row performed
+    kills-by target g info deadly other does =
+        kills target (record {
+          g = g;
+          info = info;
+          deadly = deadly;
+          other = other;
+          changes = ap (λ (row : Row). row.transition.changes) does;
+          on = ap (λ (row : Row). row.transition.ending) does;
+        })
+
+    call-kept : Does (call_effect s pid p id l since call args)
+        → IsTidyEffect covers s pid p id l bare back Does kills-by (call_effect s pid p id l since call args)
+    call-kept = call-tidy covers s pid p id l bare back Does kills-by since call args
+
   performed-tidy : (woken : Bool) (call : Sysno) (args : List ℕ) (since : ℕ) (effect : Effect)
-      → IsTidyEffect covers s pid p id l bare back kills effect → IsTidyRow (performed_row woken call args since effect)
+      → IsTidyEffect covers s pid p id l bare back (Does woken call args since) (kills-by woken call args since) effect
+      → IsTidyRow (performed_row woken call args since effect)
   unfolding IsTidyRow performed_row performed IsTidyEffect
   performed-tidy woken call args since (change.does result changes) tidy = tidy
   performed-tidy woken call args since change.sleeps tidy = tt
   performed-tidy woken call args since (change.ends how) tidy = tt
 
-  kind-tidy : (row : Row) → RowKind s pid p id l row → IsTidyRow row
+  kind-tidy : (row : Row) → RowKind s pid p id l row → row_for s pid p id l ≡ row → IsTidyRow row
   unfolding IsTidyRow requested_row requested posted_row posted dropped job_stopped died handler_row own_taken_row
       shared_taken_row own_taken shared_taken interrupted_row interrupted returned_row returned trapped stored_in handled
-  kind-tidy row (kind.stops now) = tt
-  kind-tidy row (kind.posts at) = tt
-  kind-tidy row (kind.ignores now is) = tt
-  kind-tidy row (kind.stops_job now is) = (tt, tt)
-  kind-tidy row (kind.dies now is) = tt
-  kind-tidy row (kind.catches now is) = either IsTidyStep (ltb (length l.frames) frame_limit) _ _ tt tt
-  kind-tidy row (kind.takes_own none is) = tt
-  kind-tidy row (kind.takes_shared none own is) = (tt, tt)
-  kind-tidy row (kind.interrupts it why) = tt
-  kind-tidy row (kind.performs {woken = woken} {call = call} {args = args} {since = since} it goes none) =
+  kind-tidy row (kind.stops now) same = tt
+  kind-tidy row (kind.posts at) same = tt
+  kind-tidy row (kind.ignores now is) same = tt
+  kind-tidy row (kind.stops_job now is) same = (tt, tt)
+  kind-tidy row (kind.dies now is) same = tt
+  kind-tidy row (kind.catches now is) same = either IsTidyStep (ltb (length l.frames) frame_limit) _ _ tt tt
+  kind-tidy row (kind.takes_own none is) same = tt
+  kind-tidy row (kind.takes_shared none own is) same = (tt, tt)
+  kind-tidy row (kind.interrupts it why) same = tt
+  kind-tidy row (kind.performs {woken = woken} {call = call} {args = args} {since = since} it goes none) same =
       performed-tidy woken call args since (call_effect s pid p id l since call args)
-      (call-tidy covers s pid p id l bare back kills since call args)
-  kind-tidy row (kind.returns at none) =
+      (call-kept woken call args since same)
+  kind-tidy row (kind.returns at none) same =
       either (λ (r : Row). IsTidyStep r.transition) l.control.step _ _ tt tt
-  kind-tidy row (kind.executes at none) = executed-tidy (instruction_effect p.space p.control.areas l.regs)
+  kind-tidy row (kind.executes at none) same = executed-tidy (instruction_effect p.space p.control.areas l.regs)
 
   pub row-tidy : AreTidyChanges covers pid p id l (row_for s pid p id l).transition.changes s
   unfolding IsTidyRow
-  row-tidy = kind-tidy (row_for s pid p id l) (row-kind s pid p id l)
+  row-tidy = kind-tidy (row_for s pid p id l) (row-kind s pid p id l) refl
 
 -- ---- nothing is written over
 

@@ -1,4 +1,4 @@
-use Rattle.std.specs.Prelude.{◌≡◌, ℕ, Bool, true, false, List, [], ◌∷◌, ◌++◌, None, Some, Ok, slice_get}
+use Rattle.std.specs.Prelude.{◌≡◌, ◌≢◌, ◌⊎◌, ℕ, Bool, true, false, List, [], ◌∷◌, ◌++◌, Some, Ok, slice_get}
 use Rattle.pr_api.specs.Entries.{call_entry}
 use Rattle.pr_hidden.specs.Hiders.{Hiders}
 use Rattle.pr_hidden.specs.Tidiness.{IsPassiveBut}
@@ -6,6 +6,7 @@ use Rattle.pr_model.specs.Legal.{state_after}
 use Rattle.pr_model.specs.State.{TracedProcess, TracedState, live_process}
 use Rattle.pr_model.specs.declared.calls.Call.{Call}
 use Rattle.pr_model.specs.declared.calls.Reply.{Reply}
+use Rattle.pr_model.specs.declared.calls.Reply.TheVariants as reply
 use Rattle.pr_model.specs.declared.calls.Reply.TheVariants.{Used}
 use Rattle.pr_model.specs.declared.events.Act.TheVariants as act
 use Rattle.pr_model.specs.declared.events.Actor.TheVariants.{Lwp}
@@ -16,15 +17,16 @@ use Rattle.pr_model.specs.declared.events.Turned.{Turned}
 use Rattle.pr_num.specs.Agents.{agent_id}
 use Rattle.pr_num.specs.Layout.{stack_base, text_base}
 use Rattle.pr_num.specs.Spaces.{Space, bytes_for}
+use Rattle.pr_num.specs.declared.errnos.Errno.TheVariants.{Mfile}
 use Rattle.pr_num.specs.declared.messages.Message.TheVariants as message
 use Rattle.pr_probe.specs.AgentCode.{agent_registers, code_size, stack_size}
-use Rattle.pr_probe.specs.Probes.{ProbeState, first_probe, refusal_in}
+use Rattle.pr_probe.specs.Probes.{ProbeState, first_probe}
 use Rattle.pr_probe.specs.declared.probe_stages.ProbeFile.TheVariants.{AgentControl, AgentStatus}
 use Rattle.pr_probe.specs.declared.probe_stages.ProbeStage.{ProbeStage}
 use Rattle.pr_probe.specs.declared.probe_stages.ProbeStage.TheVariants.{Open, PlantCode, Asking, UntraceExits, SetExit, RunExit, AwaitExit, WriteCode, WriteStack}
 use Rattle.pr_probe_laws.specs.PutBack.{SendsTo}
 use Rattle.pr_probe_laws.specs.SetsBack.{IsSoleIn, opening_entry}
-use Rattle.pr_probe_laws.specs.ShownDescriptors.{HasRoom}
+use Rattle.pr_probe_laws.specs.ShownDescriptors.{HasRoom, WasUnlent}
 use Rattle.pr_world.specs.ControllerStates.{ControllerState, Probe}
 use Rattle.pr_world.specs.Protocol.{controllers_at}
 
@@ -69,17 +71,21 @@ abbrev pub TakesNoSignal : ℕ → Entry → Type 0
 TakesNoSignal pid e =
     (t : Turned) → e ≡ record { actor = Lwp pid agent_id; act = act.Turn t } → is_signal_turn t.did ≡ false
 
--- The process of apfiles lives, and has borrowed its memory from nobody (vfork(2)). One that has would give it back
--- with the agent's code in it where it is destroyed.
-pub record LivesAlone (pid : ℕ) (s : TracedState) : Type 0 where
+-- The process of apfiles lives. Where a child of vfork(2) is destroyed, it gives the memory that it borrowed back with
+-- the agent's code in it.
+pub record IsAlive (pid : ℕ) (s : TracedState) : Type 0 where
   pub process : TracedProcess
   pub lives : live_process s.system pid ≡ Some process
-  pub owns : process.lender ≡ None
 
 -- what apfiles has saved stands in the memory of its process
 pub record StandsSaved (p : ProbeState) (space : Space) : Type 0 where
   pub code : bytes_for 0 space text_base code_size ≡ Ok p.code
   pub stack : bytes_for 0 space stack_base stack_size ≡ Ok p.stack
+
+-- what apfiles has looked at is still so: there is room for its agent, and what was saved stands there
+pub record IsAsSeen (p : ProbeState) (q : TracedProcess) : Type 0 where
+  pub room : HasRoom q
+  pub saved : StandsSaved p q.space
 
 module _ (k pid : ℕ) (controllers : List ControllerState) (first : TracedState) where
   -- apfiles as it is after some entries
@@ -99,23 +105,21 @@ module _ (k pid : ℕ) (controllers : List ControllerState) (first : TracedState
     pub sends : SendsTo k pid (message.Agent (agent_registers 0 text_base)) [] (state_after first front) call
 
   -- While it hides something no other controller has had its process open for writing since it opened the control file,
-  -- the process lives and has borrowed no memory, the agent takes no signal, and apfiles is refused nothing; and where
-  -- it makes the agent there is room for it, and what was saved stands there.
+  -- the process lives, the agent takes no signal, and apfiles is not told that all handles are open (EMFILE). Where it
+  -- makes the agent, the process had lent its memory to nobody when its status was read; or all is as it was seen.
   pub record IsLeftAlone (h : List Entry) : Type 0 where
     pub sole : (front back : List Entry) (p : ProbeState) → h ≡ front ++ back → IsHidingAfter front p
         → (before later : List Entry) (opened : Reply) → front ≡ before ++ opening_entry k pid opened ∷ later
         → IsSoleIn k pid first before (opening_entry k pid opened ∷ later)
     pub lives : (front back : List Entry) (p : ProbeState) → h ≡ front ++ back → IsHidingAfter front p
-        → LivesAlone pid (state_after first front)
+        → IsAlive pid (state_after first front)
     pub unsignalled : (front back : List Entry) (e : Entry) (p : ProbeState) → h ≡ front ++ e ∷ back
         → IsHidingAfter front p → TakesNoSignal pid e
-    pub accepted : (front back : List Entry) (c : Call) (r : Reply) (p : ProbeState)
-        → h ≡ front ++ call_entry k c r ∷ back → IsHidingAfter front p → refusal_in p.stage r ≡ None
-    pub room : (front back : List Entry) (e : Entry) → h ≡ front ++ e ∷ back → MakesAgent front e
-        → (q : TracedProcess) → live_process (state_after first front).system pid ≡ Some q → HasRoom q
-    pub saved : (front back : List Entry) (e : Entry) (p : ProbeState) → h ≡ front ++ e ∷ back
+    pub handles : (front back : List Entry) (c : Call) (r : Reply) (p : ProbeState)
+        → h ≡ front ++ call_entry k c r ∷ back → IsHidingAfter front p → r ≢ reply.Fail Mfile
+    pub as_seen : (front back : List Entry) (e : Entry) (p : ProbeState) → h ≡ front ++ e ∷ back
         → MakesAgent front e → IsAfter front p → (q : TracedProcess)
-        → live_process (state_after first front).system pid ≡ Some q → StandsSaved p q.space
+        → live_process (state_after first front).system pid ≡ Some q → WasUnlent k pid first front ⊎ IsAsSeen p q
 
 -- Those who hide in a history are apfiles that are left alone while they hide something, and every other call is
 -- passive.

@@ -1,5 +1,7 @@
 pub mod HiddenProbes
 pub mod PutBack
+pub mod Reasons
+pub mod RunAgain
 pub mod SetsBack
 pub mod ShownDescriptors
 pub mod StepMarks

@@ -1,5 +1,5 @@
 use Rattle.std.specs.List.{All}
-use Rattle.std.specs.Prelude.{◌≡◌, ℕ, List, ◌∷◌, ◌++◌, Some}
+use Rattle.std.specs.Prelude.{◌≡◌, ◌≢◌, ℕ, List, ◌∷◌, ◌++◌, Some}
 use Rattle.pr_api.specs.Entries.{call_entry}
 use Rattle.pr_model.specs.Handles.{handle_of}
 use Rattle.pr_model.specs.Legal.{state_after}
@@ -55,6 +55,12 @@ pub record IsClose (c : Call) : Type 0 where
 abbrev pub ClosesAtMost : ℕ → Entry → Type 0
 ClosesAtMost k e = (c : Call) (r : Reply) → e ≡ call_entry k c r → IsClose c
 
+-- ---- how it comes
+
+-- an entry is no call of a controller
+abbrev pub IsNoCall : ℕ → Entry → Type 0
+IsNoCall k e = (c : Call) (r : Reply) → e ≢ call_entry k c r
+
 -- ---- the sets are back
 
 -- the entry by which a controller opens the control file of a process, to send it messages
@@ -67,9 +73,9 @@ pub record WasTraced (pid : ℕ) (sets : TracedSets) (s : TracedSystem) : Type 0
   pub lived : live_process s pid ≡ Some process
   pub same : sets ≡ sets_on process
 
--- A controller has opened the control file of a process, and later begins to close its files: it still has the control
--- file open, and from then on it does nothing but close. Where no other has that process open for writing meanwhile,
--- the process, if it lives then still, is traced by the sets by which it was traced before.
+-- A controller has opened the control file of a process by its first call, and later begins to close its files: it
+-- still has the control file open, and from then on it does nothing but close. Where no other has that process open for
+-- writing meanwhile, the process, if it lives then still, is traced by the sets by which it was traced before.
 pub record SetsBack (k pid : ℕ) (first : TracedState) (h : List Entry) : Type 0 where
   pub before : List Entry
   pub opened : Reply
@@ -79,6 +85,7 @@ pub record SetsBack (k pid : ℕ) (first : TracedState) (h : List Entry) : Type 
   pub after : List Entry
   pub place : h
       ≡ (before ++ opening_entry k pid opened ∷ later) ++ call_entry k (call.Close handle) reply ∷ after
+  pub first_call : All (IsNoCall k) before
   pub holds : HoldsControl k pid (state_after first (before ++ opening_entry k pid opened ∷ later)).opens
   pub closes : All (ClosesAtMost k) after
   pub back : IsSoleIn k pid first before (opening_entry k pid opened ∷ later) → (q : TracedProcess)

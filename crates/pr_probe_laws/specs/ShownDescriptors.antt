@@ -1,9 +1,11 @@
-use Rattle.std.specs.Prelude.{◌≡◌, ◌+◌, ℕ, zero, suc, true, List, [], ◌∷◌, ◌++◌, Option, Some, is_ok, option_map}
+use Rattle.std.specs.Prelude.{◌≡◌, ◌⊎◌, ◌+◌, ℕ, zero, suc, true, List, [], ◌∷◌, ◌++◌, Option, None, Some, is_ok, option_map}
+use Rattle.std.specs.List.{All}
 use Rattle.pr_api.specs.Entries.{call_entry}
 use Rattle.pr_model.specs.Legal.{state_after}
 use Rattle.pr_model.specs.MemoryCalls.{can_write}
 use Rattle.pr_model.specs.State.{TracedProcess, TracedState, TracedSystem, has_agent, live_process}
 use Rattle.pr_model.specs.declared.calls.Call.{Call}
+use Rattle.pr_model.specs.declared.calls.File.TheVariants as file
 use Rattle.pr_model.specs.declared.calls.Reply.{Reply}
 use Rattle.pr_model.specs.declared.events.Entry.{Entry}
 use Rattle.pr_num.specs.Control.{prot_exec}
@@ -19,7 +21,8 @@ use Rattle.pr_probe.specs.DescriptorLines.{apfiles_text}
 use Rattle.pr_probe.specs.ProbeRuns.{descriptor_of}
 use Rattle.pr_probe.specs.declared.descriptor_lines.OpenDescriptor.{OpenDescriptor}
 use Rattle.pr_probe_laws.specs.PutBack.{SendsTo}
-use Rattle.pr_probe_laws.specs.SetsBack.{IsSoleIn, opening_entry}
+use Rattle.pr_probe_laws.specs.SetsBack.{IsNoCall, IsSoleIn, opening_entry}
+use Rattle.pr_tool_laws.specs.Reads.{ReadsFile}
 
 -- The text of apfiles as a function of one state of the machine.
 
@@ -45,6 +48,13 @@ pub record HasRoom (p : TracedProcess) : Type 0 where
   pub code : is_ok (bytes_for prot_exec p.space text_base code_size) ≡ true
   pub stack : can_write p.space stack_base stack_size ≡ true
 
+-- When apfiles read the status of its process, that had lent its memory to nobody (vfork(2)). A lender may get its
+-- memory back later, with other mappings and other bytes in it.
+pub record WasUnlent (k pid : ℕ) (first : TracedState) (h : List Entry) : Type 0 where
+  pub each : (before : List Entry) (c : Call) (r : Reply) (after : List Entry)
+      → h ≡ before ++ call_entry k c r ∷ after → ReadsFile k pid file.Status (state_after first before) c
+      → (q : TracedProcess) → live_process (state_after first before).system pid ≡ Some q → q.borrower ≡ None
+
 -- ---- the state that is shown
 
 -- This text is that of the open descriptors of a process in a state in which its agent stands.
@@ -54,10 +64,11 @@ pub record ShowsDescriptors (pid : ℕ) (s : TracedSystem) (text : List ℕ) : T
   pub agent : has_agent process ≡ true
   pub shown : text ≡ apfiles_text pid (open_descriptors s.files process.fds)
 
--- A controller has opened the control file of a process, has made an agent by PCAGENT, and later traces no exit any
--- more, by PCSEXIT of nothing. The text is that of the descriptors in the state which that message finds. This is so
--- where no other controller has the process open for writing from the first call to that message, and where there was
--- room for the agent when it was made.
+-- A controller has opened the control file of a process by its first call, has made an agent by PCAGENT, and later
+-- traces no exit any more, by PCSEXIT of nothing. The text is that of the descriptors in the state which that message
+-- finds. This is so where no other controller has the process open for writing from the first call to that message, and
+-- where the process had lent its memory to nobody when its status was read, or there is room for the agent all the
+-- same.
 pub record ShowsOneState (k pid : ℕ) (first : TracedState) (h : List Entry) (text : List ℕ) : Type 0 where
   pub before : List Entry
   pub opened : Reply
@@ -71,6 +82,7 @@ pub record ShowsOneState (k pid : ℕ) (first : TracedState) (h : List Entry) (t
   pub place : h
       ≡ ((before ++ opening_entry k pid opened ∷ later) ++ call_entry k make made ∷ asked) ++ call_entry k call reply
       ∷ after
+  pub first_call : All (IsNoCall k) before
   pub makes : SendsTo k pid (message.Agent (agent_registers 0 text_base)) []
       (state_after first (before ++ opening_entry k pid opened ∷ later)) make
   pub untraces : SendsTo k pid (message.Sexit 0) []
@@ -79,7 +91,7 @@ pub record ShowsOneState (k pid : ℕ) (first : TracedState) (h : List Entry) (t
   pub lives : live_process (state_after first (before ++ opening_entry k pid opened ∷ later)).system pid ≡ Some process
   pub shown :
       IsSoleIn k pid first before ((opening_entry k pid opened ∷ later) ++ call_entry k make made ∷ asked)
-      → HasRoom process
+      → WasUnlent k pid first (before ++ opening_entry k pid opened ∷ later) ⊎ HasRoom process
       → ShowsDescriptors pid
       (state_after first
       ((before ++ opening_entry k pid opened ∷ later) ++ call_entry k make made ∷ asked)).system text

@@ -16,29 +16,29 @@ ghost use Rattle.pr_reached.specs.ByteHistories.{HasBytes};
 ghost use Rattle.pr_reached.specs.InRange.{IsStartInRange};
 ghost use Rattle.pr_reached.specs.Reached.{IsReached};
 ghost use Rattle.pr_world.specs.ControllerStates.{ControllerState};
-ghost use Rattle.pr_world.specs.Protocol.{Follows};
+ghost use Rattle.pr_tool_laws.specs.OwnCalls.{AreOwnCalls};
 
-/// In a legal history that follows the protocol of its controllers, from a state that is reached or from a first one,
+/// In a legal history where these controllers make their own calls, from a state that is reached or from a first one,
 /// and in which controllers write bytes, each apfiles is tidy, and programs leave alone what it wrote over. So programs
 /// see nothing of it: the steps that are not hidden are a run of the machine without controllers. This is so where
 /// those who hide are each an apfiles, every other call is passive, and each apfiles is left alone while it hides
 /// something. Of a later state than a first one it is asked that no lwp has a step mark.
 pub fn apfiles_is_hidden()
     ensures tidy { (n : ℕ) (who : Hiders) (controllers : List ControllerState) (s : TracedState) (h : List Entry)
-        → IsReached s → IsUnstepped s.system → HasBytes h → IsLegal n s h → Follows controllers s h
+        → IsReached s → IsUnstepped s.system → HasBytes h → IsLegal n s h → AreOwnCalls controllers h
         → AreLeftAlone who controllers s h
         → IsTidy who s h }
     ensures spares { (n : ℕ) (who : Hiders) (controllers : List ControllerState) (s : TracedState) (h : List Entry)
-        → IsReached s → IsUnstepped s.system → HasBytes h → IsLegal n s h → Follows controllers s h
+        → IsReached s → IsUnstepped s.system → HasBytes h → IsLegal n s h → AreOwnCalls controllers h
         → AreLeftAlone who controllers s h
         → IsSparing who s h }
     ensures later { (n : ℕ) (who : Hiders) (controllers : List ControllerState) (s : TracedState) (h : List Entry)
-        → IsReached s → IsUntouched s.system → HasBytes h → IsLegal n s h → Follows controllers s h
+        → IsReached s → IsUntouched s.system → HasBytes h → IsLegal n s h → AreOwnCalls controllers h
         → AreLeftAlone who controllers s h → IsHidden who s h }
     ensures first { (programs : List Program) (files : List StoredFile) (spawns : List ℕ) (n : ℕ) (who : Hiders)
         (controllers : List ControllerState) (h : List Entry)
         → IsStart programs files spawns → IsStartInRange programs files → HasBytes h
-        → IsLegal n (first_state programs files spawns) h → Follows controllers (first_state programs files spawns) h
+        → IsLegal n (first_state programs files spawns) h → AreOwnCalls controllers h
         → AreLeftAlone who controllers (first_state programs files spawns) h
         → IsHidden who (first_state programs files spawns) h }
 {}

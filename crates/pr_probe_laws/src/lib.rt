@@ -1,13 +1,16 @@
 //! Laws of apfiles: what it writes over in the memory of a process it puts back, the sets by which a process is traced
-//! it sets back, its text is that of one state, and programs see nothing of it where it is left alone. Each public
-//! function carries one law in its contract, and does nothing.
+//! it sets back, it runs the process again, its text is that of one state, the line of a refusal tells why it was
+//! refused, and programs see nothing of it where it is left alone. Each public function carries one law in its
+//! contract, and does nothing.
 #![tactic(auto)]
 
+mod endings;
 mod hidden;
 mod one_state;
 mod put_back;
 mod sets_back;
 
+pub use endings::{apfiles_runs_its_process_again, apfiles_tells_why_it_was_refused};
 pub use hidden::apfiles_is_hidden;
 pub use one_state::apfiles_shows_one_state;
 pub use put_back::apfiles_puts_back_what_it_wrote_over;

@@ -14,26 +14,27 @@ ghost use Rattle.pr_reached.specs.InRange.{IsStartInRange};
 ghost use Rattle.pr_reached.specs.Reached.{IsReached};
 ghost use Rattle.pr_world.specs.ControllerStates as cores;
 ghost use Rattle.pr_world.specs.ControllerStates.{ControllerState};
-ghost use Rattle.pr_world.specs.Protocol.{Follows, controllers_at};
+ghost use Rattle.pr_world.specs.Protocol.{controllers_at};
+ghost use Rattle.pr_tool_laws.specs.OwnCalls.{AreOwnCalls};
 
-/// In a legal history that follows the protocol of its controllers, from a state that is reached or from a first state,
+/// In a legal history where these controllers make their own calls, from a state that is reached or from a first state,
 /// and in which controllers write bytes, an apfiles that has finished, and was not refused, prints the text of the
 /// descriptors that are open in one state: the one that its PCSEXIT finds once its agent was asked for each descriptor.
-/// This is so where no other controller has the process open for writing from its first call to there, and where there
-/// was room for the agent when it was made.
+/// This is so where no other controller has the process open for writing from its first call to there, and where the
+/// process had lent its memory to nobody when its status was read, or there was room for the agent all the same.
 pub fn apfiles_shows_one_state()
     ensures later { (controllers : List ControllerState) (n k : ℕ) (pid : ℕ) (s : TracedState) (h : List Entry)
         (p : ProbeState)
         → IsReached s → HasBytes h
         → slice_get controllers k ≡ Some (cores.Probe (first_probe pid))
-        → IsLegal n s h → Follows controllers s h
+        → IsLegal n s h → AreOwnCalls controllers h
         → slice_get (controllers_at controllers h) k ≡ Some (cores.Probe p) → has_ended p ≡ true → p.refusal ≡ None
         → ShowsOneState k pid s h (printed p) }
     ensures first { (programs : List Program) (files : List StoredFile) (spawns : List ℕ)
         → (controllers : List ControllerState) (n k : ℕ) (pid : ℕ) (h : List Entry) (p : ProbeState)
         → IsStart programs files spawns → IsStartInRange programs files → HasBytes h
         → slice_get controllers k ≡ Some (cores.Probe (first_probe pid))
-        → IsLegal n (first_state programs files spawns) h → Follows controllers (first_state programs files spawns) h
+        → IsLegal n (first_state programs files spawns) h → AreOwnCalls controllers h
         → slice_get (controllers_at controllers h) k ≡ Some (cores.Probe p) → has_ended p ≡ true → p.refusal ≡ None
         → ShowsOneState k pid (first_state programs files spawns) h (printed p) }
 {}

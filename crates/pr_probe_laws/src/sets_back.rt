@@ -13,9 +13,10 @@ ghost use Rattle.pr_reached.specs.ByteHistories.{HasBytes};
 ghost use Rattle.pr_reached.specs.InRange.{IsInRange, IsStartInRange};
 ghost use Rattle.pr_world.specs.ControllerStates as cores;
 ghost use Rattle.pr_world.specs.ControllerStates.{ControllerState};
-ghost use Rattle.pr_world.specs.Protocol.{Follows, controllers_at};
+ghost use Rattle.pr_world.specs.Protocol.{controllers_at};
+ghost use Rattle.pr_tool_laws.specs.OwnCalls.{AreOwnCalls};
 
-/// In a legal history that follows the protocol of its controllers, from a lawful state in range or from a first state,
+/// In a legal history where these controllers make their own calls, from a lawful state in range or from a first state,
 /// and in which controllers write bytes, an apfiles that has finished, and was not refused, has set the four traced
 /// sets back. Where no other controller has the process open for writing from its first call on, and the process lives
 /// when it begins to close its files, that is traced then by the sets by which it was traced before apfiles came.
@@ -24,14 +25,14 @@ pub fn apfiles_sets_the_traced_sets_back()
         (p : ProbeState)
         → IsLawful s → IsInRange s.system → HasBytes h
         → slice_get controllers k ≡ Some (cores.Probe (first_probe pid))
-        → IsLegal n s h → Follows controllers s h
+        → IsLegal n s h → AreOwnCalls controllers h
         → slice_get (controllers_at controllers h) k ≡ Some (cores.Probe p) → has_ended p ≡ true → p.refusal ≡ None
         → SetsBack k pid s h }
     ensures first { (programs : List Program) (files : List StoredFile) (spawns : List ℕ)
         → (controllers : List ControllerState) (n k : ℕ) (pid : ℕ) (h : List Entry) (p : ProbeState)
         → IsStart programs files spawns → IsStartInRange programs files → HasBytes h
         → slice_get controllers k ≡ Some (cores.Probe (first_probe pid))
-        → IsLegal n (first_state programs files spawns) h → Follows controllers (first_state programs files spawns) h
+        → IsLegal n (first_state programs files spawns) h → AreOwnCalls controllers h
         → slice_get (controllers_at controllers h) k ≡ Some (cores.Probe p) → has_ended p ≡ true → p.refusal ≡ None
         → SetsBack k pid (first_state programs files spawns) h }
 {}

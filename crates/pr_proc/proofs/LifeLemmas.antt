@@ -6,7 +6,7 @@ use Rattle.pr_num.specs.ById.{change_under, map_each, rises_from, under}
 use Rattle.pr_num.proofs.ByIdLaws.{map_each-change_under, under-change_under, under-change_under_other, under-map_each}
 use Rattle.pr_num.proofs.ByIdLemmas.{rises_from-tail}
 use Rattle.pr_slots.proofs.WalkLaws.{change_under-idle}
-use Rattle.pr_num.specs.Files.{Descriptors, FileTable, with_all_closed}
+use Rattle.pr_num.specs.Files.{with_all_closed}
 use Rattle.pr_model.specs.Lives.{orphaned, with_ended, with_lender_of, with_loan_back, with_loans_passed, with_lwp_ended, with_parent_signalled, with_this_ended, zombie}
 use Rattle.pr_model.specs.Machines.{traced}
 use Rattle.pr_model.specs.State.{TracedSystem, TracedProcess, live_process, with_process, with_process_if}
@@ -120,12 +120,11 @@ left_by pid status p s = record s {
   processes = map_each (orphaned pid) (change_under pid (zombie traced status) s.processes);
 }
 
-pub left-so : (s buried : TracedSystem) (pid status : ℕ) (p : TracedProcess) (fds : Descriptors) (files : FileTable)
-    (es : List (ℕ × TracedProcess)) → buried ≡ with_process pid (zombie traced status) s → fds ≡ p.fds
-    → files ≡ with_all_closed buried.files fds → es ≡ map_each (orphaned pid) buried.processes
-    → record buried { files = files; processes = es } ≡ left_by pid status p s
+pub left-so : (s buried : TracedSystem) (pid status : ℕ) (p : TracedProcess) (es : List (ℕ × TracedProcess))
+    → buried ≡ with_process pid (zombie traced status) (record s { files = with_all_closed s.files p.fds })
+    → es ≡ map_each (orphaned pid) buried.processes → record buried { processes = es } ≡ left_by pid status p s
 unfolding with_process
-left-so s buried pid status p fds files es is given closed orphans = rw (orphans, closed, given, is) refl
+left-so s buried pid status p es is orphans = rw (orphans, is) refl
 
 -- the end of a live process
 with_ended-live : (s : TracedSystem) (pid status : ℕ) (p : TracedProcess) → live_process s pid ≡ Some p

@@ -1,7 +1,8 @@
 //! How processes end.
-ghost use Rattle.std.specs.Prelude.{◌≡◌, IsSome, None};
+ghost use Rattle.std.specs.Prelude.{◌≡◌, [], IsSome, None};
 ghost use Rattle.std.specs.Option.{ForSome};
 ghost use Rattle.pr_num.specs.ById.{change_under, map_each, under};
+ghost use Rattle.pr_num.specs.Files.{with_all_closed};
 ghost use Rattle.pr_num.specs.Infos.{of_child};
 ghost use Rattle.pr_num.specs.declared.signals.Sig.TheVariants.{Cld};
 ghost use Rattle.pr_model.specs.Generation.{signalled};
@@ -12,15 +13,23 @@ ghost use Rattle.pr_model.specs.State.{live_process, with_process};
 use crate::loans::{give_back, leave_lender};
 use crate::signals::tell;
 use crate::{Proc, Processes, Sys, live};
-use pr_file::Fds;
+use pr_file::Files;
 use pr_mem::Space;
 use pr_model::Control;
 use pr_num::limits::SIGNAL_COUNT;
 use pr_num::{ById, FltSet, Info, Modes, Sig, SigSet, SysSet};
-use pr_sig::Pendings;
 use pr_watch::Areas;
 use std::alloc::Global;
 use std::mem;
+
+/// Watches nothing any more. Areas are put in place of others only where there are any.
+fn watch_nothing(areas: &mut Areas)
+    ensures { areas.new ≡ [] }
+{
+    if !areas.is_empty() {
+        *areas = Areas::new();
+    }
+}
 
 /// Leaves of what controllers set on a process what a zombie keeps, its usage.
 #[tactic(auto, unfolding(pr_model::specs::Machines::zombie_control, pr_model::specs::Machines::nothing_set))]
@@ -32,29 +41,28 @@ fn clear_control(control: &mut Control<Areas>)
     control.traced_entries = SysSet::empty();
     control.traced_exits = SysSet::empty();
     control.modes = Modes::empty();
-    control.areas = Areas::new();
+    watch_nothing(&mut control.areas);
 }
 
-/// Leaves of a process what a zombie keeps: its parent, program name, moment and usage, and this wait status. Answers
-/// the memory and the descriptors that it had; that of its lwps is freed. Takes no memory.
+/// Leaves of a process what a zombie keeps: its parent, program name, moment and usage, and this wait status. Closes its
+/// descriptors, and answers the memory that it had; that of its lwps is freed. It is changed in place. Takes no memory.
 #[tactic(auto, unfolding(pr_model::specs::Lives::zombie, pr_model::specs::Lives::bare_process, pr_model::specs::Machines::traced))]
-fn become_zombie(alloc: Global, process: &mut Proc, status: u64) -> (Space, Fds)
+fn become_zombie(alloc: Global, files: &mut Files, process: &mut Proc, status: u64) -> Space
+    ensures files { files.new ≡ with_all_closed files.old process.old.fds }
     ensures process { process.new ≡ zombie traced status process.old }
-    ensures space { result.0 ≡ process.old.space }
-    ensures fds { result.1 ≡ process.old.fds }
+    ensures space { result ≡ process.old.space }
 {
-    let space = mem::replace(&mut process.space, Space::new(alloc));
-    let fds = mem::replace(&mut process.fds, Fds::new());
+    files.close_all(&mut process.fds);
     process.ended = Some(status);
     process.lender = None;
     process.borrower = None;
     process.dispositions = [0; SIGNAL_COUNT];
-    process.pending = Pendings::new();
+    process.pending.clear();
     process.job_stop = None;
     process.next_lwp = 1;
     process.lwps = ById::new(alloc);
     clear_control(&mut process.control);
-    (space, fds)
+    mem::replace(&mut process.space, Space::new(alloc))
 }
 
 /// Gives a child of a process that ended process 0 as its parent.
@@ -107,16 +115,16 @@ fn tell_parent(sys: &mut Sys, parent: u32, pid: u32, status: u64)
     tell_of_child(sys.processes.get_mut(parent), pid, status);
 }
 
-/// Makes a zombie of the process of an id. Answers the memory and the descriptors that it had.
+/// Makes a zombie of the process of an id, whose descriptors are closed. Answers the memory that it had.
 #[tactic(auto, using(pr_num::proofs::ByIdLaws::by_id_laws, std::proofs::lemmas::Option::same_Some), unfolding(pr_model::specs::State::with_process))]
-fn bury(sys: &mut Sys, pid: u32, status: u64) -> (Space, Fds)
+fn bury(sys: &mut Sys, pid: u32, status: u64) -> Space
     requires { IsSome (under pid sys.old.processes) }
-    ensures system { sys.new ≡ with_process pid (zombie traced status) sys.old }
-    ensures space { ForSome (under pid sys.old.processes) (λ p. result.0 ≡ p.space) }
-    ensures fds { ForSome (under pid sys.old.processes) (λ p. result.1 ≡ p.fds) }
+    ensures system { ForSome (under pid sys.old.processes) (λ p. sys.new ≡ with_process pid (zombie traced status) (record sys.old { files = with_all_closed sys.old.files p.fds })) }
+    ensures space { ForSome (under pid sys.old.processes) (λ p. result ≡ p.space) }
 {
     let alloc = sys.programs.alloc();
-    become_zombie(alloc, sys.processes.get_mut(pid), status)
+    let process = sys.processes.get_mut(pid);
+    become_zombie(alloc, &mut sys.files, process, status)
 }
 
 /// Ends a live process with a wait status: it becomes a zombie, its descriptors are closed, its children get process
@@ -130,8 +138,7 @@ pub fn end(sys: &mut Sys, pid: u32, status: u64)
     let process = live(sys, pid).unwrap();
     let parent = process.parent;
     let (lender, borrower) = (process.lender, process.borrower);
-    let (space, mut fds) = bury(sys, pid, status);
-    sys.files.close_all(&mut fds);
+    let space = bury(sys, pid, status);
     orphan_each(&mut sys.processes, pid);
     leave_lender(sys, pid, borrower, lender);
     give_back(sys, pid, lender, space, borrower);

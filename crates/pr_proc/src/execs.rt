@@ -1,5 +1,5 @@
 //! How a process runs another program (exec(2)).
-ghost use Rattle.std.specs.Prelude.{◌≡◌, ◌<◌, [], ◌∷◌, IfSome, IsSome, OnOk, OnErr, false, length, map, slice_get};
+ghost use Rattle.std.specs.Prelude.{◌≡◌, ◌<◌, [], ◌∷◌, None, Err, IfSome, IsSome, OnOk, OnErr, false, length, map, slice_get};
 ghost use Rattle.std.specs.Option.{ForSome};
 ghost use Rattle.pr_num.specs.ById.{change_under, under};
 ghost use Rattle.pr_num.specs.Spaces.{first_space};
@@ -106,8 +106,8 @@ fn run_under(
 }
 
 /// Lets a live process run the program at a place, with the lwp of an id alone, which begins it (exec(2)); memory that
-/// it borrowed goes back, without a copy. `NoSpace` comes, unless memory ran out before, exactly where all processes
-/// together would then map more than 64 MiB. After an error the system is as it was.
+/// it borrowed goes back, without a copy. `NoSpace` comes exactly where all processes together would then map more than
+/// 64 MiB, and memory runs out only where that is not so. After an error the system is as it was.
 #[tactic(auto, using(pr_num::proofs::ByIdLaws::by_id_laws, crate::proofs::LifeLemmas::life_laws), unfolding(crate::specs::Refusals::exec_refusal, pr_model::specs::State::with_process))]
 pub fn exec(alloc: Global, sys: &mut Sys, pid: u32, lwp: u32, program: u32) -> Result<(), ProcNo>
     requires live { IsSome (live_process sys.old pid) }
@@ -115,16 +115,19 @@ pub fn exec(alloc: Global, sys: &mut Sys, pid: u32, lwp: u32, program: u32) -> R
     requires program { program < length sys.old.programs }
     ensures ok { OnOk result (ForSome (live_process sys.old pid) (λ p. ForSome (lwp_of p lwp) (λ l. ForSome (slice_get sys.old.programs program) (λ g. sys.new ≡ with_process_if p.lender (with_loan_back pid p) (with_process pid (with_program traced lwp l g) sys.old))))) }
     ensures refused { ForSome (live_process sys.old pid) (λ p. ForSome (slice_get sys.old.programs program) (λ g. Says result (exec_refusal sys.old p lwp g))) }
+    ensures memory { result ≡ Err ProcNo.NoMemory → ForSome (live_process sys.old pid) (λ p. ForSome (slice_get sys.old.programs program) (λ g. exec_refusal sys.old p lwp g ≡ None)) }
     ensures err { OnErr result (sys.new ≡ sys.old) }
 {
     let process = live(sys, pid).unwrap();
     let (lender, borrower) = (process.lender, process.borrower);
     let given_up = given_up(process);
     let (_, first) = sys.programs.start(program);
-    let space = first.copy(alloc)?;
-    if !total_has_room(sys, space.mapped(), given_up) {
+    let size = first.mapped();
+    if !total_has_room(sys, size, given_up) {
         return Err(ProcNo::NoSpace);
     }
+    let (_, first) = sys.programs.start(program);
+    let space = first.copy(alloc)?;
     let only = one_lwp(alloc, lwp, first_lwp(false))?;
     let program = sys.programs.at(program);
     let left = run_under(&mut sys.processes, pid, lwp, program, space, only);

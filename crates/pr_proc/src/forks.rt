@@ -20,7 +20,7 @@ use crate::spawns::{add_process, nothing_set, one_lwp};
 use crate::{Lwp, Proc, ProcNo, Sys, arguments_in, live, size_of, total_has_room};
 use pr_file::Fds;
 use pr_mem::Space;
-use pr_model::{Control, Frame, Frames, LwpControl, LwpOf, Phase, ProcessOf, Res, Stop, Usage};
+use pr_model::{Control, Frame, Frames, LwpControl, LwpOf, Phase, ProcessOf, Res, Stop};
 use pr_num::limits::PROCESS_LIMIT;
 use pr_num::{Modes, NoMemory, Sysno};
 use pr_sig::Pendings;
@@ -38,30 +38,31 @@ fn same(frame: &Frame) -> Frame
     }
 }
 
-/// The frames again. Each is taken off and put back; takes no memory.
+/// Puts the frames where there are none yet, too. Each is taken off and put back; takes no memory.
 #[tactic(auto, using(crate::proofs::ForkLemmas::frame_laws))]
-fn frames_again(frames: &mut Frames) -> Frames
+fn frames_again(frames: &mut Frames, again: &mut Frames)
+    requires { again.old ≡ [] }
     ensures same { frames.new ≡ frames.old }
-    ensures again { result ≡ frames.old }
+    ensures again { again.new ≡ frames.old }
 {
     prove!(frames.len() <= Frames::MAX);
     let Some(frame) = frames.pop() else {
-        return Frames::new();
+        return;
     };
-    let mut again = frames_again(frames);
+    frames_again(frames, again);
     frames.push(same(&frame));
     again.push(same(&frame));
-    again
 }
 
-/// The frames of an lwp of a process again.
+/// Puts the frames of an lwp of a process where there are none yet, too.
 #[tactic(auto, using(pr_num::proofs::ByIdLaws::by_id_laws))]
-fn frames_of(process: &mut Proc, lwp: u32) -> Frames
-    requires { IsSome (lwp_of process.old lwp) }
+fn copy_frames(process: &mut Proc, lwp: u32, again: &mut Frames)
+    requires stands { IsSome (lwp_of process.old lwp) }
+    requires none { again.old ≡ [] }
     ensures same { process.new ≡ process.old }
-    ensures frames { ForSome (lwp_of process.old lwp) (λ l. result ≡ l.frames) }
+    ensures frames { ForSome (lwp_of process.old lwp) (λ l. again.new ≡ l.frames) }
 {
-    frames_again(&mut process.lwps.get_mut(lwp).frames)
+    frames_again(&mut process.lwps.get_mut(lwp).frames, again);
 }
 
 /// The stop of a child at its birth, on its exit from the call that made it, where that is traced (proc(4), "PR_FORK").
@@ -87,27 +88,19 @@ fn birth_marks(call: Sysno, control: &Control<Areas>) -> LwpControl
 }
 
 /// What a child takes over of what is set on its parent: under PR_FORK the traced sets and that mode, and else nothing.
-#[tactic(auto, unfolding(pr_model::specs::Machines::child_control))]
+#[tactic(auto, unfolding(pr_model::specs::Machines::child_control, pr_model::specs::Machines::nothing_set))]
 fn child_control(control: &Control<Areas>) -> Control<Areas>
     ensures { result ≡ child_control control.now }
 {
-    if !control.modes.has(Modes::FORK) {
-        return nothing_set();
+    let mut taken = nothing_set();
+    if control.modes.has(Modes::FORK) {
+        taken.traced_signals = control.traced_signals;
+        taken.traced_faults = control.traced_faults;
+        taken.traced_entries = control.traced_entries;
+        taken.traced_exits = control.traced_exits;
+        taken.modes = Modes::FORK;
     }
-    Control {
-        traced_signals: control.traced_signals,
-        traced_faults: control.traced_faults,
-        traced_entries: control.traced_entries,
-        traced_exits: control.traced_exits,
-        modes: Modes::FORK,
-        areas: Areas::new(),
-        usage: Usage {
-            calls: 0,
-            signals: 0,
-            faults: 0,
-            instructions: 0,
-        },
-    }
+    taken
 }
 
 /// Registers in which 0 stands as the value of a call.
@@ -192,7 +185,8 @@ fn made_child(
     ensures same { sys.new ≡ sys.old }
     ensures child { IfOk result (λ child. (birth : Birth) → call ≡ call_of birth → ForSome (live_process sys.old pid) (λ p. ForSome (lwp_of p lwp) (λ l. child ≡ bare_child birth pid p l (arguments_in l.regs l.phase) sys.old.clock))) }
 {
-    let frames = frames_of(sys.processes.get_mut(pid), lwp);
+    let mut frames = Frames::new();
+    copy_frames(sys.processes.get_mut(pid), lwp, &mut frames);
     let process = live(sys, pid).unwrap();
     let caller = process.lwps.get(lwp).unwrap();
     let first = forked_lwp(call, caller, frames, &process.control);

@@ -3,7 +3,7 @@ ghost use Rattle.std.specs.Prelude.{◌≡◌, ◌+◌, ◌<◌, ◌^◌, [], �
 ghost use Rattle.std.specs.Option.{ForSome};
 ghost use Rattle.pr_num.specs.Limits.{process_limit};
 ghost use Rattle.pr_num.specs.Spaces.{first_space};
-ghost use Rattle.pr_model.specs.Lives.{bare_process, first_lwp, new_process, with_made, with_spawned};
+ghost use Rattle.pr_model.specs.Lives.{bare_process, first_lwp, with_made, with_spawned};
 ghost use Rattle.pr_model.specs.Spawning.{spawn_refusal};
 ghost use Rattle.pr_model.specs.State.{process_of};
 ghost use Rattle.pr_model.specs.Machines.{no_marks, nothing_set, traced};
@@ -12,7 +12,6 @@ ghost use Rattle.pr_proc.specs.Refusals.{Says};
 
 use crate::lwps::new_lwp;
 use crate::{Lwp, Proc, ProcNo, Sys, total_has_room};
-use pr_asm::Program;
 use pr_file::Fds;
 use pr_mem::Space;
 use pr_model::{Control, ProcessOf, Usage};
@@ -89,27 +88,6 @@ pub(crate) fn one_lwp(alloc: Global, id: u32, lwp: Lwp) -> Result<ById<Lwp>, NoM
     Ok(lwps)
 }
 
-/// A new process of a program that begins in this space, whose parent is process 0; `held`: it is directed to stop
-/// before it runs.
-#[tactic(auto, unfolding(pr_model::specs::Lives::new_process))]
-fn new_process(
-    alloc: Global,
-    program: &Program,
-    space: Space,
-    clock: u64,
-    held: bool,
-) -> Result<Proc, NoMemory>
-    requires { space ≡ first_space program.now }
-    ensures { IfOk result (λ p. p ≡ new_process traced program.now clock held) }
-{
-    let lwps = one_lwp(alloc, 1, first_lwp(held))?;
-    let mut process = bare_process(alloc, 0, program.name(), clock);
-    process.space = space;
-    process.next_lwp = 2;
-    process.lwps = lwps;
-    Ok(process)
-}
-
 /// Puts a process under the next id. Where memory runs out, the system stays as it is.
 #[tactic(auto, using(crate::proofs::FirstLemmas::numbering), unfolding(pr_model::specs::Lives::with_made))]
 pub(crate) fn add_process(sys: &mut Sys, process: Proc) -> Result<(), NoMemory>
@@ -125,8 +103,9 @@ pub(crate) fn add_process(sys: &mut Sys, process: Proc) -> Result<(), NoMemory>
     Ok(())
 }
 
-/// Makes a process of the program at a place that begins in this space, under the next id.
-#[tactic(auto, using(crate::proofs::FirstLemmas::numbering), unfolding(pr_model::specs::Lives::with_spawned))]
+/// Makes a process of the program at a place that begins in this space, under the next id; its parent is process 0, and
+/// `held`: it is directed to stop before it runs.
+#[tactic(auto, using(crate::proofs::FirstLemmas::numbering))]
 fn add_spawned(
     alloc: Global,
     sys: &mut Sys,
@@ -143,9 +122,14 @@ fn add_spawned(
     ensures ids { IsNumbered sys.old → IsNumbered sys.new }
     ensures err { OnErr result (sys.new ≡ sys.old) }
 {
-    let program = sys.programs.at(place);
-    let process = new_process(alloc, program, space, sys.clock, held)?;
-    add_process(sys, process)
+    let lwps = one_lwp(alloc, 1, first_lwp(held))?;
+    let name = sys.programs.at(place).name();
+    let mut process = bare_process(alloc, 0, name, sys.clock);
+    process.space = space;
+    process.next_lwp = 2;
+    process.lwps = lwps;
+    add_process(sys, process)?;
+    Ok(())
 }
 
 /// Makes a process of the program at a place, under the next id, however many there are.
@@ -170,8 +154,9 @@ pub(crate) fn spawn_unlimited(
 }
 
 /// Makes a process of the program at a place, under the next id, which it answers; `held`: the process is directed to
-/// stop before it runs. `Again` comes exactly where 4,096 processes were made; then, unless memory ran out before,
-/// `NoSpace` exactly where all processes together would map more than 64 MiB. After an error the system is as it was.
+/// stop before it runs. `Again` comes exactly where 4,096 processes were made, then `NoSpace` exactly where
+/// all processes together would map more than 64 MiB, and memory runs out only where neither is so. After an error the
+/// system is as it was.
 #[tactic(auto, unfolding(pr_model::specs::Spawning::spawn_refusal))]
 pub fn spawn(alloc: Global, sys: &mut Sys, place: u32, held: bool) -> Result<u32, ProcNo>
     requires program { place < length sys.old.programs }
@@ -181,6 +166,7 @@ pub fn spawn(alloc: Global, sys: &mut Sys, place: u32, held: bool) -> Result<u32
     ensures child { IfOk result (λ child. child ≡ sys.old.made) }
     ensures refused { ForSome (slice_get sys.old.programs place) (λ program. Says result (spawn_refusal sys.old program)) }
     ensures memory { result ≡ Err ProcNo.NoMemory → sys.old.made < process_limit }
+    ensures room { result ≡ Err ProcNo.NoMemory → ForSome (slice_get sys.old.programs place) (λ program. spawn_refusal sys.old program ≡ None) }
     ensures err { OnErr result (sys.new ≡ sys.old) }
 {
     let child = sys.made;
@@ -188,10 +174,12 @@ pub fn spawn(alloc: Global, sys: &mut Sys, place: u32, held: bool) -> Result<u32
         return Err(ProcNo::Again);
     }
     let (_, first) = sys.programs.start(place);
-    let space = first.copy(alloc)?;
-    if !total_has_room(sys, space.mapped(), 0) {
+    let size = first.mapped();
+    if !total_has_room(sys, size, 0) {
         return Err(ProcNo::NoSpace);
     }
+    let (_, first) = sys.programs.start(place);
+    let space = first.copy(alloc)?;
     add_spawned(alloc, sys, place, space, held)?;
     Ok(child)
 }

@@ -1,7 +1,9 @@
--- That truss calls just files that it has open, opens each file in its place, closes all that it has of what has ended,
--- polls soon, by the control files that it has open, and what it sends once it has polled, or was interrupted.
+-- That truss calls just files that it has open, opens each file in its place, closes nothing that it has hold of, and
+-- all that it has of what has ended, polls soon, by the control files that it has open, and what it sends once it has
+-- polled, or was interrupted.
 pub mod CalledFiles
 pub mod EndedFiles
+pub mod KeptOpen
 pub mod OpenPlaces
 pub mod PlacedOpens
 pub mod SentLater

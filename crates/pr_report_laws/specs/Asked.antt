@@ -1,4 +1,5 @@
-use Rattle.std.specs.Prelude.{◌≡◌, ◌==◌, ◌||◌, ◌&&◌, ◌+◌, ◌^◌, ℕ, Bool, true, false, Option, List, [], filter, is_none, is_some, not, length, take, nat_lt, option_and_then, unwrap_or, Some, None, if◌then◌else◌}
+use Rattle.std.specs.Prelude.{◌≡◌, ◌==◌, ◌||◌, ◌&&◌, ◌+◌, ◌^◌, ◌≤◌, ℕ, Bool, true, false, Option, List, [], filter, is_none, is_some, not, length, take, nat_lt, option_and_then, unwrap_or, Some, None, if◌then◌else◌}
+use Rattle.std.specs.List.{All}
 use Rattle.pr_line.specs.Events.{event_of}
 use Rattle.pr_line.specs.Selections.{is_chosen, never_returns}
 use Rattle.pr_line.specs.TextRanges.{text_range}
@@ -8,17 +9,22 @@ use Rattle.pr_line.specs.declared.options.Options.{Options}
 use Rattle.pr_model.specs.declared.calls.Call.TheVariants.{Ctl}
 use Rattle.pr_model.specs.declared.calls.Reply.TheVariants as reply
 use Rattle.pr_num.specs.Control.{async_mode, fork_mode, klc_mode, rlc_mode}
-use Rattle.pr_num.specs.Limits.{asked_limit}
+use Rattle.pr_num.specs.Limits.{asked_limit, lwp_limit}
 use Rattle.pr_num.specs.Messages.{spelling}
-use Rattle.pr_num.specs.Syscalls.{is_fork_call}
+use Rattle.pr_num.specs.Sets.{common_word, minus_word, with_number}
+use Rattle.pr_num.specs.Syscalls.{is_fork_call, syscall_number}
 use Rattle.pr_num.specs.declared.messages.Message.{Message}
 use Rattle.pr_num.specs.declared.stop_reasons.StopReason.{StopReason}
 use Rattle.pr_num.specs.declared.stop_reasons.StopReason.TheVariants.{SysExit}
 use Rattle.pr_num.specs.declared.syscalls.Sysno.{Sysno}
+use Rattle.pr_num.specs.declared.syscalls.Sysno.TheVariants.{Exit, Fork, LwpExit, Vfork}
+use Rattle.pr_rec.specs.InRange.{IsLwpStatus, IsStatus}
+use Rattle.pr_rec.specs.RecordBytes.{lstatus_bytes, status_bytes}
 use Rattle.pr_rec.specs.declared.lwps.LwpStatus.{LwpStatus}
-use Rattle.pr_truss.specs.Messages.{all_modes, message_call}
+use Rattle.pr_rec.specs.declared.statuses.Status.{Status}
+use Rattle.pr_truss.specs.Messages.{all_modes, message_call, traced_entries, traced_exits, traced_faults, traced_signals}
 use Rattle.pr_truss.specs.Openings.{pid_in}
-use Rattle.pr_truss.specs.Records.{child_of, event_stops, is_on_event, lstatus_lwps}
+use Rattle.pr_truss.specs.Records.{child_of, event_stops, is_on_event, lstatus_lwps, status_lwp}
 use Rattle.pr_truss.specs.Stops.{asked_range, text_of}
 use Rattle.pr_report_laws.specs.Reads.{traces}
 
@@ -35,9 +41,24 @@ is_asked o (Left call arguments result) =
 is_asked o (Received signal disposition info) = is_chosen o (Received signal disposition info)
 is_asked o (Incurred fault pc) = is_chosen o (Incurred fault pc)
 
--- The sets that truss has traced have just what is asked for.
+-- the calls that never return
+abbrev pub calls_without_return : ℕ
+calls_without_return = with_number (with_number 0 (syscall_number Exit)) (syscall_number LwpExit)
+
+-- these calls, and fork and vfork
+abbrev pub and_forks : ℕ → ℕ
+and_forks calls = with_number (with_number calls (syscall_number Fork)) (syscall_number Vfork)
+
+-- The sets that truss has traced have just what is asked for, and nothing beside: they are the words of the options, but
+-- for the calls. Of these the ones that never return are traced at their entry, the others at their exit, and with -f
+-- fork and vfork at their exit too.
 pub record TracesWhatIsAsked (o : Options) : Type 0 where
   pub each : (e : Event) → traces o e ≡ is_asked o e
+  pub signals : traced_signals o ≡ o.signals
+  pub faults : traced_faults o ≡ o.faults
+  pub entries : traced_entries o ≡ common_word o.calls calls_without_return
+  pub exits : o.follow ≡ false → traced_exits o ≡ minus_word o.calls calls_without_return
+  pub exits_and_forks : o.follow ≡ true → traced_exits o ≡ and_forks (minus_word o.calls calls_without_return)
 
 -- ---- what is written
 
@@ -75,11 +96,16 @@ child_made l =
     if (is_at_exit l.why && makes_child l.call && is_none l.errno) && not (l.result == 0) && nat_lt l.result (2 ^ 32)
     then Some l.result else None
 
--- The process that truss made is the one of the reply. A child is what an lwp at the exit of a fork or vfork has made. An
--- lwp stands on an event where its status tells one, and the stops of a process are its lwps that do.
+-- The process that truss made is the one of the reply. A child is what an lwp at the exit of a fork or vfork has made.
+-- An lwp stands on an event where its status tells one, and the stops of a process are its lwps that do. Of each status
+-- of a process, whatever its flags, it reads the representative lwp as it stands there, and of each record of lwps all
+-- of them.
 pub record ReadsItsReplies : Type 0 where
   pub pid : (n : ℕ) → pid_in (reply.Pid n) ≡ n
   pub child : (l : LwpStatus) → child_of l ≡ child_made l
   pub on_event : (l : LwpStatus) → is_on_event l ≡ is_some (event_of l)
   pub stops : (bytes : Option (List ℕ)) → event_stops bytes
       ≡ filter (λ l. is_some (event_of l)) (unwrap_or (option_and_then lstatus_lwps bytes) [])
+  pub status : (s : Status) → IsStatus s → status_lwp (status_bytes s) ≡ Some s.lwp
+  pub lstatus : (lwps : List LwpStatus) → length lwps ≤ lwp_limit → All IsLwpStatus lwps
+      → lstatus_lwps (lstatus_bytes lwps) ≡ Some lwps

@@ -42,5 +42,6 @@ pub data IsCaredFor (k : ℕ) (o : Options) (parent child : ℕ) (first : Traced
 pub record CaresForChildren (k : ℕ) (o : Options) (first : TracedState) (h : List Entry) : Type 0 where
   pub each : (before later : List Entry) (parent id child : ℕ) (turned : Turned)
       → h ≡ before ++ turn_entry parent id turned ∷ later
-      → IsLeftToTruss k o parent first h ⊎ IsNeverOpenedAsChild k parent h → HasHold k o parent first before
-      → child_made turned.did ≡ Some child → IsCaredFor k o parent child first before (turn_entry parent id turned) later
+      → IsLeftToTruss k o parent first h ⊎ IsNeverOpenedAsChild k o parent first h → HasHold k o parent first before
+      → child_made turned.did ≡ Some child
+      → IsCaredFor k o parent child first before (turn_entry parent id turned) later

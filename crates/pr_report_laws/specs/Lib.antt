@@ -16,6 +16,7 @@ pub mod Holds
 pub mod LaterSends
 pub mod LineReads
 pub mod Lineages
+pub mod Looks
 pub mod Memories
 pub mod Named
 pub mod Newborn

@@ -56,3 +56,10 @@ pub record IsSoonDone (k : ℕ) (s : TracedState) (h : List Entry) : Type 0 wher
   pub soon : (before between later : List Entry) (e : Entry) (pid handle : ℕ) → h ≡ before ++ e ∷ (between ++ later)
       → IsNamedIn k pid handle (state_after s before) e
       → IsWaitedFor k pid handle (after (state_after s before) e) between → length (exchanges k between) ≤ 12
+
+-- Before it polls again the controller runs the process that a poll of it has named, or closes a handle of it.
+pub record RunsBeforeItPolls (k : ℕ) (s : TracedState) (h : List Entry) : Type 0 where
+  pub each : (before between later : List Entry) (e f : Entry) (pid handle : ℕ) (handles : List ℕ) (r : Reply)
+      → h ≡ before ++ e ∷ (between ++ f ∷ later) → IsNamedIn k pid handle (state_after s before) e
+      → IsWaitedFor k pid handle (after (state_after s before) e) between
+      → exchange_of k f ≡ Some (record { call = call.Poll handles; reply = r }) → ⊥

@@ -1,4 +1,5 @@
-use Rattle.std.specs.Prelude.{◌≡◌, ◌⊎◌, ℕ, List, [], ◌∷◌, ◌++◌, Some}
+use Rattle.std.specs.Prelude.{◌≡◌, ◌⊎◌, ℕ, List, [], ◌∷◌, ◌++◌, Some, slice_get}
+use Rattle.pr_line.specs.declared.options.Options.{Options}
 use Rattle.pr_model.specs.Handles.{handle_of}
 use Rattle.pr_model.specs.Legal.{state_after}
 use Rattle.pr_model.specs.State.{TracedState}
@@ -6,14 +7,16 @@ use Rattle.pr_model.specs.declared.calls.Call.{Call}
 use Rattle.pr_model.specs.declared.calls.Call.TheVariants as call
 use Rattle.pr_model.specs.declared.calls.File.{File}
 use Rattle.pr_model.specs.declared.calls.File.TheVariants.{Ctl, Lstatus, Mem, Status}
+use Rattle.pr_model.specs.declared.calls.Reply.{Reply}
 use Rattle.pr_model.specs.declared.events.Entry.{Entry}
 use Rattle.pr_model.specs.declared.handles.Held.{Held}
 use Rattle.pr_truss_laws.specs.Business.{IsAmong}
 use Rattle.pr_truss_laws.specs.Exchanges.{Exchange, exchange_of, exchanges}
 use Rattle.pr_report_laws.specs.Attachments.{HasFile}
-use Rattle.pr_report_laws.specs.Holds.{IsToldOfEnd}
+use Rattle.pr_report_laws.specs.Holds.{HasHold, IsToldOfEnd}
 
--- Truss calls nothing but files that it has open, and once a process has ended it closes all that it has of it.
+-- Truss calls nothing but files that it has open, and polls each of them once; it closes none of a process of which it
+-- has hold; and once a process has ended it closes all that it has of it.
 
 -- ---- what it calls
 
@@ -37,6 +40,20 @@ NamesItsOwn k s _ = Unit {0}
 pub record CallsItsFiles (k : ℕ) (first : TracedState) (h : List Entry) : Type 0 where
   pub each : (before later : List Entry) (e : Entry) (x : Exchange) → h ≡ before ++ e ∷ later
       → exchange_of k e ≡ Some x → NamesItsOwn k (state_after first before) x.call
+
+-- No poll of it names a file twice.
+pub record PollsEachOnce (k : ℕ) (h : List Entry) : Type 0 where
+  pub each : (before later : List Entry) (e : Entry) (handles : List ℕ) (r : Reply) (one two handle : ℕ)
+      → h ≡ before ++ e ∷ later → exchange_of k e ≡ Some (record { call = call.Poll handles; reply = r })
+      → slice_get handles one ≡ Some handle → slice_get handles two ≡ Some handle → one ≡ two
+
+-- ---- what it keeps open
+
+-- It closes no file of a process of which it has hold.
+pub record ClosesNothingHeld (k : ℕ) (o : Options) (first : TracedState) (h : List Entry) : Type 0 where
+  pub each : (before later : List Entry) (e : Entry) (pid handle : ℕ) (f : File) (r : Reply) → h ≡ before ++ e ∷ later
+      → exchange_of k e ≡ Some (record { call = call.Close handle; reply = r })
+      → HasFile k pid f handle (state_after first before) → HasHold k o pid first before → ⊥
 
 -- ---- what has ended
 

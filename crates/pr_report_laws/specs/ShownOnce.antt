@@ -1,13 +1,14 @@
-use Rattle.std.specs.Prelude.{◌≡◌, ℕ, true, List, [], ◌∷◌, ◌++◌}
+use Rattle.std.specs.Prelude.{◌≡◌, ℕ, true, List, [], ◌∷◌, ◌++◌, Some}
 use Rattle.pr_line.specs.Selections.{is_selected}
 use Rattle.pr_line.specs.declared.options.Options.{Options}
 use Rattle.pr_model.specs.Legal.{after, state_after}
 use Rattle.pr_model.specs.State.{TracedState}
 use Rattle.pr_model.specs.declared.calls.File.TheVariants.{Ctl}
+use Rattle.pr_model.specs.declared.calls.Reply.{Reply}
 use Rattle.pr_model.specs.declared.events.Entry.{Entry}
-use Rattle.pr_truss_laws.specs.Exchanges.{truss_at}
+use Rattle.pr_truss.specs.NextCalls.{run_call}
+use Rattle.pr_truss_laws.specs.Exchanges.{exchange_of, truss_at}
 use Rattle.pr_report_laws.specs.Attachments.{HasFile}
-use Rattle.pr_report_laws.specs.Named.{IsWaitedFor}
 use Rattle.pr_report_laws.specs.Reads.{ReadsEvent}
 use Rattle.pr_report_laws.specs.Shown.{LwpEvent, shown}
 use Rattle.pr_report_laws.specs.ToldForks.{HasNoOldStop}
@@ -37,14 +38,21 @@ pub record ShowsWhatIsNew (k : ℕ) (o : Options) (first : TracedState) (h : Lis
       → HasNoOldStop k o pid first before → ReadsEvent k pid (state_after first before) e event
       → is_selected o event.event ≡ true → (w : ShowsIn k o pid before e) × (w.event ≡ event)
 
--- In none of these entries, from a state on, does it run a process by the control file that it has of it, or close a
--- file of the process.
-abbrev pub IsLeftStanding : ℕ → ℕ → TracedState → Entry → List Entry → Type 0
-IsLeftStanding k pid s e between =
-    (handle : ℕ) → HasFile k pid Ctl handle s → IsWaitedFor k pid handle (after s e) between
+-- In an entry it sends PCRUN to a process.
+pub record RunsIn (k pid : ℕ) (s : TracedState) (e : Entry) : Type 0 where
+  pub handle : ℕ
+  pub reply : Reply
+  pub is : exchange_of k e ≡ Some (record { call = run_call handle; reply = reply })
+  pub has : HasFile k pid Ctl handle s
 
--- Between two entries in which it shows events of a process it runs the process, or closes a file of it.
+-- In none of these entries, from a state on, does it do so.
+pub record IsLeftStanding (k pid : ℕ) (s : TracedState) (h : List Entry) : Type 0 where
+  pub none : (before later : List Entry) (e : Entry) → h ≡ before ++ e ∷ later
+      → RunsIn k pid (state_after s before) e → ⊥
+
+-- Between two entries in which it shows events of a process it sends PCRUN to the process.
 pub record ShowsStopsOnce (k : ℕ) (o : Options) (first : TracedState) (h : List Entry) : Type 0 where
   pub each : (before between later : List Entry) (e f : Entry) (pid : ℕ)
       → h ≡ before ++ e ∷ (between ++ f ∷ later) → ShowsIn k o pid before e
-      → IsLeftStanding k pid (state_after first before) e between → ShowsIn k o pid (before ++ e ∷ between) f → ⊥
+      → IsLeftStanding k pid (after (state_after first before) e) between
+      → ShowsIn k o pid (before ++ e ∷ between) f → ⊥

@@ -4,10 +4,11 @@ ghost use Rattle.pr_model.specs.State.{TracedState};
 ghost use Rattle.pr_model.specs.declared.events.Entry.{Entry};
 ghost use Rattle.pr_report_laws.specs.Asked.{AsksForItsLines, ReadsItsReplies, TracesWhatIsAsked, WritesOneMessage};
 ghost use Rattle.pr_report_laws.specs.Counted.{PrintsItsCounts};
-ghost use Rattle.pr_report_laws.specs.HeldRefusals.{TellsNoRefusalOfWhatItHolds};
+ghost use Rattle.pr_report_laws.specs.HeldRefusals.{TellsNoRefusalOfWhatItHolds, TellsRefusalsOfOpens};
 ghost use Rattle.pr_report_laws.specs.LaterSends.{SendsLittleLater};
 ghost use Rattle.pr_report_laws.specs.LineReads.{ReadsForItsLines};
-ghost use Rattle.pr_report_laws.specs.OwnFiles.{CallsItsFiles, ClosesAllThatEnded};
+ghost use Rattle.pr_report_laws.specs.Looks.{LooksAtWhatItLeaves, LooksInPlace};
+ghost use Rattle.pr_report_laws.specs.OwnFiles.{CallsItsFiles, ClosesAllThatEnded, ClosesNothingHeld, PollsEachOnce};
 ghost use Rattle.pr_report_laws.specs.OwnOpens.{OpensInPlace};
 ghost use Rattle.pr_report_laws.specs.ShownOnce.{ShowsStopsOnce, ShowsWhatIsNew, ShowsWhatItReads};
 ghost use Rattle.pr_report_laws.specs.SoonOpen.{PollsByItsFiles};
@@ -16,11 +17,33 @@ ghost use Rattle.pr_truss_laws.specs.Exchanges.{Exchange, Makes};
 ghost use Rattle.pr_truss_laws.specs.Runs.{IsTrussRun};
 
 /// In a legal history of a lawful state, in which a truss with nothing open makes its calls: each call of it that names
-/// handles names files that it has open, and of the right kind. So none is refused with EBADF.
+/// handles names files that it has open, and of the right kind. So none is refused with EBADF. No poll of it names a
+/// file twice.
 #[tactic(auto, using(crate::proofs::OwnFiles::CalledFiles::called))]
 pub fn truss_calls_files_that_it_has_open()
-    ensures { (n k : ℕ) (o : Options) (s : TracedState) (h : List Entry) → IsTrussRun n k o s h
+    ensures calls { (n k : ℕ) (o : Options) (s : TracedState) (h : List Entry) → IsTrussRun n k o s h
         → CallsItsFiles k s h }
+    ensures polls { (n k : ℕ) (o : Options) (s : TracedState) (h : List Entry) → IsTrussRun n k o s h
+        → PollsEachOnce k h }
+{}
+
+/// In such a history truss closes no file of a process of which it has hold.
+#[tactic(auto, using(crate::proofs::OwnFiles::KeptOpen::kept_open))]
+pub fn truss_closes_nothing_that_it_has_hold_of()
+    ensures { (n k : ℕ) (o : Options) (s : TracedState) (h : List Entry) → IsTrussRun n k o s h
+        → ClosesNothingHeld k o s h }
+{}
+
+/// In such a history truss reads the status of a process, whole, right after a poll has named the process, of which it
+/// has hold; and the statuses of its lwps, whole, right behind the granted wait of the opening, or, once truss was
+/// interrupted and as long as it has hold of the process, right behind PCUNSET PR_FORK, behind which nothing else comes
+/// but a close.
+#[tactic(auto, using(crate::proofs::Asking::LeavingLooks::left_looks))]
+pub fn truss_looks_at_a_process_in_its_place()
+    ensures places { (n k : ℕ) (o : Options) (s : TracedState) (h : List Entry) → IsTrussRun n k o s h
+        → LooksInPlace k o s h }
+    ensures leaves { (n k : ℕ) (o : Options) (s : TracedState) (h : List Entry) → IsTrussRun n k o s h
+        → LooksAtWhatItLeaves k s h }
 {}
 
 /// In such a history truss opens a control file while it opens what it was given, before it has polled or was
@@ -35,11 +58,11 @@ pub fn truss_opens_each_file_in_its_place()
 
 /// In such a history truss sends, once it has polled or a wait of it was interrupted, nothing but these: PCRUN; PCSET
 /// PR_RLC right behind the granted open of the control file to which it goes; and, once it was interrupted, PCUNSET
-/// PR_FORK. Nor does it wait for a stop then.
+/// PR_FORK to a process of which it has hold. Nor does it wait for a stop then.
 #[tactic(auto, using(crate::proofs::OwnFiles::SentLater::sent_later))]
 pub fn truss_sends_little_once_it_has_polled()
     ensures { (n k : ℕ) (o : Options) (s : TracedState) (h : List Entry) → IsTrussRun n k o s h
-        → SendsLittleLater k h }
+        → SendsLittleLater k o s h }
 {}
 
 /// In such a history truss polls again, or has finished, after at most 38 calls, 12 more for each control file that it
@@ -59,8 +82,8 @@ pub fn truss_closes_all_that_it_has_of_what_has_ended()
 {}
 
 /// In such a history truss shows what it reads, right then: in each entry nothing new of a process, whichever it is, or
-/// one event more, which it reads in this entry. Between two that it shows of a process it runs the process, or closes
-/// a file of it. Once no old stop of a process is left it shows what it reads of it and the options select.
+/// one event more, which it reads in this entry. Between two that it shows of a process it sends PCRUN to the process.
+/// Once no old stop of a process is left it shows what it reads of it and the options select.
 #[tactic(auto, using(crate::proofs::Asking::ReadShown::shown_laws))]
 pub fn truss_shows_what_it_reads_right_then_and_once()
     ensures read { (n k : ℕ) (o : Options) (s : TracedState) (h : List Entry) → IsTrussRun n k o s h
@@ -86,17 +109,26 @@ pub fn truss_tells_no_refusal_of_what_it_has_hold_of()
         → TellsNoRefusalOfWhatItHolds k o s h }
 {}
 
-/// Where truss reads the memory of a process, the last event that it has reported is one of that process, and its line
-/// asks for just this memory.
+/// In such a history truss reports that it cannot trace a process where it is refused an open of that process, as long
+/// as it is to open what it was given, or where PR_RLC is refused of a child whose control file it has just opened; by
+/// no other call. So it reports no refusal of a process that it has let go, but of a new open of it.
+#[tactic(auto, using(crate::proofs::Asking::RefusedOpens::refused_opens))]
+pub fn truss_tells_refusals_of_what_it_opens()
+    ensures { (n k : ℕ) (o : Options) (s : TracedState) (h : List Entry) → IsTrussRun n k o s h
+        → TellsRefusalsOfOpens k o h }
+{}
+
+/// Where truss reads the memory of a process, the last event that it has reported is one of that process, its line asks
+/// for just this memory, and the last call of truss read the event.
 #[tactic(auto, using(crate::proofs::Asking::MemoryAsked::line_reads))]
 pub fn truss_reads_memory_for_its_lines()
     ensures { (n k : ℕ) (o : Options) (s : TracedState) (h : List Entry) → IsTrussRun n k o s h
         → ReadsForItsLines k o s h }
 {}
 
-/// What truss has traced is what the options ask for: the calls, signals and faults that they choose, and with -f fork
-/// and vfork. Each write of it is one message. The memory that it asks for is that of the line of the event, and the
-/// text is what came of it.
+/// What truss has traced is what the options ask for, bit by bit: the calls, signals and faults that they choose, and
+/// with -f fork and vfork. Each write of it is one message. The memory that it asks for is that of the line of the
+/// event, and the text is what came of it. The lwps of a status it reads as they were written.
 #[tactic(auto, using(crate::proofs::Asking::AskedLaws::asked))]
 pub fn truss_traces_writes_and_asks_for_no_more_than_it_is_asked()
     ensures traces { (o : Options) → TracesWhatIsAsked o }

@@ -44,13 +44,13 @@ pub fn truss_watches_a_process_while_it_has_hold_of_it()
 #[tactic(auto, using(crate::proofs::Holding::HeldLaws::held))]
 pub fn truss_shows_what_came_while_it_had_hold_of_a_process()
     ensures shows { (n k : ℕ) (o : Options) (pid : ℕ) (s : TracedState) (h : List Entry) → IsReached s
-        → IsTrussRun n k o s h → HasBytes h → IsLeftToTruss k o pid s h ⊎ IsNeverOpenedAsChild k pid h
+        → IsTrussRun n k o s h → HasBytes h → IsLeftToTruss k o pid s h ⊎ IsNeverOpenedAsChild k o pid s h
         → ShowsHeld k o pid s h }
     ensures reads { (n k : ℕ) (o : Options) (pid : ℕ) (s : TracedState) (h : List Entry) → IsReached s
-        → IsTrussRun n k o s h → HasBytes h → IsLeftToTruss k o pid s h ⊎ IsNeverOpenedAsChild k pid h
+        → IsTrussRun n k o s h → HasBytes h → IsLeftToTruss k o pid s h ⊎ IsNeverOpenedAsChild k o pid s h
         → ReadsHeld k o pid s h }
     ensures moments { (n k : ℕ) (o : Options) (pid : ℕ) (s : TracedState) (h : List Entry) → IsReached s
-        → IsTrussRun n k o s h → HasBytes h → IsLeftToTruss k o pid s h ⊎ IsNeverOpenedAsChild k pid h
+        → IsTrussRun n k o s h → HasBytes h → IsLeftToTruss k o pid s h ⊎ IsNeverOpenedAsChild k o pid s h
         → StandAtTheirEvents k o pid s h (truss_at k o h).reports }
 {}
 

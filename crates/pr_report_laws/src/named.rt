@@ -2,7 +2,7 @@ ghost use Rattle.std.specs.Prelude.{ℕ, List};
 ghost use Rattle.pr_line.specs.declared.options.Options.{Options};
 ghost use Rattle.pr_model.specs.State.{TracedState};
 ghost use Rattle.pr_model.specs.declared.events.Entry.{Entry};
-ghost use Rattle.pr_report_laws.specs.Named.{IsSoonDone, LooksAtWhatIsNamed};
+ghost use Rattle.pr_report_laws.specs.Named.{IsSoonDone, LooksAtWhatIsNamed, RunsBeforeItPolls};
 ghost use Rattle.pr_report_laws.specs.RunsNamed.{RunsWhatWasNamed};
 ghost use Rattle.pr_truss.specs.Trusses.{first_truss};
 ghost use Rattle.pr_truss_laws.specs.Exchanges.{Exchange, Makes};
@@ -23,9 +23,12 @@ pub fn truss_runs_what_a_poll_has_named()
     ensures { (o : Options) (xs : List Exchange) → Makes (first_truss o) xs → RunsWhatWasNamed o xs }
 {}
 
-/// In such a history truss reads the status of a process right after a poll has named it.
+/// In such a history truss reads the status of a process right after a poll has named it, and runs the process, or
+/// closes a file of it, before it polls again.
 #[tactic(auto, using(crate::proofs::Watching::NamedSoon::soon))]
 pub fn truss_looks_at_what_a_poll_named()
-    ensures { (n k : ℕ) (o : Options) (s : TracedState) (h : List Entry) → IsTrussRun n k o s h
+    ensures looks { (n k : ℕ) (o : Options) (s : TracedState) (h : List Entry) → IsTrussRun n k o s h
         → LooksAtWhatIsNamed k s h }
+    ensures runs { (n k : ℕ) (o : Options) (s : TracedState) (h : List Entry) → IsTrussRun n k o s h
+        → RunsBeforeItPolls k s h }
 {}

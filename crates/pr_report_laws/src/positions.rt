@@ -19,5 +19,5 @@ ghost use Rattle.pr_truss_laws.specs.Runs.{IsTrussRun};
 #[tactic(auto, using(crate::proofs::Holding::PositionLaws::positions))]
 pub fn a_process_stands_in_one_of_four_ways_with_truss()
     ensures { (n k : ℕ) (o : Options) (pid : ℕ) (s : TracedState) (h : List Entry) → IsReached s → IsTrussRun n k o s h
-        → HasBytes h → IsLeftToTruss k o pid s h ⊎ IsNeverOpenedAsChild k pid h → StandsWithTruss k o pid s h }
+        → HasBytes h → IsLeftToTruss k o pid s h ⊎ IsNeverOpenedAsChild k o pid s h → StandsWithTruss k o pid s h }
 {}

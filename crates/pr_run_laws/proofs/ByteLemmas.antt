@@ -1,7 +1,14 @@
-use Rattle.std.proofs.Common.{◌≡◌, ◌+◌, ℕ, Bool, true, false, Option, Some, None, List, [], ◌∷◌, ◌++◌, IfSome, cond, drop, replicate, length, nat_le, option_map, slice_get, refl, ap, sym, subst, arith, ◌∙◌}
+use Rattle.std.proofs.Common.{◌≡◌, ◌<◌, ◌≤◌, ◌+◌, ◌⊎◌, inl, inr, ℕ, Bool, true, false, Option, Some, None, List, []}
+use Rattle.std.proofs.Common.{◌∷◌, ◌++◌}
+use Rattle.std.proofs.Common.{IfSome, cond, drop, replicate, length, nat_le, option_map, slice_get, refl, ap, sym}
+use Rattle.std.proofs.Common.{subst, arith}
+use Rattle.std.proofs.Common.{◌∙◌}
 use Rattle.std.specs.List.{All}
 use Rattle.std.specs.Option.{option_and_then}
-use Rattle.std.proofs.lemmas.List.Elements.{All-append, All-cons, All-drop, All-nil, All-replicate, All-set}
+use Rattle.std.proofs.lemmas.Bool.{cases_lt}
+use Rattle.std.proofs.lemmas.List.Elements.{All-append, All-cons, All-drop, All-head, All-nil, All-replicate, All-set}
+use Rattle.std.proofs.lemmas.List.Elements.{All-tail}
+use Rattle.std.proofs.lemmas.Option.{none-some, slice_get_past, slice_get_within}
 use Rattle.pr_codec.proofs.WordLemmas.{AreBytes-words_bytes}
 use Rattle.pr_core.specs.Gcores as gcores
 use Rattle.pr_core.specs.declared.gcore_stages.GcoreStage.{GcoreStage}
@@ -81,6 +88,9 @@ use Rattle.pr_truss_laws.proofs.FunctionOptionLemmas.{fed_functions-options}
 use Rattle.pr_world.specs.Controllers.{after_reply, call_by, feed_at, next_call, with_fed}
 use Rattle.pr_world.specs.ControllerStates.{ControllerState, Script, Truss, FnTruss, Tool, Gcore, Probe}
 use Rattle.pr_world.specs.Protocol.{Follows, FollowsAt, controllers_after}
+use Rattle.pr_world.proofs.ProtocolLemmas.{controllers_at-count}
+use Rattle.pr_tool_laws.proofs.ProtocolLemmas.{follows-own}
+use Rattle.pr_tool_laws.specs.OwnCalls.{AreOwnCalls, IsOwnCall}
 
 -- What the controllers of a run write is bytes.
 
@@ -246,7 +256,8 @@ function-stage-bytes s (stage.Opening place opening.TraceEntries) =
 function-stage-bytes s (stage.Opening place opening.TraceExits) =
     spelt-bytes (message.Sexit (functions.with_copying (traced_exits s.options)))
 function-stage-bytes s (stage.Opening place opening.OpenStatus) = stage-bytes s (stage.Opening place opening.OpenStatus)
-function-stage-bytes s (stage.Opening place opening.OpenLstatus) = stage-bytes s (stage.Opening place opening.OpenLstatus)
+function-stage-bytes s (stage.Opening place opening.OpenLstatus) =
+    stage-bytes s (stage.Opening place opening.OpenLstatus)
 function-stage-bytes s (stage.Opening place opening.OpenMemory) = stage-bytes s (stage.Opening place opening.OpenMemory)
 function-stage-bytes s (stage.Opening place opening.ClearModes) = stage-bytes s (stage.Opening place opening.ClearModes)
 function-stage-bytes s (stage.Opening place opening.SetRelease) = stage-bytes s (stage.Opening place opening.SetRelease)
@@ -322,7 +333,8 @@ probe-stage-bytes p probe.SaveCode saves = spelt-bytes (message.Read text_base c
 probe-stage-bytes p probe.SaveStack saves = spelt-bytes (message.Read stack_base stack_size)
 probe-stage-bytes p (probe.Trace k) saves = set-bytes p k agent_sets
 probe-stage-bytes p probe.MakeAgent saves = spelt-bytes (message.Agent (agent_registers 0 text_base))
-probe-stage-bytes p probe.PlantCode saves = written-bytes (message.Write text_base (length planted)) planted planted-bytes
+probe-stage-bytes p probe.PlantCode saves =
+    written-bytes (message.Write text_base (length planted)) planted planted-bytes
 probe-stage-bytes p (probe.Asking d a) saves = asking-bytes p d a
 probe-stage-bytes p probe.UntraceExits saves = set-bytes p Exits no_sets
 probe-stage-bytes p probe.SetExit saves = spelt-bytes (message.Sreg (agent_registers 0 exit_pc))
@@ -361,7 +373,7 @@ line-bytes s (line.Kill pid sig) all = tt
 line-bytes s (line.Until moment) all = tt
 line-bytes s line.List all = tt
 
-script-bytes : (s : ScriptState) → All IsLineOfBytes s.lines → IfSome (scripts.next_call_of s) IsOfBytes
+pub script-bytes : (s : ScriptState) → All IsLineOfBytes s.lines → IfSome (scripts.next_call_of s) IsOfBytes
 unfolding scripts.next_call_of
 script-bytes s all = of (slice_get s.lines s.place) refl
   where
@@ -427,13 +439,13 @@ answer-lines s r (Some (line.Kill pid sig)) = over-lines s
 answer-lines s r (Some (line.Until moment)) = over-lines s
 answer-lines s r (Some line.List) = over-lines s
 
-fed-lines : (s : ScriptState) (r : Reply) → (scripts.fed s r).lines ≡ s.lines
+pub fed-lines : (s : ScriptState) (r : Reply) → (scripts.fed s r).lines ≡ s.lines
 unfolding scripts.fed
 fed-lines s r = answer-lines s r (slice_get s.lines s.place)
 
 -- ---- a controller whose lines write bytes writes bytes, and goes on so after a reply
 
-core-bytes : (c : ControllerState) → IsCoreOfBytes c → IfSome (next_call c) IsOfBytes
+pub core-bytes : (c : ControllerState) → IsCoreOfBytes c → IfSome (next_call c) IsOfBytes
 unfolding next_call IsCoreOfBytes
 core-bytes (Script s) bytes = script-bytes s bytes
 core-bytes (Truss t) bytes = truss-bytes t
@@ -460,7 +472,8 @@ core-gives : (core : ControllerState) (s : TracedState) (by : ℕ) (c : Call) (t
     → IsInRange s.system → next_call core ≡ Some c → answer_to s by c ≡ Some (record { state = t; reply = r })
     → Gives core r
 unfolding next_call
-core-gives (Probe p) s by c t r h asks given = (code-given p s by c t r h asks given, stack-given p s by c t r h asks given)
+core-gives (Probe p) s by c t r h asks given =
+    (code-given p s by c t r h asks given, stack-given p s by c t r h asks given)
 core-gives _ s by c t r h asks given = tt
 
 -- the call of a controller
@@ -476,16 +489,29 @@ call-bytes controllers k c all is = of (slice_get controllers k) refl is
 
 -- ---- a history
 
+-- what one writes that is none of so many controllers is bytes
+unfoldable pub IsOtherOfBytes : ℕ → Entry → Type 0
+IsOtherOfBytes count e = by e.actor e.act
+  where
+    by : Actor → Act → Type 0
+    by (Controller k) (act.Call c r) = count ≤ k → IsOfBytes c
+    by _ _ = Unit {0}
+
 -- Each entry. A legal one is no call of an lwp or of the clock.
 entry-bytes : (controllers : List ControllerState) (n : ℕ) (s : TracedState) (actor : Actor) (it : Act)
     → All IsCoreOfBytes controllers → IsLegalEntry n s (record { actor = actor; act = it })
-    → FollowsAt controllers s (record { actor = actor; act = it }) → IsActOfBytes it
-unfolding IsLegalEntry FollowsAt
-entry-bytes controllers n s (Controller k) (act.Call c r) all legal follows = call-bytes controllers k c all follows
-entry-bytes controllers n s actor (act.Turn t) all legal follows = tt
-entry-bytes controllers n s actor (act.Tick moment) all legal follows = tt
-entry-bytes controllers n s (Lwp p l) (act.Call c r) all legal follows = absurd legal
-entry-bytes controllers n s Clock (act.Call c r) all legal follows = absurd legal
+    → IsOwnCall controllers (record { actor = actor; act = it })
+    → IsOtherOfBytes (length controllers) (record { actor = actor; act = it }) → IsActOfBytes it
+unfolding IsLegalEntry IsOwnCall IsOtherOfBytes
+entry-bytes controllers n s (Controller k) (act.Call c r) all legal own others = of (cases_lt k (length controllers))
+  where
+    of : (k < length controllers) ⊎ (length controllers ≤ k) → IsOfBytes c
+    of (inl within) = call-bytes controllers k c all (own within)
+    of (inr past) = others past
+entry-bytes controllers n s actor (act.Turn t) all legal own others = tt
+entry-bytes controllers n s actor (act.Tick moment) all legal own others = tt
+entry-bytes controllers n s (Lwp p l) (act.Call c r) all legal own others = absurd legal
+entry-bytes controllers n s Clock (act.Call c r) all legal own others = absurd legal
 
 -- the controllers after it write bytes too
 fed-bytes : (controllers : List ControllerState) (k : ℕ) (r : Reply)
@@ -500,27 +526,62 @@ fed-bytes controllers k r gives all = of (slice_get controllers k) refl
         All-set IsCoreOfBytes controllers k (after_reply c r)
         (reply-bytes c r (gives c found) (All-at IsCoreOfBytes controllers k c found all)) all
 
-after-bytes : (controllers : List ControllerState) (n : ℕ) (s : TracedState) (actor : Actor) (it : Act) → IsInRange s.system
-    → IsLegalEntry n s (record { actor = actor; act = it }) → FollowsAt controllers s (record { actor = actor; act = it })
-    → All IsCoreOfBytes controllers → All IsCoreOfBytes (controllers_after controllers (record { actor = actor; act = it }))
-unfolding controllers_after IsLegalEntry FollowsAt call_by
-after-bytes controllers n s (Controller k) (act.Call c r) h legal follows all =
+after-bytes : (controllers : List ControllerState) (n : ℕ) (s : TracedState) (actor : Actor) (it : Act)
+    → IsInRange s.system
+    → IsLegalEntry n s (record { actor = actor; act = it }) → IsOwnCall controllers (record { actor = actor; act = it })
+    → All IsCoreOfBytes controllers
+    → All IsCoreOfBytes (controllers_after controllers (record { actor = actor; act = it }))
+unfolding controllers_after IsLegalEntry IsOwnCall call_by
+after-bytes controllers n s (Controller k) (act.Call c r) h legal own all =
     fed-bytes controllers k r
     (λ core found.
-    core-gives core s k c legal.1.0 r h (sym (ap (option_and_then next_call) found) ∙ follows) legal.1.1) all
-after-bytes controllers n s (Controller k) (act.Turn t) h legal follows all = all
-after-bytes controllers n s (Controller k) (act.Tick moment) h legal follows all = all
-after-bytes controllers n s (Lwp p l) it h legal follows all = all
-after-bytes controllers n s Clock it h legal follows all = all
+    core-gives core s k c legal.1.0 r h
+    (sym (ap (option_and_then next_call) found) ∙ own (slice_get_within controllers k core found)) legal.1.1) all
+after-bytes controllers n s (Controller k) (act.Turn t) h legal own all = all
+after-bytes controllers n s (Controller k) (act.Tick moment) h legal own all = all
+after-bytes controllers n s (Lwp p l) it h legal own all = all
+after-bytes controllers n s Clock it h legal own all = all
 
-pub follows-bytes : (controllers : List ControllerState) (n : ℕ) (s : TracedState) (h : List Entry) → IsReached s
-    → All IsCoreOfBytes controllers → IsLegal n s h → Follows controllers s h → HasBytes h
-follows-bytes controllers n s [] reached all legal follows = All-nil IsEntryOfBytes
-follows-bytes controllers n s (e ∷ h) reached all legal follows =
-    let here = entry-bytes controllers n s e.actor e.act all legal.0 follows.0 in
+pub own-bytes : (controllers : List ControllerState) (count n : ℕ) (s : TracedState) (h : List Entry)
+    → length controllers ≡ count → IsReached s → All IsCoreOfBytes controllers → IsLegal n s h
+    → AreOwnCalls controllers h → All (IsOtherOfBytes count) h → HasBytes h
+own-bytes controllers count n s [] many reached all legal own others = All-nil IsEntryOfBytes
+own-bytes controllers count n s (e ∷ h) many reached all legal own others =
+    let its : IsOtherOfBytes (length controllers) e =
+    subst (λ (m : ℕ). IsOtherOfBytes m e) (sym many) (All-head (IsOtherOfBytes count) e h others) in
+    let here = entry-bytes controllers n s e.actor e.act all legal.0 own.0 its in
     let alone : HasBytes (e ∷ []) = All-cons IsEntryOfBytes e [] here (All-nil IsEntryOfBytes) in
     let later : IsReached (after s e) = later-reached n s (e ∷ []) reached alone (legal.0, tt) in
     let rest =
-    follows-bytes (controllers_after controllers e) n (after s e) h later
-    (after-bytes controllers n s e.actor e.act reached.in_range legal.0 follows.0 all) legal.1 follows.1 in
+    own-bytes (controllers_after controllers e) count n (after s e) h
+    (controllers_at-count controllers (e ∷ []) ∙ many) later
+    (after-bytes controllers n s e.actor e.act reached.in_range legal.0 own.0 all) legal.1 own.1
+    (All-tail (IsOtherOfBytes count) e h others) in
     All-cons IsEntryOfBytes e h here rest
+
+-- where all follow the protocol there are no others
+none-other : (controllers : List ControllerState) (s : TracedState) (actor : Actor) (it : Act)
+    → FollowsAt controllers s (record { actor = actor; act = it })
+    → IsOtherOfBytes (length controllers) (record { actor = actor; act = it })
+unfolding FollowsAt IsOtherOfBytes call_by
+none-other controllers s (Controller k) (act.Call c r) follows =
+    λ past. absurd (none-some c (sym (ap (option_and_then next_call) (slice_get_past controllers k past)) ∙ follows))
+none-other controllers s (Controller k) (act.Turn t) follows = tt
+none-other controllers s (Controller k) (act.Tick moment) follows = tt
+none-other controllers s (Lwp p l) it follows = tt
+none-other controllers s Clock it follows = tt
+
+no-others : (controllers : List ControllerState) (count : ℕ) (s : TracedState) (h : List Entry)
+    → length controllers ≡ count → Follows controllers s h → All (IsOtherOfBytes count) h
+no-others controllers count s [] many follows = All-nil (IsOtherOfBytes count)
+no-others controllers count s (e ∷ h) many follows =
+    All-cons (IsOtherOfBytes count) e h
+    (subst (λ (m : ℕ). IsOtherOfBytes m e) many (none-other controllers s e.actor e.act follows.0))
+    (no-others (controllers_after controllers e) count (after s e) h
+    (controllers_at-count controllers (e ∷ []) ∙ many) follows.1)
+
+pub follows-bytes : (controllers : List ControllerState) (n : ℕ) (s : TracedState) (h : List Entry) → IsReached s
+    → All IsCoreOfBytes controllers → IsLegal n s h → Follows controllers s h → HasBytes h
+follows-bytes controllers n s h reached all legal follows =
+    own-bytes controllers (length controllers) n s h refl reached all legal (follows-own controllers s h follows)
+    (no-others controllers (length controllers) s h refl follows)

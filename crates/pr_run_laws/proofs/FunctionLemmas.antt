@@ -1,7 +1,9 @@
-use Rattle.std.proofs.Common.{◌≡◌, ◌==◌, ℕ, Bool, true, false, Option, None, Some, List, [], ◌∷◌, cond, sym, subst, ap, ◌∙◌, refl}
+use Rattle.std.proofs.Common.{◌≡◌, ◌==◌, ◌<◌, length, ℕ, Bool, true, false, Option, None, Some, List, [], ◌∷◌, cond}
+use Rattle.std.proofs.Common.{sym, subst, ap, ◌∙◌, refl}
 use Rattle.std.proofs.lemmas.List.Elements.{All-cons, All-nil}
 use Rattle.std.specs.List.{All, cons_option, slice_get}
 use Rattle.std.specs.Option.{option_and_then}
+use Rattle.std.proofs.lemmas.Option.{slice_get_within}
 use Rattle.std.proofs.lemmas.Bool.{eqb-false, eqb-true}
 use Rattle.pr_line.specs.declared.options.Options.{Options}
 use Rattle.pr_model.specs.Legal.{IsLegal, IsLegalEntry, after}
@@ -21,7 +23,8 @@ use Rattle.pr_truss.specs.Trusses.{TrussState, first_truss}
 use Rattle.pr_truss_laws.specs.Exchanges.{Exchange, exchange_in, exchanges}
 use Rattle.pr_world.specs.Controllers.{after_reply, call_by, next_call, with_fed}
 use Rattle.pr_world.specs.ControllerStates.{ControllerState, FnTruss}
-use Rattle.pr_world.specs.Protocol.{Follows, FollowsAt, controllers_after, controllers_at}
+use Rattle.pr_tool_laws.specs.OwnCalls.{AreOwnCalls, IsOwnCall}
+use Rattle.pr_world.specs.Protocol.{controllers_after, controllers_at}
 use Rattle.pr_run_laws.proofs.TrussLemmas.{exchanges-cons, exchanges-none}
 use Rattle.pr_truss.specs.Marks.{has_functions}
 use Rattle.pr_truss.specs.Replies.{answer_of}
@@ -68,43 +71,46 @@ Rest controllers h k xs = (u : TrussState) → slice_get controllers k ≡ Some 
 
 call-stays : (controllers : List ControllerState) (h : List Entry) (k by : ℕ) (t : TrussState) (c : Call) (r : Reply)
     (xs : List Exchange) (b : Bool) → (by == k) ≡ b → slice_get controllers k ≡ Some (FnTruss t)
-    → call_by controllers by ≡ Some c → Rest (with_fed by r controllers) h k xs
+    → (by < length controllers → call_by controllers by ≡ Some c) → Rest (with_fed by r controllers) h k xs
     → Stays (with_fed by r controllers) h k t (cons_option (cond b (Some (record { call = c; reply = r })) None) xs)
-call-stays controllers h k by t c r xs true is at calls rest =
+call-stays controllers h k by t c r xs true is at own rest =
     let same = eqb-true by k is in
+    let calls : call_by controllers by ≡ Some c =
+    own (subst (λ n. n < length controllers) (sym same) (slice_get_within controllers k (FnTruss t) at)) in
     let next = function-next controllers k t c at (subst (λ n. call_by controllers n ≡ Some c) same calls) in
     let here =
     subst (λ n. slice_get (with_fed n r controllers) k ≡ Some (FnTruss (fed_functions t r))) (sym same)
     (function-fed controllers k t r at) in
     let it = rest (fed_functions t r) here in
     ((next, it.0), it.1)
-call-stays controllers h k by t c r xs false is at calls rest =
+call-stays controllers h k by t c r xs false is at own rest =
     rest t (fed-other controllers by k r (eqb-false by k is) ∙ at)
 
-entry-stays : (controllers : List ControllerState) (s : TracedState) (h : List Entry) (k : ℕ) (t : TrussState)
+entry-stays : (controllers : List ControllerState) (h : List Entry) (k : ℕ) (t : TrussState)
     (actor : Actor) (it : Act) (xs : List Exchange) → slice_get controllers k ≡ Some (FnTruss t)
-    → FollowsAt controllers s (record { actor = actor; act = it })
+    → IsOwnCall controllers (record { actor = actor; act = it })
     → Rest (controllers_after controllers (record { actor = actor; act = it })) h k xs
     → Stays (controllers_after controllers (record { actor = actor; act = it })) h k t
     (cons_option (exchange_in k actor it) xs)
-unfolding FollowsAt controllers_after
-entry-stays controllers s h k t (Controller by) (act.Call c r) xs at follows rest =
-    call-stays controllers h k by t c r xs (by == k) refl at follows rest
-entry-stays controllers s h k t (Controller by) (act.Turn did) xs at follows rest = rest t at
-entry-stays controllers s h k t (Controller by) (act.Tick moment) xs at follows rest = rest t at
-entry-stays controllers s h k t (Lwp p l) it xs at follows rest = rest t at
-entry-stays controllers s h k t Clock it xs at follows rest = rest t at
+unfolding IsOwnCall controllers_after
+entry-stays controllers h k t (Controller by) (act.Call c r) xs at own rest =
+    call-stays controllers h k by t c r xs (by == k) refl at own rest
+entry-stays controllers h k t (Controller by) (act.Turn did) xs at own rest = rest t at
+entry-stays controllers h k t (Controller by) (act.Tick moment) xs at own rest = rest t at
+entry-stays controllers h k t (Lwp p l) it xs at own rest = rest t at
+entry-stays controllers h k t Clock it xs at own rest = rest t at
 
 -- ---- a history
 
-function-stays : (h : List Entry) (controllers : List ControllerState) (s : TracedState) (k : ℕ) (t : TrussState)
-    → slice_get controllers k ≡ Some (FnTruss t) → Follows controllers s h → Stays controllers h k t (exchanges k h)
-function-stays [] controllers s k t at follows = subst (Stays controllers [] k t) (sym (exchanges-none k)) (tt, at)
-function-stays (e ∷ h) controllers s k t at follows =
+function-stays : (h : List Entry) (controllers : List ControllerState) (k : ℕ) (t : TrussState)
+    → slice_get controllers k ≡ Some (FnTruss t) → AreOwnCalls controllers h
+    → Stays controllers h k t (exchanges k h)
+function-stays [] controllers k t at own = subst (Stays controllers [] k t) (sym (exchanges-none k)) (tt, at)
+function-stays (e ∷ h) controllers k t at own =
     let rest : Rest (controllers_after controllers e) h k (exchanges k h) =
-    λ u here. function-stays h (controllers_after controllers e) (after s e) k u here follows.1 in
+    λ u here. function-stays h (controllers_after controllers e) k u here own.1 in
     subst (Stays controllers (e ∷ h) k t) (sym (exchanges-cons k e h))
-    (entry-stays controllers s h k t e.actor e.act (exchanges k h) at follows.0 rest)
+    (entry-stays controllers h k t e.actor e.act (exchanges k h) at own.0 rest)
 
 -- ---- a legal history
 
@@ -141,9 +147,9 @@ all-calm (e ∷ h) n s k legal =
 pub function-kept : (controllers : List ControllerState) (n : ℕ) (s : TracedState) (h : List Entry) (k : ℕ)
     (o : Options) → IsReached s → HasBytes h → HasNothingOpen k s
     → slice_get controllers k ≡ Some (FnTruss (first_truss o)) → has_functions o ≡ true → IsLegal n s h
-    → Follows controllers s h → IsFunctionTrussKept controllers s h k o
-function-kept controllers n s h k o reached bytes none at has legal follows =
-    let stays = function-stays h controllers s k (first_truss o) at follows in
+    → AreOwnCalls controllers h → IsFunctionTrussKept controllers s h k o
+function-kept controllers n s h k o reached bytes none at has legal own =
+    let stays = function-stays h controllers k (first_truss o) at own in
     let run : o.follow ≡ false → IsFunctionRun n k o s h =
     λ follow. record {
       has = has;

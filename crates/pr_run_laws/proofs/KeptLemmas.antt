@@ -16,12 +16,16 @@ use Rattle.pr_model.specs.declared.events.Entry.{Entry}
 use Rattle.pr_model.specs.declared.tools.ToolKind.{ToolKind}
 use Rattle.pr_model.specs.declared.tools.ToolKind.TheVariants.{Prun, Pstack, Pstop}
 use Rattle.pr_probe.specs.Probes.{first_probe}
+use Rattle.pr_function_hides.proofs.TidyLaw.{writes-tidily}
 use Rattle.pr_hidden.proofs.FirstLemmas.{first-untouched}
 use Rattle.pr_probe_laws.proofs.HiddenLaw.{apfiles-hidden}
 use Rattle.pr_probe_laws.proofs.ProbeLaw.{puts-back}
+use Rattle.pr_probe_laws.proofs.ReasonLaw.{tells-why}
+use Rattle.pr_probe_laws.proofs.RunAgainLaw.{runs-at-last}
 use Rattle.pr_probe_laws.proofs.SetLaw.{sets-back}
 use Rattle.pr_probe_laws.proofs.TextLaw.{shows-one}
 use Rattle.pr_reached.proofs.ReachedLemmas.{first-reached}
+use Rattle.pr_reached.specs.ByteHistories.{HasBytes}
 use Rattle.pr_reached.specs.Reached.{IsReached}
 use Rattle.pr_scen.specs.Scenarios.{Scenario, probe_in, probes_of, script_in, scripts_of, shown_functions, shown_in}
 use Rattle.pr_scen.specs.declared.plans.Plan.{Plan}
@@ -30,6 +34,8 @@ use Rattle.pr_truss.specs.Marks.{has_functions}
 use Rattle.pr_truss_laws.specs.Handles.{HasNothingOpen}
 use Rattle.pr_world.proofs.RunLemmas.{moves-led}
 use Rattle.pr_tool_laws.proofs.HandleLemmas.{tool-holds}
+use Rattle.pr_tool_laws.proofs.ProtocolLemmas.{follows-own}
+use Rattle.pr_tool_laws.specs.OwnCalls.{AreOwnCalls}
 use Rattle.pr_tool_laws.proofs.NothingOpenLemmas.{tool-closes}
 use Rattle.pr_tool_laws.proofs.ProgramLemmas.{first-same}
 use Rattle.pr_tool_laws.proofs.ReadsOnlyLemmas.{tool-leaves}
@@ -46,7 +52,7 @@ use Rattle.pr_world.specs.Worlds.{WorldState}
 use Rattle.pr_run_laws.specs.ScenarioRuns.{IsKept, controller_of, controllers_of, files_of, first_state_of, first_world, history_after, truss_of, world_after}
 use Rattle.pr_run_laws.specs.ScenarioRanges.{IsScenarioInRange}
 use Rattle.pr_run_laws.specs.CoreRuns.{IsGcoreKept}
-use Rattle.pr_run_laws.specs.FunctionRuns.{IsFunctionTrussKept}
+use Rattle.pr_run_laws.specs.FunctionRuns.{IsFunctionTrussKept, WriteUnseen}
 use Rattle.pr_run_laws.specs.ProbeRuns.{AreHidden, IsProbeKept}
 use Rattle.pr_run_laws.specs.ToolRuns.{IsToolKept}
 use Rattle.pr_run_laws.specs.Tracers.{IsTracer}
@@ -125,24 +131,21 @@ unfolding controller_of
 truss-plan s k o b at is =
     slice_get-map controller_of s.controllers k ∙ ap (option_map controller_of) at ∙ ap (λ c. Some (truss_of o c)) is
 
-trusses-kept : (s : Scenario) (h : List Entry) → IsScenarioInRange s → IsLegal (length (controllers_of s))
-    (first_state_of s) h → Follows (controllers_of s) (first_state_of s) h → (k : ℕ) (o : Options) → slice_get
+pub trusses-kept : (s : Scenario) (n : ℕ) (h : List Entry) → IsScenarioInRange s → HasBytes h
+    → IsLegal n (first_state_of s) h → AreOwnCalls (controllers_of s) h → (k : ℕ) (o : Options) → slice_get
     s.controllers k ≡ Some (plan.Truss o) → has_functions o ≡ false
     → IsTrussKept (controllers_of s) (first_state_of s) h k o
-trusses-kept s h range legal follows k o at bare =
-    truss-kept (controllers_of s) (length (controllers_of s)) (first_state_of s) h k o (state-reached s range)
-    (follows-bytes (controllers_of s) (length (controllers_of s)) (first_state_of s) h (state-reached s range) range.bytes legal
-    follows)
-    (truss-plan s k o false at bare) (first-held s k) legal follows
+trusses-kept s n h range bytes legal own k o at bare =
+    truss-kept (controllers_of s) n (first_state_of s) h k o (state-reached s range) bytes
+    (truss-plan s k o false at bare) (first-held s k) legal own
 
-functions-kept : (s : Scenario) (h : List Entry) → IsScenarioInRange s
-    → IsLegal (length (controllers_of s)) (first_state_of s) h → Follows (controllers_of s) (first_state_of s) h → (k : ℕ)
+pub functions-kept : (s : Scenario) (n : ℕ) (h : List Entry) → IsScenarioInRange s → HasBytes h
+    → IsLegal n (first_state_of s) h → AreOwnCalls (controllers_of s) h → (k : ℕ)
     (o : Options) → slice_get s.controllers k ≡ Some (plan.Truss o) → has_functions o ≡ true
     → IsFunctionTrussKept (controllers_of s) (first_state_of s) h k o
-functions-kept s h range legal follows k o at some =
-    function-kept (controllers_of s) (length (controllers_of s)) (first_state_of s) h k o (state-reached s range)
-    (follows-bytes (controllers_of s) (length (controllers_of s)) (first_state_of s) h (state-reached s range)
-    range.bytes legal follows) (first-held s k) (truss-plan s k o true at some) some legal follows
+functions-kept s n h range bytes legal own k o at some =
+    function-kept (controllers_of s) n (first_state_of s) h k o (state-reached s range) bytes
+    (first-held s k) (truss-plan s k o true at some) some legal own
 
 -- ---- tools
 
@@ -157,47 +160,43 @@ kind-first : (s : Scenario) (k : ℕ) (kind which : ToolKind) (pid : ℕ) → sl
 kind-first s k kind which pid at same =
     tool-first s k kind pid at ∙ ap (λ (x : ToolKind). Some (Tool (first_tool x pid))) same
 
-tools-kept : (s : Scenario) (h : List Entry) → IsScenarioInRange s → IsLegal (length (controllers_of s))
-    (first_state_of s) h → Follows (controllers_of s) (first_state_of s) h → (k : ℕ) (kind : ToolKind) (pid : ℕ) →
+pub tools-kept : (s : Scenario) (n : ℕ) (h : List Entry) → IsScenarioInRange s → HasBytes h
+    → IsLegal n (first_state_of s) h → AreOwnCalls (controllers_of s) h → (k : ℕ) (kind : ToolKind) (pid : ℕ) →
     slice_get s.controllers k ≡ Some (plan.Tool kind pid) → IsToolKept (controllers_of s) (first_state_of s) h k kind
     pid
-tools-kept s h range legal follows k kind pid at = record {
+tools-kept s n h range bytes legal own k kind pid at = record {
   shows = λ t programs ends ended accepted once.
-      let n = length (controllers_of s) in
       let reached = state-reached s range in
       tool-shows (controllers_of s) n k kind pid (first_state_of s) h t programs reached.lawful reached.in_range
-      (follows-bytes (controllers_of s) n (first_state_of s) h reached range.bytes legal follows) once (tool-first s k kind
-      pid at) legal follows ends ended accepted;
+      bytes once (tool-first s k kind pid at) legal own ends ended accepted;
   stack = λ t programs ends ended accepted same.
-      let n = length (controllers_of s) in
       let reached = state-reached s range in
       shows-one-stack (controllers_of s) n k pid (first_state_of s) h t programs reached.lawful reached.in_range
-      (follows-bytes (controllers_of s) n (first_state_of s) h reached range.bytes legal follows)
-      (kind-first s k kind Pstack pid at same) legal follows ends ended accepted;
+      bytes (kind-first s k kind Pstack pid at same) legal own ends ended accepted;
   runs_again = λ t ends ended accepted same.
       let reached = state-reached s range in
-      runs-again (controllers_of s) (length (controllers_of s)) k pid (first_state_of s) h t reached.lawful
-      (kind-first s k kind Pstack pid at same) legal follows ends ended accepted;
+      runs-again (controllers_of s) n k pid (first_state_of s) h t reached.lawful
+      (kind-first s k kind Pstack pid at same) legal own ends ended accepted;
   takes_back = λ t ends ended was same.
-      takes-back (length (controllers_of s)) k pid (first_state_of s) (controllers_of s) h t
-      (kind-first s k kind Pstack pid at same) legal follows ends ended was;
+      takes-back n k pid (first_state_of s) (controllers_of s) h t
+      (kind-first s k kind Pstack pid at same) legal own ends ended was;
   stops = λ t ends ended accepted same.
       let reached = state-reached s range in
-      pstop-stops (controllers_of s) (length (controllers_of s)) k pid (first_state_of s) h t reached.lawful
-      (kind-first s k kind Pstop pid at same) legal follows ends ended accepted;
+      pstop-stops (controllers_of s) n k pid (first_state_of s) h t reached.lawful
+      (kind-first s k kind Pstop pid at same) legal own ends ended accepted;
   runs = λ t ends ended accepted same.
       let reached = state-reached s range in
-      prun-runs (controllers_of s) (length (controllers_of s)) k pid (first_state_of s) h t reached.lawful
-      (kind-first s k kind Prun pid at same) legal follows ends ended accepted;
+      prun-runs (controllers_of s) n k pid (first_state_of s) h t reached.lawful
+      (kind-first s k kind Prun pid at same) legal own ends ended accepted;
   opens = λ t ends.
-      tool-holds (length (controllers_of s)) k kind pid (first_state_of s) (controllers_of s) h t (first-held s k)
-      (tool-first s k kind pid at) legal follows ends;
+      tool-holds n k kind pid (first_state_of s) (controllers_of s) h t (first-held s k)
+      (tool-first s k kind pid at) legal own ends;
   closes = λ t ends ended.
-      tool-closes (length (controllers_of s)) k kind pid (first_state_of s) (controllers_of s) h t (first-held s k)
-      (tool-first s k kind pid at) legal follows ends ended;
+      tool-closes n k kind pid (first_state_of s) (controllers_of s) h t (first-held s k)
+      (tool-first s k kind pid at) legal own ends ended;
   leaves = λ t ends once.
-      tool-leaves (length (controllers_of s)) k kind pid once (first_state_of s) (controllers_of s) h t (first-held s k)
-      (tool-first s k kind pid at) legal follows ends;
+      tool-leaves n k kind pid once (first_state_of s) (controllers_of s) h t (first-held s k)
+      (tool-first s k kind pid at) legal own ends;
 }
 
 -- ---- cores
@@ -207,16 +206,14 @@ gcore-first : (s : Scenario) (k pid : ℕ) → slice_get s.controllers k ≡ Som
 unfolding controller_of
 gcore-first s k pid at = slice_get-map controller_of s.controllers k ∙ ap (option_map controller_of) at
 
-gcores-kept : (s : Scenario) (h : List Entry) → IsScenarioInRange s → IsLegal (length (controllers_of s))
-    (first_state_of s) h → Follows (controllers_of s) (first_state_of s) h → (k pid : ℕ)
+pub gcores-kept : (s : Scenario) (n : ℕ) (h : List Entry) → IsScenarioInRange s → HasBytes h
+    → IsLegal n (first_state_of s) h → AreOwnCalls (controllers_of s) h → (k pid : ℕ)
     → slice_get s.controllers k ≡ Some (plan.Gcore pid) → IsGcoreKept (controllers_of s) (first_state_of s) h k pid
-gcores-kept s h range legal follows k pid at = record {
+gcores-kept s n h range bytes legal own k pid at = record {
   shows = λ g ends ended accepted.
-      let n = length (controllers_of s) in
       let reached = state-reached s range in
       shows-one-core (controllers_of s) n k pid (first_state_of s) h g reached.lawful reached.in_range
-      (follows-bytes (controllers_of s) n (first_state_of s) h reached range.bytes legal follows) (gcore-first s k pid at)
-      legal follows ends ended accepted;
+      bytes (gcore-first s k pid at) legal own ends ended accepted;
 }
 
 -- ---- probes
@@ -226,39 +223,49 @@ probe-first : (s : Scenario) (k pid : ℕ) → slice_get s.controllers k ≡ Som
 unfolding controller_of
 probe-first s k pid at = slice_get-map controller_of s.controllers k ∙ ap (option_map controller_of) at
 
-probes-kept : (s : Scenario) (h : List Entry) → IsScenarioInRange s → IsLegal (length (controllers_of s))
-    (first_state_of s) h → Follows (controllers_of s) (first_state_of s) h → (k pid : ℕ)
+pub probes-kept : (s : Scenario) (n : ℕ) (h : List Entry) → IsScenarioInRange s → HasBytes h
+    → IsLegal n (first_state_of s) h → AreOwnCalls (controllers_of s) h → (k pid : ℕ)
     → slice_get s.controllers k ≡ Some (plan.Probe pid) → IsProbeKept (controllers_of s) (first_state_of s) h k pid
-probes-kept s h range legal follows k pid at = record {
+probes-kept s n h range bytes legal own k pid at = record {
   puts_back =
       λ p ends ended accepted.
-      puts-back (controllers_of s) (length (controllers_of s)) k pid (first_state_of s) h p (probe-first s k pid at)
-      legal follows ends ended accepted;
+      puts-back (controllers_of s) n k pid (first_state_of s) h p (probe-first s k pid at)
+      legal own ends ended accepted;
   sets_back = λ p ends ended accepted.
-      let n = length (controllers_of s) in
       let reached = state-reached s range in
       sets-back (controllers_of s) n k pid (first_state_of s) h p reached.lawful reached.in_range
-      (follows-bytes (controllers_of s) n (first_state_of s) h reached range.bytes legal follows)
-      (probe-first s k pid at) legal follows ends ended accepted;
+      bytes (probe-first s k pid at) legal own ends ended accepted;
+  runs_again = λ p ends ended accepted.
+      runs-at-last (controllers_of s) n k pid (first_state_of s) h p (state-reached s range).lawful
+      (probe-first s k pid at) legal own ends ended accepted;
+  refuses = λ p e ends ended refused.
+      tells-why (controllers_of s) n k pid (first_state_of s) h p e (state-reached s range).lawful
+      (probe-first s k pid at) legal own ends ended refused;
   shows = λ p ends ended accepted.
-      let n = length (controllers_of s) in
       let reached = state-reached s range in
-      shows-one (controllers_of s) n k pid (first_state_of s) h p reached
-      (follows-bytes (controllers_of s) n (first_state_of s) h reached range.bytes legal follows)
-      (probe-first s k pid at) legal follows ends ended accepted;
+      shows-one (controllers_of s) n k pid (first_state_of s) h p reached bytes
+      (probe-first s k pid at) legal own ends ended accepted;
 }
 
 -- programs see nothing of them where they are left alone
-hidden-kept : (s : Scenario) (h : List Entry) → IsScenarioInRange s → IsLegal (length (controllers_of s))
-    (first_state_of s) h → Follows (controllers_of s) (first_state_of s) h
+pub hidden-kept : (s : Scenario) (n : ℕ) (h : List Entry) → IsScenarioInRange s → HasBytes h
+    → IsLegal n (first_state_of s) h → AreOwnCalls (controllers_of s) h
     → AreHidden (controllers_of s) (first_state_of s) h
-hidden-kept s h range legal follows = record {
+hidden-kept s n h range bytes legal own = record {
   hidden = λ who are.
-      let n = length (controllers_of s) in
       let reached = state-reached s range in
       apfiles-hidden n who (controllers_of s) (first_state_of s) h reached
       (first-untouched s.programs (files_of s) s.spawns)
-      (follows-bytes (controllers_of s) n (first_state_of s) h reached range.bytes legal follows) legal follows are;
+      bytes legal own are;
+}
+
+-- what truss with calls of functions writes
+pub writes-kept : (s : Scenario) (n : ℕ) (h : List Entry) → IsScenarioInRange s → IsLegal n (first_state_of s) h
+    → AreOwnCalls (controllers_of s) h → WriteUnseen (controllers_of s) (first_state_of s) h
+writes-kept s n h range legal own = record {
+  tidily = λ who are undisturbed.
+      let reached = state-reached s range in
+      writes-tidily n who (controllers_of s) (first_state_of s) h reached.lawful legal own are undisturbed;
 }
 
 -- ---- runs
@@ -276,20 +283,23 @@ led-history s w led = led.history
 led-kept : (s : Scenario) (w : WorldState) → IsScenarioInRange s → LedFrom (first_world s) w → IsKept s w.kernel.history
 led-kept s w range led =
     let run = led-run s w led in
-    let kept : IsKept s led.entries = record {
+    let h = led.entries in let n = length (controllers_of s) in
+    let bytes = follows-bytes (controllers_of s) n (first_state_of s) h (state-reached s range) range.bytes run.legal
+    run.follows in
+    let own = follows-own (controllers_of s) (first_state_of s) h run.follows in
+    let kept : IsKept s h = record {
       legal = run.legal;
       follows = run.follows;
-      transparent = transparent-first (length (controllers_of s)) s.programs (files_of s) s.spawns led.entries
-          run.legal;
-      transparent_without_scripts = transparent-tracers s led.entries run.legal run.follows;
-      trusses = trusses-kept s led.entries range run.legal run.follows;
-      functions = functions-kept s led.entries range run.legal run.follows;
-      tools = tools-kept s led.entries range run.legal run.follows;
-      cores = gcores-kept s led.entries range run.legal run.follows;
-      probes = probes-kept s led.entries range run.legal run.follows;
-      hides = hidden-kept s led.entries range run.legal run.follows;
-      programs = first-same (length (controllers_of s)) s.programs (files_of s) s.spawns led.entries range.start
-          run.legal;
+      transparent = transparent-first n s.programs (files_of s) s.spawns h run.legal;
+      transparent_without_scripts = transparent-tracers s h run.legal run.follows;
+      trusses = trusses-kept s n h range bytes run.legal own;
+      functions = functions-kept s n h range bytes run.legal own;
+      tools = tools-kept s n h range bytes run.legal own;
+      cores = gcores-kept s n h range bytes run.legal own;
+      probes = probes-kept s n h range bytes run.legal own;
+      hides = hidden-kept s n h range bytes run.legal own;
+      writes = writes-kept s n h range run.legal own;
+      programs = first-same n s.programs (files_of s) s.spawns h range.start run.legal;
     } in
     subst (IsKept s) (sym (led-history s w led)) kept
 

@@ -2,6 +2,7 @@ pub mod AnswerLemmas
 pub mod ByteLemmas
 pub mod GrowthLemmas
 pub mod KeptLemmas
+pub mod OwnPassive
 pub mod PassiveLemmas
 pub mod FunctionLemmas
 pub mod ProbeByteLemmas

@@ -22,7 +22,7 @@ use Rattle.pr_run_laws.specs.Tracers.{IsPassiveCall, IsTracer}
 
 -- Where no controller is a script or asks by an agent, a history is passive.
 
-core-passive : (c : ControllerState) → IsTracer c → IfSome (next_call c) IsPassiveCall
+pub core-passive : (c : ControllerState) → IsTracer c → IfSome (next_call c) IsPassiveCall
 unfolding next_call IsTracer
 core-passive (Script s) tracer = absurd tracer
 core-passive (Truss t) tracer = truss-passive t
@@ -32,7 +32,7 @@ core-passive (Gcore g) tracer = gcore-passive g
 core-passive (Probe p) tracer = absurd tracer
 
 -- a tracer stays one
-reply-tracer : (c : ControllerState) (r : Reply) → IsTracer c → IsTracer (after_reply c r)
+pub reply-tracer : (c : ControllerState) (r : Reply) → IsTracer c → IsTracer (after_reply c r)
 unfolding after_reply IsTracer
 reply-tracer (Script s) r tracer = tracer
 reply-tracer (FnTruss t) r tracer = tracer

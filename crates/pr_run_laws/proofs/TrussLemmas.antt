@@ -1,8 +1,10 @@
-use Rattle.std.proofs.Common.{◌≡◌, ◌≢◌, ◌==◌, ◌++◌, ℕ, zero, suc, Bool, true, false, cond, Option, Some, None, List, [], ◌∷◌, ◌⊎◌, append_assoc, inl, inr, replicate, refl, sym, ◌∙◌, ap, subst}
+use Rattle.std.proofs.Common.{◌≡◌, ◌≢◌, ◌==◌, ◌<◌, ◌++◌, length, ℕ, zero, suc, Bool, true, false, cond, Option, Some}
+use Rattle.std.proofs.Common.{None, List, [], ◌∷◌, ◌⊎◌, append_assoc, inl, inr, replicate, refl, sym, ◌∙◌, ap, subst}
 use Rattle.std.proofs.lemmas.Bool.{eqb-true, eqb-false, false≢true}
 use Rattle.std.proofs.lemmas.List.{append-nil}
 use Rattle.std.specs.List.{cons_option, slice_get}
 use Rattle.std.specs.Option.{option_and_then}
+use Rattle.std.proofs.lemmas.Option.{slice_get_within}
 use Rattle.pr_report_laws.proofs.Watching.Unfollowing.{left-unfollowed}
 use Rattle.pr_report_laws.specs.Shown.{LwpEvent}
 use Rattle.pr_line.specs.Selections.{is_selected}
@@ -25,13 +27,17 @@ use Rattle.pr_reached.specs.Reached.{IsReached}
 use Rattle.pr_report_laws.proofs.Asking.AskedLaws.{asks-lines, one-message, reads-replies, what-traces}
 use Rattle.pr_report_laws.proofs.Asking.CountLaws.{prints-counts}
 use Rattle.pr_report_laws.proofs.Asking.HeldRefused.{tells-no-refusal}
+use Rattle.pr_report_laws.proofs.Asking.LeavingLooks.{looks-at-left}
+use Rattle.pr_report_laws.proofs.Asking.LooksMade.{looks-in-place}
 use Rattle.pr_report_laws.proofs.Asking.MemoryAsked.{reads-lines}
 use Rattle.pr_report_laws.proofs.Asking.NamedRuns.{runs-named}
 use Rattle.pr_report_laws.proofs.Asking.OnceShown.{shows-stops-once}
 use Rattle.pr_report_laws.proofs.Asking.ReadShown.{shows-what-is-new}
+use Rattle.pr_report_laws.proofs.Asking.RefusedOpens.{tells-of-opens}
 use Rattle.pr_report_laws.proofs.Asking.ShownLaws.{shows-read}
-use Rattle.pr_report_laws.proofs.OwnFiles.CalledFiles.{calls-files}
+use Rattle.pr_report_laws.proofs.OwnFiles.CalledFiles.{calls-files, polls-once}
 use Rattle.pr_report_laws.proofs.OwnFiles.EndedFiles.{closes-ended}
+use Rattle.pr_report_laws.proofs.OwnFiles.KeptOpen.{closes-nothing-held}
 use Rattle.pr_report_laws.proofs.OwnFiles.PlacedOpens.{opens-in-place}
 use Rattle.pr_report_laws.proofs.OwnFiles.SentLater.{sends-later}
 use Rattle.pr_report_laws.proofs.OwnFiles.SoonOpens.{polls-by-files}
@@ -52,7 +58,7 @@ use Rattle.pr_truss.specs.Trusses.{TrussState, first_truss}
 use Rattle.pr_truss_laws.proofs.GivenLemmas.{given-handled, handled-so-far}
 use Rattle.pr_truss_laws.proofs.OwnLemmas.{nothing-open}
 use Rattle.pr_truss_laws.proofs.BusinessLemmas.{does-business}
-use Rattle.pr_report_laws.proofs.Watching.NamedSoon.{looks-at-named, soon-done}
+use Rattle.pr_report_laws.proofs.Watching.NamedSoon.{looks-at-named, runs-before-polls, soon-done}
 use Rattle.pr_report_laws.proofs.Holding.HeldLaws.{cares-for-children, gripped-once, lets-go-for-reason, moments-while-held, read-while-held, shown-while-held}
 use Rattle.pr_report_laws.proofs.Holding.HoldPlaces.{gets-off, hold-watched, unwatched-hold}
 use Rattle.pr_report_laws.proofs.Holding.SetReleases.{grants-release, holds-control, releases-held, releases-set}
@@ -68,7 +74,8 @@ use Rattle.pr_truss_laws.specs.Handles.{HasNothingOpen}
 use Rattle.pr_truss_laws.specs.Runs.{IsTrussRun}
 use Rattle.pr_world.specs.Controllers.{after_reply, call_by, next_call, with_fed}
 use Rattle.pr_world.specs.ControllerStates.{ControllerState, Truss}
-use Rattle.pr_world.specs.Protocol.{Follows, FollowsAt, controllers_after, controllers_at}
+use Rattle.pr_tool_laws.specs.OwnCalls.{AreOwnCalls, IsOwnCall}
+use Rattle.pr_world.specs.Protocol.{controllers_after, controllers_at}
 use Rattle.pr_run_laws.specs.TrussRuns.{HandlesChildren, HasDone, IsNewborn, IsTrussKept, Releases, WasLetGo, HasShownAll, IsLostByKill}
 use Rattle.pr_num.specs.Limits.{handle_limit}
 use Rattle.pr_tool_laws.proofs.ProtocolLemmas.{fed-other, fed-own}
@@ -98,32 +105,34 @@ Rest controllers h k xs = (u : TrussState) → slice_get controllers k ≡ Some 
 
 call-stays : (controllers : List ControllerState) (h : List Entry) (k by : ℕ) (t : TrussState) (c : Call) (r : Reply)
     (xs : List Exchange) (b : Bool) → (by == k) ≡ b → slice_get controllers k ≡ Some (Truss t)
-    → call_by controllers by ≡ Some c → Rest (with_fed by r controllers) h k xs
+    → (by < length controllers → call_by controllers by ≡ Some c) → Rest (with_fed by r controllers) h k xs
     → Stays (with_fed by r controllers) h k t (cons_option (cond b (Some (record { call = c; reply = r })) None) xs)
-call-stays controllers h k by t c r xs true is at calls rest =
+call-stays controllers h k by t c r xs true is at own rest =
     let same = eqb-true by k is in
+    let calls : call_by controllers by ≡ Some c =
+    own (subst (λ n. n < length controllers) (sym same) (slice_get_within controllers k (Truss t) at)) in
     let next = truss-next controllers k t c at (subst (λ n. call_by controllers n ≡ Some c) same calls) in
     let here =
     subst (λ n. slice_get (with_fed n r controllers) k ≡ Some (Truss (fed t r))) (sym same)
     (truss-fed controllers k t r at) in
     let it = rest (fed t r) here in
     ((next, it.0), it.1)
-call-stays controllers h k by t c r xs false is at calls rest =
+call-stays controllers h k by t c r xs false is at own rest =
     rest t (fed-other controllers by k r (eqb-false by k is) ∙ at)
 
-entry-stays : (controllers : List ControllerState) (s : TracedState) (h : List Entry) (k : ℕ) (t : TrussState)
+entry-stays : (controllers : List ControllerState) (h : List Entry) (k : ℕ) (t : TrussState)
     (actor : Actor) (it : Act) (xs : List Exchange) → slice_get controllers k ≡ Some (Truss t)
-    → FollowsAt controllers s (record { actor = actor; act = it })
+    → IsOwnCall controllers (record { actor = actor; act = it })
     → Rest (controllers_after controllers (record { actor = actor; act = it })) h k xs
     → Stays (controllers_after controllers (record { actor = actor; act = it })) h k t
     (cons_option (exchange_in k actor it) xs)
-unfolding FollowsAt controllers_after
-entry-stays controllers s h k t (Controller by) (act.Call c r) xs at follows rest =
-    call-stays controllers h k by t c r xs (by == k) refl at follows rest
-entry-stays controllers s h k t (Controller by) (act.Turn did) xs at follows rest = rest t at
-entry-stays controllers s h k t (Controller by) (act.Tick moment) xs at follows rest = rest t at
-entry-stays controllers s h k t (Lwp p l) it xs at follows rest = rest t at
-entry-stays controllers s h k t Clock it xs at follows rest = rest t at
+unfolding IsOwnCall controllers_after
+entry-stays controllers h k t (Controller by) (act.Call c r) xs at own rest =
+    call-stays controllers h k by t c r xs (by == k) refl at own rest
+entry-stays controllers h k t (Controller by) (act.Turn did) xs at own rest = rest t at
+entry-stays controllers h k t (Controller by) (act.Tick moment) xs at own rest = rest t at
+entry-stays controllers h k t (Lwp p l) it xs at own rest = rest t at
+entry-stays controllers h k t Clock it xs at own rest = rest t at
 
 -- ---- a history
 
@@ -136,14 +145,14 @@ pub exchanges-cons : (k : ℕ) (e : Entry) (h : List Entry)
 unfolding exchanges
 exchanges-cons k e h = refl
 
-truss-stays : (h : List Entry) (controllers : List ControllerState) (s : TracedState) (k : ℕ) (t : TrussState)
-    → slice_get controllers k ≡ Some (Truss t) → Follows controllers s h → Stays controllers h k t (exchanges k h)
-truss-stays [] controllers s k t at follows = subst (Stays controllers [] k t) (sym (exchanges-none k)) (tt, at)
-truss-stays (e ∷ h) controllers s k t at follows =
+truss-stays : (h : List Entry) (controllers : List ControllerState) (k : ℕ) (t : TrussState)
+    → slice_get controllers k ≡ Some (Truss t) → AreOwnCalls controllers h → Stays controllers h k t (exchanges k h)
+truss-stays [] controllers k t at own = subst (Stays controllers [] k t) (sym (exchanges-none k)) (tt, at)
+truss-stays (e ∷ h) controllers k t at own =
     let rest : Rest (controllers_after controllers e) h k (exchanges k h) =
-    λ u here. truss-stays h (controllers_after controllers e) (after s e) k u here follows.1 in
+    λ u here. truss-stays h (controllers_after controllers e) k u here own.1 in
     subst (Stays controllers (e ∷ h) k t) (sym (exchanges-cons k e h))
-    (entry-stays controllers s h k t e.actor e.act (exchanges k h) at follows.0 rest)
+    (entry-stays controllers h k t e.actor e.act (exchanges k h) at own.0 rest)
 
 -- ---- what a run keeps of it
 
@@ -311,9 +320,9 @@ module _ (n k : ℕ) (o : Options) (first : TracedState) (h : List Entry) (run :
 
 pub truss-kept : (controllers : List ControllerState) (n : ℕ) (first : TracedState) (h : List Entry) (k : ℕ)
     (o : Options) → IsReached first → HasBytes h → slice_get controllers k ≡ Some (Truss (first_truss o))
-    → HasNothingOpen k first → IsLegal n first h → Follows controllers first h → IsTrussKept controllers first h k o
-truss-kept controllers n first h k o reached bytes at none legal follows =
-    let stays = truss-stays h controllers first k (first_truss o) at follows in
+    → HasNothingOpen k first → IsLegal n first h → AreOwnCalls controllers h → IsTrussKept controllers first h k o
+truss-kept controllers n first h k o reached bytes at none legal own =
+    let stays = truss-stays h controllers k (first_truss o) at own in
     let run : IsTrussRun n k o first h = record {
       lawful = reached.lawful;
       nothing_open = none;
@@ -337,7 +346,9 @@ truss-kept controllers n first h k o reached bytes at none legal follows =
         places = opens-in-place n k o first h run;
         later = sends-later n k o first h run;
         calls = calls-files n k o first h run;
+        polls = polls-once n k o first h run;
         refusals = tells-no-refusal n k o first h run;
+        tells = tells-of-opens n k o first h run;
       };
       shows = record {
         reads = λ pid of. read-while-held n k o pid first h reached run bytes of;
@@ -345,6 +356,8 @@ truss-kept controllers n first h k o reached bytes at none legal follows =
         answers = shows-read n k o first h run;
         once = shows-stops-once n k o first h run;
         new = shows-what-is-new n k o first h run;
+        looks = looks-in-place n k o first h run;
+        last_looks = looks-at-left n k o first h run;
         asks = reads-lines n k o first h run;
         texts = read-texts n k o first h run;
         moments = λ pid of. moments-while-held n k o pid first h reached run bytes of;
@@ -357,10 +370,12 @@ truss-kept controllers n first h k o reached bytes at none legal follows =
       lets_go = record {
         soon = soon-done n k o first h run;
         looks = looks-at-named n k o first h run;
+        before_polls = runs-before-polls n k o first h run;
         runs = runs-named o (exchanges k h) stays.0;
         unfollows = λ before later e pid is left.
             left-unfollowed n k o pid first before e (entry-run n k o first h run before later e is) left;
         lets_go = let-go n k o first h run;
+        keeps = closes-nothing-held n k o first h run;
         ended = closes-ended n k o first h run;
         polls = polls-by-files n k o first h run;
       };

@@ -1,10 +1,13 @@
 -- Truss with calls of functions among the controllers of a run.
 use Rattle.std.specs.Prelude.{◌≡◌, ℕ, false, List, Some, slice_get}
+use Rattle.pr_hidden.specs.Hiders.{Hiders}
 use Rattle.pr_line.specs.declared.options.Options.{Options}
 use Rattle.pr_model.specs.State.{TracedState}
 use Rattle.pr_model.specs.declared.events.Entry.{Entry}
 use Rattle.pr_truss.specs.Trusses.{first_truss}
 use Rattle.pr_truss_laws.specs.Exchanges.{exchanges}
+use Rattle.pr_function_hides.specs.FunctionHiders.{AreTrusses}
+use Rattle.pr_function_hides.specs.TidyWrites.{AreUndisturbed, WritesTidily}
 use Rattle.pr_function_laws.specs.CalledTurns.{CallsAreTurns}
 use Rattle.pr_function_laws.specs.Met.{TellsItsCalls}
 use Rattle.pr_function_laws.specs.Opened.{HoldsWhatItOpened, LiftsForOneAlone}
@@ -30,3 +33,10 @@ pub record IsFunctionTrussKept (controllers : List ControllerState) (first : Tra
   pub opens : o.follow ≡ false → HoldsWhatItOpened k o first h
   pub lifts : o.follow ≡ false → LiftsForOneAlone k o first h
   pub turns : o.follow ≡ false → CallsAreTurns k o first h
+
+-- Where those who hide what they do in a history are each a truss that shows calls of functions, on the conditions of
+-- AreUndisturbed: each PCWRITE of such a truss is tidy, so that programs have the memory after it that they had before;
+-- and the breakpoints that stand in a process that it traces are those that it has marked.
+pub record WriteUnseen (controllers : List ControllerState) (first : TracedState) (h : List Entry) : Type 0 where
+  pub tidily : (who : Hiders) → AreTrusses who controllers → AreUndisturbed who controllers first h
+      → WritesTidily who controllers first h

@@ -18,7 +18,7 @@ use Rattle.pr_tools.specs.Tools.{first_tool}
 use Rattle.pr_truss.specs.Marks.{has_functions}
 use Rattle.pr_truss.specs.Trusses.{first_truss}
 use Rattle.pr_run_laws.specs.CoreRuns.{IsGcoreKept}
-use Rattle.pr_run_laws.specs.FunctionRuns.{IsFunctionTrussKept}
+use Rattle.pr_run_laws.specs.FunctionRuns.{IsFunctionTrussKept, WriteUnseen}
 use Rattle.pr_run_laws.specs.ProbeRuns.{AreHidden, IsProbeKept}
 use Rattle.pr_run_laws.specs.ToolRuns.{IsToolKept}
 use Rattle.pr_run_laws.specs.TrussRuns.{IsTrussKept}
@@ -79,8 +79,8 @@ first_world s = record {
 -- has opened or set free each child of a fork that it read and is to follow, or reported its refusal; and it has
 -- nothing open. What a tool shows stood so in one state, whatever programs give its labels; what gcore prints is the
 -- core of one state, where others spare the process; apfiles puts back what it writes over, and programs see nothing of
--- it where it is left alone; and the programs of the
--- machine are always those of the scenario.
+-- it where it is left alone; what truss with calls of functions writes leaves programs the memory that they had, where it
+-- is undisturbed; and the programs of the machine are always those of the scenario.
 pub record IsKept (s : Scenario) (h : List Entry) : Type 0 where
   pub legal : IsLegal (length (controllers_of s)) (first_state_of s) h
   pub follows : Follows (controllers_of s) (first_state_of s) h
@@ -98,6 +98,7 @@ pub record IsKept (s : Scenario) (h : List Entry) : Type 0 where
   pub probes : (k pid : ℕ) → slice_get s.controllers k ≡ Some (plan.Probe pid)
       → IsProbeKept (controllers_of s) (first_state_of s) h k pid
   pub hides : AreHidden (controllers_of s) (first_state_of s) h
+  pub writes : WriteUnseen (controllers_of s) (first_state_of s) h
   pub programs : (state_after (first_state_of s) h).system.programs ≡ s.programs
 
 -- ---- on one thread a run is a function of the scenario

@@ -1,7 +1,12 @@
-use Rattle.std.specs.Prelude.{ℕ, List, IfOk, IsTrue}
-use Rattle.pr_model.specs.Passive.{is_passive_message}
+use Rattle.std.specs.Prelude.{◌≡◌, ◌⊎◌, ℕ, List, All, IfOk, IsTrue, Some, slice_get}
+use Rattle.pr_model.specs.Passive.{is_passive_call, is_passive_message}
 use Rattle.pr_model.specs.declared.calls.Call.{Call}
 use Rattle.pr_model.specs.declared.calls.Call.TheVariants as call
+use Rattle.pr_model.specs.declared.events.Act.{Act}
+use Rattle.pr_model.specs.declared.events.Act.TheVariants as act
+use Rattle.pr_model.specs.declared.events.Actor.{Actor}
+use Rattle.pr_model.specs.declared.events.Actor.TheVariants.{Controller}
+use Rattle.pr_model.specs.declared.events.Entry.{Entry}
 use Rattle.pr_num.specs.Messages.{first_message}
 use Rattle.pr_world.specs.ControllerStates.{ControllerState, Script, FnTruss, Probe}
 
@@ -23,3 +28,21 @@ unfoldable pub IsPassiveCall : Call → Type 0
 IsPassiveCall (call.Ctl handle bytes) = BeginsPassively bytes
 IsPassiveCall (call.CtlWait handle until bytes) = BeginsPassively bytes
 IsPassiveCall _ = Unit {0}
+
+-- the controller of a number is a tracer
+pub record IsTracerAt (controllers : List ControllerState) (k : ℕ) : Type 0 where
+  pub core : ControllerState
+  pub at : slice_get controllers k ≡ Some core
+  pub traces : IsTracer core
+
+-- An entry is no call, or the call of one that is a tracer at first, or a passive one.
+unfoldable pub IsPassiveOrTracers : List ControllerState → Entry → Type 0
+IsPassiveOrTracers controllers e = by e.actor e.act
+  where
+    by : Actor → Act → Type 0
+    by (Controller k) (act.Call c r) = IsTracerAt controllers k ⊎ IsTrue (is_passive_call c r)
+    by _ _ = Unit {0}
+
+-- in a history all who are no tracers, these controllers and others, made passive calls alone
+abbrev pub OthersArePassive : List ControllerState → List Entry → Type 0
+OthersArePassive controllers h = All (IsPassiveOrTracers controllers) h

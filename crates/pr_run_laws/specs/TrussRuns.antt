@@ -25,7 +25,8 @@ use Rattle.pr_report_laws.specs.AsChildren.{IsNeverOpenedAsChild}
 use Rattle.pr_report_laws.specs.Asked.{AsksForItsLines, ReadsItsReplies, TracesWhatIsAsked, WritesOneMessage}
 use Rattle.pr_report_laws.specs.Counted.{PrintsItsCounts}
 use Rattle.pr_report_laws.specs.LineReads.{ReadsForItsLines}
-use Rattle.pr_report_laws.specs.OwnFiles.{CallsItsFiles, ClosesAllThatEnded}
+use Rattle.pr_report_laws.specs.Looks.{LooksAtWhatItLeaves, LooksInPlace}
+use Rattle.pr_report_laws.specs.OwnFiles.{CallsItsFiles, ClosesAllThatEnded, ClosesNothingHeld, PollsEachOnce}
 use Rattle.pr_report_laws.specs.LaterSends.{SendsLittleLater}
 use Rattle.pr_report_laws.specs.OwnOpens.{OpensInPlace}
 use Rattle.pr_report_laws.specs.ShownOnce.{ShowsStopsOnce, ShowsWhatIsNew, ShowsWhatItReads}
@@ -38,7 +39,7 @@ use Rattle.pr_report_laws.specs.HeldEvents.{DiedHeld, IsUnanswered, ReadsHeld, S
 use Rattle.pr_report_laws.specs.HeldForks.{CaresForChildren}
 use Rattle.pr_report_laws.specs.HeldGrips.{HasOneGrip}
 use Rattle.pr_report_laws.specs.HeldMemories.{StandAtTheirEvents}
-use Rattle.pr_report_laws.specs.HeldRefusals.{TellsNoRefusalOfWhatItHolds}
+use Rattle.pr_report_laws.specs.HeldRefusals.{TellsNoRefusalOfWhatItHolds, TellsRefusalsOfOpens}
 use Rattle.pr_report_laws.specs.Holds.{CameHeld, HasHold, LetsGoIn}
 use Rattle.pr_report_laws.specs.Memories.{HaveTheirTexts}
 use Rattle.pr_report_laws.specs.Newborn.{IsNoTurnOf, WasForked, WasSpawned}
@@ -52,7 +53,7 @@ use Rattle.pr_truss_laws.specs.Given.{IsHandled, IsHandledSoFar}
 use Rattle.pr_truss_laws.specs.Handles.{HasNothingOpen}
 use Rattle.pr_truss_laws.specs.Business.{DoesItsBusiness}
 use Rattle.pr_report_laws.specs.Grips.{GetsHold, IsLeftIn}
-use Rattle.pr_report_laws.specs.Named.{IsSoonDone, LooksAtWhatIsNamed}
+use Rattle.pr_report_laws.specs.Named.{IsSoonDone, LooksAtWhatIsNamed, RunsBeforeItPolls}
 use Rattle.pr_world.specs.ControllerStates.{ControllerState, Truss}
 use Rattle.pr_world.specs.Protocol.{controllers_at}
 
@@ -148,15 +149,18 @@ pub record Releases (k : ℕ) (o : Options) (first : TracedState) (h : List Entr
 -- the process does nothing until truss has hold of it. It opens each file in its place: those of what it was given
 -- before it polls, those of a child right after the read that told of it, and each behind the one before it. Once it
 -- has polled, or was interrupted, it sends nothing but PCRUN, PR_RLC of a child just opened, and that it follows no more
--- children of what it leaves. It calls no file but those that it has open, and does not say of a process of which it has
--- hold that it cannot trace it.
+-- children of what it leaves. It calls no file but those that it has open, and polls each once. That it cannot trace a
+-- process it says while it is to open what it was given, or where it opens a file of the process or a child: not of
+-- what it has hold of, or has let go.
 pub record OpensItsOwn (k : ℕ) (o : Options) (first : TracedState) (h : List Entry) : Type 0 where
   pub handled : IsHandledSoFar o (next_call_of (truss_at k o h)) o.program (truss_at k o h).reports (exchanges k h)
   pub grips : (pid : ℕ) → HasOneGrip k o pid first h
   pub places : OpensInPlace k o first h
-  pub later : SendsLittleLater k h
+  pub later : SendsLittleLater k o first h
   pub calls : CallsItsFiles k first h
+  pub polls : PollsEachOnce k h
   pub refusals : TellsNoRefusalOfWhatItHolds k o first h
+  pub tells : TellsRefusalsOfOpens k o h
 
 -- ---- what it shows
 
@@ -166,17 +170,23 @@ pub record OpensItsOwn (k : ℕ) (o : Options) (first : TracedState) (h : List E
 -- descends from, no other controller was granted a handle for writing between the fork that made it and its opening.
 -- What it shows of a process, whichever it is, it reads right then, and it runs the process before it shows more of it;
 -- and what it reads and the options select it shows, once no stop is left that stood before truss came.
--- It reads memory for its lines alone. What stands in the line of an event is that of the state in which truss read it,
--- and on the same condition that of the state right after the event, unless SIGKILL ended the process before truss read.
+-- It looks at a process where a poll has just named it, in the opening of it, and once as it leaves it. It reads memory
+-- for its lines alone, right behind the read of the event. What stands in the line of an event is that of the state in
+-- which truss read it, and on the same condition that of the state right after the event, unless SIGKILL ended the
+-- process before truss read.
 pub record ShowsItsEvents (k : ℕ) (o : Options) (first : TracedState) (h : List Entry) : Type 0 where
-  pub reads : (pid : ℕ) → IsLeftToTruss k o pid first h ⊎ IsNeverOpenedAsChild k pid h → ReadsHeld k o pid first h
-  pub shows : (pid : ℕ) → IsLeftToTruss k o pid first h ⊎ IsNeverOpenedAsChild k pid h → ShowsHeld k o pid first h
+  pub reads : (pid : ℕ) → IsLeftToTruss k o pid first h ⊎ IsNeverOpenedAsChild k o pid first h
+      → ReadsHeld k o pid first h
+  pub shows : (pid : ℕ) → IsLeftToTruss k o pid first h ⊎ IsNeverOpenedAsChild k o pid first h
+      → ShowsHeld k o pid first h
   pub answers : ShowsWhatItReads k o first h
   pub once : ShowsStopsOnce k o first h
   pub new : ShowsWhatIsNew k o first h
+  pub looks : LooksInPlace k o first h
+  pub last_looks : LooksAtWhatItLeaves k first h
   pub asks : ReadsForItsLines k o first h
   pub texts : HaveTheirTexts k o first h (truss_at k o h).reports
-  pub moments : (pid : ℕ) → IsLeftToTruss k o pid first h ⊎ IsNeverOpenedAsChild k pid h
+  pub moments : (pid : ℕ) → IsLeftToTruss k o pid first h ⊎ IsNeverOpenedAsChild k o pid first h
       → StandAtTheirEvents k o pid first h (truss_at k o h).reports
 
 -- ---- what it follows
@@ -193,20 +203,22 @@ pub record FollowsItsChildren (k : ℕ) (o : Options) (first : TracedState) (h :
 
 -- ---- what it runs and lets go
 
--- Right after a poll has named a process truss reads its status, and at most twelve calls after the poll it runs the
--- process, or closes a file of it. Where it does not end an opening it runs just what the last poll has named, and once
--- for each poll. Where it lets a process go, the process has ended, or truss was interrupted. Before its last look at a
--- process that it leaves it has the children of that process followed no more. Of what has ended it closes all its files
--- before it calls anything else. How many calls come at most before it polls is told by the control files that it has
--- open.
+-- Right after a poll has named a process truss reads its status, and at most twelve calls after the poll, and before it
+-- polls again, it runs the process, or closes a file of it. Where it does not end an opening it runs just what the last
+-- poll has named, and once for each poll. Where it lets a process go, the process has ended, or truss was interrupted.
+-- Before its last look at a process that it leaves it has the children of that process followed no more. It closes no
+-- file of a process of which it has hold; of what has ended it closes all its files before it calls anything else. How
+-- many calls come at most before it polls is told by the control files that it has open.
 pub record LetsItsProcessesGo (k : ℕ) (o : Options) (first : TracedState) (h : List Entry) : Type 0 where
   pub soon : IsSoonDone k first h
   pub looks : LooksAtWhatIsNamed k first h
+  pub before_polls : RunsBeforeItPolls k first h
   pub runs : RunsWhatWasNamed o (exchanges k h)
   pub unfollows : (before later : List Entry) (e : Entry) (pid : ℕ) → h ≡ before ++ e ∷ later
       → IsLeftIn k pid first before e → HasUnfollowed k pid (state_after first before) before
   pub lets_go : (before later : List Entry) (e : Entry) (pid : ℕ) → h ≡ before ++ e ∷ later
       → HasHold k o pid first before → LetsGoIn k pid first before e → IsLetGo k pid first before e
+  pub keeps : ClosesNothingHeld k o first h
   pub ended : ClosesAllThatEnded k first h
   pub polls : PollsByItsFiles k o first h
 

@@ -2,6 +2,8 @@ ghost use Rattle.std.specs.Prelude.{◌≡◌, Some, IsTrue, IsSome};
 ghost use Rattle.pr_parts.specs.PendingSignals.{IsPendings, nothing_pending, info_of, pending_set, has_room, added, without_one, without_signals};
 
 use crate::places::Places;
+use arrayvec::ArrayVec;
+use pr_num::limits::STANDARD_SIGNAL_COUNT;
 use pr_num::{Info, Sig, SigSet};
 use std::marker::Model;
 
@@ -30,10 +32,22 @@ impl Pendings {
     pub fn new() -> Pendings
         ensures { result ≡ nothing_pending }
     {
+        // the places are written here: what is made elsewhere is copied, and they have 2 KB
         Pendings {
             set: SigSet::empty(),
-            places: Places::new(),
+            places: Places {
+                standard: [None; STANDARD_SIGNAL_COUNT],
+                queued: ArrayVec::new(),
+            },
         }
+    }
+
+    /// No signal is pending any more.
+    pub fn clear(&mut self)
+        ensures { self.new ≡ nothing_pending }
+    {
+        self.places.clear();
+        self.set = SigSet::empty();
     }
 
     /// Every process and every lwp has a place for each standard signal, and a queue within its limit.

@@ -18,8 +18,8 @@ type Queue = ArrayVec<Queued, QUEUE_LIMIT>;
 /// memory.
 #[derive(Drop)]
 pub(crate) struct Places {
-    standard: [Option<Info>; STANDARD_SIGNAL_COUNT],
-    queued: Queue,
+    pub(crate) standard: [Option<Info>; STANDARD_SIGNAL_COUNT],
+    pub(crate) queued: Queue,
 }
 
 impl Model for Places {
@@ -105,14 +105,12 @@ fn remaining(queued: &[Queued], signals: SigSet) -> Queue
 }
 
 impl Places {
-    /// Nothing stands.
-    pub(crate) fn new() -> Places
-        ensures { result ≡ nothing_pending }
+    /// Nothing stands any more. What is there is changed in place, and no other places are made and moved.
+    pub(crate) fn clear(&mut self)
+        ensures { self.new ≡ nothing_pending }
     {
-        Places {
-            standard: [None; STANDARD_SIGNAL_COUNT],
-            queued: ArrayVec::new(),
-        }
+        self.standard = [None; STANDARD_SIGNAL_COUNT];
+        self.queued.clear();
     }
 
     /// There is a place for each standard signal, and the queue is within its limit.

@@ -145,6 +145,6 @@ impl<T> SlabById<T> {
         ensures value { under id self.old ≡ Some result }
         ensures rest { self.new ≡ without_id id self.old }
     {
-        self.slots.take(id as usize).unwrap()
+        self.slots.remove(id as usize)
     }
 }

@@ -121,6 +121,17 @@ impl<T> Slots<T> {
         self.keys[number] = None;
         self.things.try_remove(key)
     }
+
+    /// Takes the thing of a number whose place is filled; it is free then.
+    pub fn remove(&mut self, filled: usize) -> T
+        requires { IsSome (slice_index_or self.old filled None) }
+        ensures value { slice_index_or self.old filled None ≡ Some result }
+        ensures rest { self.new ≡ slice_set self.old filled None }
+    {
+        let key = key_of(&self.keys, filled).unwrap();
+        self.keys[filled] = None;
+        self.things.remove(key)
+    }
 }
 
 /// Keys of so many numbers, none of which has one.

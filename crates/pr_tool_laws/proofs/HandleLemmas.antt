@@ -21,7 +21,8 @@ use Rattle.pr_tools.specs.Tools.{ToolState, call_of, fed, first_tool, next_call_
 use Rattle.pr_tools.specs.declared.steps.Step.{Step}
 use Rattle.pr_tools.specs.declared.steps.Step.TheVariants as step
 use Rattle.pr_world.specs.ControllerStates.{ControllerState, Tool}
-use Rattle.pr_world.specs.Protocol.{Follows, controllers_at}
+use Rattle.pr_world.specs.Protocol.{controllers_at}
+use Rattle.pr_tool_laws.specs.OwnCalls.{AreOwnCalls}
 use Rattle.pr_tool_laws.proofs.KindLemmas.{fed-pid}
 use Rattle.pr_tool_laws.proofs.LawLemmas.{tool-keeps}
 use Rattle.pr_tool_laws.proofs.StageLemmas.{state-called}
@@ -148,7 +149,7 @@ module _ (n k : ℕ) (kind : ToolKind) (pid : ℕ) (first : TracedState) where
       (fed-pid t a.reply ∙ kept.0, subst (HoldsOnly k pid) (sym (state-called first h k c a given)) holds)
 
   pub tool-holds : (controllers : List ControllerState) (h : List Entry) (t : ToolState) → HasNothingOpen k first
-      → slice_get controllers k ≡ Some (Tool (first_tool kind pid)) → IsLegal n first h → Follows controllers first h
+      → slice_get controllers k ≡ Some (Tool (first_tool kind pid)) → IsLegal n first h → AreOwnCalls controllers h
       → slice_get (controllers_at controllers h) k ≡ Some (Tool t) → HoldsOnly k pid (state_after first h)
   unfolding first_tool
   tool-holds controllers h t nothing begins legal follows ends =

@@ -18,8 +18,9 @@ use Rattle.pr_tools.specs.declared.steps.Step.{Step}
 use Rattle.pr_tools.specs.declared.steps.Step.TheVariants as step
 use Rattle.pr_world.specs.Controllers.{after_reply, next_call}
 use Rattle.pr_world.specs.ControllerStates.{ControllerState, Tool}
-use Rattle.pr_world.specs.Protocol.{Follows, controllers_at}
-use Rattle.pr_tool_laws.proofs.ProtocolLemmas.{KeptByCalls, KeptByOthers, protocol-keeps}
+use Rattle.pr_world.specs.Protocol.{controllers_at}
+use Rattle.pr_tool_laws.specs.OwnCalls.{AreOwnCalls}
+use Rattle.pr_tool_laws.proofs.ProtocolLemmas.{KeptByCalls, KeptByOthers, own-keeps}
 use Rattle.pr_tool_laws.proofs.EndedLemmas.{IsAwaited, first-awaited, pwait-keeps}
 use Rattle.pr_tool_laws.proofs.OtherStages as other
 use Rattle.pr_tool_laws.proofs.ReadTextLemmas.{read-back}
@@ -60,11 +61,11 @@ module _ (n k : ℕ) (first : TracedState) (Q : List Entry → ToolState → Typ
   calls-core h _ c a next given q = absurd q
 
   pub tool-keeps : (controllers : List ControllerState) (h : List Entry) (t u : ToolState) → IsLegal n first h
-      → Follows controllers first h → slice_get controllers k ≡ Some (Tool t)
+      → AreOwnCalls controllers h → slice_get controllers k ≡ Some (Tool t)
       → slice_get (controllers_at controllers h) k ≡ Some (Tool u) → Q [] t → Q h u
   unfolding P
   tool-keeps controllers h t u legal follows begins ends q =
-      protocol-keeps n k first P others-core calls-core controllers h (Tool t) (Tool u) legal follows begins ends q
+      own-keeps n k first P others-core calls-core controllers h (Tool t) (Tool u) legal follows begins ends q
 
 -- ---- what is so of a tool at the end
 
@@ -72,7 +73,7 @@ module _ (n k : ℕ) (first : TracedState) (Q : List Entry → ToolState → Typ
 abbrev LawOf : ℕ → ℕ → ToolKind → ℕ → TracedState → (List Entry → List ℕ → Type 0) → Type 0
 LawOf n k kind pid first IsSo =
     (controllers : List ControllerState) (h : List Entry) (t : ToolState) (programs : List Program)
-    → slice_get controllers k ≡ Some (Tool (first_tool kind pid)) → IsLegal n first h → Follows controllers first h
+    → slice_get controllers k ≡ Some (Tool (first_tool kind pid)) → IsLegal n first h → AreOwnCalls controllers h
     → slice_get (controllers_at controllers h) k ≡ Some (Tool t)
     → has_ended t ≡ true → t.refusal ≡ None → IsSo h (printed t programs)
 
@@ -239,7 +240,7 @@ kind-law n k Ptree pid first once = tree-law n k pid first once
 
 pub tool-of-one-state : (controllers : List ControllerState) (n k : ℕ) (kind : ToolKind) (pid : ℕ)
     (first : TracedState) (h : List Entry) (t : ToolState) (programs : List Program) → reads_once kind ≡ true
-    → slice_get controllers k ≡ Some (Tool (first_tool kind pid)) → IsLegal n first h → Follows controllers first h
+    → slice_get controllers k ≡ Some (Tool (first_tool kind pid)) → IsLegal n first h → AreOwnCalls controllers h
     → slice_get (controllers_at controllers h) k ≡ Some (Tool t) → has_ended t ≡ true → t.refusal ≡ None
     → IsOfOneState k kind pid first h (printed t programs)
 tool-of-one-state controllers n k kind pid first h t programs once begins legal follows ends ended accepted =
@@ -276,7 +277,7 @@ ended-law n k kind pid first once lawful = not-awaited n k kind pid first (λ is
 pub tool-of-known-state : (controllers : List ControllerState) (n k : ℕ) (kind : ToolKind) (pid : ℕ)
     (first : TracedState) (h : List Entry) (t : ToolState) (programs : List Program) → IsLawful first
     → reads_once kind ≡ true → slice_get controllers k ≡ Some (Tool (first_tool kind pid)) → IsLegal n first h
-    → Follows controllers first h → slice_get (controllers_at controllers h) k ≡ Some (Tool t) → has_ended t ≡ true
+    → AreOwnCalls controllers h → slice_get (controllers_at controllers h) k ≡ Some (Tool t) → has_ended t ≡ true
     → t.refusal ≡ None → IsOfKnownState k kind pid first (EndsIfAwaited kind pid) h (printed t programs)
 tool-of-known-state controllers n k kind pid first h t programs lawful once begins legal follows ends ended accepted =
     ended-law n k kind pid first once lawful controllers h t programs begins legal follows ends ended accepted

@@ -34,7 +34,8 @@ use Rattle.pr_tools.specs.declared.stacks.Walk.{Walk}
 use Rattle.pr_tools.specs.declared.steps.Step.{Step}
 use Rattle.pr_tools.specs.declared.steps.Step.TheVariants as step
 use Rattle.pr_world.specs.ControllerStates.{ControllerState, Tool}
-use Rattle.pr_world.specs.Protocol.{Follows, controllers_at}
+use Rattle.pr_world.specs.Protocol.{controllers_at}
+use Rattle.pr_tool_laws.specs.OwnCalls.{AreOwnCalls}
 use Rattle.pr_tool_laws.proofs.KindLemmas.{accepted-opened, advanced-goes, moves_files}
 use Rattle.pr_tool_laws.proofs.LawLemmas.{tool-keeps}
 use Rattle.pr_tool_laws.proofs.RunAgainLemmas.{granted-at}
@@ -532,7 +533,7 @@ module _ (n k : ℕ) (kind : ToolKind) (pid : ℕ) (first : TracedState) where
   no-handle o s number (Some held) there none known = absurd (all-closed o number none (known number held there))
 
   pub tool-closes : (controllers : List ControllerState) (h : List Entry) (t : ToolState) → HasNothingOpen k first
-      → slice_get controllers k ≡ Some (Tool (first_tool kind pid)) → IsLegal n first h → Follows controllers first h
+      → slice_get controllers k ≡ Some (Tool (first_tool kind pid)) → IsLegal n first h → AreOwnCalls controllers h
       → slice_get (controllers_at controllers h) k ≡ Some (Tool t) → has_ended t ≡ true
       → HasNothingOpen k (state_after first h)
   unfolding first_tool

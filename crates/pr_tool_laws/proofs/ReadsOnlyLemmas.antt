@@ -29,7 +29,8 @@ use Rattle.pr_tools.specs.Tools.{ToolState, accepted, advanced, answered, call_o
 use Rattle.pr_tools.specs.declared.steps.Step.{Step}
 use Rattle.pr_tools.specs.declared.steps.Step.TheVariants as step
 use Rattle.pr_world.specs.ControllerStates.{ControllerState, Tool}
-use Rattle.pr_world.specs.Protocol.{Follows, controllers_at}
+use Rattle.pr_world.specs.Protocol.{controllers_at}
+use Rattle.pr_tool_laws.specs.OwnCalls.{AreOwnCalls}
 use Rattle.pr_tool_laws.proofs.HandleLemmas.{OpensSo, call-all, none-held, others-all}
 use Rattle.pr_tool_laws.proofs.KindLemmas.{fed-kind}
 use Rattle.pr_tool_laws.proofs.LawLemmas.{tool-keeps}
@@ -227,7 +228,7 @@ module _ (n k : ℕ) (kind : ToolKind) (pid : ℕ) (once : only_reads kind ≡ t
       }
 
   pub tool-leaves : (controllers : List ControllerState) (h : List Entry) (t : ToolState) → HasNothingOpen k first
-      → slice_get controllers k ≡ Some (Tool (first_tool kind pid)) → IsLegal n first h → Follows controllers first h
+      → slice_get controllers k ≡ Some (Tool (first_tool kind pid)) → IsLegal n first h → AreOwnCalls controllers h
       → slice_get (controllers_at controllers h) k ≡ Some (Tool t) → LeavesTheSystem k first h
   unfolding first_tool
   tool-leaves controllers h t nothing begins legal follows ends =

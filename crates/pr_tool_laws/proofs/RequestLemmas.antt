@@ -26,7 +26,8 @@ use Rattle.pr_tools.specs.declared.stacks.Walk.{Walk}
 use Rattle.pr_tools.specs.declared.steps.Step.{Step}
 use Rattle.pr_tools.specs.declared.steps.Step.TheVariants as step
 use Rattle.pr_world.specs.ControllerStates.{ControllerState, Tool}
-use Rattle.pr_world.specs.Protocol.{Follows, controllers_at}
+use Rattle.pr_world.specs.Protocol.{controllers_at}
+use Rattle.pr_tool_laws.specs.OwnCalls.{AreOwnCalls}
 use Rattle.pr_tool_laws.proofs.KindLemmas.{fed-kind}
 use Rattle.pr_tool_laws.proofs.LawLemmas.{tool-keeps}
 use Rattle.pr_tool_laws.proofs.NothingOpenLemmas.{refused-reply}
@@ -228,7 +229,7 @@ module _ (n k pid : ℕ) (first : TracedState) where
 
   pub takes-back : (controllers : List ControllerState) (h : List Entry) (t : ToolState)
       → slice_get controllers k ≡ Some (Tool (first_tool Pstack pid)) → IsLegal n first h
-      → Follows controllers first h → slice_get (controllers_at controllers h) k ≡ Some (Tool t) → has_ended t ≡ true
+      → AreOwnCalls controllers h → slice_get (controllers_at controllers h) k ≡ Some (Tool t) → has_ended t ≡ true
       → IsSome t.refusal → asks_still false (exchanges k h) ≡ false
   unfolding first_tool first_step exchanges
   takes-back controllers h t begins legal follows ends ended was =

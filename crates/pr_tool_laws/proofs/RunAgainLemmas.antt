@@ -1,6 +1,8 @@
 use Rattle.std.proofs.Common.{◌≡◌, ◌≢◌, ◌∷◌, ◌++◌, ℕ, Bool, true, false, cond, List, [], Option, Some, None, IsSome, is_some, refl, sym, subst, ap, ◌∙◌, slice_get, arith, inl, inr}
 use Rattle.std.proofs.lemmas.Bool.{false≢true}
+use Rattle.std.proofs.lemmas.List.Elements.{All-append, All-cons, All-nil}
 use Rattle.std.proofs.lemmas.List.{get_or-set_other}
+use Rattle.std.specs.List.{All}
 use Rattle.std.proofs.lemmas.Option.{none-some, same_Some}
 use Rattle.pr_api.specs.Entries.{call_entry}
 use Rattle.pr_lawful.proofs.CallLemmas.{call-state}
@@ -20,7 +22,9 @@ use Rattle.pr_model.specs.declared.calls.Mode.TheVariants as mode
 use Rattle.pr_model.specs.declared.calls.Reply.{Reply}
 use Rattle.pr_model.specs.declared.calls.Reply.TheVariants as reply
 use Rattle.pr_model.specs.declared.events.Act.{Act}
+use Rattle.pr_model.specs.declared.events.Act.TheVariants as act
 use Rattle.pr_model.specs.declared.events.Actor.{Actor}
+use Rattle.pr_model.specs.declared.events.Actor.TheVariants.{Controller, Lwp, Clock}
 use Rattle.pr_model.specs.declared.events.Entry.{Entry}
 use Rattle.pr_model.specs.declared.handles.Held.{Held}
 use Rattle.pr_model.specs.declared.tools.ToolKind.{ToolKind}
@@ -38,7 +42,8 @@ use Rattle.pr_tools.specs.declared.stacks.Walk.{Walk}
 use Rattle.pr_tools.specs.declared.steps.Step.{Step}
 use Rattle.pr_tools.specs.declared.steps.Step.TheVariants as step
 use Rattle.pr_world.specs.ControllerStates.{ControllerState, Tool}
-use Rattle.pr_world.specs.Protocol.{Follows, controllers_at}
+use Rattle.pr_world.specs.Protocol.{controllers_at}
+use Rattle.pr_tool_laws.specs.OwnCalls.{AreOwnCalls}
 use Rattle.pr_tool_laws.proofs.KindLemmas.{fed-kind, fed-pid, refused-still}
 use Rattle.pr_tool_laws.proofs.LawLemmas.{tool-keeps}
 use Rattle.pr_tool_laws.proofs.SentEffects.{runs}
@@ -51,7 +56,7 @@ use Rattle.pr_tool_laws.proofs.StandingLemmas.{IsOther, others-handles}
 use Rattle.pr_tool_laws.proofs.ToolLemmas.{ended-closes, place-still}
 use Rattle.pr_tool_laws.specs.Reads.{IsToolRead}
 use Rattle.pr_tool_laws.specs.SentMessages.{HasSent, IsSetGoing}
-use Rattle.pr_tool_laws.specs.Stacks.{HasLooked, RunsAgain}
+use Rattle.pr_tool_laws.specs.Stacks.{HasLooked, OpensAtMost, RunsAgain}
 use Rattle.pr_truss_laws.proofs.OpensLemmas.{Opens, held_by, keeps_handles, open-opens, plain-leaves}
 
 -- pstack runs its process again, unless that stood when it came.
@@ -110,15 +115,23 @@ module _ (k pid : ℕ) (first : TracedState) where
   abbrev Status : TracedState → ToolState → Type 0
   Status s t = Has record_place (status_of k pid) s t.opened
 
+  -- it has looked, and has only opened before
+  abbrev HasLookedFirst : List Entry → Bool → Type 0
+  HasLookedFirst h stood = (look : HasLooked k pid stood first h) × All (OpensAtMost k) look.before
+
   abbrev Looked : List Entry → ToolState → Type 0
-  Looked h t = HasLooked k pid t.stood first h
+  Looked h t = HasLookedFirst h t.stood
+
+  -- so far it has only opened
+  abbrev Comes : List Entry → Type 0
+  Comes h = All (OpensAtMost k) h
 
   -- what is so at a step of a pstack that was not refused
   unfoldable So : List Entry → TracedState → ToolState → Step → Type 0
-  So h s t step.OpenCtl = t.opened ≡ nothing_open
-  So h s t step.OpenFile = HasControl s t.opened
-  So h s t step.OpenMemory = Control s t × Status s t
-  So h s t step.ReadFirst = Control s t × Status s t
+  So h s t step.OpenCtl = (t.opened ≡ nothing_open) × Comes h
+  So h s t step.OpenFile = HasControl s t.opened × Comes h
+  So h s t step.OpenMemory = Control s t × Status s t × Comes h
+  So h s t step.ReadFirst = Control s t × Status s t × Comes h
   So h s t step.Stop = Control s t × Looked h t
   So h s t step.AwaitStop = Control s t × Looked h t
   So h s t step.ReadFile = Control s t × Looked h t
@@ -131,17 +144,39 @@ module _ (k pid : ℕ) (first : TracedState) where
   abbrev SoNow : List Entry → TracedState → ToolState → Type 0
   SoNow h s t = So h s t t.step
 
-  looked-still : (h : List Entry) (e : Entry) (stood : Bool) → HasLooked k pid stood first h
-      → HasLooked k pid stood first (h ++ e ∷ [])
-  looked-still h e stood it = record {
-    before = it.before;
-    call = it.call;
-    reply = it.reply;
-    after = it.after ++ e ∷ [];
-    place = place-still h it.before (call_entry k it.call it.reply) it.after e it.place;
-    reads = it.reads;
-    noted = it.noted;
-  }
+  looked-still : (h : List Entry) (e : Entry) (stood : Bool) → HasLookedFirst h stood
+      → HasLookedFirst (h ++ e ∷ []) stood
+  looked-still h e stood it = (
+    record {
+      before = it.0.before;
+      call = it.0.call;
+      reply = it.0.reply;
+      after = it.0.after ++ e ∷ [];
+      place = place-still h it.0.before (call_entry k it.0.call it.0.reply) it.0.after e it.0.place;
+      reads = it.0.reads;
+      noted = it.0.noted;
+    },
+    it.1,
+  )
+
+  comes-still : (h : List Entry) (e : Entry) → OpensAtMost k e → Comes h → Comes (h ++ e ∷ [])
+  comes-still h e opens so =
+      All-append (OpensAtMost k) h (e ∷ []) so
+      (All-cons (OpensAtMost k) e [] opens (All-nil (OpensAtMost k)))
+
+  -- what others do is no call of its own
+  others-open : (actor : Actor) (it : Act) → IsOther k actor it
+      → OpensAtMost k (record { actor = actor; act = it })
+  others-open (Controller j) (act.Call d v) other c r same =
+      absurd (other (let by : Controller j ≡ Controller k = ap (λ (x : Entry). x.actor) same in cc))
+  others-open (Controller j) (act.Turn t) other c r same =
+      let it : act.Turn t ≡ act.Call c r = ap (λ (x : Entry). x.act) same in cc
+  others-open (Controller j) (act.Tick m) other c r same =
+      let it : act.Tick m ≡ act.Call c r = ap (λ (x : Entry). x.act) same in cc
+  others-open (Lwp acting id) it other c r same =
+      let by : Lwp acting id ≡ Controller k = ap (λ (x : Entry). x.actor) same in cc
+  others-open Clock it other c r same =
+      let by : Clock ≡ Controller k = ap (λ (x : Entry). x.actor) same in cc
 
   -- ---- what others do
 
@@ -161,19 +196,26 @@ module _ (k pid : ℕ) (first : TracedState) where
     others-both t so =
         (others-has control_place (control_of k pid) t.opened so.0, looked-still h entry t.stood so.1)
 
-    others-files : (t : ToolState) → Control s t × Status s t → Control (after s entry) t × Status (after s entry) t
+    others-come : Comes h → Comes (h ++ entry ∷ [])
+    others-come so = comes-still h entry (others-open actor it other) so
+
+    others-files : (t : ToolState) → Control s t × Status s t × Comes h
+        → Control (after s entry) t × Status (after s entry) t × Comes (h ++ entry ∷ [])
     others-files t so =
         let control = others-has control_place (control_of k pid) t.opened so.0 in
-        (control, others-has record_place (status_of k pid) t.opened so.1)
+        (control, others-has record_place (status_of k pid) t.opened so.1, others-come so.2)
 
     others-so : (t : ToolState) (p : Step) → So h s t p → So (h ++ entry ∷ []) (after s entry) t p
     unfolding So
-    others-so t step.OpenCtl so = so
-    others-so t step.OpenFile so = record {
-      number = so.number;
-      is = so.is;
-      stands = others-handles n k so.number s actor it legal other ∙ so.stands;
-    }
+    others-so t step.OpenCtl so = (so.0, others-come so.1)
+    others-so t step.OpenFile so = (
+      record {
+        number = so.0.number;
+        is = so.0.is;
+        stands = others-handles n k so.0.number s actor it legal other ∙ so.0.stands;
+      },
+      others-come so.1,
+    )
     others-so t step.OpenMemory so = others-files t so
     others-so t step.ReadFirst so = others-files t so
     others-so t step.Stop so = others-both t so
@@ -264,47 +306,64 @@ module _ (k pid : ℕ) (first : TracedState) where
         new-file : handle_of a.state.opens k grants.place ≡ Some (held_by k pid 0 name way)
         new-file = new-stands s k (held_by k pid 0 name way) refl a.reply a.state.opens grants
 
+      -- it opens a file more
+      opens-on : (name : File) (way : Mode) → call.Open pid 0 name way ≡ c → Comes h → Comes longer
+      opens-on name way opens so =
+          comes-still h it
+          (λ d r is.
+          let made : act.Call c a.reply ≡ act.Call d r = ap (λ (x : Entry). x.act) is in
+          let its : c ≡ d = cc in
+          record { pid = pid; lwp = 0; name = name; way = way; is = sym its ∙ sym opens }) so
+
       -- its control file
-      first-file : t.step ≡ step.OpenCtl → t.opened ≡ nothing_open
+      first-file : t.step ≡ step.OpenCtl → (t.opened ≡ nothing_open) × Comes h
           → ((e : Errno) → a.reply ≢ reply.Fail e) → Next (accepted t a.reply step.OpenCtl)
       unfolding So accepted call_of ctl_mode_of with_next after_in_pstack opened_in
-      first-file at none accepts =
+      first-file at so accepts =
           let granted = grants file.Ctl mode.WriteExcl answers accepts in
-          goes-on (record t { opened = with_handle t.opened control_place (opened_in a.reply) }) step.OpenCtl kind at
-          (record {
-            number = granted.place;
-            is =
-                ap (λ (o : Opened). with_handle o control_place (opened_in a.reply)) none
-                ∙ ap (λ (r : Reply). with_handle nothing_open control_place (opened_in r)) granted.reply;
-            stands = new-file file.Ctl mode.WriteExcl answers accepts;
-          })
+          goes-on (record t { opened = with_handle t.opened control_place (opened_in a.reply) }) step.OpenCtl kind at (
+            record {
+              number = granted.place;
+              is =
+                  ap (λ (o : Opened). with_handle o control_place (opened_in a.reply)) so.0
+                  ∙ ap (λ (r : Reply). with_handle nothing_open control_place (opened_in r)) granted.reply;
+              stands = new-file file.Ctl mode.WriteExcl answers accepts;
+            },
+            opens-on file.Ctl mode.WriteExcl is_call so.1,
+          )
         where
           called : call_of t step.OpenCtl ≡ Some (call.Open pid 0 file.Ctl mode.WriteExcl)
           called = rw (of, kind) refl
 
+          is_call : call.Open pid 0 file.Ctl mode.WriteExcl ≡ c
+          is_call = same_Some (call.Open pid 0 file.Ctl mode.WriteExcl) c (sym called ∙ its step.OpenCtl at)
+
           answers : answer_to s k (call.Open pid 0 file.Ctl mode.WriteExcl) ≡ Some a
-          answers =
-              ap (answer_to s k) (same_Some (call.Open pid 0 file.Ctl mode.WriteExcl) c (sym called
-              ∙ its step.OpenCtl at)) ∙ given
+          answers = ap (answer_to s k) is_call ∙ given
 
       -- the file of the statuses
-      second-file : t.step ≡ step.OpenFile → HasControl s t.opened → ((e : Errno) → a.reply ≢ reply.Fail e)
+      second-file : t.step ≡ step.OpenFile → HasControl s t.opened × Comes h → ((e : Errno) → a.reply ≢ reply.Fail e)
           → Next (accepted t a.reply step.OpenFile)
       unfolding So accepted call_of file_of with_next after_in_pstack opened_in handle_at with_handle nothing_open
-      second-file at has accepts =
+      second-file at so accepts =
           goes-on (record t { opened = with_handle t.opened record_place (opened_in a.reply) }) step.OpenFile kind at (
             kept-file file.Lstatus mode.Read answers accepts control_place record_place (control_of k pid) t.opened
                 (λ same. omega arith) control,
             status,
+            opens-on file.Lstatus mode.Read is_call so.1,
           )
         where
+          has : HasControl s t.opened
+          has = so.0
+
           called : call_of t step.OpenFile ≡ Some (call.Open pid 0 file.Lstatus mode.Read)
           called = rw (of, kind) refl
 
+          is_call : call.Open pid 0 file.Lstatus mode.Read ≡ c
+          is_call = same_Some (call.Open pid 0 file.Lstatus mode.Read) c (sym called ∙ its step.OpenFile at)
+
           answers : answer_to s k (call.Open pid 0 file.Lstatus mode.Read) ≡ Some a
-          answers =
-              ap (answer_to s k) (same_Some (call.Open pid 0 file.Lstatus mode.Read) c (sym called
-              ∙ its step.OpenFile at)) ∙ given
+          answers = ap (answer_to s k) is_call ∙ given
 
           control : Has control_place (control_of k pid) s t.opened
           control = record {
@@ -324,7 +383,7 @@ module _ (k pid : ℕ) (first : TracedState) where
           }
 
       -- the memory
-      third-file : t.step ≡ step.OpenMemory → Control s t × Status s t → ((e : Errno) → a.reply ≢ reply.Fail e)
+      third-file : t.step ≡ step.OpenMemory → Control s t × Status s t × Comes h → ((e : Errno) → a.reply ≢ reply.Fail e)
           → Next (accepted t a.reply step.OpenMemory)
       unfolding So accepted call_of with_next after_in_pstack
       third-file at has accepts =
@@ -334,15 +393,17 @@ module _ (k pid : ℕ) (first : TracedState) where
                 (λ same. omega arith) has.0,
             kept-file file.Mem mode.Read answers accepts record_place memory_place (status_of k pid) t.opened
                 (λ same. omega arith) has.1,
+            opens-on file.Mem mode.Read is_call has.2,
           )
         where
           called : call_of t step.OpenMemory ≡ Some (call.Open pid 0 file.Mem mode.Read)
           called = rw of refl
 
+          is_call : call.Open pid 0 file.Mem mode.Read ≡ c
+          is_call = same_Some (call.Open pid 0 file.Mem mode.Read) c (sym called ∙ its step.OpenMemory at)
+
           answers : answer_to s k (call.Open pid 0 file.Mem mode.Read) ≡ Some a
-          answers =
-              ap (answer_to s k) (same_Some (call.Open pid 0 file.Mem mode.Read) c (sym called
-              ∙ its step.OpenMemory at)) ∙ given
+          answers = ap (answer_to s k) is_call ∙ given
 
       -- a call that leaves the handles
       module _ (p : Step) (at : t.step ≡ p) (d : Call) (is : call_of t p ≡ Some d)
@@ -360,11 +421,11 @@ module _ (k pid : ℕ) (first : TracedState) where
         both-still so = (control-still so.0, looked-still h it t.stood so.1)
 
       -- its first look at the process
-      first-look : t.step ≡ step.ReadFirst → Control s t × Status s t → Next (accepted t a.reply step.ReadFirst)
+      first-look : t.step ≡ step.ReadFirst → Control s t × Status s t × Comes h → Next (accepted t a.reply step.ReadFirst)
       unfolding So accepted call_of with_next after_in_pstack IsToolRead
       first-look at has =
           goes-on (record t { stood = process_stands (bytes_read a.reply) }) step.ReadFirst kind at
-          (control-still step.ReadFirst at (call.Read has.1.number 0 read_limit) called refl has.0, looked)
+          (control-still step.ReadFirst at (call.Read has.1.number 0 read_limit) called refl has.0, (looked, has.2))
         where
           called : call_of t step.ReadFirst ≡ Some (call.Read has.1.number 0 read_limit)
           called = ap (λ (o : Option ℕ). Some (call.Read (number_of o) 0 read_limit)) has.1.at
@@ -493,7 +554,7 @@ module _ (n k pid : ℕ) (first : TracedState) where
 
   first-so : SoNow k pid first [] first (first_tool Pstack pid)
   unfolding So first_tool first_step
-  first-so = refl
+  first-so = (refl, All-nil (OpensAtMost k))
 
   -- who has ended is at its closes
   ended-at : (h : List Entry) (t : ToolState) → has_ended t ≡ true → SoNow k pid first h (state_after first h) t
@@ -504,7 +565,7 @@ module _ (n k pid : ℕ) (first : TracedState) where
 -- In the end it has done so, unless it was refused.
 pub runs-again : (controllers : List ControllerState) (n k pid : ℕ) (s : TracedState) (h : List Entry) (t : ToolState)
     → IsLawful s → slice_get controllers k ≡ Some (Tool (first_tool Pstack pid)) → IsLegal n s h
-    → Follows controllers s h → slice_get (controllers_at controllers h) k ≡ Some (Tool t) → has_ended t ≡ true
+    → AreOwnCalls controllers h → slice_get (controllers_at controllers h) k ≡ Some (Tool t) → has_ended t ≡ true
     → t.refusal ≡ None → RunsAgain k pid s h
 unfolding first_tool
 runs-again controllers n k pid s h t lawful begins legal follows ends ended accepted =
@@ -514,4 +575,4 @@ runs-again controllers n k pid s h t lawful begins legal follows ends ended acce
     tool-keeps n k s (IsRunKept n k pid s) (others-kept n k pid s) (calls-kept n k pid s) controllers h
     (first_tool Pstack pid) t legal follows begins ends begun in
     let both = ended-at n k pid s h t ended (kept.so accepted) in
-    record { stood = t.stood; looked = both.0; runs = both.1 }
+    record { stood = t.stood; looked = both.0.0; came = both.0.1; runs = both.1 }

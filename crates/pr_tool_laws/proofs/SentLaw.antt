@@ -21,7 +21,8 @@ use Rattle.pr_tools.specs.declared.steps.Step.{Step}
 use Rattle.pr_tools.specs.declared.steps.Step.TheVariants as step
 use Rattle.pr_model.specs.Replies.{opened_in}
 use Rattle.pr_world.specs.ControllerStates.{ControllerState, Tool}
-use Rattle.pr_world.specs.Protocol.{Follows, controllers_at}
+use Rattle.pr_world.specs.Protocol.{controllers_at}
+use Rattle.pr_tool_laws.specs.OwnCalls.{AreOwnCalls}
 use Rattle.pr_tool_laws.proofs.LawLemmas.{tool-keeps}
 use Rattle.pr_tool_laws.proofs.SentEffects.{Does, directs, runs}
 use Rattle.pr_tool_laws.proofs.SentStages.{IsSender, SentStage, called-stage, ended-stage, first-stage, others-stage}
@@ -94,7 +95,7 @@ module _ (n k : ℕ) (kind : ToolKind) (pid : ℕ) (send : Step) (bytes : List �
 
   has-acted : (controllers : List ControllerState) (h : List Entry) (t : ToolState) → IsLawful first
       → slice_get controllers k ≡ Some (Tool (first_tool kind pid)) → IsLegal n first h
-      → Follows controllers first h → slice_get (controllers_at controllers h) k ≡ Some (Tool t) → has_ended t ≡ true
+      → AreOwnCalls controllers h → slice_get (controllers_at controllers h) k ≡ Some (Tool t) → has_ended t ≡ true
       → t.refusal ≡ None → HasActed k pid bytes Becomes first h
   has-acted controllers h t lawful begins legal follows ends ended accepted =
       let stage = first-stage n k kind pid send bytes Becomes sender does first first in
@@ -107,14 +108,14 @@ module _ (n k : ℕ) (kind : ToolKind) (pid : ℕ) (send : Step) (bytes : List �
 
 pub pstop-stops : (controllers : List ControllerState) (n k pid : ℕ) (s : TracedState) (h : List Entry) (t : ToolState)
     → IsLawful s → slice_get controllers k ≡ Some (Tool (first_tool Pstop pid)) → IsLegal n s h
-    → Follows controllers s h → slice_get (controllers_at controllers h) k ≡ Some (Tool t) → has_ended t ≡ true
+    → AreOwnCalls controllers h → slice_get (controllers_at controllers h) k ≡ Some (Tool t) → has_ended t ≡ true
     → t.refusal ≡ None → StopsItsProcess k pid s h
 pstop-stops controllers n k pid s h t =
     has-acted n k Pstop pid step.Direct direct_bytes IsDirected pstop-sends directs s controllers h t
 
 pub prun-runs : (controllers : List ControllerState) (n k pid : ℕ) (s : TracedState) (h : List Entry) (t : ToolState)
     → IsLawful s → slice_get controllers k ≡ Some (Tool (first_tool Prun pid)) → IsLegal n s h
-    → Follows controllers s h → slice_get (controllers_at controllers h) k ≡ Some (Tool t) → has_ended t ≡ true
+    → AreOwnCalls controllers h → slice_get (controllers_at controllers h) k ≡ Some (Tool t) → has_ended t ≡ true
     → t.refusal ≡ None → RunsItsProcess k pid s h
 prun-runs controllers n k pid s h t =
     has-acted n k Prun pid step.Run run_bytes IsSetGoing prun-sends runs s controllers h t

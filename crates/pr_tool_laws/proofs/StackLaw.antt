@@ -14,8 +14,9 @@ use Rattle.pr_reached.specs.InRange.{IsInRange}
 use Rattle.pr_tools.specs.Tools.{ToolState, fed, first_tool, has_ended, printed}
 use Rattle.pr_world.specs.Controllers.{after_reply, next_call}
 use Rattle.pr_world.specs.ControllerStates.{ControllerState, Tool}
-use Rattle.pr_world.specs.Protocol.{Follows, controllers_at}
-use Rattle.pr_tool_laws.proofs.ProtocolLemmas.{KeptByCalls, KeptByOthers, protocol-keeps}
+use Rattle.pr_world.specs.Protocol.{controllers_at}
+use Rattle.pr_tool_laws.specs.OwnCalls.{AreOwnCalls}
+use Rattle.pr_tool_laws.proofs.ProtocolLemmas.{KeptByCalls, KeptByOthers, own-keeps}
 use Rattle.pr_tool_laws.proofs.StackCalls.{called-stage}
 use Rattle.pr_tool_laws.proofs.StackEnds.{ended-stage, shows}
 use Rattle.pr_tool_laws.proofs.StackStages.{StackStage, at_first, others-stage}
@@ -58,13 +59,13 @@ module _ (n k pid : ℕ) (first : TracedState) where
 -- In the end it shows them, unless it was refused.
 pub shows-one-stack : (controllers : List ControllerState) (n k pid : ℕ) (s : TracedState) (h : List Entry)
     (t : ToolState) (programs : List Program) → IsLawful s → IsInRange s.system → HasBytes h
-    → slice_get controllers k ≡ Some (Tool (first_tool Pstack pid)) → IsLegal n s h → Follows controllers s h
+    → slice_get controllers k ≡ Some (Tool (first_tool Pstack pid)) → IsLegal n s h → AreOwnCalls controllers h
     → slice_get (controllers_at controllers h) k ≡ Some (Tool t) → has_ended t ≡ true → t.refusal ≡ None
     → ShowsOneStack k pid programs s h (printed t programs)
 unfolding IsStackKept
 shows-one-stack controllers n k pid s h t programs lawful ranged bytes begins legal follows ends ended accepted =
     let kept =
-    protocol-keeps n k s (IsStackKept n k pid s) (others-keep n k pid s) (calls-keep n k pid s) controllers h
+    own-keeps n k s (IsStackKept n k pid s) (others-keep n k pid s) (calls-keep n k pid s) controllers h
     (Tool (first_tool Pstack pid)) (Tool t) legal follows begins ends (lawful, at_first refl) in
     shows n k pid s h t programs lawful ranged bytes legal ended accepted
     (ended-stage n k pid s h (state_after s h) t ended accepted kept.1)

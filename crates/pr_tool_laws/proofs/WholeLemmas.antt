@@ -38,7 +38,8 @@ use Rattle.pr_tool_laws.specs.ShownStates.{ShowsOneState}
 use Rattle.pr_tool_laws.specs.ToolTexts.{reads_once}
 use Rattle.pr_tools.specs.Tools.{ToolState, first_tool, has_ended, printed}
 use Rattle.pr_world.specs.ControllerStates.{ControllerState, Tool}
-use Rattle.pr_world.specs.Protocol.{Follows, controllers_at}
+use Rattle.pr_world.specs.Protocol.{controllers_at}
+use Rattle.pr_tool_laws.specs.OwnCalls.{AreOwnCalls}
 
 -- In a lawful system in range one read has what stands there, with its fields in their ranges; so a tool shows that.
 
@@ -201,7 +202,7 @@ stands-there n k kind pid s h text lawful ranged bytes legal once of_known =
 pub tool-shows : (controllers : List ControllerState) (n k : ℕ) (kind : ToolKind) (pid : ℕ) (s : TracedState)
     (h : List Entry) (t : ToolState) (programs : List Program) → IsLawful s → IsInRange s.system → HasBytes h
     → reads_once kind ≡ true → slice_get controllers k ≡ Some (Tool (first_tool kind pid)) → IsLegal n s h
-    → Follows controllers s h → slice_get (controllers_at controllers h) k ≡ Some (Tool t) → has_ended t ≡ true
+    → AreOwnCalls controllers h → slice_get (controllers_at controllers h) k ≡ Some (Tool t) → has_ended t ≡ true
     → t.refusal ≡ None → ShowsOneState k kind pid s h (printed t programs)
 tool-shows controllers n k kind pid s h t programs lawful ranged bytes once begins legal follows ends ended accepted =
     stands-there n k kind pid s h (printed t programs) lawful ranged bytes legal once

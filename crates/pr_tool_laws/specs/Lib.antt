@@ -1,4 +1,5 @@
 pub mod OneState
+pub mod OwnCalls
 pub mod Reads
 pub mod Requests
 pub mod SentMessages

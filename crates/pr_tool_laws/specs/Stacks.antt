@@ -1,4 +1,5 @@
 use Rattle.std.specs.Prelude.{◌≡◌, ℕ, Bool, false, List, ◌∷◌, ◌++◌, Option, None, Some, option_map}
+use Rattle.std.specs.List.{All}
 use Rattle.pr_api.specs.Entries.{call_entry}
 use Rattle.pr_model.specs.Handles.{handle_of}
 use Rattle.pr_model.specs.Legal.{state_after}
@@ -6,8 +7,10 @@ use Rattle.pr_model.specs.Readers.{space_seen}
 use Rattle.pr_model.specs.Records.{lstatus_of}
 use Rattle.pr_model.specs.State.{TracedProcess, TracedState, TracedSystem, live_process}
 use Rattle.pr_model.specs.declared.calls.Call.{Call}
-use Rattle.pr_model.specs.declared.calls.Call.TheVariants.{CtlWait}
+use Rattle.pr_model.specs.declared.calls.Call.TheVariants.{CtlWait, Open}
+use Rattle.pr_model.specs.declared.calls.File.{File}
 use Rattle.pr_model.specs.declared.calls.File.TheVariants.{Ctl}
+use Rattle.pr_model.specs.declared.calls.Mode.{Mode}
 use Rattle.pr_model.specs.declared.calls.Reply.{Reply}
 use Rattle.pr_model.specs.declared.calls.Reply.TheVariants.{Used}
 use Rattle.pr_model.specs.declared.events.Entry.{Entry}
@@ -67,6 +70,18 @@ pub record ShowsOneStack (k pid : ℕ) (programs : List Program) (first : Traced
 
 -- ---- what it leaves
 
+-- a call opens a file
+pub record IsOpen (c : Call) : Type 0 where
+  pub pid : ℕ
+  pub lwp : ℕ
+  pub name : File
+  pub way : Mode
+  pub is : c ≡ Open pid lwp name way
+
+-- an entry is no call of a controller but an open
+abbrev pub OpensAtMost : ℕ → Entry → Type 0
+OpensAtMost k e = (c : Call) (r : Reply) → e ≡ call_entry k c r → IsOpen c
+
 -- pstack has read the status of all lwps, and has noted whether every lwp stood there: on an event of interest, or
 -- suspended.
 pub record HasLooked (k pid : ℕ) (stood : Bool) (first : TracedState) (h : List Entry) : Type 0 where
@@ -78,8 +93,9 @@ pub record HasLooked (k pid : ℕ) (stood : Bool) (first : TracedState) (h : Lis
   pub reads : IsToolRead Pstack k pid (state_after first before) call
   pub noted : process_stands (bytes_read reply) ≡ stood
 
--- Where not every lwp stood when it came, it has run the process.
+-- It has done nothing but open before that look, and where not every lwp stood then, it has run the process.
 pub record RunsAgain (k pid : ℕ) (first : TracedState) (h : List Entry) : Type 0 where
   pub stood : Bool
   pub looked : HasLooked k pid stood first h
+  pub came : All (OpensAtMost k) looked.before
   pub runs : stood ≡ false → HasSent k pid run_bytes IsSetGoing first h

@@ -8,15 +8,16 @@ ghost use Rattle.pr_tools.specs.Tools.{ToolState, first_tool, has_ended};
 ghost use Rattle.pr_truss_laws.specs.Handles.{HasNothingOpen};
 ghost use Rattle.pr_world.specs.ControllerStates.{ControllerState};
 ghost use Rattle.pr_world.specs.ControllerStates as cores;
-ghost use Rattle.pr_world.specs.Protocol.{Follows, controllers_at};
+ghost use Rattle.pr_world.specs.Protocol.{controllers_at};
+ghost use Rattle.pr_tool_laws.specs.OwnCalls.{AreOwnCalls};
 
-/// In a legal history that follows the protocol of its controllers, from a state in which it has nothing open, a tool
+/// In a legal history where these controllers make their own calls, from a state in which it has nothing open, a tool
 /// has files of its own process alone open at any time, and so sends its messages to that process alone.
 pub fn tools_open_their_own_process_alone()
     ensures { (controllers : List ControllerState) (n k : ℕ) (kind : ToolKind) (pid : ℕ) (s : TracedState)
         → (h : List Entry) (t : ToolState) → HasNothingOpen k s
         → slice_get controllers k ≡ Some (cores.Tool (first_tool kind pid))
-        → IsLegal n s h → Follows controllers s h
+        → IsLegal n s h → AreOwnCalls controllers h
         → slice_get (controllers_at controllers h) k ≡ Some (cores.Tool t) → HoldsOnly k pid (state_after s h) }
 {}
 
@@ -26,7 +27,7 @@ pub fn tools_that_read_leave_the_system()
     ensures { (controllers : List ControllerState) (n k : ℕ) (kind : ToolKind) (pid : ℕ) (s : TracedState)
         → (h : List Entry) (t : ToolState) → HasNothingOpen k s → only_reads kind ≡ true
         → slice_get controllers k ≡ Some (cores.Tool (first_tool kind pid))
-        → IsLegal n s h → Follows controllers s h
+        → IsLegal n s h → AreOwnCalls controllers h
         → slice_get (controllers_at controllers h) k ≡ Some (cores.Tool t) → LeavesTheSystem k s h }
 {}
 
@@ -35,7 +36,7 @@ pub fn tools_that_have_finished_have_nothing_open()
     ensures { (controllers : List ControllerState) (n k : ℕ) (kind : ToolKind) (pid : ℕ) (s : TracedState)
         → (h : List Entry) (t : ToolState) → HasNothingOpen k s
         → slice_get controllers k ≡ Some (cores.Tool (first_tool kind pid))
-        → IsLegal n s h → Follows controllers s h
+        → IsLegal n s h → AreOwnCalls controllers h
         → slice_get (controllers_at controllers h) k ≡ Some (cores.Tool t) → has_ended t ≡ true
         → HasNothingOpen k (state_after s h) }
 {}

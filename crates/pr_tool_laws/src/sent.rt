@@ -8,16 +8,17 @@ ghost use Rattle.pr_tool_laws.specs.SentMessages.{RunsItsProcess, StopsItsProces
 ghost use Rattle.pr_tools.specs.Tools.{ToolState, first_tool, has_ended};
 ghost use Rattle.pr_world.specs.ControllerStates.{ControllerState};
 ghost use Rattle.pr_world.specs.ControllerStates as cores;
-ghost use Rattle.pr_world.specs.Protocol.{Follows, controllers_at};
+ghost use Rattle.pr_world.specs.Protocol.{controllers_at};
+ghost use Rattle.pr_tool_laws.specs.OwnCalls.{AreOwnCalls};
 
-/// In a legal history that follows the protocol of its controllers, from a lawful state, a pstop that has finished, and
+/// In a legal history where these controllers make their own calls, from a lawful state, a pstop that has finished, and
 /// was not refused, has made just three calls: it has opened the control file of its process, sent PCDSTOP and closed
 /// the file. Right after the message each lwp of the process stood on an event of interest or was directed to stop. The
 /// close changed nothing of the system, unless the process lived and had PR_KLC or PR_RLC.
 pub fn pstop_directs_its_process_to_stop()
     ensures { (controllers : List ControllerState) (n k pid : ℕ) (s : TracedState) (h : List Entry) (t : ToolState)
         → IsLawful s → slice_get controllers k ≡ Some (cores.Tool (first_tool Pstop pid))
-        → IsLegal n s h → Follows controllers s h
+        → IsLegal n s h → AreOwnCalls controllers h
         → slice_get (controllers_at controllers h) k ≡ Some (cores.Tool t) → has_ended t ≡ true → t.refusal ≡ None
         → StopsItsProcess k pid s h }
 {}
@@ -28,7 +29,7 @@ pub fn pstop_directs_its_process_to_stop()
 pub fn prun_runs_its_process()
     ensures { (controllers : List ControllerState) (n k pid : ℕ) (s : TracedState) (h : List Entry) (t : ToolState)
         → IsLawful s → slice_get controllers k ≡ Some (cores.Tool (first_tool Prun pid))
-        → IsLegal n s h → Follows controllers s h
+        → IsLegal n s h → AreOwnCalls controllers h
         → slice_get (controllers_at controllers h) k ≡ Some (cores.Tool t) → has_ended t ≡ true → t.refusal ≡ None
         → RunsItsProcess k pid s h }
 {}

@@ -16,7 +16,8 @@ ghost use Rattle.pr_tool_laws.specs.ToolTexts.{reads_once};
 ghost use Rattle.pr_tools.specs.Tools.{ToolState, first_tool, has_ended, printed};
 ghost use Rattle.pr_world.specs.ControllerStates.{ControllerState};
 ghost use Rattle.pr_world.specs.ControllerStates as cores;
-ghost use Rattle.pr_world.specs.Protocol.{Follows, controllers_at};
+ghost use Rattle.pr_world.specs.Protocol.{controllers_at};
+ghost use Rattle.pr_tool_laws.specs.OwnCalls.{AreOwnCalls};
 
 /// In a lawful system in range what a tool other than pstack reads has its fields in their ranges, and one read has all
 /// of it.
@@ -25,7 +26,7 @@ pub fn one_read_has_what_stands_there()
         → IsReadBack kind pid s }
 {}
 
-/// In a legal history that follows the protocol of its controllers, from a lawful state in range or from a first state,
+/// In a legal history where these controllers make their own calls, from a lawful state in range or from a first state,
 /// and in which controllers write bytes, a tool other than pstack that has finished, and was not refused, prints what
 /// stands in one state: in the one that its read finds. In the state of which pwait prints the wait status the process
 /// has ended, and was not reaped yet.
@@ -34,14 +35,14 @@ pub fn tools_show_what_stands_there()
         → (t : ToolState) (programs : List Program)
         → IsLawful s → IsInRange s.system → HasBytes h
         → reads_once kind ≡ true → slice_get controllers k ≡ Some (cores.Tool (first_tool kind pid))
-        → IsLegal n s h → Follows controllers s h
+        → IsLegal n s h → AreOwnCalls controllers h
         → slice_get (controllers_at controllers h) k ≡ Some (cores.Tool t) → has_ended t ≡ true → t.refusal ≡ None
         → ShowsOneState k kind pid s h (printed t programs) }
     ensures first { (programs : List Program) (files : List StoredFile) (spawns : List ℕ)
         → (controllers : List ControllerState) (n k : ℕ) (kind : ToolKind) (pid : ℕ) (h : List Entry) (t : ToolState)
         → (labels : List Program) → IsStart programs files spawns → IsStartInRange programs files → HasBytes h
         → reads_once kind ≡ true → slice_get controllers k ≡ Some (cores.Tool (first_tool kind pid))
-        → IsLegal n (first_state programs files spawns) h → Follows controllers (first_state programs files spawns) h
+        → IsLegal n (first_state programs files spawns) h → AreOwnCalls controllers h
         → slice_get (controllers_at controllers h) k ≡ Some (cores.Tool t) → has_ended t ≡ true → t.refusal ≡ None
         → ShowsOneState k kind pid (first_state programs files spawns) h (printed t labels) }
 {}

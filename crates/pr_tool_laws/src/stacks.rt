@@ -16,9 +16,10 @@ ghost use Rattle.pr_tools.specs.Tools.{ToolState, first_tool, has_ended, printed
 ghost use Rattle.pr_truss_laws.specs.Exchanges.{exchanges};
 ghost use Rattle.pr_world.specs.ControllerStates.{ControllerState};
 ghost use Rattle.pr_world.specs.ControllerStates as cores;
-ghost use Rattle.pr_world.specs.Protocol.{Follows, controllers_at};
+ghost use Rattle.pr_world.specs.Protocol.{controllers_at};
+ghost use Rattle.pr_tool_laws.specs.OwnCalls.{AreOwnCalls};
 
-/// In a legal history that follows the protocol of its controllers, from a lawful state in range or from a first state,
+/// In a legal history where these controllers make their own calls, from a lawful state in range or from a first state,
 /// and in which controllers write bytes, a pstack that has finished, and was not refused, prints the stacks of one
 /// state, although it reads frame by frame: of the one that it finds when it reads the status of all lwps, after it has
 /// waited for the process to stop. This is so whatever programs it takes its labels from. Of the stacks of a process
@@ -28,34 +29,34 @@ pub fn pstack_shows_one_state()
         → (programs : List Program)
         → IsLawful s → IsInRange s.system → HasBytes h
         → slice_get controllers k ≡ Some (cores.Tool (first_tool Pstack pid))
-        → IsLegal n s h → Follows controllers s h
+        → IsLegal n s h → AreOwnCalls controllers h
         → slice_get (controllers_at controllers h) k ≡ Some (cores.Tool t) → has_ended t ≡ true → t.refusal ≡ None
         → ShowsOneStack k pid programs s h (printed t programs) }
     ensures first { (programs : List Program) (files : List StoredFile) (spawns : List ℕ)
         → (controllers : List ControllerState) (n k : ℕ) (pid : ℕ) (h : List Entry) (t : ToolState) (labels : List Program)
         → IsStart programs files spawns → IsStartInRange programs files → HasBytes h
         → slice_get controllers k ≡ Some (cores.Tool (first_tool Pstack pid))
-        → IsLegal n (first_state programs files spawns) h → Follows controllers (first_state programs files spawns) h
+        → IsLegal n (first_state programs files spawns) h → AreOwnCalls controllers h
         → slice_get (controllers_at controllers h) k ≡ Some (cores.Tool t) → has_ended t ≡ true → t.refusal ≡ None
         → ShowsOneStack k pid labels (first_state programs files spawns) h (printed t labels) }
 {}
 
-/// In a legal history that follows the protocol of its controllers, from a lawful state, a pstack that has finished,
+/// In a legal history where these controllers make their own calls, from a lawful state, a pstack that has finished,
 /// and was not refused, has run its process again by PCRUN, unless it noted that every lwp stood when it came.
 pub fn pstack_runs_its_process_again()
     ensures { (controllers : List ControllerState) (n k pid : ℕ) (s : TracedState) (h : List Entry) (t : ToolState)
         → IsLawful s → slice_get controllers k ≡ Some (cores.Tool (first_tool Pstack pid)) → IsLegal n s h
-        → Follows controllers s h
+        → AreOwnCalls controllers h
         → slice_get (controllers_at controllers h) k ≡ Some (cores.Tool t) → has_ended t ≡ true → t.refusal ≡ None
         → RunsAgain k pid s h }
 {}
 
-/// In a legal history that follows the protocol of its controllers, a pstack that has finished and was refused has no
+/// In a legal history where these controllers make their own calls, a pstack that has finished and was refused has no
 /// request to stop left that was not refused: after PCSTOP it has sent PCRUN.
 pub fn a_refused_pstack_takes_back_its_request()
     ensures { (controllers : List ControllerState) (n k pid : ℕ) (s : TracedState) (h : List Entry) (t : ToolState)
         → slice_get controllers k ≡ Some (cores.Tool (first_tool Pstack pid)) → IsLegal n s h
-        → Follows controllers s h
+        → AreOwnCalls controllers h
         → slice_get (controllers_at controllers h) k ≡ Some (cores.Tool t) → has_ended t ≡ true → IsSome t.refusal
         → asks_still false (exchanges k h) ≡ false }
 {}

@@ -12,7 +12,6 @@ use Rattle.pr_truss_laws.proofs.OpenTimes.{opens-in-time}
 use Rattle.pr_truss_laws.proofs.PollsLemmas.{polls-own}
 use Rattle.pr_truss_laws.proofs.RefusalLemmas.{tells-refusals}
 use Rattle.pr_truss_laws.proofs.SentLemmas.{sends-in-order}
-use Rattle.pr_truss_laws.proofs.SoonLemmas.{polls-soon}
 use Rattle.pr_truss_laws.specs.Business.{DoesItsBusiness, OpensWhatItKnows}
 use Rattle.pr_truss_laws.specs.Exchanges.{Exchange, Makes, truss_after}
 
@@ -37,7 +36,6 @@ does-business o xs makes = record {
   in_time = opens-in-time o xs makes;
   refusals = tells-refusals o xs makes;
   polls = polls-own o xs makes;
-  soon = polls-soon o xs makes;
   leaves = leaves-interrupted o xs makes;
   ended = closes-ended o xs makes;
   events = tells-selected o xs;

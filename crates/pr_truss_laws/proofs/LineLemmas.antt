@@ -1,4 +1,4 @@
-use Rattle.std.proofs.Common.{◌≡◌, ◌+◌, ℕ, Bool, true, false, cond, Option, Some, None, List, [], ◌∷◌, ◌++◌, refl, sym, subst, ap, ◌∙◌, arith, append_assoc, length, length-append}
+use Rattle.std.proofs.Common.{◌≡◌, ℕ, Bool, true, false, cond, Option, Some, None, List, [], ◌∷◌, ◌++◌, refl, sym, subst, ap, ◌∙◌, arith, append_assoc, length, length-append}
 use Rattle.std.proofs.lemmas.Grind.{flat_map-append}
 use Rattle.std.proofs.lemmas.List.{append-nil}
 use Rattle.std.proofs.lemmas.List.Elements.{All-nil, All-cons, All-append}
@@ -6,11 +6,15 @@ use Rattle.std.specs.List.{All, flat_map, slice_get}
 use Rattle.pr_line.specs.Selections.{is_selected}
 use Rattle.pr_line.specs.declared.events.Event.{Event}
 use Rattle.pr_line.specs.declared.options.Options.{Options}
+use Rattle.pr_model.specs.Replies.{number_of}
 use Rattle.pr_model.specs.declared.calls.Reply.{Reply}
+use Rattle.pr_rec.specs.declared.lwps.LwpStatus.{LwpStatus}
 use Rattle.pr_truss.specs.Counts.{counts_text}
 use Rattle.pr_truss.specs.Feeding.{fed}
+use Rattle.pr_truss.specs.NextCalls.{call_of, next_call_of}
 use Rattle.pr_truss.specs.Printing.{printed}
 use Rattle.pr_truss.specs.Reports.{all_reports, pending_at, refusal_or_nothing, report_lines, report_text}
+use Rattle.pr_truss.specs.Stops.{asked_range}
 use Rattle.pr_truss.specs.Trusses.{TrussState, first_of_program, first_truss, idle, opening_or, traced_at}
 use Rattle.pr_truss.specs.declared.reports.Report.{Report}
 use Rattle.pr_truss.specs.declared.reports.Report.TheVariants as report
@@ -31,9 +35,14 @@ use Rattle.pr_truss_laws.specs.Lines.{BeginsWith, KeepsItsLines, PrintsItsReport
 
 -- ---- the events
 
--- memory is read for a selected event alone
+-- a selected event, the line of which asks for this memory
+pub record AsksFor (o : Options) (l : LwpStatus) (from len : ℕ) : Type 0 where
+  pub stands : StandsOnSelected o l
+  pub asks : asked_range o stands.event ≡ Some (from, len)
+
+-- memory is read for a selected event alone, and just what its line asks for
 abbrev pub StageTells : Options → Stage → Type 0
-StageTells o (ReadingText place l from len) = StandsOnSelected o l
+StageTells o (ReadingText place l from len) = AsksFor o l from len
 StageTells o _ = Unit {0}
 
 pub record Tells (o : Options) (s : TrussState) : Type 0 where
@@ -66,19 +75,19 @@ module _ (o : Options) (s : TrussState) (r : Reply) (t : Tells o s) where
       → All_tell u
   settles-tell stage given u here (step.refuses_start _ _) = one-more _ tt
   settles-tell stage given u here (step.refuses_control _ _) = one-more _ tt
-  settles-tell stage given u here (step.interrupts_text _ _) = one-more _ here
+  settles-tell stage given u here (step.interrupts_text _ _) = one-more _ here.stands
   settles-tell stage given u here _ = t.each
 
   looks-tell : (stage : Stage) (place : ℕ) (pid : Option ℕ) (u : TrussState) → StageTells o stage
       → Looks s r stage place pid u → All_tell u
   looks-tell stage place pid u here (step.shows {e = e} _ new chosen _) =
       one-more _ (record { event = e; tells = new.is; selected = chosen_so e chosen })
-  looks-tell stage place pid u here step.shows_text = one-more _ here
+  looks-tell stage place pid u here step.shows_text = one-more _ here.stands
   looks-tell stage place pid u here _ = t.each
 
   closes-tell : (stage : Stage) (place : ℕ) (next : AfterClosing) (u : TrussState) → StageTells o stage
       → Closes s r stage place next u → All_tell u
-  closes-tell stage place next u here (step.text_ended _) = one-more _ here
+  closes-tell stage place next u here (step.text_ended _) = one-more _ here.stands
   closes-tell stage place next u here (step.refuses_free _ _) = one-more _ tt
   closes-tell stage place next u here (step.refuses_opening _ _) = one-more _ tt
   closes-tell stage place next u here (step.refuses_child _ _) = one-more _ tt
@@ -105,8 +114,10 @@ module _ (o : Options) (s : TrussState) (r : Reply) (t : Tells o s) where
   step-stage : (stage : Stage) (v : TrussState) → ReplyStep s r stage v → StageTells o v.stage
   step-stage stage v (step.settles w on) = on-tells o _ v _ on
   step-stage stage v (step.looks w over) = over-tells o _ v _ _ over
-  step-stage stage v (step.asks {e = e} _ new chosen _) =
-      record { event = e; tells = new.is; selected = chosen_so e chosen }
+  step-stage stage v (step.asks {e = e} {range = range} _ new chosen asks) = record {
+    stands = record { event = e; tells = new.is; selected = chosen_so e chosen };
+    asks = ap (λ (p : Options). asked_range p e) (sym t.options) ∙ asks;
+  }
   step-stage stage v (step.closes w) = tt
   step-stage stage v (step.loses _) = tt
   step-stage stage v (step.opens _ step.new_given) = tt
@@ -145,7 +156,7 @@ first-tells o = program-tells o o.program
 pending-tells : (o : Options) (s : TrussState) (stage : Stage) → StageTells o stage
     → All (TellsSelected o) (pending_at s stage)
 pending-tells o s (ReadingText place l from len) here =
-    All-cons (TellsSelected o) _ [] here (All-nil (TellsSelected o))
+    All-cons (TellsSelected o) _ [] here.stands (All-nil (TellsSelected o))
 pending-tells o s _ here = All-nil (TellsSelected o)
 
 all-tell : (o : Options) (s : TrussState) → Tells o s → All (TellsSelected o) (all_reports s)
@@ -213,16 +224,30 @@ unfolding all_reports
 nothing-pending s is = nothing-added s.reports (pending_at s s.stage) is
 
 -- what is printed behind what was reported
-reports-at : (s : TrussState) (stage : Stage) → all_reports s ≡ s.reports ++ pending_at s stage → ReportsNoOther s
-reports-at s (ReadingText place l from len) is = one_more (traced_at s place).pid l is
-reports-at s _ is = all_told (is ∙ append-nil s.reports)
+reports-at : (o : Options) (s : TrussState) (stage : Stage) → StageTells o stage → next_call_of s ≡ call_of s stage
+    → all_reports s ≡ s.reports ++ pending_at s stage → ReportsNoOther o s
+unfolding call_of
+reports-at o s (ReadingText place l from len) here due is =
+    one_more (traced_at s place).pid l is (record {
+      event = here.stands.event;
+      tells = here.stands.tells;
+      from = from;
+      len = len;
+      asks = here.asks;
+      handle = number_of (traced_at s place).memory;
+      due = due;
+    })
+reports-at o s _ here due is = all_told (is ∙ append-nil s.reports)
 
-no-other : (s : TrussState) → ReportsNoOther s
-unfolding all_reports
-no-other s = reports-at s s.stage refl
+no-other : (o : Options) (s : TrussState) → Tells o s → ReportsNoOther o s
+unfolding all_reports next_call_of
+no-other o s t = reports-at o s s.stage t.stage refl refl
 
 pub prints-what-it-reports : (o : Options) (xs : List Exchange) → PrintsWhatItReports o xs
-prints-what-it-reports o xs = record { each = λ before after is. no-other (truss_after (first_truss o) before) }
+prints-what-it-reports o xs = record {
+  each = λ before after is.
+      no-other o (truss_after (first_truss o) before) (after-tells o before (first_truss o) (first-tells o));
+}
 
 pub keeps-lines : (o : Options) (xs : List Exchange) → KeepsItsLines o xs
 keeps-lines o xs = record {

@@ -25,7 +25,6 @@ use Rattle.pr_truss.specs.declared.reports.Report.TheVariants.{CannotStart, Cann
 use Rattle.pr_truss_laws.specs.Exchanges.{Closes, Exchange, errno_in, truss_after}
 use Rattle.pr_truss_laws.specs.Lines.{KeepsItsLines, PrintsItsReports, PrintsWhatItReports, TellsSelected}
 use Rattle.pr_truss_laws.specs.Sent.{SendsInOrder}
-use Rattle.pr_truss_laws.specs.Soon.{PollsSoon}
 
 -- That truss(1) does its own business alone: what it calls, which processes it opens, what it tells of refusals, which
 -- processes it waits for, what it does once it was interrupted or a process has ended, and what it prints.
@@ -266,7 +265,7 @@ pub record ClosesWhatEnded (xs : List Exchange) : Type 0 where
 
 -- Truss makes its own calls alone, sends each message in its place, opens no process but those that it was given,
 -- made or was told of, and these right then, reports a refusal as such only where a call of that process was refused,
--- waits soon for all that it holds, closes what has ended before it does anything else, and once it was interrupted
+-- waits for all that it holds, closes what has ended before it does anything else, and once it was interrupted
 -- does nothing but leave its processes. It prints no event that is not selected, one line for each report, and its lines
 -- stay where they stand.
 pub record DoesItsBusiness (o : Options) (xs : List Exchange) : Type 0 where
@@ -276,7 +275,6 @@ pub record DoesItsBusiness (o : Options) (xs : List Exchange) : Type 0 where
   pub in_time : OpensInTime o xs
   pub refusals : TellsItsRefusals o xs
   pub polls : PollsItsOwn xs
-  pub soon : PollsSoon o xs
   pub leaves : LeavesOnInterrupt xs
   pub ended : ClosesWhatEnded xs
   pub events : All (TellsSelected o) (all_reports (truss_after (first_truss o) xs))

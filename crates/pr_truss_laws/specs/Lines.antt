@@ -5,12 +5,15 @@ use Rattle.pr_line.specs.Events.{event_of}
 use Rattle.pr_line.specs.Selections.{is_selected}
 use Rattle.pr_line.specs.declared.events.Event.{Event}
 use Rattle.pr_line.specs.declared.options.Options.{Options}
+use Rattle.pr_model.specs.declared.calls.Call.TheVariants.{Read}
 use Rattle.pr_num.specs.Errnos.{errno_name}
 use Rattle.pr_num.specs.declared.errnos.Errno.{Errno}
 use Rattle.pr_rec.specs.declared.lwps.LwpStatus.{LwpStatus}
 use Rattle.pr_text.specs.TextLines.{newline}
+use Rattle.pr_truss.specs.NextCalls.{next_call_of}
 use Rattle.pr_truss.specs.Printing.{printed}
 use Rattle.pr_truss.specs.Reports.{all_reports, call_line}
+use Rattle.pr_truss.specs.Stops.{asked_range}
 use Rattle.pr_truss.specs.Trusses.{TrussState, first_truss}
 use Rattle.pr_truss.specs.declared.reports.Report.{Report}
 use Rattle.pr_truss.specs.declared.reports.Report.TheVariants as report
@@ -35,13 +38,26 @@ TellsSelected o (report.CannotStart program errno) = Unit {0}
 TellsSelected o (report.CannotTrace pid errno) = Unit {0}
 TellsSelected o (report.Called pid lwp function arguments) = ⊥
 
--- What is printed is what was reported, and behind that at most one event of which the memory is still to be read.
-pub data ReportsNoOther (s : TrussState) : Type 0 where
-  all_told : all_reports s ≡ s.reports → ReportsNoOther s
-  one_more : (pid : ℕ) (l : LwpStatus) → all_reports s ≡ s.reports ++ report.Event pid l None ∷ [] → ReportsNoOther s
+-- The line of an event asks for this memory, and the call that is due reads just that.
+pub record ReadsMemoryNext (o : Options) (s : TrussState) (l : LwpStatus) : Type 0 where
+  pub event : Event
+  pub tells : event_of l ≡ Some event
+  pub from : ℕ
+  pub len : ℕ
+  pub asks : asked_range o event ≡ Some (from, len)
+  pub handle : ℕ
+  pub due : next_call_of s ≡ Some (Read handle from len)
+
+-- What is printed is what was reported, and behind that at most one event of which the memory is still to be read: that
+-- comes with the very next call.
+pub data ReportsNoOther (o : Options) (s : TrussState) : Type 0 where
+  all_told : all_reports s ≡ s.reports → ReportsNoOther o s
+  one_more : (pid : ℕ) (l : LwpStatus) → all_reports s ≡ s.reports ++ report.Event pid l None ∷ []
+      → ReadsMemoryNext o s l → ReportsNoOther o s
 
 pub record PrintsWhatItReports (o : Options) (xs : List Exchange) : Type 0 where
-  pub each : (before after : List Exchange) → xs ≡ before ++ after → ReportsNoOther (truss_after (first_truss o) before)
+  pub each : (before after : List Exchange) → xs ≡ before ++ after
+      → ReportsNoOther o (truss_after (first_truss o) before)
 
 -- ---- the lines
 

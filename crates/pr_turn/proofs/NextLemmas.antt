@@ -1,4 +1,4 @@
-use Rattle.std.proofs.Common.{◌≡◌, ℕ, Bool, true, false, Option, Some, None, List, refl, sym, ap, ◌∙◌, subst}
+use Rattle.std.proofs.Common.{◌≡◌, ◌&&◌, ℕ, Bool, true, false, not, is_some, Option, Some, None, List, refl, sym, ap, ◌∙◌, subst}
 use Rattle.std.specs.Option.{option_or}
 use Rattle.std.proofs.lemmas.Option.{same_Some}
 use Rattle.pr_num.specs.declared.faults.Flt.{Flt}
@@ -23,10 +23,33 @@ use Rattle.pr_model.specs.declared.events.Res.{Res}
 use Rattle.pr_model.specs.declared.lwps.Current.{Current}
 use Rattle.pr_model.specs.declared.lwps.Phase.{Phase}
 use Rattle.pr_model.specs.declared.lwps.Phase.TheVariants as phase
-use Rattle.pr_turn.specs.NextRows.{unposted_fault, row_of}
+use Rattle.pr_turn.specs.NextRows.{is_in_program, runs_on, unposted_fault, row_of}
 use Rattle.pr_turn.specs.declared.next.Next.TheVariants.{Requested, Posted, Ends, Returned, Executed, Dropped, JobStopped}
 
 -- Which row is next.
+
+-- ---- an lwp that has nothing to do but to run
+
+record RunsOn (a b c d : Bool) : Type 0 where
+  inside : a ≡ true
+  undirected : b ≡ false
+  no_current : c ≡ false
+  takes_none : d ≡ false
+
+runs-parts : (a b c d : Bool) → (a && (not b && (not c && not d))) ≡ true → RunsOn a b c d
+runs-parts true false false false e = record { inside = refl; undirected = refl; no_current = refl; takes_none = refl }
+runs-parts true false false true e = absurd (cc)
+runs-parts true false true d e = absurd (cc)
+runs-parts true true c d e = absurd (cc)
+runs-parts false b c d e = absurd (cc)
+
+in-program : (ph : Phase) → is_in_program ph ≡ true → ph ≡ phase.User
+in-program phase.User e = refl
+in-program _ e = absurd (cc)
+
+none-of : {X : Type 0} (o : Option X) → is_some o ≡ false → o ≡ None
+none-of None e = refl
+none-of (Some x) e = absurd (cc)
 
 module _ (s : TracedSystem) (pid : ℕ) (p : TracedProcess) (id : ℕ) (l : TracedLwp) where
   -- ---- calls
@@ -83,12 +106,18 @@ module _ (s : TracedSystem) (pid : ℕ) (p : TracedProcess) (id : ℕ) (l : Trac
   in-user r at e = subst (λ ph. r ≡ signal_row_or s pid p id l ph (row_in s pid p id l ph)) (sym at) e
 
   -- one in its program that is directed to nothing, and has no signal to act on or to take
-  pub row-runs : l.phase ≡ phase.User → l.control.directed ≡ false → l.current ≡ None → takeable p l ≡ None
+  row-runs : l.phase ≡ phase.User → l.control.directed ≡ false → l.current ≡ None → takeable p l ≡ None
       → row_of p l Executed ≡ row_for s pid p id l
   row-runs at off current none =
       let parts = none-takeable none in
       row-phase (row_of p l Executed) off (ap unposted_fault at) current
       (in-user (row_of p l Executed) at (rw (parts.0, parts.1) refl))
+
+  pub runs-row : runs_on (pending_set p.pending) l ≡ true → row_of p l Executed ≡ row_for s pid p id l
+  unfolding runs_on takeable
+  runs-row e =
+      let parts = runs-parts (is_in_program l.phase) l.control.directed (is_some l.current) (is_some (takeable_signal (pending_set l.pending) (pending_set p.pending) l.held)) e in
+      row-runs (in-program l.phase parts.inside) parts.undirected (none-of l.current parts.no_current) (none-of (takeable p l) parts.takes_none)
 
   pub in-entered : (r : Row) (call : Sysno) → l.phase ≡ phase.Entered call → r ≡ call_row s pid p id l false call (arguments l.regs) s.clock → r ≡ signal_row_or s pid p id l l.phase (row_in s pid p id l l.phase)
   unfolding row_of signal_row_or row_in
@@ -142,7 +171,5 @@ pub ruleset performing = (row-aborted, row-performed)
 pub ruleset rows = (row-directed, row-posted, row-current, row-phase)
 
 pub ruleset acting = (acted-ignored, acted-stopped, acted-died, acted-caught)
-
-pub ruleset running = (row-runs)
 
 pub ruleset phases = (in-user, in-entered, in-asleep, in-exiting, in-faulted)

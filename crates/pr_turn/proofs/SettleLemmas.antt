@@ -1,10 +1,8 @@
-use Rattle.std.proofs.Common.{◌≡◌, ℕ, ◌+◌, Bool, true, false, Some, None, List, refl, sym, ap, subst, ◌∙◌, inl, inr}
-use Rattle.std.proofs.lemmas.Bool.{cases_Bool}
+use Rattle.std.proofs.Common.{◌≡◌, ℕ, ◌+◌, Bool, false, Some, None, List, refl, sym, ap, subst, ◌∙◌}
 use Rattle.std.proofs.lemmas.Option.{same_Some}
 use Rattle.pr_num.specs.ById.{change_under, put_under, under}
 use Rattle.pr_num.proofs.ByIdLaws.{change_under-change_under, change_under-none, put_under-found}
-use Rattle.pr_model.specs.InstructionEffects.{InstructionEffect, instruction_effect, runs, calls, faults, runs_into_watch}
-use Rattle.pr_model.specs.Rows.{executed_row, ran_row, entered_row, incurred_row, watched_row}
+use Rattle.pr_model.specs.Rows.{Row}
 use Rattle.pr_model.specs.LwpTurns.{LwpTurn, turn_of, with_counted}
 use Rattle.pr_model.specs.Points.{after_meeting, meets}
 use Rattle.pr_model.specs.State.{TracedControl, TracedLwp, TracedProcess, TracedSystem, lwp_of, with_process}
@@ -18,10 +16,9 @@ use Rattle.pr_turn.proofs.TurnLemmas.{makes-row, makes-used, turn-made}
 use Rattle.pr_turn.proofs.UsageLemmas.{used-after}
 use Rattle.pr_turn.specs.Making.{ends, of_row, process_after}
 use Rattle.pr_turn.specs.NextRows.{row_of}
-use Rattle.pr_turn.specs.Turns.{IsNext, IsTurned, is_of_instruction}
+use Rattle.pr_turn.specs.Turns.{IsNext, IsTurned}
 use Rattle.pr_turn.specs.declared.making.Made.{Made}
 use Rattle.pr_turn.specs.declared.next.Next.{Next}
-use Rattle.pr_turn.specs.declared.next.Next.TheVariants.{Executed}
 use Rattle.pr_turn.specs.declared.next.NextTurn.TheVariants.{Row as ThisRow}
 
 -- What a turn leaves of its process: it is counted, and its lwp stops at what it met.
@@ -120,24 +117,10 @@ module _ (s new : TracedSystem) (pid id : ℕ) (turned : Turned) (is : IsTurned 
 
 pub ruleset turned = (turned-made, turned-used, turned-clock)
 
--- ---- an instruction
-
--- what it did
-did-of : (p : TracedProcess) (l : TracedLwp) (m : Made) → m ≡ of_row (row_of p l Executed) → is_of_instruction m.did ≡ true
-unfolding row_of executed_row ran_row entered_row incurred_row watched_row
-did-of p l m what =
-    ap (λ (x : Made). is_of_instruction x.did) what ∙ by (instruction_effect p.space p.control.areas l.regs)
-  where
-    by : (e : InstructionEffect) → is_of_instruction (executed_row p l e).did ≡ true
-    by (runs regs store) =
-        elim (cases_Bool l.control.step) [ inl marked ↦ rw marked refl | inr unmarked ↦ rw unmarked refl ]
-    by (calls call regs) = refl
-    by (faults f address) = refl
-    by (runs_into_watch address regs store) = refl
-
-pub executed-did : (s : TracedSystem) (pid id : ℕ) (p : TracedProcess) → IsNext s pid id (ThisRow Executed)
-    → under pid s.processes ≡ Some p → (m : Made)
-    → ((l : TracedLwp) → lwp_of p id ≡ Some l → m ≡ of_row (row_of p l Executed)) → is_of_instruction m.did ≡ true
-executed-did s pid id p is there m what =
-    let same : p ≡ is.process = same_Some p is.process (sym there ∙ live_process-found s pid is.process is.found) in
-    did-of p is.lwp m (what is.lwp (ap (λ q. lwp_of q id) same ∙ is.stands))
+-- whether the process traces what a row met is told by the process that it leaves
+pub meets-row : (p p1 : TracedProcess) (id : ℕ) (row : Row) (m : Made) (stop : Bool) → p1 ≡ process_after id row.transition p
+    → m ≡ of_row row → stop ≡ meets p1.control m.point → stop ≡ meets p.control row.point
+meets-row p p1 id row m stop after what e =
+    e
+    ∙ ap (λ (k : TracedControl). meets k m.point) (ap (λ (q : TracedProcess). q.control) after ∙ process_after-control id row.transition p)
+    ∙ ap (λ (x : Made). meets p.control x.point) what

@@ -1,15 +1,13 @@
-use Rattle.std.proofs.Common.{◌≡◌, ℕ, ◌||◌, Bool, true, false, cond, Some, None, IsSome, is_some, List, [], ◌∷◌, refl, sym, ap, ◌∙◌, subst}
+use Rattle.std.proofs.Common.{◌≡◌, ℕ, Bool, true, false, cond, Option, Some, None, IfSome, IfNone, IsSome, is_some, [], ◌∷◌, refl, sym, ap, ◌∙◌, subst}
 use Rattle.std.proofs.lemmas.Option.{same_Some}
 use Rattle.pr_num.specs.ById.{put_under, under}
 use Rattle.pr_num.proofs.ByIdLaws.{change_under-change_under, put_under-found, put_under-same}
 use Rattle.pr_num.specs.Spaces.{Space}
-use Rattle.pr_num.specs.declared.syscalls.Sysno.{Sysno}
 use Rattle.pr_num.specs.declared.signals.Sig.{Sig}
-use Rattle.pr_model.specs.Signals.{has_takeable}
 use Rattle.pr_model.specs.Changes.{all_changed, changed, ended, ends_process, space_is, takes_shared, job_stops, with_space, with_shared_taken, with_job_stop}
 use Rattle.pr_model.specs.InstructionEffects.{InstructionEffect, instruction_effect, runs, calls, faults, runs_into_watch}
 use Rattle.pr_model.specs.Lives.{with_ended, with_this_ended}
-use Rattle.pr_model.specs.LwpTurns.{can_move, LwpTurn, is_ready, may_turn, may_wake, settled, turn_of, with_counted}
+use Rattle.pr_model.specs.LwpTurns.{can_move, LwpTurn, may_turn, settled, turn_of, with_counted}
 use Rattle.pr_model.specs.Machines.{traced}
 use Rattle.pr_model.specs.Moves.{Move, moved, stays}
 use Rattle.pr_model.specs.Points.{after_meeting, meets}
@@ -32,48 +30,16 @@ use Rattle.pr_model.proofs.StateLemmas.{live_process-found}
 
 -- What a turn makes of the whole system.
 
+-- ---- what is told of an answer
+
+pub told-some : {X : Type 0} (P : X → Type 0) (o : Option X) (x : X) → o ≡ Some x → IfSome o P → P x
+told-some P o x e told = subst (λ q. IfSome q P) e told
+
+pub told-none : {X Q : Type 0} (o : Option X) → o ≡ None → IfNone o Q → Q
+told-none None e told = told
+told-none (Some x) e told = absurd (cc)
+
 -- ---- who may have a turn
-
--- the first of five tests that holds, or the last
-module _ (d c t a r : Bool) where
-  first-holds : d ≡ true → true ≡ (d || (c || (t || (a || r))))
-  first-holds e = rw e refl
-
-  second-holds : d ≡ false → c ≡ true → true ≡ (d || (c || (t || (a || r))))
-  second-holds x e = rw (x, e) refl
-
-  third-holds : d ≡ false → c ≡ false → t ≡ true → true ≡ (d || (c || (t || (a || r))))
-  third-holds x y e = rw (x, y, e) refl
-
-  fourth-holds : d ≡ false → c ≡ false → t ≡ false → a ≡ true → true ≡ (d || (c || (t || (a || r))))
-  fourth-holds x y z e = rw (x, y, z, e) refl
-
-  last-decides : d ≡ false → c ≡ false → t ≡ false → a ≡ false → r ≡ (d || (c || (t || (a || r))))
-  last-decides x y z w = rw (x, y, z, w) refl
-
-module _ (s : TracedSystem) (pid : ℕ) (p : TracedProcess) (id : ℕ) (l : TracedLwp) where
-  module _ (since : ℕ) (call : Sysno) (args : List ℕ) where
-    pub wakes-directed : l.control.directed ≡ true → true ≡ may_wake s pid p id l since call args
-    unfolding may_wake
-    wakes-directed = first-holds l.control.directed (is_some l.current) (has_takeable p l) l.control.abort (is_ready s pid p id l since call args)
-
-    pub wakes-current : l.control.directed ≡ false → is_some l.current ≡ true → true ≡ may_wake s pid p id l since call args
-    unfolding may_wake
-    wakes-current = second-holds l.control.directed (is_some l.current) (has_takeable p l) l.control.abort (is_ready s pid p id l since call args)
-
-    pub wakes-takes : l.control.directed ≡ false → is_some l.current ≡ false → has_takeable p l ≡ true → true ≡ may_wake s pid p id l since call args
-    unfolding may_wake
-    wakes-takes = third-holds l.control.directed (is_some l.current) (has_takeable p l) l.control.abort (is_ready s pid p id l since call args)
-
-    pub wakes-aborted : l.control.directed ≡ false → is_some l.current ≡ false → has_takeable p l ≡ false → l.control.abort ≡ true → true ≡ may_wake s pid p id l since call args
-    unfolding may_wake
-    wakes-aborted = fourth-holds l.control.directed (is_some l.current) (has_takeable p l) l.control.abort (is_ready s pid p id l since call args)
-
-    pub wakes-ready : l.control.directed ≡ false → is_some l.current ≡ false → has_takeable p l ≡ false → l.control.abort ≡ false → is_ready s pid p id l since call args ≡ may_wake s pid p id l since call args
-    unfolding may_wake
-    wakes-ready = last-decides l.control.directed (is_some l.current) (has_takeable p l) l.control.abort (is_ready s pid p id l since call args)
-
-pub ruleset wake_laws = (wakes-directed, wakes-current, wakes-takes, wakes-aborted, wakes-ready)
 
 module _ (s : TracedSystem) (pid id : ℕ) where
   -- an lwp that can move stands in a live process

@@ -1,7 +1,9 @@
-use Rattle.std.specs.Prelude.{ℕ, Bool, false, true, [], Option, Some, None, length, nat_lt, if◌then◌else◌}
+use Rattle.std.specs.Prelude.{◌&&◌, ℕ, Bool, false, true, [], Option, Some, None, not, is_some, length, nat_lt, if◌then◌else◌}
 use Rattle.pr_num.specs.declared.faults.Flt.{Flt}
 use Rattle.pr_num.specs.declared.faults.Flt.TheVariants.{Trace, Watch}
 use Rattle.pr_num.specs.Limits.{frame_limit}
+use Rattle.pr_parts.specs.PendingSignals.{pending_set}
+use Rattle.pr_parts.specs.SignalRules.{takeable_signal}
 use Rattle.pr_model.specs.CallEffects.{call_effect}
 use Rattle.pr_model.specs.Changes.{ends_process}
 use Rattle.pr_model.specs.InstructionEffects.{InstructionEffect, runs, calls, faults, runs_into_watch, instruction_effect}
@@ -54,6 +56,18 @@ module _ (p : TracedProcess) (l : TracedLwp) where
   abbrev pub row_or : Option Next → Row → Row
   row_or (Some next) otherwise = row_of next
   row_or None otherwise = otherwise
+
+-- whether an lwp is in its program
+abbrev pub is_in_program : Phase → Bool
+is_in_program phase.User = true
+is_in_program _ = false
+
+-- Whether an lwp has nothing to do but to run an instruction of its program, where these signals pend for its process: it
+-- is not directed to stop, and has no signal to act on or to take.
+unfoldable pub runs_on : ℕ → TracedLwp → Bool
+runs_on shared l =
+    is_in_program l.phase
+    && (not l.control.directed && (not (is_some l.current) && not (is_some (takeable_signal (pending_set l.pending) shared l.held))))
 
 -- the row of the next turn of an lwp
 abbrev pub row_of_turn : TracedSystem → ℕ → TracedProcess → ℕ → TracedLwp → NextTurn → Row

@@ -82,7 +82,7 @@ pub fn made_of(lwp: &Lwp, next: Next) -> Made
 }
 
 /// What an instruction did that came to this.
-fn made_by(effect: Effect) -> Made
+pub fn made_by(effect: Effect) -> Made
     ensures { result ≡ made_by effect }
 {
     let (did, point) = match effect {
@@ -188,22 +188,6 @@ fn execute(process: &mut Proc, id: u32) -> Result<Made, NoMemory>
         &mut process.space,
         &process.control.areas,
     )
-}
-
-/// The same, and whether the process traces what the instruction met.
-#[tactic(auto, using(crate::proofs::MakeLemmas::controls))]
-#[inline]
-pub fn execute_and_ask(process: &mut Proc, id: u32) -> Result<(Made, bool), NoMemory>
-    requires { IsSome (lwp_of process.old id) }
-    ensures process { OnOk result (ForSome (lwp_of process.old id) (λ l. process.new ≡ process_after id (row_of process.old l Next.Executed).transition process.old)) }
-    ensures made { IfOk result (λ made. ForSome (lwp_of process.old id) (λ l. made.0 ≡ of_row (row_of process.old l Next.Executed))) }
-    ensures stop { IfOk result (λ made. ForSome (lwp_of process.old id) (λ l. made.1 ≡ meets process.old.control (row_of process.old l Next.Executed).point)) }
-    ensures memory { OnErr result (ForSome (lwp_of process.old id) (λ l. row_takes (row_of process.old l Next.Executed) ≡ true)) }
-    ensures err { OnErr result (process.new ≡ process.old) }
-{
-    let made = execute(process, id)?;
-    let stop = meets(&process.control, made.point);
-    Ok((made, stop))
 }
 
 /// What a row makes of a process, and what it did; a row that ends its process makes nothing of it. Only an instruction

@@ -94,24 +94,16 @@ pub fn settle(process: &mut Proc, id: u32, made: Made)
 
 /// Whether an lwp that is asleep in a call goes on: it is directed to stop, has a signal to act on or to take, or its
 /// call was aborted or is ready.
-#[tactic(auto, using(crate::proofs::TurnLemmas::wake_laws))]
+#[tactic(auto, unfolding(pr_model::specs::LwpTurns::may_wake))]
 #[inline(never)]
 fn may_wake(sys: &Sys, process: &Proc, lwp: &Lwp, request: &Request) -> bool
     ensures { result ≡ may_wake sys.now request.now.pid process.now request.now.lwp lwp.now request.now.since request.now.call request.now.args }
 {
-    if lwp.control.directed {
-        return true;
-    }
-    if lwp.current.is_some() {
-        return true;
-    }
-    if has_takeable(process, lwp) {
-        return true;
-    }
-    if lwp.control.abort {
-        return true;
-    }
-    is_ready(sys, process, request)
+    lwp.control.directed
+        || lwp.current.is_some()
+        || has_takeable(process, lwp)
+        || lwp.control.abort
+        || is_ready(sys, process, request)
 }
 
 /// Whether an lwp may go on; only one that is asleep may not.

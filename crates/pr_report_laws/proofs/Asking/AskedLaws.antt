@@ -19,6 +19,7 @@ use Rattle.pr_truss.proofs.ForkLemmas.{call_number-range, with_forks-has, with_f
 use Rattle.pr_truss.specs.Messages.{ending_calls, traced_entries, traced_exits, traced_faults, traced_signals, with_forks}
 use Rattle.pr_truss.specs.Records.{child_of, event_stops, has_ended_fork, is_exit, is_fork, is_on_event, lstatus_lwps}
 use Rattle.pr_truss.specs.Stops.{asked_range}
+use Rattle.pr_report_laws.proofs.Machine.RecordLaws.{lstatus-back, status-back}
 use Rattle.pr_report_laws.proofs.Machine.SelectedPoints.{ending_calls-small, ends-its-lwp}
 use Rattle.pr_report_laws.specs.Asked.{AsksForItsLines, ReadsItsReplies, TracesWhatIsAsked, WritesOneMessage, child_made, is_asked, is_at_exit, makes_child}
 use Rattle.pr_report_laws.specs.Reads.{traces}
@@ -67,7 +68,18 @@ module _ (o : Options) where
   traces-asked (Incurred f pc) = refl
 
   pub what-traces : TracesWhatIsAsked o
-  what-traces = record { each = traces-asked }
+  unfolding traced_signals traced_faults traced_entries traced_exits with_forks ending_calls
+  what-traces = record {
+    each = traces-asked;
+    signals = refl;
+    faults = refl;
+    entries = refl;
+    exits = λ not-followed. ap (λ (b : Bool). exits-if b) not-followed;
+    exits_and_forks = λ followed. ap (λ (b : Bool). exits-if b) followed;
+  }
+    where
+      exits-if : Bool → ℕ
+      exits-if b = cond b (with_forks (minus_word o.calls ending_calls)) (minus_word o.calls ending_calls)
 
 -- ---- what is written
 
@@ -123,6 +135,13 @@ unfolding event_stops is_on_event
 stops-are bytes = refl
 
 pub reads-replies : ReadsItsReplies
-reads-replies = record { pid = λ n. refl; child = child-is; on_event = on-event-is; stops = stops-are }
+reads-replies = record {
+  pid = λ n. refl;
+  child = child-is;
+  on_event = on-event-is;
+  stops = stops-are;
+  status = status-back;
+  lstatus = lstatus-back;
+}
 
-pub ruleset asked = (what-traces, one-message, asks-lines, reads-replies)
+pub ruleset asked = (one-message, asks-lines, reads-replies)

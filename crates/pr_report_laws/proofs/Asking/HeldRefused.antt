@@ -36,7 +36,7 @@ use Rattle.pr_report_laws.specs.Watching.{is_away, place_of, watches, with_excha
 
 -- Truss does not say that it cannot trace what it has hold of.
 
-other-more : (pid : ℕ) (rs : List Report) (r : Report) → tells_refusal_of pid r ≡ false
+pub other-more : (pid : ℕ) (rs : List Report) (r : Report) → tells_refusal_of pid r ≡ false
     → refusals_of pid (rs ++ r ∷ []) ≡ refusals_of pid rs
 other-more pid rs r other =
     filter-append (tells_refusal_of pid) rs (r ∷ [])

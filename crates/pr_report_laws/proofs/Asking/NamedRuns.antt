@@ -48,7 +48,7 @@ use Rattle.pr_truss_laws.proofs.ReplySteps.{Closes, GoesOn, Learns, Looks, Opens
 use Rattle.pr_truss_laws.specs.Exchanges.{Exchange, Makes}
 use Rattle.pr_truss_laws.specs.Soon.{IsNoPoll}
 use Rattle.pr_report_laws.proofs.Watching.NamedSoon.{poll-stage}
-use Rattle.pr_report_laws.specs.RunsNamed.{EndsOpening, HasEnded, MayRun, RunsWhatItOpens, RunsWhatWasNamed, WasNamedLast, as_child, followed, named, opened, traced}
+use Rattle.pr_report_laws.specs.RunsNamed.{EndsOpening, HasEnded, MayRun, RunsWhatWasNamed, WasNamedLast, as_child, followed, named, opened, traced}
 
 -- Truss runs just what a poll has named, and what it has opened.
 
@@ -81,11 +81,11 @@ Aware o xs leaving ts _ = Unit {0}
 -- ---- what is no PCRUN
 
 -- the first byte of what a call writes is the code of its message
-abbrev first_byte : Call → Option ℕ
+abbrev pub first_byte : Call → Option ℕ
 first_byte (call.Ctl handle bytes) = slice_get bytes 0
 first_byte _ = None
 
-code-first : (control : ℕ) (m : Message) → first_byte (message_call control m) ≡ Some (message_code m)
+pub code-first : (control : ℕ) (m : Message) → first_byte (message_call control m) ≡ Some (message_code m)
 unfolding message_code operands word_bytes
 code-first control message.Stop = refl
 code-first control _ = refl
@@ -478,10 +478,14 @@ module _ (o : Options) (xs : List Exchange) (s : TrussState) (control : ℕ) whe
   opening-runs t opening.ClearModes a is = other-message control t.control (message.Unset all_modes) refl is
   opening-runs t opening.SetRelease a is = other-message control t.control (message.Set rlc_mode) refl is
   opening-runs t opening.Stop a is = other-message control t.control message.Stop refl is
-  opening-runs t opening.TraceSignals a is = other-message control t.control (message.Strace (traced_signals s.options)) refl is
-  opening-runs t opening.TraceFaults a is = other-message control t.control (message.Sfault (traced_faults s.options)) refl is
-  opening-runs t opening.TraceEntries a is = other-message control t.control (message.Sentry (traced_entries s.options)) refl is
-  opening-runs t opening.TraceExits a is = other-message control t.control (message.Sexit (traced_exits s.options)) refl is
+  opening-runs t opening.TraceSignals a is =
+      other-message control t.control (message.Strace (traced_signals s.options)) refl is
+  opening-runs t opening.TraceFaults a is =
+      other-message control t.control (message.Sfault (traced_faults s.options)) refl is
+  opening-runs t opening.TraceEntries a is =
+      other-message control t.control (message.Sentry (traced_entries s.options)) refl is
+  opening-runs t opening.TraceExits a is =
+      other-message control t.control (message.Sexit (traced_exits s.options)) refl is
   opening-runs t opening.Follow a is = other-message control t.control (message.Set fork_mode) refl is
 
   freeing-runs : (pid : ℕ) (now : FreeingStep) → freeing_call pid now ≡ run → MayRun o control xs
@@ -494,10 +498,12 @@ module _ (o : Options) (xs : List Exchange) (s : TrussState) (control : ℕ) whe
       → MayRun o control xs
   unfolding call_of message_code
   stage-runs (Opening place now) a is = opening-runs (traced_at s place) now a (same_Some _ _ is)
-  stage-runs (OpeningChild parent place now) a is = opened (child-ends o xs control (traced_at s place) now a.1 (same_Some _ _ is))
+  stage-runs (OpeningChild parent place now) a is =
+      opened (child-ends o xs control (traced_at s place) now a.1 (same_Some _ _ is))
   stage-runs (Running place) a is =
       named (subst (λ c. WasNamedLast o c xs) (same-control control (same_Some _ _ is)) a)
-  stage-runs Unfollowing a is = other-message control (traced_at s 0).control (message.Unset fork_mode) refl (same_Some _ _ is)
+  stage-runs Unfollowing a is =
+      other-message control (traced_at s 0).control (message.Unset fork_mode) refl (same_Some _ _ is)
   stage-runs (FreeingChild pid now) a is = freeing-runs pid now (same_Some _ _ is)
   stage-runs Finished a is = absurd (none-some run is)
   stage-runs _ a is = cc

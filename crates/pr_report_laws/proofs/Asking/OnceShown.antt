@@ -1,4 +1,4 @@
-use Rattle.std.proofs.Common.{◌≡◌, ◌<◌, ◌++◌, ℕ, true, false, Option, Some, None, List, [], ◌∷◌, length, slice_get, refl, sym, subst, ap, ◌∙◌, append_assoc, arith}
+use Rattle.std.proofs.Common.{◌≡◌, ◌<◌, ◌++◌, ℕ, Bool, true, false, Option, Some, None, List, [], ◌∷◌, length, slice_get, refl, sym, subst, ap, ◌∙◌, append_assoc, arith}
 use Rattle.std.proofs.lemmas.Bool.{false≢true}
 use Rattle.std.proofs.lemmas.List.{append_cancel_left}
 use Rattle.std.proofs.lemmas.Option.{none-some}
@@ -7,9 +7,12 @@ use Rattle.pr_line.specs.declared.options.Options.{Options}
 use Rattle.pr_model.specs.Legal.{IsLegal, after, state_after}
 use Rattle.pr_model.specs.Replies.{bytes_in}
 use Rattle.pr_model.specs.State.{TracedState}
+use Rattle.pr_model.specs.declared.calls.Call.{Call}
 use Rattle.pr_model.specs.declared.calls.Call.TheVariants as call
-use Rattle.pr_model.specs.declared.calls.File.TheVariants.{Ctl}
-use Rattle.pr_model.specs.declared.calls.Mode.TheVariants.{WriteExcl}
+use Rattle.pr_model.specs.declared.calls.File.{File}
+use Rattle.pr_model.specs.declared.calls.File.TheVariants.{Ctl, Lstatus, Mem, Status}
+use Rattle.pr_model.specs.declared.calls.Mode.{Mode}
+use Rattle.pr_model.specs.declared.calls.Mode.TheVariants.{Read, WriteExcl}
 use Rattle.pr_model.specs.declared.calls.Reply.{Reply}
 use Rattle.pr_model.specs.declared.calls.Reply.TheVariants as reply
 use Rattle.pr_model.specs.declared.events.Entry.{Entry}
@@ -22,6 +25,7 @@ use Rattle.pr_truss.specs.declared.stages.Stage.{Stage}
 use Rattle.pr_truss.specs.declared.stages.Stage.TheVariants.{ReadingStatus, ReadingLwps}
 use Rattle.pr_truss_laws.proofs.HeldLemmas.{Fits}
 use Rattle.pr_truss_laws.proofs.KnownLemmas.{Knows, after-knows, first-knows}
+use Rattle.pr_truss_laws.proofs.LeavingLemmas as leaving
 use Rattle.pr_truss_laws.proofs.OwnLemmas.{Owns}
 use Rattle.pr_truss_laws.proofs.PolledLemmas.{Near, Nears}
 use Rattle.pr_truss_laws.specs.Exchanges.{Exchange, Makes, exchange_of, exchanges, truss_after, truss_at}
@@ -37,6 +41,7 @@ use Rattle.pr_report_laws.proofs.Invariant.OtherSteps.{is-watched}
 use Rattle.pr_report_laws.proofs.Invariant.ShownTallies.{exchange-shows}
 use Rattle.pr_report_laws.proofs.Invariant.StandLemmas.{IsAttached, Stands, rest-stays}
 use Rattle.pr_report_laws.proofs.Invariant.Tallies.{told_in}
+use Rattle.pr_report_laws.proofs.OwnFiles.KeptOpen.{closes-unwatched}
 use Rattle.pr_report_laws.proofs.Reading.NewReads.{bytes-reply, new-stop}
 use Rattle.pr_report_laws.proofs.Replies.NewStops.{read_at, read_now}
 use Rattle.pr_report_laws.proofs.Replies.Places.{unwatched-away}
@@ -45,7 +50,6 @@ use Rattle.pr_report_laws.proofs.Watching.HistoryParts.{front-run, rest-legal, r
 use Rattle.pr_report_laws.proofs.Watching.LeftReads.{IsAway, lwps-away}
 use Rattle.pr_report_laws.proofs.Watching.NamedSoon.{near-on, nearer-by}
 use Rattle.pr_report_laws.proofs.Watching.OnceLaws.{watched-once}
-use Rattle.pr_report_laws.specs.Attachments.{HasFile}
 use Rattle.pr_report_laws.specs.Shown.{LwpEvent, shown}
 use Rattle.pr_report_laws.specs.ShownOnce.{IsLeftStanding, ShowsIn, ShowsStopsOnce}
 use Rattle.pr_report_laws.specs.Watching.{is_away, place_of, told_of, watches, with_exchange}
@@ -124,18 +128,25 @@ module _ (k pid : ℕ) (t : TrussState) (s : TracedState) (g : Reaches k t s) wh
   found : (place : ℕ) → place < length t.traced → (traced_at t place).pid ≡ pid → place_of t pid ≡ Some place
   found place within own = subst (λ p. place_of t p ≡ Some place) own (files.one place within)
 
-  reads-watched : (r : Reply) → ReadsAt pid t r → watches t pid ≡ true
-  reads-watched r (status place at own) =
+  pub status-watched : (place : ℕ) → t.stage ≡ ReadingStatus place → (traced_at t place).pid ≡ pid
+      → watches t pid ≡ true
+  status-watched place at own =
       let within : place < length t.traced = subst (Fits t.traced) at fits in
       let w : Stands t.traced t.leaving (ReadingStatus place) = standing k t s (ReadingStatus place) files at in
       let on : IsAttached (traced_at t place) =
       rest-stays t.leaving (traced_at t place) (w.rests place within) w.leaves in
       is-watched t pid place (found place within own) on.attached (ap (λ x. is_away t.leaving x place) at)
-  reads-watched r (lwps bytes at own is) =
+
+  pub lwps-watched : t.stage ≡ ReadingLwps → (traced_at t 0).pid ≡ pid → watches t pid ≡ true
+  lwps-watched at own =
       let within : 0 < length t.traced = subst (Fits t.traced) at fits in
       let w : Stands t.traced t.leaving ReadingLwps = standing k t s ReadingLwps files at in
       let on : IsAttached (traced_at t 0) = w.at in
       is-watched t pid 0 (found 0 within own) on.attached (ap (λ x. is_away t.leaving x 0) at)
+
+  reads-watched : (r : Reply) → ReadsAt pid t r → watches t pid ≡ true
+  reads-watched r (status place at own) = status-watched place at own
+  reads-watched r (lwps bytes at own is) = lwps-watched at own
 
 -- ---- between two such entries
 
@@ -207,11 +218,77 @@ module _ (n k : ℕ) (o : Options) (pid : ℕ) (s : TracedState) (before between
       unwatched-away v pid 0 (subst (λ p. place_of v p ≡ Some 0) (away.pid ∙ of) (its.one 0 away.within)) away.away in
       false≢true (sym (watched-once n k o pid s before (e ∷ []) between run-between on off) ∙ again)
 
+  -- truss watches the process in between, if it does before and afterwards
+  stays-watched : watches t pid ≡ true → watches u pid ≡ true → (first rest : List Entry) → between ≡ first ++ rest
+      → watches (truss_at k o (before ++ e ∷ first)) pid ≡ true
+  stays-watched on again first rest is = by (watches (truss_at k o (before ++ e ∷ first)) pid) refl
+    where
+      by : (b : Bool) → watches (truss_at k o (before ++ e ∷ first)) pid ≡ b → b ≡ true
+      by true stays = refl
+      by false off =
+          let same : before ++ e ∷ between ≡ before ++ ((e ∷ first) ++ rest) =
+          ap (λ (es : List Entry). before ++ e ∷ es) is in
+          let over =
+          watched-once n k o pid s before (e ∷ first) rest (subst (IsTrussRun n k o s) same run-between) on off in
+          absurd (false≢true (sym over ∙ ap (λ h. watches (truss_at k o h) pid) (sym same) ∙ again))
+
+  -- no call between runs the process or closes a file of it
+  module _ (place : ℕ) (of : (traced_at t place).pid ≡ pid) (waits : IsLeftStanding k pid (after now e) between)
+      (on : watches t pid ≡ true) (again : watches u pid ≡ true) where
+    abbrev p : Traced
+    p = traced_at t place
+
+    at-both : (first : List Entry)
+        → truss_after (told_of k t e) (exchanges k first) ≡ truss_at k o (before ++ e ∷ first)
+    at-both first = sym (truss_at-both k o before (e ∷ first) ∙ after-next k t e first)
+
+    no-end-at : (first rest : List Entry) (g : Entry) (x : Exchange) (m : ℕ) → between ≡ first ++ g ∷ rest
+        → exchange_of k g ≡ Some x → (v : TrussState) → truss_after (told_of k t e) (exchanges k first) ≡ v
+        → Near p place m v → Reaches k v (state_after (after now e) first) → next_call_of v ≡ Some x.call
+        → IsNoEndOf p x
+    no-end-at first rest g x m is own v same near reaches next =
+        let its : HasFiles k v (state_after (after now e) first) = reaches.files in
+        let here : leaving.Stands p v place = near.here in
+        let stays : watches v pid ≡ true =
+        subst (λ (y : TrussState). watches y pid ≡ true) (sym (at-both first) ∙ same)
+        (stays-watched on again first (g ∷ rest) is) in
+        let file : IsFileOf k (state_after (after now e) first) pid p.control Ctl WriteExcl =
+        subst (λ c. IsFileOf k (state_after (after now e) first) pid c Ctl WriteExcl) here.same.control
+        (subst (λ q. IsFileOf k (state_after (after now e) first) q (traced_at v place).control Ctl WriteExcl)
+        (here.same.pid ∙ of) (its.control place here.within)) in
+        let closes : (f : File) (mode : Mode) (handle : ℕ) → x.call ≡ call.Close handle
+        → IsFileOf k (state_after (after now e) first) (traced_at v place).pid handle f mode → ⊥ =
+        λ f mode handle called of_it.
+        false≢true
+        (sym (closes-unwatched k pid v (state_after (after now e) first) reaches handle _
+        (record { held = _; there = of_it.is; of = here.same.pid ∙ of; file = refl }) (next ∙ ap Some called))
+        ∙ stays) in
+        record {
+          not_run = λ called. waits.none first rest g is (record {
+            handle = p.control;
+            reply = x.reply;
+            is = own ∙ ap (λ (c : Call). Some (record { call = c; reply = x.reply })) called;
+            has = record { held = _; there = file.is; of = refl; file = refl };
+          });
+          not_closed = λ handle called. record {
+            control = λ one. closes Ctl WriteExcl handle called
+                (subst (λ c. IsFileOf k (state_after (after now e) first) (traced_at v place).pid c Ctl WriteExcl)
+                (here.same.control ∙ one) (its.control place here.within));
+            status = λ one. closes Status Read handle called
+                (its.status place handle here.within (here.same.status ∙ one));
+            lstatus = λ one. closes Lstatus Read handle called
+                (its.lstatus place handle here.within (here.same.lstatus ∙ one));
+            memory = λ one. closes Mem Read handle called
+                (its.memory place handle here.within (here.same.memory ∙ one));
+          };
+        }
+
   -- it was read after a poll
   not-near : (x : Exchange) (place : ℕ) → exchange_of k e ≡ Some x → t.stage ≡ ReadingStatus place
-      → (traced_at t place).pid ≡ pid → IsLeftStanding k pid now e between → (r : Reply) → ReadsAt pid u r → ⊥
+      → (traced_at t place).pid ≡ pid → IsLeftStanding k pid (after now e) between → watches t pid ≡ true
+      → watches u pid ≡ true → (r : Reply) → ReadsAt pid u r → ⊥
   unfolding call_of
-  not-near x place own at of waits r again =
+  not-near x place own at of waits stays_on watched r again =
       let g = reached in
       let p : Traced = traced_at t place in
       let within : place < length t.traced = subst (Fits t.traced) at (fits k pid t now g) in
@@ -235,14 +312,13 @@ module _ (n k : ℕ) (o : Options) (pid : ℕ) (s : TracedState) (before between
       let one = nearer-by n k pid p of place t now e x 12 g near legal.0 own next none in
       let left = one.0 in
       let then : told_of k t e ≡ with_exchange t (Some x) = ap (with_exchange t) own in
-      let files : HasFiles k t now = g.files in
-      let control : IsFileOf k now p.pid p.control Ctl WriteExcl = files.control place within in
-      let mine : HasFile k pid Ctl p.control now =
-      record { held = _; there = control.is; of = of; file = refl } in
       let on =
       near-on n k pid p of place between (told_of k t e) (after now e) left
       (entry-reaches n k t now e g legal.0 makes.0) (subst (Near p place left) (sym then) one.1.1) legal.1 makes.1
-      (waits p.control mine) in
+      (record {
+        none = λ first rest g y m is its near reaches called.
+            no-end-at place of waits stays_on watched first rest g y m is its _ refl near reaches called;
+      }) in
       by on.0 (omega (arith, on.1.0, one.1.0)) (subst (Near p place on.0) ends-at on.1.1) again
     where
       by : (m : ℕ) → m < 12 → Near (traced_at t place) place m u → ReadsAt pid u r → ⊥
@@ -251,7 +327,7 @@ module _ (n k : ℕ) (o : Options) (pid : ℕ) (s : TracedState) (before between
           omega (arith, less, soon.1)
       by m less near (lwps bytes is its same) = subst (Nears u.traced place m) is near.soon
 
-  pub shows-once : ShowsIn k o pid before e → IsLeftStanding k pid now e between
+  pub shows-once : ShowsIn k o pid before e → IsLeftStanding k pid (after now e) between
       → ShowsIn k o pid (before ++ e ∷ between) f → ⊥
   shows-once one waits two =
       let a = looks k o pid before e (options-of before run-before) one in
@@ -259,7 +335,10 @@ module _ (n k : ℕ) (o : Options) (pid : ℕ) (s : TracedState) (before between
       by a.x a.own a.reads b.x.reply b.reads
     where
       by : (x : Exchange) → exchange_of k e ≡ Some x → ReadsAt pid t x.reply → (r : Reply) → ReadsAt pid u r → ⊥
-      by x own (status place at of) r again = not-near x place own at of waits r again
+      by x own (status place at of) r again =
+          not-near x place own at of waits
+          (reads-watched k pid t now reached x.reply (status place at of))
+          (reads-watched k pid u (state_after s (before ++ e ∷ between)) later r again) r again
       by x own (lwps bytes at of is) r again =
           not-left x bytes own at of is
           (reads-watched k pid t now reached x.reply (lwps bytes at of is))

@@ -1,5 +1,4 @@
-use Rattle.std.proofs.Common.{◌≡◌, ◌++◌, ◌⊎◌, ℕ, Bool, true, Option, Some, None, List, [], ◌∷◌, refl, sym, subst, ap, ◌∙◌, inl, inr}
-use Rattle.std.specs.List.{cons_option}
+use Rattle.std.proofs.Common.{◌≡◌, ◌++◌, ◌⊎◌, ℕ, Bool, true, Some, None, List, [], ◌∷◌, refl, sym, subst, ap, ◌∙◌, inl, inr}
 use Rattle.pr_api.specs.Entries.{call_entry}
 use Rattle.pr_line.specs.Selections.{is_selected}
 use Rattle.pr_line.specs.declared.events.Event.{Event}
@@ -14,16 +13,16 @@ use Rattle.pr_truss.specs.NextCalls.{call_of, next_call_of, open_control}
 use Rattle.pr_truss.specs.Trusses.{TrussState, first_truss}
 use Rattle.pr_truss.specs.declared.reports.Report.{Report}
 use Rattle.pr_truss.specs.declared.stages.Stage.TheVariants.{OpeningChildControl}
-use Rattle.pr_truss_laws.proofs.KnownLemmas.{IsChild, Knows, KnowsStage, after-knows, first-knows}
-use Rattle.pr_truss_laws.specs.Exchanges.{Exchange, exchange_of, exchanges, truss_at}
+use Rattle.pr_truss_laws.specs.Exchanges.{Exchange, exchange_of, truss_at}
 use Rattle.pr_truss_laws.specs.Runs.{IsTrussRun}
 use Rattle.pr_report_laws.proofs.Files.FileSteps.{MakesNext}
-use Rattle.pr_report_laws.proofs.Files.WatchHistories.{cons-exchanges, exchanges-both, run-next}
+use Rattle.pr_report_laws.proofs.Files.WatchHistories.{run-next}
 use Rattle.pr_report_laws.proofs.Holding.HoldEnds.{same-exchange}
 use Rattle.pr_report_laws.proofs.Holding.HoldEvents.{came-is}
 use Rattle.pr_report_laws.proofs.Holding.HoldPlaces.{came, gets-off, hold-watched, one-run, watched-hold}
 use Rattle.pr_report_laws.proofs.Holding.OverEnds.{goes-off}
 use Rattle.pr_report_laws.proofs.Memory.EventMemory.{lineage-memories, unfollowed-memories}
+use Rattle.pr_report_laws.proofs.OwnFiles.PlacedOpens.{child-read}
 use Rattle.pr_report_laws.proofs.Reading.ReadLaws.{lineage-reads, unfollowed-reads}
 use Rattle.pr_report_laws.proofs.SeenChildren.NoneLeft.{none-left}
 use Rattle.pr_report_laws.proofs.UnopenedChildren.Births.{left-report, unfollowed-report}
@@ -135,7 +134,7 @@ module _ (n k : ℕ) (o : Options) (pid : ℕ) (s : TracedState) (h : List Entry
 
   -- ---- a process that truss never opened as a child
 
-  pub never-followed : IsNeverOpenedAsChild k pid h → IsNeverFollowed k o pid h
+  pub never-followed : IsNeverOpenedAsChild k o pid s h → IsNeverFollowed k o pid h
   never-followed w = record {
     none = λ before later e opening handle parent is own stage given.
         by before later e opening handle parent is own stage given;
@@ -152,16 +151,8 @@ module _ (n k : ℕ) (o : Options) (pid : ℕ) (s : TracedState) (h : List Entry
           let next : next_call_of t ≡ Some opening.call = subst (MakesNext t) own (run-next n k o s before e one) in
           let called = opens-so pid t opening parent next stage in
           let same = same-exchange opening (open_control pid) (Handle handle) called given in
-          let knows : Knows o (exchanges k before) t =
-          after-knows o (exchanges k before) [] (first_truss o) (first-knows o) front.makes in
-          let its : IsChild o pid (exchanges k before) =
-          subst (KnowsStage o (exchanges k before) t.traced) stage knows.stage in
-          w.none (exchanges k before) (exchanges k later) handle
-          (ap (exchanges k) is ∙ exchanges-both k before (e ∷ later)
-          ∙ ap (λ (xs : List Exchange). exchanges k before ++ xs)
-          (cons-exchanges k e later
-          ∙ ap (λ (x : Option Exchange). cons_option x (exchanges k later))
-          (own ∙ ap (λ (x : Exchange). Some x) same))) its.was_told
+          w.none before later e handle is (own ∙ ap (λ (x : Exchange). Some x) same)
+          (child-read n k o s before front parent pid stage)
 
   -- ---- why truss lets it go
 
@@ -176,7 +167,7 @@ module _ (n k : ℕ) (o : Options) (pid : ℕ) (s : TracedState) (h : List Entry
 -- ---- the laws
 
 pub shown-while-held : (n k : ℕ) (o : Options) (pid : ℕ) (s : TracedState) (h : List Entry) → IsReached s
-    → IsTrussRun n k o s h → HasBytes h → IsLeftToTruss k o pid s h ⊎ IsNeverOpenedAsChild k pid h
+    → IsTrussRun n k o s h → HasBytes h → IsLeftToTruss k o pid s h ⊎ IsNeverOpenedAsChild k o pid s h
     → ShowsHeld k o pid s h
 shown-while-held n k o pid s h reached run bytes (inl left) =
     shows-held n k o pid s h run (left-report n k o pid s h reached run bytes left)
@@ -185,7 +176,7 @@ shown-while-held n k o pid s h reached run bytes (inr unopened) =
     (unfollowed-report n k o pid s h reached run bytes (never-followed n k o pid s h run unopened))
 
 pub read-while-held : (n k : ℕ) (o : Options) (pid : ℕ) (s : TracedState) (h : List Entry) → IsReached s
-    → IsTrussRun n k o s h → HasBytes h → IsLeftToTruss k o pid s h ⊎ IsNeverOpenedAsChild k pid h
+    → IsTrussRun n k o s h → HasBytes h → IsLeftToTruss k o pid s h ⊎ IsNeverOpenedAsChild k o pid s h
     → ReadsHeld k o pid s h
 read-while-held n k o pid s h reached run bytes (inl left) =
     reads-held n k o pid s h run (lineage-reads n k o pid s h reached run bytes left)
@@ -232,7 +223,7 @@ module _ (n k : ℕ) (o : Options) (pid : ℕ) (s : TracedState) (h : List Entry
   }
 
 pub moments-while-held : (n k : ℕ) (o : Options) (pid : ℕ) (s : TracedState) (h : List Entry) → IsReached s
-    → IsTrussRun n k o s h → HasBytes h → IsLeftToTruss k o pid s h ⊎ IsNeverOpenedAsChild k pid h
+    → IsTrussRun n k o s h → HasBytes h → IsLeftToTruss k o pid s h ⊎ IsNeverOpenedAsChild k o pid s h
     → StandAtTheirEvents k o pid s h (truss_at k o h).reports
 moments-while-held n k o pid s h reached run bytes (inl left) =
     stand-at n k o pid s h run (truss_at k o h).reports (lineage-memories n k o pid s h reached run bytes left)

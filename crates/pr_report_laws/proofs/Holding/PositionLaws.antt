@@ -125,7 +125,7 @@ born-stands n k o pid s h reached run bytes born = record {
 }
 
 pub stands-with-truss : (n k : ℕ) (o : Options) (pid : ℕ) (s : TracedState) (h : List Entry) → IsReached s
-    → IsTrussRun n k o s h → HasBytes h → IsLeftToTruss k o pid s h ⊎ IsNeverOpenedAsChild k pid h
+    → IsTrussRun n k o s h → HasBytes h → IsLeftToTruss k o pid s h ⊎ IsNeverOpenedAsChild k o pid s h
     → StandsWithTruss k o pid s h
 stands-with-truss n k o pid s h reached run bytes (inl left) =
     born-stands n k o pid s h reached run bytes (births n k o pid s h reached run bytes left)

@@ -1,12 +1,16 @@
-use Rattle.std.proofs.Common.{◌≡◌, ◌<◌, ◌++◌, ℕ, Option, Some, None, List, ◌∷◌, length, map, refl, subst, inl, inr}
+use Rattle.std.proofs.Common.{◌≡◌, ◌<◌, ◌++◌, ℕ, Option, Some, None, List, ◌∷◌, length, map, slice_get, refl, sym, subst, ap, ◌∙◌, inl, inr}
+use Rattle.std.proofs.lemmas.Option.{same_Some}
 use Rattle.pr_line.specs.declared.options.Options.{Options}
 use Rattle.pr_model.specs.Legal.{state_after}
 use Rattle.pr_model.specs.State.{TracedState}
 use Rattle.pr_model.specs.declared.calls.Call.{Call}
+use Rattle.pr_model.specs.declared.calls.Call.TheVariants as call
 use Rattle.pr_model.specs.declared.calls.File.{File}
 use Rattle.pr_model.specs.declared.calls.File.TheVariants as file
 use Rattle.pr_model.specs.declared.calls.Mode.{Mode}
+use Rattle.pr_model.specs.declared.calls.Mode.TheVariants.{WriteExcl}
 use Rattle.pr_model.specs.declared.events.Entry.{Entry}
+use Rattle.pr_model.specs.declared.handles.Held.{Held}
 use Rattle.pr_truss.specs.NextCalls.{call_of, child_call, freeing_call, next_call_of, opening_call}
 use Rattle.pr_truss.specs.Trusses.{TrussState, traced_at}
 use Rattle.pr_truss.specs.declared.processes.Traced.{Traced}
@@ -20,6 +24,7 @@ use Rattle.pr_truss.specs.declared.stages.Stage.{Stage}
 use Rattle.pr_truss.specs.declared.stages.Stage.TheVariants.{Spawning, OpeningControl, Opening, Polling, ReadingStatus, ReadingText, OpeningChildControl, OpeningChild, Running, Closing, Unfollowing, ReadingLwps, FreeingChild, Finished}
 use Rattle.pr_truss_laws.proofs.FitLemmas.{last-within}
 use Rattle.pr_truss_laws.proofs.HeldLemmas.{Fits}
+use Rattle.pr_truss_laws.proofs.OpensLemmas.{held_by}
 use Rattle.pr_truss_laws.proofs.OwnLemmas.{Owns}
 use Rattle.pr_truss_laws.specs.Business.{IsAmong}
 use Rattle.pr_truss_laws.specs.Exchanges.{truss_at}
@@ -28,11 +33,12 @@ use Rattle.pr_report_laws.proofs.Files.FileLaws.{HasFiles, IsFileOf}
 use Rattle.pr_report_laws.proofs.Files.FileSteps.{MakesNext, makes-next}
 use Rattle.pr_report_laws.proofs.Files.FileUses as uses
 use Rattle.pr_report_laws.proofs.Files.WatchHistories.{Reaches, run-reaches}
+use Rattle.pr_report_laws.proofs.ToldForks.OldStops.{one-place}
 use Rattle.pr_report_laws.proofs.Watching.HistoryParts.{front-run, rest-makes}
-use Rattle.pr_report_laws.proofs.Watching.NamedSoon.{control-at}
-use Rattle.pr_report_laws.specs.OwnFiles.{CallsItsFiles, HasOpen, NamesItsOwn}
+use Rattle.pr_report_laws.proofs.Watching.NamedSoon.{control-at, poll-stage}
+use Rattle.pr_report_laws.specs.OwnFiles.{CallsItsFiles, HasOpen, NamesItsOwn, PollsEachOnce}
 
--- Each call of truss names files that it has open.
+-- Each call of truss names files that it has open, and each poll names a file once.
 
 pub file-open : {k : ℕ} {s : TracedState} {pid number : ℕ} {f : File} {mode : Mode}
     → IsFileOf k s pid number f mode → HasOpen k f s number
@@ -122,4 +128,45 @@ calls-files n k o first h run = record {
       (run-reaches n k o first before (front-run n k o first before (e ∷ later) all)) x.call next;
 }
 
-pub ruleset called = (calls-files)
+-- ---- a poll
+
+module _ (k : ℕ) (t : TrussState) (s : TracedState) (g : Reaches k t s) (handle : ℕ) where
+  all : HasFiles k t s
+  all = g.files
+
+  -- a file stands at one place alone
+  same-place : (one two : ℕ) → one < length t.traced → two < length t.traced → (traced_at t one).control ≡ handle
+      → (traced_at t two).control ≡ handle → one ≡ two
+  same-place one two first second is same =
+      let h : HasFiles k t s = all in
+      let a : IsFileOf k s (traced_at t one).pid handle file.Ctl WriteExcl =
+      subst (λ m. IsFileOf k s (traced_at t one).pid m file.Ctl WriteExcl) is (h.control one first) in
+      let b : IsFileOf k s (traced_at t two).pid handle file.Ctl WriteExcl =
+      subst (λ m. IsFileOf k s (traced_at t two).pid m file.Ctl WriteExcl) same (h.control two second) in
+      one-place t h.one one two first second
+      (ap (λ (x : Held). x.pid) (same_Some (held_by k (traced_at t one).pid 0 file.Ctl WriteExcl)
+      (held_by k (traced_at t two).pid 0 file.Ctl WriteExcl) (sym a.is ∙ b.is)))
+
+  poll-once : (handles : List ℕ) → next_call_of t ≡ Some (call.Poll handles) → (one two : ℕ)
+      → slice_get handles one ≡ Some handle → slice_get handles two ≡ Some handle → one ≡ two
+  unfolding next_call_of
+  poll-once handles next one two first second =
+      let p = poll-stage t handles t.stage next in
+      let a = control-at t.traced one handle (ap (λ (ms : List ℕ). slice_get ms one) p.1 ∙ first) in
+      let b = control-at t.traced two handle (ap (λ (ms : List ℕ). slice_get ms two) p.1 ∙ second) in
+      same-place one two a.0 b.0 a.1 b.1
+
+pub polls-once : (n k : ℕ) (o : Options) (first : TracedState) (h : List Entry) → IsTrussRun n k o first h
+    → PollsEachOnce k h
+polls-once n k o first h run = record {
+  each = λ before later e handles r one two handle is own at again.
+      let all : IsTrussRun n k o first (before ++ e ∷ later) = subst (IsTrussRun n k o first) is run in
+      let t : TrussState = truss_at k o before in
+      let m = makes-next k t e later (rest-makes n k o first before (e ∷ later) all) in
+      let next : next_call_of t ≡ Some (call.Poll handles) = subst (MakesNext t) own m.0 in
+      poll-once k t (state_after first before)
+      (run-reaches n k o first before (front-run n k o first before (e ∷ later) all)) handle handles next one two at
+      again;
+}
+
+pub ruleset called = (calls-files, polls-once)

@@ -94,7 +94,7 @@ opening-reads o u opening.OpenStatus handle from len is = cc
 opening-reads o u _ handle from len is = cc
 
 -- the stages that read
-data ReadsBy (t : TrussState) (handle : ℕ) (stage : Stage) : Type 0 where
+pub data ReadsBy (t : TrussState) (handle : ℕ) (stage : Stage) : Type 0 where
   look : (place : ℕ) → stage ≡ Opening place opening.ReadLwps → number_of (traced_at t place).lstatus ≡ handle
       → ReadsBy t handle stage
   status : (place : ℕ) → stage ≡ ReadingStatus place → number_of (traced_at t place).status ≡ handle
@@ -128,7 +128,7 @@ module _ (t : TrussState) (handle from len : ℕ) where
       absurd (freeing-reads pid step handle from len (same_Some _ _ is))
   stage-reads Finished is = cc
 
-  next-reads : next_call_of t ≡ Some (call.Read handle from len) → ReadsBy t handle t.stage
+  pub next-reads : next_call_of t ≡ Some (call.Read handle from len) → ReadsBy t handle t.stage
   unfolding next_call_of
   next-reads is = stage-reads t.stage is
 

@@ -47,8 +47,8 @@ use Rattle.pr_report_laws.proofs.Invariant.StandLemmas.{Stands}
 use Rattle.pr_report_laws.proofs.Machine.PollLaws.{poll-named}
 use Rattle.pr_report_laws.proofs.Memory.WatchMemory.{reached-comes}
 use Rattle.pr_report_laws.proofs.Watching.BeginsOnlyLaws.{child-waits}
-use Rattle.pr_report_laws.proofs.Watching.HistoryParts.{front-run, rest-legal, rest-makes}
-use Rattle.pr_report_laws.specs.Named.{IsNamedIn, IsRunOrClosedIn, IsSoonDone, IsWaitedFor, LooksAtWhatIsNamed, ReadsStatusFirst, closes, runs}
+use Rattle.pr_report_laws.proofs.Watching.HistoryParts.{front-run, rest-legal, rest-makes, truss_at-both}
+use Rattle.pr_report_laws.specs.Named.{IsNamedIn, IsRunOrClosedIn, IsSoonDone, IsWaitedFor, LooksAtWhatIsNamed, ReadsStatusFirst, RunsBeforeItPolls, closes, runs}
 use Rattle.pr_report_laws.specs.Watching.{told_of, with_exchange}
 
 -- In a legal history truss makes at most twelve calls between a poll that named a process and the end of its look at
@@ -145,37 +145,76 @@ module _ (n k pid : ℕ) (p : Traced) (own : p.pid ≡ pid) (place : ℕ) where
           (no-end t s e x g.files near.here its (waits.none [] h e refl)) in
           omega (arith, others (fed t x.reply) one.0 later one.1.1 rest, one.1.0)
 
+  -- Each call of truss among these entries, wherever the look at the process has come to, ends it not.
+  pub record EndsNowhere (t : TrussState) (s : TracedState) (h : List Entry) : Type 0 where
+    pub none : (before later : List Entry) (e : Entry) (x : Exchange) (m : ℕ) → h ≡ before ++ e ∷ later
+        → exchange_of k e ≡ Some x
+        → let u = truss_after t (exchanges k before) in
+        Near p place m u → Reaches k u (state_after s before) → next_call_of u ≡ Some x.call → IsNoEndOf p x
+
+  pub after-entry : (t : TrussState) (e : Entry) (before : List Entry)
+      → truss_after t (exchanges k (e ∷ before)) ≡ truss_after (told_of k t e) (exchanges k before)
+  after-entry t e before =
+      ap (truss_after t) (cons-exchanges k e before) ∙ after-cons t (exchange_of k e) (exchanges k before)
+
+  later-ends : (t : TrussState) (s : TracedState) (e : Entry) (h : List Entry) → EndsNowhere t s (e ∷ h)
+      → EndsNowhere (told_of k t e) (after s e) h
+  later-ends t s e h w = record {
+    none = λ before later f x m is own near reached next.
+        let same = sym (after-entry t e before) in
+        w.none (e ∷ before) later f x m (ap (λ (es : List Entry). e ∷ es) is) own
+        (subst (Near p place m) same near)
+        (subst (λ (u : TrussState). Reaches k u (state_after (after s e) before)) same reached)
+        (subst (λ (u : TrussState). next_call_of u ≡ Some x.call) same next);
+  }
+
+  -- where the process is waited for
+  pub waited-ends : (t : TrussState) (s : TracedState) (h : List Entry) → IsWaitedFor k pid p.control s h
+      → EndsNowhere t s h
+  waited-ends t s h w = record {
+    none = λ before later e x m is its near reaches next.
+        no-end _ _ e x reaches.files near.here its (w.none before later e is);
+  }
+
+  first-none : (t : TrussState) → truss_after t (exchanges k []) ≡ t
+  first-none t = ap (truss_after t) (no-exchanges k)
+
   -- it comes nearer with each of these calls
   pub near-on : (h : List Entry) (t : TrussState) (s : TracedState) (m : ℕ) → Reaches k t s → Near p place m t
-      → IsLegal n s h → Makes t (exchanges k h) → IsWaitedFor k pid p.control s h
+      → IsLegal n s h → Makes t (exchanges k h) → EndsNowhere t s h
       → (left : ℕ) × ((left ≤ m) × Near p place left (truss_after t (exchanges k h)))
-  near-on [] t s m g near legal makes waits =
+  near-on [] t s m g near legal makes ends =
       (m, (omega arith, subst (λ xs. Near p place m (truss_after t xs)) (sym (no-exchanges k)) near))
-  near-on (e ∷ h) t s m g near legal makes waits =
+  near-on (e ∷ h) t s m g near legal makes ends =
       let first = makes-next k t e h makes in
       let it =
       by (exchange_of k e) refl first.0 (entry-reaches n k t s e g legal.0 first.0) first.1
-      (λ u left later near rest. near-on h u (after s e) left later near legal.1 rest (later-waits s e h waits)) in (
+      (λ left later near rest. near-on h (told_of k t e) (after s e) left later near legal.1 rest
+      (later-ends t s e h ends)) in (
         it.0,
         (
           it.1.0,
-          subst (Near p place it.0)
-              (sym (ap (truss_after t) (cons-exchanges k e h) ∙ after-cons t (exchange_of k e) (exchanges k h)))
-              it.1.1,
+          subst (Near p place it.0) (sym (after-entry t e h)) it.1.1,
         ),
       )
     where
-      by : (x : Option Exchange) → exchange_of k e ≡ x → MakesNext t x → Reaches k (with_exchange t x) (after s e)
-          → Makes (with_exchange t x) (exchanges k h)
-          → ((u : TrussState) (left : ℕ) → Reaches k u (after s e) → Near p place left u → Makes u (exchanges k h)
-          → (low : ℕ) × ((low ≤ left) × Near p place low (truss_after u (exchanges k h))))
-          → (low : ℕ) × ((low ≤ m) × Near p place low (truss_after (with_exchange t x) (exchanges k h)))
-      by None its next later rest others = others t m later near rest
+      by : (x : Option Exchange) → exchange_of k e ≡ x → MakesNext t x
+          → Reaches k (told_of k t e) (after s e) → Makes (told_of k t e) (exchanges k h)
+          → ((left : ℕ) → Reaches k (told_of k t e) (after s e) → Near p place left (told_of k t e)
+          → Makes (told_of k t e) (exchanges k h)
+          → (low : ℕ) × ((low ≤ left) × Near p place low (truss_after (told_of k t e) (exchanges k h))))
+          → (low : ℕ) × ((low ≤ m) × Near p place low (truss_after (told_of k t e) (exchanges k h)))
+      by None its next later rest others =
+          others m later (subst (Near p place m) (sym (ap (with_exchange t) its)) near) rest
       by (Some x) its next later rest others =
-          let one =
-          nearer-by t s e x m g near legal.0 its next
-          (no-end t s e x g.files near.here its (waits.none [] h e refl)) in
-          let on = others (fed t x.reply) one.0 later one.1.1 rest in
+          let same = sym (first-none t) in
+          let none : IsNoEndOf p x =
+          ends.none [] h e x m refl its (subst (Near p place m) same near)
+          (subst (λ (u : TrussState). Reaches k u s) same g)
+          (subst (λ (u : TrussState). next_call_of u ≡ Some x.call) same next) in
+          let one = nearer-by t s e x m g near legal.0 its next none in
+          let on =
+          others one.0 later (subst (Near p place one.0) (sym (ap (with_exchange t) its)) one.1.1) rest in
           (on.0, (omega (arith, on.1.0, one.1.0), on.1.1))
 
 -- ---- the poll
@@ -223,7 +262,8 @@ module _ (t : TrussState) (handles : List ℕ) where
   next-polls is = poll-stage t.stage is
 
 -- the handle at a place of those that a poll names is that of the process there
-pub control-at : (ts : List Traced) (place handle : ℕ) → slice_get (map (λ (u : Traced). u.control) ts) place ≡ Some handle
+pub control-at : (ts : List Traced) (place handle : ℕ)
+    → slice_get (map (λ (u : Traced). u.control) ts) place ≡ Some handle
     → (place < length ts) × ((at_place ts place).control ≡ handle)
 control-at [] place handle is = absurd (none-some handle is)
 control-at (u ∷ ts) zero handle is = (omega arith, same_Some u.control handle is)
@@ -344,6 +384,31 @@ module _ (n k : ℕ) (o : Options) (pid handle : ℕ) (s : TracedState) (before 
       (subst (λ (v : TrussState). Makes v (exchanges k between)) reads makes.1)
       (subst (λ m. IsWaitedFor k pid m (after (state_after s before) e) between) (sym at.1.1) waits)
 
+  -- so long as the process is waited for truss does not poll
+  no-poll-then : (handles : List ℕ) → next_call_of (truss_at k o (before ++ e ∷ between)) ≡ Some (call.Poll handles)
+      → ⊥
+  unfolding t now next_call_of
+  no-poll-then handles is =
+      let u : TrussState = with_stage t (ReadingStatus place) in
+      let later : Reaches k u (after (state_after s before) e) =
+      subst (λ (v : TrussState). Reaches k v (after (state_after s before) e)) reads
+      (entry-reaches n k t (state_after s before) e reached legal.0 makes.0) in
+      let p : Traced = traced_at t place in
+      let near =
+      near-on n k pid p own place between u (after (state_after s before) e) 12 later
+      (named-near t place at.1.0 stays) legal.1
+      (subst (λ (v : TrussState). Makes v (exchanges k between)) reads makes.1)
+      (waited-ends n k pid p own place u (after (state_after s before) e) between
+      (subst (λ m. IsWaitedFor k pid m (after (state_after s before) e) between) (sym at.1.1) waits)) in
+      let end : truss_after u (exchanges k between) ≡ truss_at k o (before ++ e ∷ between) =
+      ap (λ (v : TrussState). truss_after v (exchanges k between)) (sym reads)
+      ∙ sym (truss_at-both k o before (e ∷ between) ∙ after-entry n k pid p own place t e between) in
+      let there : Near p place near.0 (truss_at k o (before ++ e ∷ between)) =
+      subst (Near p place near.0) end near.1.1 in
+      let v : TrussState = truss_at k o (before ++ e ∷ between) in
+      let polls = poll-stage v handles v.stage is in
+      subst (Nears v.traced place near.0) polls.0 there.soon
+
 pub soon-done : (n k : ℕ) (o : Options) (s : TracedState) (h : List Entry) → IsTrussRun n k o s h → IsSoonDone k s h
 soon-done n k o s h run = record {
   soon = λ before between later e pid handle is names waits.
@@ -369,4 +434,19 @@ looks-at-named n k o s h run = record {
       (record { none = λ first rest f none done. no-split first rest f none }) (exchanges k later) m.1;
 }
 
-pub ruleset soon = (soon-done, looks-at-named)
+pub runs-before-polls : (n k : ℕ) (o : Options) (s : TracedState) (h : List Entry) → IsTrussRun n k o s h
+    → RunsBeforeItPolls k s h
+runs-before-polls n k o s h run = record {
+  each = λ before between later e f pid handle handles r is names waits polls.
+      let same : before ++ e ∷ (between ++ f ∷ later) ≡ (before ++ e ∷ between) ++ f ∷ later =
+      sym (append_assoc before (e ∷ between) (f ∷ later)) in
+      let all : IsTrussRun n k o s ((before ++ e ∷ between) ++ f ∷ later) =
+      subst (IsTrussRun n k o s) (is ∙ same) run in
+      let front : IsTrussRun n k o s (before ++ e ∷ between) =
+      front-run n k o s (before ++ e ∷ between) (f ∷ later) all in
+      let u : TrussState = truss_at k o (before ++ e ∷ between) in
+      let m = makes-next k u f later (rest-makes n k o s (before ++ e ∷ between) (f ∷ later) all) in
+      no-poll-then n k o pid handle s before between e front names waits handles (subst (MakesNext u) polls m.0);
+}
+
+pub ruleset soon = (soon-done, looks-at-named, runs-before-polls)

@@ -1,6 +1,5 @@
 use Rattle.std.proofs.Common.{◌∙◌, List, ℕ, subst, sym}
-use Rattle.pr_drive.specs.Inputs.{Input}
-use Rattle.pr_drive.proofs.EndLemmas.{next-answered, next-cut, on-err, pass-cut}
+use Rattle.pr_drive.proofs.EndLemmas.{next-answered, next-asked, next-cut, on-err, pass-cut}
 use Rattle.pr_drive.proofs.InputLemmas.{Takes, input}
 use Rattle.pr_drive.proofs.answers.answer_next.Goals as goal
 
@@ -37,3 +36,10 @@ returns-in_err-came-clause-cut g c =
     let there = subst (λ (l : List ℕ). Takes c.in_ok-there.there l old new) (sym c.deref.ensures.value) takes in
     on-err _ _ (next-cut c.in_ok-there.there c.args.number c.deref.result.now old new c.args.session.now _ _
     c.if-not-there.false there c.in_err-came.ensures.cut)
+
+pub returns-in_err-there-clause-cut : goal.returns-in_err-there-clause-cut
+returns-in_err-there-clause-cut g c =
+    let old = input c.args.lines.now.held (g.S.Source.left c.args.source.now) in
+    on-err _ _
+    (next-asked c.args.number old (g.S.Source.left c.next.new.source) c.args.session.now _
+    (record { read = c.in_err-there.ensures.read }))

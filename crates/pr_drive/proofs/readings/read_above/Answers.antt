@@ -1,7 +1,9 @@
 use Rattle.std.proofs.Common.{◌∙◌, ◌++◌, ◌∷◌, [], List, ℕ, ap, arith, sym}
 use Rattle.pr_text.specs.TextLines.{newline}
 use Rattle.pr_drive.specs.Served.{is_mark}
-use Rattle.pr_drive.proofs.ReadLemmas.{took-mark, took-more, took-much, took-never}
+use Rattle.pr_drive.proofs.EndLemmas.{on-err}
+use Rattle.pr_drive.proofs.InputLemmas.{input, takes-asked}
+use Rattle.pr_drive.proofs.ReadLemmas.{cut-asking, took-mark, took-more, took-much, took-never}
 use Rattle.pr_drive.proofs.readings.read_above.Goals as goal
 
 pub returns-then-is_mark-clause-above : goal.returns-then-is_mark-clause-above
@@ -53,3 +55,18 @@ pub returns-clause-above : goal.returns-clause-above
 returns-clause-above g c =
     took-never c.loop-number.text.items c.loop-number.number _ _ _ (omega (arith, c.loop-number-test.false))
     c.loop-number.invariant.far
+
+pub returns-in_err-next-clause-cut : goal.returns-in_err-next-clause-cut
+returns-in_err-next-clause-cut g c =
+    on-err _ _
+    (cut-asking c.loop-number.text.items c.loop-number.number _ _ (g.S.Source.left c.next.new.source)
+    c.loop-number.invariant.far (record { read = c.in_err-next.ensures.read }))
+
+pub returns-in_err-append_line-clause-cut : goal.returns-in_err-append_line-clause-cut
+returns-in_err-append_line-clause-cut g c =
+    let now = input c.loop-number.lines.held (g.S.Source.left c.loop-number.source) in
+    let new = input c.next.new.self.held (g.S.Source.left c.next.new.source) in
+    on-err _ _
+    (cut-asking c.loop-number.text.items c.loop-number.number _ now new.left c.loop-number.invariant.far
+    (takes-asked c.in_ok-next.field-0 c.next.new.line.items now new
+    (record { takes = c.in_ok-next.ensures.takes; read = c.in_ok-next.ensures.read })))

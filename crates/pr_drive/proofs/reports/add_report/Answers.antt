@@ -1,4 +1,3 @@
-use Rattle.std.proofs.Common.{◌∙◌, sym}
 use Rattle.pr_drive.proofs.ReportLemmas.{report-none, report-some}
 use Rattle.pr_drive.proofs.reports.add_report.Goals as goal
 

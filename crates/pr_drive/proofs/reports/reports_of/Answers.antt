@@ -1,4 +1,4 @@
-use Rattle.std.proofs.Common.{◌≡◌, ◌∙◌, ◌++◌, List, ap, subst, arith}
+use Rattle.std.proofs.Common.{◌∙◌, ◌++◌, List, ap, arith}
 use Rattle.pr_num.specs.Programs.{Program}
 use Rattle.pr_world.specs.ControllerStates.{state_of}
 use Rattle.pr_drive.specs.Reports.{report_of}

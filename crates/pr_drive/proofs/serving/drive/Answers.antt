@@ -56,5 +56,5 @@ returns-clause-cut g c =
     let refused = refused-as c.in_ok-lines.lines.held (g.S.Source.left c.args.source.now) begun c.in_ok-opening.opening
     c.in-Refused.fault
     c.in-Refused.is c.in_ok-lines.ensures c.in_ok-opening.ensures.opens in
-    on_err_weaker c.refuse.result (λ h. refused-cut c.args.quiet old new c.in-Refused.fault begun refused h)
+    on_err_weaker c.refuse.result (λ h. refused-cut c.args.quiet old new c.in-Refused.fault begun refused refl h)
     c.refuse.ensures.cut

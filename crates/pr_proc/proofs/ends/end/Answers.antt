@@ -13,11 +13,7 @@ returns c =
     let p = c.unwrap-process.result.now in
     let live : live_process s pid ≡ Some p = sym c.live.ensures ∙ ap option_copied c.unwrap-process.ensures in
     let stands = live_process-found s pid p live in
-    let closed = c.bury-space.ensures.fds p stands in
     let space = sym (c.bury-space.ensures.space p stands) in
-    let left =
-    left-so s _ pid c.args.status p _ _ _ c.bury-space.ensures.system closed c.close_all.ensures.files
-    c.orphan_each.ensures
-    in
+    let left = left-so s _ pid c.args.status p _ (c.bury-space.ensures.system p stands) c.orphan_each.ensures in
     ended-so s _ _ _ _ pid c.args.status p live left (c.leave_lender.ensures p refl) (c.give_back.ensures p space refl)
     c.tell_parent.ensures

@@ -11,8 +11,8 @@ pub returns-clause-child : goal.returns-clause-child
 returns-clause-child c =
     let s = c.args.sys.now in
     let pid = c.args.pid in
-    let same : put_under pid c.frames_of-frames.new.process s.processes ≡ s.processes =
-    ap (λ p. put_under pid p s.processes) c.frames_of-frames.ensures.same
+    let same : put_under pid c.copy_frames.new.process s.processes ≡ s.processes =
+    ap (λ p. put_under pid p s.processes) c.copy_frames.ensures.same
     ∙ put_under-same pid _ s.processes c.get_mut.ensures.value
     in
     let taken = sym c.live.ensures ∙ ap option_copied c.unwrap-process.ensures in

@@ -1,4 +1,4 @@
-use Rattle.std.proofs.Common.{◌≡◌, ◌∙◌, ap, is_some, sym}
+use Rattle.std.proofs.Common.{◌∙◌, ap, is_some, sym}
 use Rattle.pr_model.specs.Calls.{answer_to}
 use Rattle.pr_drive.specs.Going.{SeatsState}
 use Rattle.pr_drive.proofs.SeatLemmas.{controller-can}

@@ -1,4 +1,4 @@
-use Rattle.std.proofs.Common.{◌≡◌, ◌∙◌, ap, true, false, sym}
+use Rattle.std.proofs.Common.{◌≡◌, ◌∙◌, true, false, sym}
 use Rattle.pr_drive.proofs.SeatLemmas.{controller-can, controller-cannot}
 use Rattle.pr_drive.proofs.seats.Seats.move_controller.Goals as goal
 

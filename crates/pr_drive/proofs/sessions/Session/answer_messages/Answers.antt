@@ -1,8 +1,8 @@
-use Rattle.std.proofs.Common.{◌≡◌, ◌∙◌, ap, arith, length, subst, sym}
+use Rattle.std.proofs.Common.{◌∙◌, ap, arith, subst}
 use Rattle.pr_drive.specs.Rounds.{FinishesRound, RoundsState}
 use Rattle.pr_drive.specs.declared.sessions.Session.TheInside.{Inside}
 use Rattle.pr_drive.proofs.EntryLemmas.{goes-count}
-use Rattle.pr_drive.proofs.SessionLemmas.{made-more, messages-end, messages-full, next-count}
+use Rattle.pr_drive.proofs.SessionLemmas.{made-more, messages-full, next-count}
 use Rattle.pr_drive.proofs.StepLemmas.{finish-goes}
 use Rattle.pr_drive.proofs.sessions.Session.answer_messages.Goals as goal
 

@@ -1,4 +1,4 @@
-use Rattle.std.proofs.Common.{◌≡◌, ◌∙◌, List, ap, arith}
+use Rattle.std.proofs.Common.{◌∙◌, ap, arith}
 use Rattle.std.specs.List.{list_any}
 use Rattle.pr_model.specs.declared.calls.Call.{Call}
 use Rattle.pr_drive.specs.Exchanges.{is_answered_now, polls_of}
@@ -16,8 +16,8 @@ returns-then-ready c =
     ∙ ap (λ (i : Inside). list_any (λ (call : Call). is_answered_now call i.rounds.seats) c.deref.result.now)
     c.self-inside-in-loop-at.view_is
     ∙ ap (list_any (λ (call : Call). is_answered_now call c.loop-at.self-inside.rounds.seats)) c.deref.ensures.value in
-    until-ready c.in_ok-polls.polls.items c.some_answered-ready.result c.args.self.now c.loop-at.self-inside.rounds all is
-    c.if-ready.true c.loop-at.invariant.gone
+    until-ready c.in_ok-polls.polls.items c.some_answered-ready.result c.args.self.now c.loop-at.self-inside.rounds all
+    is c.if-ready.true c.loop-at.invariant.gone
 
 pub loop-at-preserved : goal.loop-at-preserved
 loop-at-preserved c =

@@ -1,9 +1,9 @@
-use Rattle.std.proofs.Common.{◌≡◌, ◌∙◌, ap, length, subst}
+use Rattle.std.proofs.Common.{◌∙◌, ap, length, subst}
 use Rattle.pr_drive.specs.Going.{MovesIf}
 use Rattle.pr_drive.specs.Rounds.{RoundsState}
 use Rattle.pr_drive.specs.declared.sessions.Session.TheInside.{Inside}
 use Rattle.pr_drive.proofs.EntryLemmas.{on-ok}
-use Rattle.pr_drive.proofs.SessionLemmas.{none-told, one-told}
+use Rattle.pr_drive.proofs.SessionLemmas.{one-told}
 use Rattle.pr_drive.proofs.sessions.Session.move_one.Goals as goal
 
 pub returns-then-moved : goal.returns-then-moved

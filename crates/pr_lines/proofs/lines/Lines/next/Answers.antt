@@ -1,12 +1,15 @@
 use Rattle.std.proofs.Common.{◌∙◌, ◌==◌, List, ℕ, ap, length, refl}
 use Rattle.pr_io.specs.Known.{with_front}
-use Rattle.pr_lines.proofs.LineLemmas.{begun, come-above, come-begun, come-more, ends-so, more-so, none-held, nothing-held, over-so, read-last, read-more, read-none, refilled}
+use Rattle.pr_lines.proofs.LineLemmas.{begun, come-above, come-begun, come-more, ends-so, more-so, none-held}
+use Rattle.pr_lines.proofs.LineLemmas.{nothing-held, over-so, read-last, read-lost, read-more, read-none, refilled}
 use Rattle.pr_lines.proofs.lines.Lines.next.Goals as goal
 
 pub returns-then-branch-clause-takes : goal.returns-then-branch-clause-takes
 returns-then-branch-clause-takes g c =
-    ends-so c.in_ok-take_held.field-0 c.clear.new.self.items c.take_held.new.line.items c.args.self.now.held c.take_held.new.self.held
-    (with_front c.args.self.now.held (g.S.Source.left c.args.source.now)) (g.S.Source.left c.args.source.now) c.if-branch.true
+    ends-so c.in_ok-take_held.field-0 c.clear.new.self.items c.take_held.new.line.items c.args.self.now.held
+    c.take_held.new.self.held
+    (with_front c.args.self.now.held (g.S.Source.left c.args.source.now))
+    (g.S.Source.left c.args.source.now) c.if-branch.true
     (begun c.clear.new.self.items _ c.clear.ensures.items) c.in_ok-take_held.ensures
 
 pub loop-init : goal.loop-init
@@ -16,7 +19,8 @@ loop-init g c =
       far =
           more-so c.in_ok-take_held.field-0 c.clear.new.self.items c.take_held.new.line.items c.args.self.now.held
           c.take_held.new.self.held (with_front c.args.self.now.held (g.S.Source.left c.args.source.now))
-          (g.S.Source.left c.args.source.now) c.if-branch.false (begun c.clear.new.self.items _ c.clear.ensures.items) took;
+          (g.S.Source.left c.args.source.now) c.if-branch.false
+          (begun c.clear.new.self.items _ c.clear.ensures.items) took;
       taken =
           nothing-held c.in_ok-take_held.field-0 c.clear.new.self.items c.take_held.new.line.items c.args.self.now.held
           c.take_held.new.self.held c.if-branch.false took;
@@ -42,12 +46,14 @@ returns-then-not-branch-clause-takes g c =
 
 pub returns-then-not-branch-clause-read : goal.returns-then-not-branch-clause-read
 returns-then-not-branch-clause-read g c =
-    read-last c.args.self.now.held c.refill.new.self.held (g.S.Source.left c.args.source.now) (g.S.Source.left c.loop.source)
+    read-last c.args.self.now.held c.refill.new.self.held (g.S.Source.left c.args.source.now)
+    (g.S.Source.left c.loop.source)
     (g.S.Source.left c.refill.new.source) c.loop.invariant.read c.in_ok-refill.ensures.came c.in_ok-refill.ensures.most
 
 pub returns-then-branch-2-clause-read : goal.returns-then-branch-2-clause-read
 returns-then-branch-2-clause-read g c =
-    read-last c.args.self.now.held c.refill.new.self.held (g.S.Source.left c.args.source.now) (g.S.Source.left c.loop.source)
+    read-last c.args.self.now.held c.refill.new.self.held (g.S.Source.left c.args.source.now)
+    (g.S.Source.left c.loop.source)
     (g.S.Source.left c.refill.new.source) c.loop.invariant.read c.in_ok-refill.ensures.came c.in_ok-refill.ensures.most
 
 pub returns-then-not-branch-clause-no_fault : goal.returns-then-not-branch-clause-no_fault
@@ -71,15 +77,18 @@ loop-preserved g c = record {
       (refilled c.loop.line.items c.refill.new.self.held _ (g.S.Source.left c.loop.source) _ c.in_ok-refill.ensures.came
       c.loop.invariant.far) c.in_ok-take_held-2.ensures;
   taken =
-      nothing-held c.in_ok-take_held-2.field-0 c.loop.line.items c.take_held-in-loop.new.line.items c.refill.new.self.held
+      nothing-held c.in_ok-take_held-2.field-0 c.loop.line.items c.take_held-in-loop.new.line.items
+      c.refill.new.self.held
       c.take_held-in-loop.new.self.held c.if-branch-2.false c.in_ok-take_held-2.ensures;
   unheld = c.loop.invariant.unheld;
   come =
-      come-more c.loop.counter c.refill.new.self.held (with_front c.args.self.now.held (g.S.Source.left c.args.source.now))
+      come-more c.loop.counter c.refill.new.self.held
+      (with_front c.args.self.now.held (g.S.Source.left c.args.source.now))
       (g.S.Source.left c.loop.source) (g.S.Source.left c.refill.new.source) c.in_ok-refill.ensures.came
       (c.in_ok-refill.ensures.some c.if-not-branch.false) c.loop.invariant.come;
   read =
-      read-more c.args.self.now.held c.refill.new.self.held (g.S.Source.left c.args.source.now) (g.S.Source.left c.loop.source)
+      read-more c.args.self.now.held c.refill.new.self.held (g.S.Source.left c.args.source.now)
+      (g.S.Source.left c.loop.source)
       (g.S.Source.left c.refill.new.source) c.loop.invariant.read c.in_ok-refill.ensures.came
       (none-held c.in_ok-take_held-2.field-0 c.loop.line.items c.take_held-in-loop.new.line.items c.refill.new.self.held
       c.take_held-in-loop.new.self.held c.if-branch-2.false c.in_ok-take_held-2.ensures);
@@ -91,3 +100,14 @@ returns-clause-long g c =
     λ long.
     come-above c.loop.counter 18446744073709551614 (with_front c.args.self.now.held (g.S.Source.left c.args.source.now))
     (g.S.Source.left c.loop.source) c.loop-test.false c.loop.invariant.come
+
+pub returns-in_err-refill-clause-read : goal.returns-in_err-refill-clause-read
+returns-in_err-refill-clause-read g c =
+    read-lost c.args.self.now.held (g.S.Source.left c.args.source.now) (g.S.Source.left c.loop.source)
+    (g.S.Source.left c.refill.new.source) c.loop.invariant.read c.in_err-refill.ensures.lost
+
+pub returns-in_err-take_held-2-clause-read : goal.returns-in_err-take_held-2-clause-read
+returns-in_err-take_held-2-clause-read g c =
+    read-last c.args.self.now.held c.refill.new.self.held (g.S.Source.left c.args.source.now)
+    (g.S.Source.left c.loop.source) (g.S.Source.left c.refill.new.source) c.loop.invariant.read
+    c.in_ok-refill.ensures.came c.in_ok-refill.ensures.most

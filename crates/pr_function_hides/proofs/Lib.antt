@@ -1,0 +1,14 @@
+pub mod CallFacts
+pub mod CalledCovers
+pub mod FilesCalls
+pub mod FilesWalk
+pub mod FunctionSets
+pub mod MarkedPatches
+pub mod OwnCalls
+pub mod OwnFiles
+pub mod OwnTidy
+pub mod OwnWrites
+pub mod PlantedReplies
+pub mod PlantedWalk
+pub mod StillMessages
+pub mod TidyLaw

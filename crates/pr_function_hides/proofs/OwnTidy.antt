@@ -1,0 +1,127 @@
+use Rattle.std.proofs.Common.{◌≡◌, ◌≢◌, ◌<◌, ℕ, true, cond, Option, Some, None, List, All, length, refl, sym, ap, ◌∙◌}
+use Rattle.std.proofs.lemmas.Option.{none-some, same_Some}
+use Rattle.std.specs.List.{slice_get}
+use Rattle.pr_line.specs.declared.functions.Function.{Function}
+use Rattle.pr_line.specs.declared.options.Options.{Options}
+use Rattle.pr_model.specs.State.{TracedState}
+use Rattle.pr_model.specs.declared.calls.Call.{Call}
+use Rattle.pr_model.specs.declared.calls.Call.TheVariants as call
+use Rattle.pr_num.specs.Messages.{spelling}
+use Rattle.pr_num.specs.Words.{IsByte}
+use Rattle.pr_num.specs.declared.messages.Message.TheVariants as message
+use Rattle.pr_num.proofs.SearchLemmas.{All-at}
+use Rattle.pr_reached.proofs.MemoryRanges.{instruction-bytes}
+use Rattle.pr_truss.specs.FunctionCalls.{call_beside, function_call_of, lift_call, next_function_call_of, patch_call, plant_call}
+use Rattle.pr_truss.specs.Marks.{breakpoint, code_of, first_function, has_functions}
+use Rattle.pr_truss.specs.NextCalls.{call_of, next_call_of, opening_call}
+use Rattle.pr_truss.specs.Trusses.{TrussState, traced_at}
+use Rattle.pr_truss.specs.declared.asides.Aside.{Aside}
+use Rattle.pr_truss.specs.declared.asides.Aside.TheVariants.{Nothing, Reading, Planting, Patching}
+use Rattle.pr_truss.specs.declared.stages.AfterClosing.TheVariants.{OpenNext, GoOn}
+use Rattle.pr_truss.specs.declared.stages.OpeningStep.{OpeningStep}
+use Rattle.pr_truss.specs.declared.stages.OpeningStep.TheVariants as opening
+use Rattle.pr_truss.specs.declared.stages.Stage.{Stage}
+use Rattle.pr_truss.specs.declared.stages.Stage.TheVariants.{Spawning, OpeningControl, Opening, Polling, ReadingStatus, ReadingText, Running, Closing, Finished}
+use Rattle.pr_num.specs.declared.instructions.Instruction.TheVariants.{Bpt}
+use Rattle.pr_function_laws.proofs.MarkLemmas.{first-below}
+use Rattle.pr_function_laws.proofs.SoundLemmas.{AsideIsBelow}
+use Rattle.pr_function_hides.specs.FunctionHiders.{ArePatchable, IsPatchable}
+use Rattle.pr_function_hides.proofs.OwnFiles.{HoldsItsFiles, IsBeside, IsWithin}
+use Rattle.pr_function_hides.proofs.OwnWrites.{breakpoint-size, code-is, named-at, write-is}
+use Rattle.pr_function_hides.proofs.StillMessages.{BeginStill, cfault-still, read-still, run-still, sentry-still, set-still, sexit-still, sfault-still, stop-still, strace-still, unset-still}
+
+-- The PCWRITEs of truss are tidy.
+
+-- ---- what a call of truss is
+
+module _ (k : ℕ) (s : TracedState) (c : Call) (t : TrussState) (fit : ArePatchable t.options)
+    (holds : HoldsItsFiles k t s) (below : AsideIsBelow (length t.options.functions) t.aside) where
+  abbrev o : Options
+  o = t.options
+
+  -- It writes the code of a function, or its breakpoint, over the first instruction of it; or it sends another message
+  -- to a process that truss traces; or it is no message.
+  pub data Kind : Type 0 where
+    writes : (q : ℕ) → q < length t.traced → (i : ℕ) (f : Function) → slice_get o.functions i ≡ Some f
+        → (code : List ℕ) → length code ≡ 16 → All IsByte code
+        → c ≡ call.Ctl (traced_at t q).control (spelling (message.Write f.at 16) code) → Kind
+    sends : (q : ℕ) → q < length t.traced → (bytes : List ℕ) → c ≡ call.Ctl (traced_at t q).control bytes
+        → BeginStill bytes → Kind
+    other : ((number : ℕ) (bytes : List ℕ) → c ≢ call.Ctl number bytes) → Kind
+
+  is-other : (d : Call) → Some d ≡ Some c → ((number : ℕ) (bytes : List ℕ) → d ≢ call.Ctl number bytes) → Kind
+  is-other d same none = other (λ number bytes is. none number bytes (same_Some d c same ∙ is))
+
+  is-sent : (q : ℕ) → q < length t.traced → (bytes : List ℕ)
+      → Some (call.Ctl (traced_at t q).control bytes) ≡ Some c → BeginStill bytes → Kind
+  is-sent q within bytes same still = sends q within bytes (sym (same_Some _ c same)) still
+
+  opening-kind : (q : ℕ) (step : OpeningStep) → q < length t.traced → function_call_of t (Opening q step) ≡ Some c
+      → Kind
+  unfolding function_call_of call_of opening_call
+  opening-kind q opening.OpenStatus w is = is-other _ is (λ n b same. cc)
+  opening-kind q opening.OpenLstatus w is = is-other _ is (λ n b same. cc)
+  opening-kind q opening.OpenMemory w is = is-other _ is (λ n b same. cc)
+  opening-kind q opening.ClearModes w is = is-sent q w _ is (unset-still _)
+  opening-kind q opening.SetRelease w is = is-sent q w _ is (set-still _)
+  opening-kind q opening.Stop w is = is-sent q w _ is stop-still
+  opening-kind q (opening.AwaitStop until) w is = is-other _ is (λ n b same. cc)
+  opening-kind q opening.ReadLwps w is = is-other _ is (λ n b same. cc)
+  opening-kind q opening.TraceSignals w is = is-sent q w _ is (strace-still _)
+  opening-kind q opening.TraceFaults w is = is-sent q w _ is (sfault-still _)
+  opening-kind q opening.TraceEntries w is = is-sent q w _ is (sentry-still _)
+  opening-kind q opening.TraceExits w is = is-sent q w _ is (sexit-still _)
+  opening-kind q opening.Follow w is = is-sent q w _ is (set-still _)
+  opening-kind q opening.Start w is = is-sent q w _ is (run-still _)
+
+  stage-kind : (stage : Stage) → IsWithin (length t.traced) stage → function_call_of t stage ≡ Some c → Kind
+  unfolding function_call_of call_of
+  stage-kind (Spawning program) w is = is-other _ is (λ n b same. cc)
+  stage-kind (OpeningControl pid) w is = is-other _ is (λ n b same. cc)
+  stage-kind (Opening q step) w is = opening-kind q step w is
+  stage-kind Polling w is = is-other _ is (λ n b same. cc)
+  stage-kind (ReadingStatus q) w is = is-other _ is (λ n b same. cc)
+  stage-kind (ReadingText q l from len) w is = is-other _ is (λ n b same. cc)
+  stage-kind (Running q) w is = is-sent q w _ is (run-still _)
+  stage-kind (Closing q OpenNext) w is = is-other _ is (λ n b same. cc)
+  stage-kind (Closing q GoOn) w is = is-other _ is (λ n b same. cc)
+  stage-kind Finished w is = absurd (none-some c is)
+  stage-kind _ w is = absurd w
+
+  plant-kind : (q i : ℕ) → q < length t.traced → i < length o.functions
+      → Some (plant_call o (traced_at t q).control i) ≡ Some c → Kind
+  plant-kind q i within inside is =
+      let it = named-at o i inside in
+      writes q within i it.0 it.1 breakpoint breakpoint-size (instruction-bytes Bpt)
+      (write-is o c (traced_at t q).control i it.0 breakpoint breakpoint it.1 refl is)
+
+  lift-kind : (q i : ℕ) → q < length t.traced → i < length o.functions
+      → Some (lift_call o (traced_at t q).control i) ≡ Some c → Kind
+  lift-kind q i within inside is =
+      let it = named-at o i inside in
+      let f : Function = it.0 in
+      let p : IsPatchable f = All-at IsPatchable o.functions i f it.1 fit.each in
+      writes q within i f it.1 f.code p.size p.bytes
+      (write-is o c (traced_at t q).control i f f.code (code_of o i) it.1 (code-is o i f it.1) is)
+
+  aside-kind : (aside : Aside) → IsBeside (length t.traced) aside → AsideIsBelow (length o.functions) aside
+      → call_beside t t.stage aside ≡ Some c → Kind
+  unfolding call_beside
+  aside-kind Nothing w small is = stage-kind t.stage holds.stage is
+  aside-kind (Reading q i) w small is = is-sent q w _ is (read-still _ _)
+  aside-kind (Planting q i) w small is = plant-kind q i w small is
+  aside-kind (Patching q plants lifts clear) w small is =
+      by (first_function plants) (first_function lifts) refl refl is
+    where
+      by : (plant lift : Option ℕ) → first_function plants ≡ plant → first_function lifts ≡ lift
+          → Some (patch_call o (traced_at t q).control plant lift) ≡ Some c → Kind
+      by (Some i) lift first second its = plant-kind q i w (first-below _ plants i small.0 first) its
+      by None (Some i) first second its = lift-kind q i w (first-below _ lifts i small.1 second) its
+      by None None first second its = is-sent q w _ its cfault-still
+  aside-kind _ w small is = absurd w
+
+  pub kind : next_function_call_of t ≡ Some c → has_functions o ≡ true → Kind
+  unfolding next_function_call_of
+  kind next has =
+      aside-kind t.aside holds.beside below
+      (sym (ap (λ b. cond b (call_beside t t.stage t.aside) (next_call_of t)) has) ∙ next)

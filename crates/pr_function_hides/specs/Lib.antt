@@ -1,0 +1,2 @@
+pub mod FunctionHiders
+pub mod TidyWrites

@@ -1,0 +1,110 @@
+-- The writes of a truss that shows calls of functions are tidy, and the breakpoints that stand are those that it has
+-- marked; and what is asked of a history for that.
+use Rattle.std.specs.Prelude.{◌≡◌, ◌≢◌, ◌<◌, ◌++◌, ℕ, true, List, [], ◌∷◌, None, Some, Ok, length, option_and_then, slice_get}
+use Rattle.pr_api.specs.Entries.{call_entry}
+use Rattle.pr_function_hides.specs.FunctionHiders.{StandAsMarked}
+use Rattle.pr_function_laws.specs.Stretches.{BeginWithWrite}
+use Rattle.pr_hidden.specs.Covers.{Covers, Patch}
+use Rattle.pr_hidden.specs.Hiders.{Hiders, covers_at, hides, patch_at, replaces_memory}
+use Rattle.pr_hidden.specs.Tidiness.{IsTidyCall}
+use Rattle.pr_line.specs.declared.events.Event.{Event}
+use Rattle.pr_model.specs.ControlMessages.{target_of}
+use Rattle.pr_model.specs.Handles.{handle_of}
+use Rattle.pr_model.specs.Legal.{state_after}
+use Rattle.pr_model.specs.Replies.{bytes_in}
+use Rattle.pr_model.specs.State.{TracedProcess, TracedState, live_process}
+use Rattle.pr_model.specs.declared.calls.Call.{Call}
+use Rattle.pr_model.specs.declared.calls.Call.TheVariants as call
+use Rattle.pr_model.specs.declared.calls.Reply.{Reply}
+use Rattle.pr_model.specs.declared.calls.Reply.TheVariants.{Fail, Used}
+use Rattle.pr_model.specs.declared.events.Act.TheVariants.{Turn}
+use Rattle.pr_model.specs.declared.events.Actor.TheVariants.{Lwp}
+use Rattle.pr_model.specs.declared.events.Entry.{Entry}
+use Rattle.pr_model.specs.declared.events.Turned.{Turned}
+use Rattle.pr_model.specs.declared.handles.Held.{Held}
+use Rattle.pr_num.specs.Messages.{first_message}
+use Rattle.pr_num.specs.declared.errnos.Errno.TheVariants.{Intr}
+use Rattle.pr_num.specs.declared.messages.Message.TheVariants as message
+use Rattle.pr_parts.specs.AddressSpaces.{with_bytes}
+use Rattle.pr_rec.specs.declared.lwps.LwpStatus.{LwpStatus}
+use Rattle.pr_truss.specs.Asides.{marks_at}
+use Rattle.pr_truss.specs.FunctionEvents.{fresh_event, function_event}
+use Rattle.pr_truss.specs.Records.{status_lwp}
+use Rattle.pr_truss.specs.Replies.{answer_of}
+use Rattle.pr_truss.specs.Trusses.{TrussState, traced_at}
+use Rattle.pr_truss.specs.declared.function_events.FunctionEvent.TheVariants.{Replaced}
+use Rattle.pr_truss.specs.declared.replies.Answer.TheVariants.{Accepted}
+use Rattle.pr_truss.specs.declared.stages.Stage.TheVariants.{ReadingStatus}
+use Rattle.pr_world.specs.ControllerStates.{ControllerState, FnTruss}
+use Rattle.pr_world.specs.Protocol.{controllers_at}
+
+-- A reply tells truss, which reads the status of the process at a place, that its memory was replaced by exec, or that
+-- a child has it too by vfork.
+pub record TellsReplaced (t : TrussState) (place : ℕ) (r : Reply) : Type 0 where
+  pub reads : t.stage ≡ ReadingStatus place
+  pub accepted : answer_of r ≡ Accepted
+  pub l : LwpStatus
+  pub told : option_and_then status_lwp (bytes_in r) ≡ Some l
+  pub event : Event
+  pub fresh : fresh_event (traced_at t place) l ≡ Some event
+  pub replaced : function_event t.options (marks_at t place) l.id event ≡ Replaced
+
+module _ (who : Hiders) (controllers : List ControllerState) (first : TracedState) (h : List Entry) where
+  -- what is hidden, the state, and truss, after some entries
+  abbrev pub hidden_after : List Entry → Covers
+  hidden_after front = covers_at who first front
+
+  abbrev pub state_there : List Entry → TracedState
+  state_there front = state_after first front
+
+  abbrev pub IsTrussAfter : List Entry → ℕ → TrussState → Type 0
+  IsTrussAfter front k t = slice_get (controllers_at controllers front) k ≡ Some (FnTruss t)
+
+  -- ---- what is asked
+
+  -- One who hides writes at this address of a process that lives, after these entries, and is answered so.
+  pub record WritesAt (front : List Entry) (k : ℕ) (r : Reply) (at pid : ℕ) (p : TracedProcess) : Type 0 where
+    pub back : List Entry
+    pub handle : ℕ
+    pub bytes : List ℕ
+    pub is : h ≡ front ++ call_entry k (call.Ctl handle bytes) r ∷ back
+    pub hides_it : hides who k ≡ true
+    pub held : Held
+    pub there : handle_of (state_there front).opens k handle ≡ Some held
+    pub of : held.pid ≡ pid
+    pub target : target_of (state_there front).system held ≡ Some p
+    pub size : ℕ
+    pub len : ℕ
+    pub read : first_message bytes ≡ Ok (message.Write at size, len)
+
+  -- Where a breakpoint is planted, the code of its function stands. One that stands is lifted without refusal, as long
+  -- as the process lives. A vfork or an exec that is granted finds no breakpoint, and neither does the read of its exit.
+  -- And truss is not interrupted.
+  pub record AreUndisturbed : Type 0 where
+    pub stands : (front : List Entry) (k used at pid : ℕ) (p : TracedProcess) (f : Patch)
+        → WritesAt front k (Used used) at pid p → patch_at at (who.functions k) ≡ Some f
+        → patch_at at (hidden_after front pid).patches ≡ None → with_bytes f.at f.bytes p.space ≡ p.space
+    pub lifts : (front : List Entry) (k : ℕ) (r : Reply) (at pid : ℕ) (p : TracedProcess) (f : Patch)
+        → WritesAt front k r at pid p → patch_at at (hidden_after front pid).patches ≡ Some f
+        → (used : ℕ) × (r ≡ Used used)
+    pub copies : (front back : List Entry) (pid id : ℕ) (t : Turned)
+        → h ≡ front ++ record { actor = Lwp pid id; act = Turn t } ∷ back → replaces_memory t.did ≡ true
+        → (hidden_after front pid).patches ≡ []
+    pub replaced : (front back : List Entry) (k : ℕ) (c : Call) (r : Reply) (t : TrussState) (place : ℕ)
+        → h ≡ front ++ call_entry k c r ∷ back → hides who k ≡ true → IsTrussAfter front k t
+        → TellsReplaced t place r → (hidden_after front (traced_at t place).pid).patches ≡ []
+    pub unbroken : (front back : List Entry) (k : ℕ) (c : Call) (r : Reply) → h ≡ front ++ call_entry k c r ∷ back
+        → hides who k ≡ true → r ≢ Fail Intr
+
+  -- ---- what is so then
+
+  -- Each PCWRITE of one who hides is tidy. And of each process that truss traces, as long as it lives, those breakpoints
+  -- stand that its marks say.
+  pub record WritesTidily : Type 0 where
+    pub tidy : (front back : List Entry) (k handle : ℕ) (bytes : List ℕ) (r : Reply)
+        → h ≡ front ++ call_entry k (call.Ctl handle bytes) r ∷ back → hides who k ≡ true → BeginWithWrite bytes
+        → IsTidyCall who (hidden_after front) (state_there front) k (call.Ctl handle bytes) r
+    pub marked : (front back : List Entry) (k : ℕ) (t : TrussState) (place : ℕ) (p : TracedProcess) → h ≡ front ++ back
+        → hides who k ≡ true → IsTrussAfter front k t → place < length t.traced
+        → live_process (state_there front).system (traced_at t place).pid ≡ Some p
+        → StandAsMarked t.options (marks_at t place).planted (hidden_after front (traced_at t place).pid).patches

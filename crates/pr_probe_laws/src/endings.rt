@@ -1,0 +1,38 @@
+ghost use Rattle.std.specs.Prelude.{◌≡◌, ℕ, List, None, Some, slice_get, true};
+ghost use Rattle.pr_model.specs.Lawful.{IsLawful};
+ghost use Rattle.pr_model.specs.Legal.{IsLegal};
+ghost use Rattle.pr_model.specs.State.{TracedState};
+ghost use Rattle.pr_model.specs.declared.events.Entry.{Entry};
+ghost use Rattle.pr_num.specs.declared.errnos.Errno.{Errno};
+ghost use Rattle.pr_probe.specs.ProbeText.{printed};
+ghost use Rattle.pr_probe.specs.Probes.{ProbeState, first_probe, has_ended};
+ghost use Rattle.pr_probe_laws.specs.Reasons.{TellsWhy};
+ghost use Rattle.pr_probe_laws.specs.RunAgain.{RunsAtLast};
+ghost use Rattle.pr_world.specs.ControllerStates as cores;
+ghost use Rattle.pr_world.specs.ControllerStates.{ControllerState};
+ghost use Rattle.pr_tool_laws.specs.OwnCalls.{AreOwnCalls};
+ghost use Rattle.pr_world.specs.Protocol.{controllers_at};
+
+/// In a legal history where these controllers make their own calls, from a lawful state, an apfiles that has finished,
+/// and was not refused, has run its process again by PCRUN, and done nothing but close since then, unless it noted that
+/// every lwp stood when it came.
+pub fn apfiles_runs_its_process_again()
+    ensures { (controllers : List ControllerState) (n k pid : ℕ) (s : TracedState) (h : List Entry) (p : ProbeState)
+        → IsLawful s → slice_get controllers k ≡ Some (cores.Probe (first_probe pid)) → IsLegal n s h
+        → AreOwnCalls controllers h
+        → slice_get (controllers_at controllers h) k ≡ Some (cores.Probe p) → has_ended p ≡ true → p.refusal ≡ None
+        → RunsAtLast k pid s h }
+{}
+
+/// In such a history an apfiles that has finished and was refused prints the line of a refusal. Its errno has its
+/// reason in the reply to a call of its own: that refused a call for the process, or gave the status with a watched
+/// area, or mappings without room for an agent. Before it no call of apfiles was refused, but that waits for its agent
+/// may have been interrupted.
+pub fn apfiles_tells_why_it_was_refused()
+    ensures { (controllers : List ControllerState) (n k pid : ℕ) (s : TracedState) (h : List Entry) (p : ProbeState)
+        (e : Errno)
+        → IsLawful s → slice_get controllers k ≡ Some (cores.Probe (first_probe pid)) → IsLegal n s h
+        → AreOwnCalls controllers h
+        → slice_get (controllers_at controllers h) k ≡ Some (cores.Probe p) → has_ended p ≡ true
+        → p.refusal ≡ Some e → TellsWhy k pid e s h (printed p) }
+{}
