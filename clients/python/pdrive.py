@@ -21,6 +21,7 @@ from __future__ import annotations
 
 import os
 import re
+import shutil
 import struct
 import subprocess
 from dataclasses import dataclass, field
@@ -85,18 +86,24 @@ def _names(names: Names) -> List[str]:
     return names.split("+") if isinstance(names, str) else list(names)
 
 
+def _number_of(table: Dict[str, int], name: str) -> int:
+    if name not in table:
+        raise KeyError(f"{name} is none of {', '.join(table)}")
+    return table[name]
+
+
 def set_of(table: Dict[str, int], names: Names) -> int:
     """The word of a set: number n is its bit n - 1. ``names`` is ``"INT+TERM"``, or several names; ``""`` is none, and
     ``"all"`` is all of the table. A name that the table has not is a KeyError."""
     words = _names(names)
     if words == ["all"]:
         words = list(table)
-    return sum({1 << (table[name] - 1) for name in words if name})
+    return sum({1 << (_number_of(table, name) - 1) for name in words if name})
 
 
 def flags_of(table: Dict[str, int], names: Names) -> int:
-    """The word of some flags, each by its name."""
-    return sum({table[name] for name in _names(names) if name})
+    """The word of some flags, each by its name. A name that the table has not is a KeyError."""
+    return sum({_number_of(table, name) for name in _names(names) if name})
 
 
 def names_of(table: Dict[str, int], word: int) -> frozenset:
@@ -137,7 +144,7 @@ class LineRefused(PdriveError):
 
 
 class Never(PdriveError):
-    """A call was not ready, and nobody can move any more; it was taken back."""
+    """A call was not ready, and nobody can move any more, or the history has no place left; it was taken back."""
 
 
 class Ended(PdriveError):
@@ -177,9 +184,20 @@ class Registers:
         except ValueError:
             raise AttributeError(name) from None
 
+    def __repr__(self) -> str:
+        return f"Registers({', '.join(f'{name}={value:#x}' for name, value in zip(REGISTERS, self.values))})"
+
     def replace(self, **changed: int) -> "Registers":
-        """The same registers with some changed, by name."""
-        return Registers([changed.get(name, self.values[at]) for at, name in enumerate(REGISTERS)])
+        """The same registers with some changed, by name. A name that no register has is a TypeError."""
+        for name in changed:
+            if name not in REGISTERS:
+                raise TypeError(f"{name} is none of the registers {', '.join(REGISTERS)}")
+        return Registers(tuple(changed.get(name, self.values[at]) for at, name in enumerate(REGISTERS)))
+
+
+def _data(word: str) -> bytes:
+    """The bytes of a reply, in hex; no bytes are written ``-``."""
+    return b"" if word == "-" else bytes.fromhex(word)
 
 
 def _words(data: bytes) -> Sequence[int]:
@@ -426,11 +444,16 @@ class Control(File):
     stand in docs/proc.4.md."""
 
     def write(self, data: bytes) -> bytes:
-        """Writes one message. One that waits does; the bytes that PCREAD is answered with are the result."""
-        reply = self.session.call(f"ctl {self.handle} {data.hex()}")
-        if reply.startswith("half "):
-            reply = self.session.call(f"ctlwait {self.handle} {reply[5:]} {data.hex()}")
-        return bytes.fromhex(reply[6:]) if reply.startswith("bytes ") else b""
+        """Writes one message. One that waits does; the bytes that PCREAD is answered with are the result. The error of
+        one that is refused names it."""
+        try:
+            reply = self.session.call(f"ctl {self.handle} {data.hex()}")
+            if reply.startswith("half "):
+                reply = self.session.call(f"ctlwait {self.handle} {reply[5:]} {data.hex()}")
+        except ProcError as error:
+            code = int.from_bytes(data[:8], "little")
+            raise type(error)(f"{error.call} ({_name_in(CODES, code) or 'no message'})") from None
+        return _data(reply[6:]) if reply.startswith("bytes ") else b""
 
     def stop(self) -> None:
         """PCSTOP: directs it to stop, and waits until it is stopped on an event of interest."""
@@ -614,6 +637,8 @@ def find_program() -> List[str]:
     """The command of pdrive: what PDRIVE names, or the program that this repository has built. One that is not built
     reads its input to the end before it answers, so that a client would wait for ever: it is a FileNotFoundError."""
     named = os.environ.get("PDRIVE")
+    if named and not shutil.which(named):
+        raise FileNotFoundError(f"PDRIVE names {named}, which is no program")
     if named:
         return [named]
     built = Path(__file__).resolve().parents[2] / "crates" / "pdrive" / "out" / "pdrive"
@@ -695,7 +720,7 @@ class Session:
         return int(self.call(line).split()[1])
 
     def _bytes(self, line: str) -> bytes:
-        return bytes.fromhex(self.call(line)[6:])
+        return _data(self.call(line)[6:])
 
     # -- calls
 

@@ -62,6 +62,34 @@ class Sessions(unittest.TestCase):
                 session.call("close 9")
         self.assertEqual(len(session.history.entries), 2)
 
+    def test_empty_replies(self) -> None:
+        with Session(SCENARIO) as session:
+            self.assertEqual(session.list(), [])
+            process = session.spawn("p", held=True)
+            self.assertEqual((process.watched(), process.descriptors()), ([], []))
+
+    def test_registers(self) -> None:
+        with Session(SCENARIO) as session:
+            process = session.spawn("p", held=True)
+            process.control.wait_stop()
+            registers = process.status().lwp.regs
+            self.assertEqual(registers.replace(), registers)
+            self.assertIn("r1=0x0", repr(registers))
+            process.control.set_registers(registers.replace(r1=7))
+            self.assertEqual(process.status().lwp.regs.r1, 7)
+            with self.assertRaises(TypeError):
+                registers.replace(rl=7)
+
+    def test_names_in_errors(self) -> None:
+        with Session(SCENARIO) as session:
+            process = session.spawn("p", held=True)
+            with self.assertRaisesRegex(KeyError, "SIGTERM is none of .*TERM"):
+                process.control.trace_signals("SIGTERM")
+            process.control.wait_stop()
+            process.control.run()
+            with self.assertRaisesRegex(errors["EBUSY"], "PCRUN"):
+                process.control.run()
+
     def test_never(self) -> None:
         with Session(SCENARIO) as session:
             process = session.spawn("p", held=True)
