@@ -1,7 +1,8 @@
 #!/usr/bin/env bash
 # Time and memory of `check` against those of the `run` whose history it judges, at 10,000 and 100,000 entries: a program
 # calls getpid in a loop, and a script reads its status again and again. `run` writes its history to a file, and `check`
-# reads the scenario and that file. Prints the seconds of both and their ratio, and the greatest memory of both.
+# reads the scenario and that file. Prints the seconds of both and their ratio, the greatest memory of both, and by how
+# much time and memory of `check` are more than at the first size, beside the ratio of the sizes.
 #
 # Words are programs to compare, as in turns.sh.
 set -eu
@@ -23,7 +24,9 @@ used() {
 # least LINE LINE: the one with less seconds; the first may be empty
 least() { printf '%s\n' "$@" | grep . | sort -n | head -n 1; }
 
-for turns in 10000 100000; do
+declare -A first=()
+smallest=10000
+for turns in "$smallest" 100000; do
   looking_at_a_loop "$turns" >"$input"
   declare -A run=() check=()
   for ((try = 0; try < tries; try++)); do
@@ -35,9 +38,15 @@ for turns in 10000 100000; do
     done
   done
   for program in "${programs[@]}"; do
-    awk -v n="$turns" -v r="${run[$program]}" -v c="${check[$program]}" -v p="$program" 'BEGIN {
-      split(r, ran, " "); split(c, judged, " ")
-      printf "%d entries: run %s s, %d KiB; check %s s, %d KiB; ratio %.2f  %s\n", n, ran[1], ran[2], judged[1], judged[2], (ran[1] > 0 ? judged[1] / ran[1] : 0), p
-    }'
+    : "${first[$program]:=${check[$program]}}"
+    awk -v n="$turns" -v m="$smallest" -v r="${run[$program]}" -v c="${check[$program]}" -v f="${first[$program]}" \
+      -v p="$program" '
+      function ratio(a, b) { return b > 0 ? a / b : 0 }
+      BEGIN {
+        split(r, ran, " "); split(c, judged, " "); split(f, before, " ")
+        printf "%d entries: run %s s, %d KiB; check %s s, %d KiB; ", n, ran[1], ran[2], judged[1], judged[2]
+        printf "check to run %.2f; check to its first %.2f, ", ratio(judged[1], ran[1]), ratio(judged[1], before[1])
+        printf "and %.2f in memory, of %.2f  %s\n", ratio(judged[2], before[2]), n / m, p
+      }'
   done
 done

@@ -1,6 +1,6 @@
 # Sourced by the measures beside it; it does nothing by itself. A measure sets `programs` by `programs_of`, and may set
 # `words`, with which a program is run, and `ends`, the statuses that a run may end with. It has a function
-# `scenario SIZE`, which writes the input of a size; what two measures write stands here.
+# `scenario SIZE`, which writes the input of a size; what two measures write stands here. They need GNU time.
 
 words=(run -q)
 ends=(0)
@@ -40,20 +40,29 @@ least_times() {
   done
 }
 
-# measure UNIT SIZE..: times each program at each size. Beside the ratio of its time to that at the first size stands
-# the ratio of the sizes; where time is linear the first is not above the second.
+# peak PROGRAM: the most memory of a run for the input, in KiB; it is the same each time
+peak() {
+  /usr/bin/time -q -f %M "$1" "${words[@]}" <"$input" 2>&1 >/dev/null | tail -n 1
+}
+
+# measure UNIT SIZE..: times each program at each size, and tells the most memory that it has. Beside the ratios of both
+# to those at the first size stands the ratio of the sizes; where they are linear the first two are not above it.
 measure() {
-  local unit=$1 size program
-  local -A first=()
+  local unit=$1 size program kib
+  local -A first=() first_kib=()
   shift
   local smallest=$1
   for size in "$@"; do
     scenario "$size" >"$input"
     least_times
     for program in "${programs[@]}"; do
-      : "${first[$program]:=${least[$program]}}"
-      awk -v n="$size" -v u="$unit" -v m="$smallest" -v s="${least[$program]}" -v f="${first[$program]}" -v p="$program" \
-        'BEGIN { printf "%d %s: %.3f s, ratio %.2f of %.2f  %s\n", n, u, s, (f > 0 ? s / f : 0), n / m, p }'
+      kib=$(peak "$program")
+      : "${first[$program]:=${least[$program]}}" "${first_kib[$program]:=$kib}"
+      awk -v n="$size" -v u="$unit" -v m="$smallest" -v s="${least[$program]}" -v f="${first[$program]}" \
+        -v k="$kib" -v fk="${first_kib[$program]}" -v p="$program" 'BEGIN {
+          printf "%d %s: %.3f s, ratio %.2f of %.2f; ", n, u, s, (f > 0 ? s / f : 0), n / m
+          printf "%d KiB, ratio %.2f  %s\n", k, k / fk, p
+        }'
     done
   done
 }

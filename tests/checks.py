@@ -1,12 +1,36 @@
-"""What the tests of this folder share: which program they run, how a run is measured, which crates a crate stands on, and
-the count of what passed."""
+"""What the tests of this folder share: which programs they run, and how many at once, how a run is measured, which crates
+a crate stands on, copies of these, and the count of what passed."""
+import concurrent.futures
 import os
+import shutil
 import subprocess
 import sys
 import tempfile
 
 TOP = os.path.dirname(os.path.dirname(os.path.abspath(__file__)))
-PROVED = os.path.join(TOP, "crates/proclab/out/proclab")
+
+
+def program_of(name):
+    """The program of a name: the one that its variable (PROCLAB, PHIST, PDRIVE) tells, or else the proved one."""
+    return os.environ.get(name.upper(), os.path.join(TOP, "crates", name, "out", name))
+
+
+PROVED = program_of("proclab")
+
+
+def read(*parts):
+    """The bytes of a file of the repository."""
+    with open(os.path.join(TOP, *parts), "rb") as file:
+        return file.read()
+
+
+WORKERS = int(os.environ.get("WORKERS", os.cpu_count()))
+
+
+def each(call, jobs):
+    """What a call gives of each job. As many are made at once as there are processors, or as WORKERS says."""
+    with concurrent.futures.ThreadPoolExecutor(WORKERS) as pool:
+        return list(pool.map(call, jobs))
 
 
 class Ran:
@@ -49,6 +73,18 @@ def crates_below(names):
             found[name] = needs[name]
             left += needs[name]
     return found
+
+
+def copy_crates(room, names):
+    """Puts these crates and those below into a copy as they are here, with what is built of them and without the edits
+    of the gate."""
+    below, skipped = crates_below(names), shutil.ignore_patterns("must-fail", "incremental")
+    for name in below:
+        source, target = os.path.join(TOP, "crates", name), os.path.join(room, "crates", name)
+        shutil.copytree(source, target, ignore=skipped, dirs_exist_ok=True)
+    with open(os.path.join(TOP, "crates.txt")) as lines, open(os.path.join(room, "crates.txt"), "w") as file:
+        file.writelines(line for line in lines if line.strip() and line.split()[0].rstrip(":") in below)
+    shutil.copy(os.path.join(TOP, "HANDLES"), room)
 
 
 class Checks:

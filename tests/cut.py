@@ -1,17 +1,16 @@
 #!/usr/bin/env python3
-"""A scenario under truss and tools, cut at every byte: what is left is run, or refused at its last line with the kind that
-scenario(5) says, or at the first line of the block that the cut left open. The expectation comes from a reading of that
-page which stands here, and which knows of scenarios only what this one needs: all lines above the last one are right.
-What is run gives what the same text with a newline gives, with status 0, 3 or 4.
+"""Two scenarios, one under truss and tools and a shell under truss, cut at every byte: what is left is run, or refused at
+its last line with the kind that scenario(5) says, or at the first line of the block that the cut left open. The
+expectation comes from a reading of that page which stands here, and which knows of scenarios only what these need: all
+lines above the last one are right. What is run gives what the same text with a newline gives, with status 0, 3 or 4.
 
 A word names another program than the proved one. The last line is 'N passed, M failed'.
 """
 import collections
-import concurrent.futures
 import re
 import sys
 
-from checks import PROVED, Checks, run
+from checks import PROVED, Checks, each, read, run
 
 SCENARIO = r'''# a reader and its child, a script, truss and tools
 turns 900
@@ -46,6 +45,8 @@ tool ptree
 tool pwait 1
 schedule c0*2, 1/1*3 clock c1
 '''
+
+SHELL = read("cases/truss/shell.in").decode()
 
 CALLS = "exit fork read write open close wait getpid getppid exec pipe dup lseek kill sigaction sigmask pause sigreturn brk " \
         "mmap munmap mprotect time sleep lwp_create lwp_exit lwp_suspend lwp_continue fstat sigqueue vfork".split()
@@ -162,11 +163,10 @@ def wrong_with(program, text):
 def main():
     program = sys.argv[1] if len(sys.argv) > 1 else PROVED
     checks, kinds = Checks(), collections.Counter()
-    cuts = [SCENARIO[:size] for size in range(len(SCENARIO) + 1)]
-    with concurrent.futures.ThreadPoolExecutor() as pool:
-        for cut, (wrong, line) in zip(cuts, pool.map(lambda cut: wrong_with(program, cut), cuts)):
-            checks.check("cut at byte %d" % len(cut), wrong)
-            kinds[line.split()[-1] if line else "run"] += 1
+    cuts = [text[:size] for text in (SCENARIO, SHELL) for size in range(len(text) + 1)]
+    for cut, (wrong, line) in zip(cuts, each(lambda cut: wrong_with(program, cut), cuts)):
+        checks.check("cut at byte %d" % len(cut), wrong)
+        kinds[line.split()[-1] if line else "run"] += 1
     print("%d cuts: %s" % (len(cuts), ", ".join("%d %s" % (count, kind) for kind, count in kinds.most_common())))
     checks.end()
 

@@ -5,14 +5,13 @@ that are no text, a client that waits for each reply. Each session ends, with th
     tests/hostile-clients.py
 
 PDRIVE names the program; else it is the one that the gate has built."""
-import os
 import random
 import subprocess
 import sys
 
-from checks import TOP, Checks
+from checks import Checks, program_of
 
-PDRIVE = os.environ.get("PDRIVE", os.path.join(TOP, "crates/pdrive/out/pdrive"))
+PDRIVE = program_of("pdrive")
 SCENARIO = b"turns 200\nprogram l\na:\njmp a\nend\nspawn l\n%calls\n"
 MIB = 1 << 20
 

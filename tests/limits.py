@@ -1,8 +1,8 @@
 #!/usr/bin/env python3
 """Inputs at their limits, by the built program: a scenario of exactly 1 MiB of each kind of line, and with a byte more;
 one more of each thing than there may be; long runs; and `check` on inputs of up to 256 MiB, whose time grows as they do,
-and whose memory is at most four times the input, or 192 bytes for each entry where that is more. What has a limit while
-a scenario runs (processes, handles, lwps, areas, files, pipes, memory) is in cases/ and not here.
+and whose memory is at most four times the input, whatever its lines are. What has a limit while a scenario runs
+(processes, handles, lwps, areas, files, pipes, memory) is in cases/ and not here.
 
 A word names another program than the proved one. Each line has what was measured; the last is 'N passed, M failed'.
 """
@@ -148,17 +148,12 @@ def long_runs(checks, program):
         checks.check("64 controllers, " + " ".join(words), expect(ran, 0, "\nstatus 0\n"), measured(ran, TEXT))
 
 
-ENTRY = 96              # the bytes that an entry takes in a history, however short its line is
-OWN = 4 << 20           # those that the program has without any input, at most
-
-
-def judged(checks, program, name, data, status, out, most=4, entries=0):
-    """`check` of an input, whose memory is at most so many times the input, or what so many entries take in the history
-    that is read and in that of the kernel which plays it."""
+def judged(checks, program, name, data, status, out, most=4):
+    """`check` of an input, whose memory is at most so many times the input: no entry is kept."""
     ran = run(program, ["check"], data)
     wrong = expect(ran, status, out)
-    if not wrong and ran.memory << 10 > max(most * len(data), 2 * ENTRY * entries + OWN):
-        wrong = "more than %d times the input, and more than its entries take" % most
+    if not wrong and ran.memory << 10 > most * len(data):
+        wrong = "more than %d times the input" % most
     checks.check("check, %s" % name, wrong, "%d MB, %s" % (len(data) // 1_000_000, measured(ran, len(data))))
     return ran.seconds if ran else 0.0
 
@@ -195,15 +190,31 @@ def traced(program, count):
     return text.encode() + b"%history\n" + run(program, ["run"], text.encode()).out
 
 
+ASKS = "program p\nend\nscript\nend\n"
+
+
+def polls(program, count, handles=20_000):
+    """A history of so many entries that each poll so many handles, of which none is open, under its scenario. A handle is
+    two bytes of its line."""
+    lines = "".join("%d c0 poll%s -> fail EBADF\n" % (k, " 7" * handles) for k in range(count))
+    return (ASKS + "%history\nhistory " + "%d\n" % count + lines).encode()
+
+
+def misled(program, count):
+    """The history of `steps` with a call in place of its first entry, whose controller there is not: its lines are read."""
+    return steps(program, count).replace(b"\n0 1/1 ran\n", b"\n0 c0 until 0 -> done\n", 1)
+
+
 def large_histories(checks, program):
     for name, make, sizes in [("long lines", reads, [1250, 2500, 5000]),
+                              ("lines of many handles", polls, [250, 500, 1000]),
                               ("lines of a traced program", traced, [25_000, 50_000, 99_990]),
                               ("lines of a program that calls", calls, [500_000, 1_000_000, 2_000_000]),
                               ("the shortest lines", steps, [1_000_000, 2_000_000, 4_000_000])]:
         times = []
         for size in sizes:
             entries = size + 3 if make == reads else size
-            times.append(judged(checks, program, name, make(program, size), 0, "legal %d\n" % entries, entries=entries))
+            times.append(judged(checks, program, name, make(program, size), 0, "legal %d\n" % entries))
         slow = times[2] > 6 * times[0] + 0.2 and "more than linear"
         checks.check("the time of check, " + name, slow, "ratio %.2f of 4" % (times[2] / times[0]))
 
@@ -215,6 +226,10 @@ def limits_of_check(checks, program):
     comments, _ = filled("", "#")
     judged(checks, program, "1 MiB above the history", comments.encode() + none, 0, "legal 0\n", most=100)
     judged(checks, program, "1 MiB and a byte above it", b"\n" + comments.encode() + none, 2, "line 0: TooLong\n", most=100)
+    judged(checks, program, "a line of 60 MB, of handles", polls(program, 1, 30_000_000), 0, "legal 1\n")
+    wrong = misled(program, 2_000_000)
+    judged(checks, program, "an entry that is not legal, before others", wrong, 8, "entry 0: not legal\n")
+    judged(checks, program, "a line that is none, behind one", wrong[:-1] + b"!\n", 2, "line 2000007: BadHistory\n")
     judged(checks, program, "10^12 entries that are not there", b"%history\nhistory 1000000000000\n", 2, "line 3: BadHistory\n", most=1 << 20)
 
 

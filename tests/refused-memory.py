@@ -1,234 +1,125 @@
 #!/usr/bin/env python3
-"""Each request for memory refused in turn, in the built program: for each number N a run in which all requests from the
+"""Each request for memory refused in turn, in the built programs: for each number N a run in which all requests from the
 Nth on are refused, and one in which the Nth alone is, until a run asks for fewer. Where all are, the status is 7, and what
-was written is a prefix of the whole output. Where one alone is, the same, or the run is whole: what grows a table asks a
-second time, for no more than it needs. Runs on several threads ask for memory in an order of their own, and the system
-asks for their threads: there a run may be whole in both ways.
+was written is a prefix of the whole output; phist writes nothing. Where one alone is, the same, or the run is whole: what
+grows a table asks a second time, for no more than it needs. Runs on several threads ask for memory in an order of their
+own, and the system asks for their threads: there a run may be whole in both ways, and where the system has made no thread
+for a worker it may not end, which is counted. Where their text depends on the order, what was written is judged by
+`check`: it is the front of a legal history.
 
-A word names another program than the proved one. It needs a C compiler. The last line is 'N passed, M failed'.
+Of more than 1,500 requests some are refused, the first and the last ones among them; --most tells another number. With
+--sample one input alone is run, as in the gate. PROCLAB, PHIST and PDRIVE name other programs than the proved ones, and
+WORKERS tells how many runs there are at once. It needs a C compiler. The last line is 'N passed, M failed'.
 """
+import argparse
 import collections
-import concurrent.futures
-import os
-import struct
+import re
 import subprocess
-import sys
 import tempfile
 
-from checks import PROVED, TOP, Checks
+from checks import PROVED, Checks, each, program_of, read
+from sweeps import LENDINGS, MANY_THINGS, Sweep, make_library, some
 
-# A script that sets all that a process can have, in a process of several lwps with a handler and queued signals.
-MANY_THINGS = """turns 400
-file notes "some bytes"
-program p
-text path, "notes"
-space buffer, 64
-set r1, 33
-set r2, handler
-sys sigaction
-set r1, other
-set r2, 0x700800
-sys lwp_create
-set r1, other
-set r2, 0x700c00
-sys lwp_create
-set r1, path
-set r2, 2
-sys open
-set r1, buffer
-sys pipe
-set r1, 8192
-set r2, 6
-sys mmap
-set r1, 0x102000
-sys brk
-sys fork
-set r1, 0
-sys wait
-sys getpid
-mov r1, r0
-set r2, 33
-set r3, 9
-sys sigqueue
-sys sigqueue
-set r1, 0
-sys exit
-handler:
-sys sigreturn
-other:
-set r1, 3
-sys sleep
-sys lwp_exit
-end
-spawn p
-script
-open c 1 ctl w
-open s 1 status r
-open a 1 as r
-open w 1 watch r
-open l 1/1 lwpctl w
-write c stop watch 0x80040 8 2 watch 0x80048 8 1
-write c agent 0 0 0 0 0 0 0 0 0x701000 0 0x10000
-write l kill 34 kill 34 kill 35
-write c write 0x80040 0011223344 read 0x80040 8
-read a 0x80000 100
-read w 0 100
-read s 0 400
-list
-poll c s
-kill 1 36
-close l
-spawn p held
-write c run
-write c set rlc
-interrupt 0
-until 2
-close c
-end
-tool pfiles 1
-tool pmap 1
-tool psig 1
-tool pflags 1
-"""
-
-# A lender whose space comes back twice: its first borrower execs. Its second one lends the space on and is killed by the
-# borrower of that, which has the first lender's space then, and ends.
-LENDINGS = """turns 400
-program other
-space more, 4096
-sys getpid
-set r1, 3
-sys exit
-end
-program lender
-text path, "other"
-space kept, 8
-set r6, kept
-set r1, 0x102000
-sys brk
-sys vfork
-jz r0, execs
-set r1, kept
-sys wait
-sys vfork
-jz r0, lends_on
-set r1, 0
-sys wait
-ld r1, r6, 0
-sys exit
-execs:
-st r0, r6, 0
-set r1, path
-sys exec
-lends_on:
-sys vfork
-jz r0, kills
-pause:
-sys pause
-jmp pause
-kills:
-sys getppid
-mov r1, r0
-set r2, 9
-sys kill
-set r3, 5
-st r3, r6, 0
-set r1, 6
-sys exit
-end
-spawn lender
-truss -f -s !CLD -p 1
-script
-open s 1 status r
-open a 1 as r
-open m 1 map r
-until 2
-read s 0 400
-read a 0x80000 16
-read m 0 400
-poll s
-end
-tool pmap 2
-tool pstack 1
-"""
+PHIST, PDRIVE = program_of("phist"), program_of("pdrive")
 
 EXAMPLES = ["alone", "stop-and-look", "truss-two-calls", "truss-vfork", "truss-two-processes", "truss-a-pipeline",
             "truss-interrupted", "looks-at-a-process", "where-it-stands", "a-family-and-its-end", "watchpoint", "agent",
-            "two-lwps", "catches-a-signal", "untraced-steps", "kept-and-judged", "changed-and-judged", "not-a-scenario"]
+            "two-lwps", "catches-a-signal", "untraced-steps", "kept-and-judged", "changed-and-judged", "not-a-scenario",
+            "truss-functions", "writes-a-core", "looks-at-a-core", "asks-by-an-agent"]
+CASES = ["cases/truss/shell", "cases/tools/pmap-of-a-reader"]
+SESSIONS = ["waits-agents-and-memory", "asleep-at-a-pipe", "lines-that-ask-for-nothing"]
+ON_ONE, IN_ANY_ORDER, IN_AN_ORDER = "on one thread", "in any order", "in an order of its own"
 
 
 def words_of(name):
-    path = os.path.join(TOP, "examples", name + ".args")
-    return open(path).read().split() if os.path.exists(path) else ["run"]
+    """The words for an example or a case."""
+    try:
+        return read(name + ".args").decode().split()
+    except FileNotFoundError:
+        return ["run"]
 
 
-def scenarios():
-    """The name, the words, the input, and whether it runs on threads."""
-    for name in EXAMPLES:
-        with open(os.path.join(TOP, "examples", name + ".in"), "rb") as text:
-            yield name, words_of(name), text.read(), False
-    yield "many things", ["run"], MANY_THINGS.encode(), False
-    yield "many things", ["plain"], MANY_THINGS.encode(), False
-    yield "lendings", ["run"], LENDINGS.encode(), False
-    yield "lendings", ["plain"], LENDINGS.encode(), False
-    yield "the usage line", [], b"", False
-    yield "gen", ["gen", "3"], b"", False
-    with open(os.path.join(TOP, "examples/truss-on-several-threads.in"), "rb") as text:
-        data = text.read()
-    yield "truss on several threads", ["run", "-q", "-j", "2"], data, True
+def with_history(text):
+    """An input of `check`: a scenario, and the history of its run."""
+    ran = subprocess.run([PROVED, "run"], input=text.encode(), capture_output=True)
+    return text.encode() + b"%history\n" + ran.stdout
 
 
-class Sweep:
-    """The runs of one input, each with another request refused."""
+def inputs():
+    """The name, the program with its words, the input, and whether it runs on threads, and its text depends on them."""
+    yield "the first run", [PROVED, "run"], read("crates/proclab/stdin"), ON_ONE
+    for name in ["examples/" + name for name in EXAMPLES] + CASES:
+        yield name, [PROVED] + words_of(name), read(name + ".in"), ON_ONE
+    for name, text in ("many things", MANY_THINGS), ("lendings", LENDINGS):
+        yield name, [PROVED, "run"], text.encode(), ON_ONE
+        yield name, [PROVED, "plain"], text.encode(), ON_ONE
+        yield name, [PROVED, "check"], with_history(text), ON_ONE
+        yield name, [PROVED, "run", "-j", "2"], text.encode(), IN_AN_ORDER
+    yield "the usage line", [PROVED], b"", ON_ONE
+    yield "gen", [PROVED, "gen", "3"], b"", ON_ONE
+    yield "truss on several threads", [PROVED, "run", "-q", "-j", "2"], read("examples/truss-on-several-threads.in"), IN_ANY_ORDER
+    for words in [], ["lanes"], ["svg"], ["-p", "1"]:
+        yield "debugger", [PHIST] + words, read("examples/debugger.out"), ON_ONE
+    yield "breakpoint with its scenario", [PHIST], read("examples/breakpoint.in") + b"%history\n" + read("examples/breakpoint.out"), ON_ONE
+    for name in SESSIONS:
+        yield name, [PDRIVE], read("cases/sessions", name + ".session"), ON_ONE
+    yield SESSIONS[0], [PDRIVE, "-q"], read("cases/sessions", SESSIONS[0] + ".session"), ON_ONE
 
-    def __init__(self, program, words, data, room):
-        self.command = [program] + words
-        self.data = data
-        self.room = room
 
-    def run(self, number, onwards):
-        """A run: its status or None, what it wrote, and how often it asked for memory."""
-        with tempfile.NamedTemporaryFile(dir=self.room) as counted:
-            counted.write(bytes(8))
-            counted.flush()
-            env = {"LD_PRELOAD": os.path.join(self.room, "refuse.so"), "COUNTED": counted.name, "REFUSED": str(number)}
-            env.update({"ONWARDS": "1"} if onwards else {})
-            try:
-                ran = subprocess.run(self.command, input=self.data, capture_output=True, timeout=20, env=env)
-            except subprocess.TimeoutExpired:
-                return None, b"", 0
-            return ran.returncode, ran.stdout + ran.stderr, struct.unpack("q", open(counted.name, "rb").read())[0]
+def is_legal_front(scenario, out):
+    """Whether what was written is the front of the text of a legal history, as it may be told of some entries."""
+    head = re.match(rb"history \d+\n", out)
+    if not head:
+        return b"history 100000\n".startswith(out) or re.fullmatch(rb"history \d*", out) is not None
+    lines = re.match(rb"(\d+ .*\n)*", out[head.end():]).group(0)
+    entries = b"history %d\n" % lines.count(b"\n") + lines
+    judged = subprocess.run([PROVED, "check"], input=scenario + b"%history\n" + entries, capture_output=True)
+    return judged.stdout == b"legal %d\n" % lines.count(b"\n")
 
 
-def swept(checks, program, name, words, data, threads, room):
-    sweep = Sweep(program, words, data, room)
+def swept(checks, name, command, data, order, room, most):
+    sweep = Sweep(command[0], command[1:], data, room)
     status, whole, asked = sweep.run(0, False)
-    last = asked + (200 if threads else 1)
-    wrong, ends, prefixes = [], collections.Counter(), 0
-    jobs = [(number, onwards) for number in range(1, last + 1) for onwards in (True, False)]
-    with concurrent.futures.ThreadPoolExecutor() as pool:
-        for (number, onwards), (ended, out, count) in zip(jobs, pool.map(lambda job: sweep.run(*job), jobs)):
-            refused = count >= number
+    last = asked + (1 if order == ON_ONE else 200)
+    wrong, ends, prefixes, numbers = [], collections.Counter(), 0, some(last, most)
+    jobs = [(number, onwards) for number in numbers for onwards in (True, False)]
+    for (number, onwards), (ended, out, count) in zip(jobs, each(lambda job: sweep.run(*job), jobs)):
+        refused = count >= number
+        if order == IN_AN_ORDER:
+            front = is_legal_front(data, out)
+            is_whole, is_cut = ended in (0, 3, 4) and front, ended == 7 and front
+        else:
             is_whole = (ended, out) == (status, whole)
-            is_cut = ended == 7 and whole.startswith(out)
-            if refused:
-                ends[onwards, is_cut] += 1
-                prefixes += is_cut and len(out) > 0
-            if not (is_cut and refused or is_whole and (threads or not refused or not onwards)):
-                wrong.append("request %d%s: status %s, %d bytes" % (number, " and all later" if onwards else "", ended, len(out)))
-    figures = "%d requests; status 7 where all later ones are refused too %d times, where it alone is %d times, and else whole" \
-              " %d times; %d runs wrote something" % (asked, ends[True, True], ends[False, True], ends[False, False], prefixes)
-    checks.check(" ".join(["proclab"] + words) + ", " + name, "; ".join(wrong[:5]), figures)
+            is_cut = ended == 7 and whole.startswith(out) and (command[0] != PHIST or not out)
+        if refused:
+            ends[onwards, is_cut] += 1
+            prefixes += is_cut and len(out) > 0
+        if ended is None and order != ON_ONE and not onwards:
+            ends["no end"] += 1
+        elif not (is_cut and refused or is_whole and (order != ON_ONE or not refused or not onwards)):
+            wrong.append("request %d%s: status %s, %d bytes" % (number, " and all later" if onwards else "", ended, len(out)))
+    figures = "%d requests, of which %d were refused; status 7 where all later ones are refused too %d times, where it alone is" \
+              " %d times, and else whole %d times; %d runs wrote something"
+    figures %= asked, sum(number <= asked for number in numbers), ends[True, True], ends[False, True], ends[False, False], prefixes
+    figures += "; %d did not end" % ends["no end"] if ends["no end"] else ""
+    checks.check(" ".join([command[0].split("/")[-1]] + command[1:]) + ", " + name, "; ".join(wrong[:5]), figures)
+    return asked, ends
 
 
 def main():
-    program = sys.argv[1] if len(sys.argv) > 1 else PROVED
-    checks = Checks()
+    words = argparse.ArgumentParser()
+    words.add_argument("--most", type=int, default=1500)
+    words.add_argument("--sample", action="store_true")
+    asked_for = words.parse_args()
+    checks, requests, total = Checks(), 0, collections.Counter()
     with tempfile.TemporaryDirectory() as room:
-        source = os.path.join(TOP, "tests/refused-memory.c")
-        subprocess.run(["cc", "-shared", "-fPIC", "-O2", "-o", os.path.join(room, "refuse.so"), source], check=True)
-        for name, words, data, threads in scenarios():
-            swept(checks, program, name, words, data, threads, room)
+        make_library(room)
+        chosen = [("many things", [PROVED, "run"], MANY_THINGS.encode(), ON_ONE)] if asked_for.sample else inputs()
+        for name, command, data, order in chosen:
+            asked, ends = swept(checks, name, command, data, order, room, asked_for.most)
+            requests, total = requests + asked, total + ends
+    print("%d requests; all later ones refused too: status 7 %d times; one alone: status 7 %d times, and else whole %d times;"
+          " %d runs on threads did not end" % (requests, total[True, True], total[False, True], total[False, False], total["no end"]))
     checks.end()
 
 

@@ -1,8 +1,9 @@
 #!/usr/bin/env python3
 """Rivals: random scenarios in which two to six controllers (scripts, trusses, tools) open the same processes, stop,
-run and kill them and interrupt one another; lenders and borrowers of a vfork are among them. Each is run by `run` and
-by `run -j 1`, `-j 4` and `-j 16`, and what was written is handed to `check`. A run passes where it ends within the
-given seconds with status 0, 3 or 4, writes nothing to standard error, and its history is legal to the last entry.
+run and kill them and interrupt one another; lenders and borrowers of a vfork are among them, and trusses that plant
+breakpoints (-u), gcore and apfiles, which may be disturbed. Each is run by `run` and by `run -j 1`, `-j 4` and
+`-j 16`, and what was written is handed to `check`. A run passes where it ends within the given seconds with status 0,
+3 or 4, writes nothing to standard error, and its history is legal to the last entry.
 
 A scenario is made of its seed alone. What fails is printed with its seed, and `--seed SEED --count 1` runs it again;
 `--show SEED` prints the scenario. With `--minutes M` it goes on to new seeds for so long. The last line is
@@ -11,14 +12,13 @@ A scenario is made of its seed alone. What fails is printed with its seed, and `
 import argparse
 import collections
 import concurrent.futures
-import os
 import random
 import re
 import subprocess
 import sys
 import time
 
-TOP = os.path.dirname(os.path.dirname(os.path.abspath(__file__)))
+from checks import PROVED, WORKERS
 
 # Short programs that fork, sleep, wait for one another, send themselves signals, make lwps, and incur faults.
 PROGRAMS = {
@@ -36,6 +36,17 @@ PROGRAMS = {
     "stops": "sys getpid/mov r4, r0/mov r1, r4/set r2, 24/sys kill/mov r1, r4/set r2, 34/set r3, 7/sys sigqueue"
              "/set r1, 0/sys exit",
 }
+# Programs of functions: in a loop, in one another and around a fork, and of two lwps and a handler.
+CALLERS = {
+    "calls": "set r4, 5/set r5, 1/again:/call one/call two/sub r4, r5/jnz r4, again/set r1, 0/sys exit/one:/nop/ret"
+             "/two:/mov r1, r4/sys getpid/ret",
+    "nests": "set r4, 3/set r5, 1/call down/set r1, 0/sys exit/down:/sub r4, r5/jz r4, bottom/call down/ret/bottom:/nop"
+             "/sys fork/jz r0, child/set r1, 0/sys wait/ret/child:/call leaf/set r1, 0/sys exit/leaf:/set r2, 2/ret",
+    "shares": "set r1, other/set r2, 0x700800/sys lwp_create/set r1, 16/set r2, handler/sys sigaction/sys getpid"
+              "/mov r1, r0/set r2, 16/sys kill/other:/set r4, 4/set r5, 1/more:/call shared/sub r4, r5/jnz r4, more"
+              "/sys lwp_exit/handler:/call shared/sys sigreturn/shared:/nop/ret",
+}
+PROGRAMS.update(CALLERS)
 # What a program does after a vfork in the parent: it waits for the child and ends.
 WAITS = "/set r1, 0/sys wait/set r1, 0/sys exit/child:"
 # Programs that lend their space to a child, which exits, execs, lends it on, dozes, kills its lender, stops, or dies.
@@ -56,13 +67,19 @@ LENDERS = {
               "/mov r1, r4/set r2, 16/sys kill/mov r1, r4/set r2, 24/sys kill/bpt/handler:/sys sigreturn",
     "both": 'text path "forks"/sys vfork/jz r0, child' + WAITS + "/sys fork/jz r0, leaf/sys vfork/jz r0, leaf"
             "/set r1, path/sys exec/leaf:/sys getppid/set r1, 4/sys exit",
+    "borrows": 'text path "calls"/call before/sys vfork/jz r0, child' + WAITS + "/call before/set r1, path/sys exec"
+               "/before:/nop/ret",
 }
 PROGRAMS.update(LENDERS)
 CALLS = ["exit", "fork", "read", "write", "wait", "getpid", "kill", "pause", "sleep", "lwp_create", "sigqueue",
          "vfork", "exec"]
 SIGNALS = ["HUP", "INT", "TERM", "USR1", "CLD", "TSTP", "CONT", "TRAP", "STOP", "RT1"]
 FAULTS = ["FLTBPT", "FLTIZDIV", "FLTTRACE", "FLTWATCH", "FLTACCESS"]
+# Labels before an instruction that is no system call: truss can name these as functions.
+FUNCTIONS = {"calls": ["one", "two"], "nests": ["down", "bottom", "child", "leaf"], "shares": ["other", "handler", "shared"],
+             "borrows": ["before", "child"], "pipes": ["child"], "lends": ["child"], "chains": ["parent"]}
 TOOLS = ["pflags", "psig", "pstack", "pmap", "pfiles", "pstop", "prun", "pwait"]
+PROBERS = ["gcore", "apfiles", "apfiles"]
 READS = ["status", "lstatus", "psinfo", "map", "usage", "as", "sigact", "watch", "fds"]
 PIDS = [1, 1, 1, 2, 2, 3, 4]
 # Messages that a process refuses while its space is lent, and the stop that it still obeys.
@@ -71,7 +88,7 @@ REFUSED_TO_LENDERS = ["watch 0x80000 8 2", "watch 0x80000 0 0", "write 0x80000 0
 
 
 def a_program(rng):
-    return rng.choice(list(rng.choice([PROGRAMS, LENDERS])))
+    return rng.choice(list(rng.choice([PROGRAMS, LENDERS, CALLERS])))
 
 
 def some(rng, names):
@@ -116,11 +133,16 @@ def script_line(rng, controllers):
 
 
 def truss_line(rng):
-    words = [word for word in ["-f", "-c", "-l"] if rng.random() < 0.4]
+    functions = rng.random() < 0.4
+    words = [word for word in (["-l", "-i"] if functions else ["-f", "-c", "-l"]) if rng.random() < 0.4]
     words += rng.choice([[], ["-t", some(rng, CALLS)], ["-t", "!" + some(rng, CALLS)]])
     words += rng.choice([[], ["-s", "!CLD"], ["-m", some(rng, FAULTS)]])
     pids = "+".join(str(pid) for pid in sorted({rng.choice(PIDS) for _ in range(rng.randint(1, 3))}))
-    return " ".join(["truss"] + words + rng.choice([[a_program(rng)], ["-p", pids], ["-p", pids]]))
+    program = a_program(rng)
+    if functions:
+        program = rng.choice(list(FUNCTIONS))
+        words += ["-u", program + ":" + "+".join(rng.sample(FUNCTIONS[program], rng.randint(1, len(FUNCTIONS[program]))))]
+    return " ".join(["truss"] + words + rng.choice([[program], ["-p", pids], ["-p", pids]]))
 
 
 def controller(rng, controllers):
@@ -128,7 +150,7 @@ def controller(rng, controllers):
     if kind == "truss":
         return [truss_line(rng)]
     if kind == "tool":
-        return [rng.choice(["tool ptree"] + ["tool %s %d" % (rng.choice(TOOLS), rng.choice(PIDS)) for _ in range(8)])]
+        return ["tool ptree" if rng.random() < 0.1 else "tool %s %d" % (rng.choice(rng.choice([TOOLS, PROBERS])), rng.choice(PIDS))]
     lines = [script_line(rng, controllers) for _ in range(rng.randint(2, 25))]
     return ["script", "open c %d ctl w" % rng.choice(PIDS)] + lines + ["end"]
 
@@ -174,6 +196,12 @@ def try_seed(seed, options):
     return seed, [(words, judged(options.program, words, text, options.seconds)) for words in ways]
 
 
+# What is counted in what a run writes.
+SEEN = {"vforks": r" made vfork = ", "calls of functions shown": r"(?m)^(?:\S+ )?-> \w+\(", "cores": r"(?m)^core \d",
+        "lists of files by apfiles": r"(?m)^controller \d+ apfiles\n\d+:$", "refusals of apfiles": r"(?m)^apfiles: ",
+        "refusals of gcore": r"(?m)^gcore: "}
+
+
 def seeds(options):
     end = time.monotonic() + 60 * options.minutes
     seed = options.seed
@@ -184,7 +212,7 @@ def seeds(options):
 
 def main():
     parser = argparse.ArgumentParser(description=__doc__, formatter_class=argparse.RawDescriptionHelpFormatter)
-    parser.add_argument("--program", default=os.path.join(TOP, "crates/proclab/out/proclab"))
+    parser.add_argument("--program", default=PROVED)
     parser.add_argument("--seed", type=int, help="the first seed; by default the moment")
     parser.add_argument("--count", type=int, default=500, help="how many scenarios")
     parser.add_argument("--minutes", type=float, default=0, help="go on for at least so long")
@@ -200,12 +228,13 @@ def main():
         options.seed = int(time.time())
     print("seeds from %d on" % options.seed, flush=True)
     statuses, refusals = collections.Counter(), collections.Counter()
-    scenarios = passed = failed = entries = vforks = 0
-    with concurrent.futures.ThreadPoolExecutor(os.cpu_count()) as pool:
+    seen = collections.Counter()
+    scenarios = passed = failed = entries = 0
+    with concurrent.futures.ThreadPoolExecutor(WORKERS) as pool:
         waiting = collections.deque()
         coming = seeds(options)
         while True:
-            while len(waiting) < 2 * os.cpu_count() and (seed := next(coming, None)) is not None:
+            while len(waiting) < 2 * WORKERS and (seed := next(coming, None)) is not None:
                 waiting.append(pool.submit(try_seed, seed, options))
             if not waiting:
                 break
@@ -216,13 +245,14 @@ def main():
             for words, (wrong, status, out) in results:
                 statuses[status] += 1
                 entries += int(out[8:out.index("\n")]) if out else 0
-                vforks += len(re.findall(r" made vfork = ", out))
+                seen.update({what: len(re.findall(line, out)) for what, line in SEEN.items()})
                 refusals.update(re.findall(r"-> fail (E\w+)", out))
                 passed, failed = (passed + 1, failed) if wrong is None else (passed, failed + 1)
                 if wrong is not None:
                     print("seed %d, %s: %s" % (seed, " ".join(words), wrong), flush=True)
-    print("%d scenarios, %d entries, %d vforks; statuses %s; refused calls of controllers %s"
-          % (scenarios, entries, vforks, dict(statuses), dict(refusals.most_common())))
+    print("%d scenarios, %d entries, %s; statuses %s; refused calls of controllers %s"
+          % (scenarios, entries, ", ".join("%d %s" % (seen[what], what) for what in SEEN), dict(statuses),
+             dict(refusals.most_common())))
     print("%d passed, %d failed" % (passed, failed))
     return 1 if failed else 0
 

@@ -11,9 +11,9 @@ import re
 import subprocess
 import sys
 
-from checks import TOP, Checks
+from checks import TOP, Checks, program_of
 
-PDRIVE = os.environ.get("PDRIVE", os.path.join(TOP, "crates/pdrive/out/pdrive"))
+PDRIVE = program_of("pdrive")
 SIGNALS = ("HUP INT QUIT ILL TRAP ABRT EMT FPE KILL BUS SEGV SYS PIPE ALRM TERM USR1 USR2 CLD PWR WINCH URG POLL STOP "
            "TSTP CONT TTIN TTOU VTALRM PROF XCPU XFSZ RT0 RT1 RT2 RT3 RT4 RT5 RT6 RT7").split()
 NO_HANDLE = 4294967295

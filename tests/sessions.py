@@ -11,10 +11,9 @@ import re
 import subprocess
 import sys
 
-from checks import PROVED, TOP, Checks
+from checks import PROVED as PROCLAB, Checks, program_of
 
-PDRIVE = os.environ.get("PDRIVE", os.path.join(TOP, "crates/pdrive/out/pdrive"))
-PROCLAB = os.environ.get("PROCLAB", PROVED)
+PDRIVE = program_of("pdrive")
 
 PROGRAMS = """turns 400
 file log ""

@@ -15,20 +15,9 @@ import shutil
 import subprocess
 import tempfile
 
-from checks import TOP, Checks, crates_below
+from checks import TOP, Checks, copy_crates
 
 EDITS = os.path.join(TOP, "tests/wrong-bodies")
-
-
-def renew(room, crates):
-    """Puts these crates and those below into the copy as they are here, without the edits of the gate."""
-    names, skipped = crates_below(crates), shutil.ignore_patterns("must-fail", "incremental")
-    for name in names:
-        source, target = os.path.join(TOP, "crates", name), os.path.join(room, "crates", name)
-        shutil.copytree(source, target, ignore=skipped, dirs_exist_ok=True)
-    with open(os.path.join(TOP, "crates.txt")) as lines, open(os.path.join(room, "crates.txt"), "w") as file:
-        file.writelines(line for line in lines if line.strip() and line.split()[0].rstrip(":") in names)
-    shutil.copy(os.path.join(TOP, "HANDLES"), room)
 
 
 def try_crate(room, crate, checks):
@@ -53,7 +42,7 @@ def main():
     room = os.path.abspath(asked.room or tempfile.mkdtemp())
     os.makedirs(room, exist_ok=True)
     crates = sorted(asked.crates or os.listdir(EDITS))
-    renew(room, crates)
+    copy_crates(room, crates)
     checks = Checks()
     for crate in crates:
         try_crate(room, crate, checks)

@@ -19,7 +19,7 @@ import shutil
 import subprocess
 import tempfile
 
-from checks import TOP, Checks, crates_below
+from checks import TOP, Checks, copy_crates
 
 PATCHES = os.path.join(TOP, "tests/wrong-trusses")
 TRUSS = "crates/pr_truss"
@@ -27,16 +27,10 @@ PARTS = ("src", "specs", "proofs")
 LAWS = ["pr_truss_laws", "pr_report_laws"]
 
 
-def copy_crates(room):
+def fill(room):
     """Fills the copy, where it has no crates yet."""
-    if os.path.exists(os.path.join(room, "crates")):
-        return
-    skipped = shutil.ignore_patterns("must-fail", "incremental")
-    with open(os.path.join(room, "crates.txt"), "w") as file:
-        for name, below in crates_below(LAWS).items():
-            shutil.copytree(os.path.join(TOP, "crates", name), os.path.join(room, "crates", name), ignore=skipped)
-            file.write("%s: %s\n" % (name, " ".join(below)))
-    shutil.copy(os.path.join(TOP, "HANDLES"), room)
+    if not os.path.exists(os.path.join(room, "crates")):
+        copy_crates(room, LAWS)
 
 
 def read(path):
@@ -163,7 +157,7 @@ def main():
     asked = words.parse_args()
     room = os.path.abspath(asked.room or tempfile.mkdtemp())
     os.makedirs(room, exist_ok=True)
-    copy_crates(room)
+    fill(room)
     checks = Checks()
     for name in sorted(file[: -len(".patch")] for file in os.listdir(PATCHES)):
         if not asked.names or any(name.startswith(front) for front in asked.names):

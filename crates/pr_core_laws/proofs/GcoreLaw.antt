@@ -30,11 +30,11 @@ use Rattle.pr_core_laws.specs.OneCore.{ShowsOneCore}
 
 module _ (n k pid : ℕ) (first : TracedState) where
   -- gcore at its stage, in a lawful state
-  IsGcoreKept : List Entry → ControllerState → Type 0
+  unfoldable pub IsGcoreKept : List Entry → ControllerState → Type 0
   IsGcoreKept h (Gcore g) = IsLawful (state_after first h) × Stage n k pid first h (state_after first h) g
   IsGcoreKept h _ = ⊥
 
-  others-keep : KeptByOthers n k first IsGcoreKept
+  pub others-keep : KeptByOthers n k first IsGcoreKept
   unfolding IsGcoreKept
   others-keep h (Gcore g) actor it legal other kept =
       let e : Entry = record { actor = actor; act = it } in
@@ -44,7 +44,7 @@ module _ (n k pid : ℕ) (first : TracedState) where
       subst (λ (s : TracedState). IsLawful s × Stage n k pid first (h ++ e ∷ []) s g) same (lawful, at_stage)
   others-keep h _ actor it legal other kept = absurd kept
 
-  calls-keep : KeptByCalls n k first IsGcoreKept
+  pub calls-keep : KeptByCalls n k first IsGcoreKept
   unfolding IsGcoreKept next_call after_reply
   calls-keep h (Gcore g) c a next given kept =
       let same : a.state ≡ state_after first (h ++ call_entry k c a.reply ∷ []) =
@@ -55,7 +55,7 @@ module _ (n k pid : ℕ) (first : TracedState) where
       (fed g a.reply)) same (lawful, at_stage)
   calls-keep h _ c a next given kept = absurd kept
 
-  at_first : Stage n k pid first [] first (first_gcore pid)
+  pub at_first : Stage n k pid first [] first (first_gcore pid)
   unfolding So open_at
   at_first = goes (record {
     opened = nothing_open;

@@ -136,6 +136,16 @@ accepted-refusal g r stage.ReadMemory was = subst IsSome (sym (piece-refusal g (
 accepted-refusal g r stage.Close was = was
 accepted-refusal g r _ was = subst IsSome (sym (advanced-refusal _)) was
 
+-- but for a status that shows that memory was lent none is made
+pub accepted-same : (g : GcoreState) (r : Reply) (next : GcoreStage) → next ≢ stage.ReadStatus
+    → (accepted g r next).refusal ≡ g.refusal
+unfolding accepted
+accepted-same g r stage.ReadStatus other = absurd (other refl)
+accepted-same g r (stage.ReadPart p) other = part-refusal g p (take read_limit (bytes_read r))
+accepted-same g r stage.ReadMemory other = piece-refusal g (bytes_read r) g.walk
+accepted-same g r stage.Close other = refl
+accepted-same g r _ other = advanced-refusal _
+
 pub refused-still : (g : GcoreState) (r : Reply) → IsSome g.refusal → IsSome (fed g r).refusal
 unfolding fed refused
 refused-still g r was = of (refusal_in g.stage r)

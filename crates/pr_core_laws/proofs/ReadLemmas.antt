@@ -145,17 +145,24 @@ flags-lent : (pid : ℕ) (p : TracedProcess) → process_flags pid p < 32 → p.
 unfolding process_flags
 flags-lent pid p small = no-borrower p.borrower (lent-high p.control.modes (pid == 0) (has_lent p) small)
 
-pub lends-not : (s : TracedSystem) (pid : ℕ) (p : TracedProcess) → IsStatus (status_of s pid p)
-    → lends (record_read status_ranges (part_read (status_bytes (status_of s pid p)) 0 read_limit)) ≡ false
-    → p.borrower ≡ None
+-- what the status shows of that is a flag
+pub lent-flags : (s : TracedSystem) (pid : ℕ) (p : TracedProcess) → IsStatus (status_of s pid p)
+    → lends (record_read status_ranges (part_read (status_bytes (status_of s pid p)) 0 read_limit))
+    ≡ has_flags (process_flags pid p) vforkp_flag
 unfolding lends status_bytes status_of
-lends-not s pid p status none =
+lent-flags s pid p status =
     let st : Status = status_of s pid p in
     let size = length-words_bytes (status_words_of st) in
     let whole : part_read (status_bytes st) 0 read_limit ≡ words_bytes (status_words_of st) ++ [] =
     all-read (status_bytes st) (omega (arith, size)) ∙ sym (append-nil (words_bytes (status_words_of st))) in
     let back : record_read status_ranges (words_bytes (status_words_of st) ++ []) ≡ Ok (status_words_of st) =
     record-back status_words_of status_ranges (λ _. refl) status_take IsStatus status-ranged st [] status in
-    let flags : has_flags (process_flags pid p) vforkp_flag ≡ false =
-    ap lends (sym (ap (record_read status_ranges) whole ∙ back)) ∙ none in
-    flags-lent pid p (low-flags (process_flags pid p) status.flags flags)
+    ap lends (ap (record_read status_ranges) whole ∙ back)
+
+pub lends-not : (s : TracedSystem) (pid : ℕ) (p : TracedProcess) → IsStatus (status_of s pid p)
+    → lends (record_read status_ranges (part_read (status_bytes (status_of s pid p)) 0 read_limit)) ≡ false
+    → p.borrower ≡ None
+unfolding status_of
+lends-not s pid p status none =
+    flags-lent pid p
+    (low-flags (process_flags pid p) status.flags (sym (lent-flags s pid p status) ∙ none))

@@ -1,2 +1,4 @@
+pub mod GcoreCalls
 pub mod OneCore
+pub mod Refused
 pub mod Spared

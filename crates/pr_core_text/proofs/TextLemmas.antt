@@ -1,5 +1,5 @@
 -- The lines of the text of a core.
-use Rattle.std.proofs.Common.{◌≡◌, ◌<◌, ◌+◌, ◌-◌, ◌++◌, ℕ, List, [], ◌∷◌, Bor, Option, Some, None, Result, Ok, Err, cond, drop, false, length, map, nat_lt, refl, sym, ap, ◌∙◌, arith}
+use Rattle.std.proofs.Common.{◌≡◌, ◌<◌, ◌+◌, ◌-◌, ◌++◌, ℕ, List, [], ◌∷◌, Bor, Option, Some, Result, Ok, Err, cond, drop, false, length, map, nat_lt, refl, sym, ap, ◌∙◌, arith}
 use Rattle.std.specs.List.{slice_get}
 use Rattle.std.proofs.lemmas.Bool.{ne_eqb}
 use Rattle.std.proofs.lemmas.List.{length-drop, nil_from_length}
@@ -66,7 +66,7 @@ module _ (done : List ℕ) (line left place : ℕ) (lines : Lines) (whole : Resu
       ∙ ap (λ b. cond b (Ok (record { bytes = done; behind = line })) (Err line)) (ne_eqb left 0 (λ e. absurd (omega (arith, e, some))))
 
 -- all bytes were told
-all : (done : List ℕ) (line : ℕ) (lines : List (List ℕ)) → bytes_after done line 0 lines ≡ Ok (record { bytes = done; behind = line })
+pub all : (done : List ℕ) (line : ℕ) (lines : List (List ℕ)) → bytes_after done line 0 lines ≡ Ok (record { bytes = done; behind = line })
 unfolding bytes_after
 all done line [] = refl
 all done line (this ∷ below) = refl

@@ -10,8 +10,7 @@ use Rattle.pr_text.specs.Steps.{◌>>=◌}
 use Rattle.pr_text.specs.TextLines.{lines_of}
 use Rattle.pr_core.specs.CoreReading.{core_read}
 use Rattle.pr_core.specs.CoreText.{line_bytes}
-use Rattle.pr_core.specs.Cores.{CoreState, CoreWords}
-use Rattle.pr_core.specs.CoreBytes.{core_bytes}
+use Rattle.pr_core.specs.Cores.{CoreWords}
 use Rattle.pr_core.specs.declared.faults.CoreFault.{CoreFault}
 use Rattle.pr_core.specs.declared.faults.CoreFault.TheVariants.{Short, Bad, NoMemory}
 use Rattle.pr_core_text.specs.declared.refusals.CoreTextRefusal.{CoreTextRefusal}

@@ -4,7 +4,9 @@
 mod core_texts;
 mod headings;
 mod hex_lines;
+mod laws;
 mod refusals;
 
 pub use core_texts::read_core;
+pub use laws::a_cores_text_is_read_back;
 pub use refusals::CoreTextRefusal;

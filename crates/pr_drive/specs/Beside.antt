@@ -1,4 +1,4 @@
-use Rattle.std.specs.Prelude.{◌≡◌, ℕ, true, false, List, Some, slice_get}
+use Rattle.std.specs.Prelude.{◌≡◌, ◌≢◌, ℕ, List, [], Some, slice_get}
 use Rattle.pr_erasure.specs.Transparency.{IsTransparent}
 use Rattle.pr_line.specs.declared.options.Options.{Options}
 use Rattle.pr_model.specs.Legal.{state_after}
@@ -13,7 +13,6 @@ use Rattle.pr_run_laws.specs.Tracers.{OthersArePassive}
 use Rattle.pr_run_laws.specs.TrussRuns.{IsTrussKept}
 use Rattle.pr_scen.specs.Scenarios.{Scenario}
 use Rattle.pr_scen.specs.declared.plans.Plan.TheVariants as plan
-use Rattle.pr_truss.specs.Marks.{has_functions}
 
 -- What the controllers of a scenario keep beside an outside that makes any calls.
 
@@ -25,9 +24,9 @@ use Rattle.pr_truss.specs.Marks.{has_functions}
 -- outside, the programs did what they could have done without any.
 pub record IsKeptBeside (s : Scenario) (h : List Entry) : Type 0 where
   pub transparent : OthersArePassive (controllers_of s) h → IsTransparent (first_state_of s) h
-  pub trusses : (k : ℕ) (o : Options) → slice_get s.controllers k ≡ Some (plan.Truss o) → has_functions o ≡ false
+  pub trusses : (k : ℕ) (o : Options) → slice_get s.controllers k ≡ Some (plan.Truss o) → o.functions ≡ []
       → IsTrussKept (controllers_of s) (first_state_of s) h k o
-  pub functions : (k : ℕ) (o : Options) → slice_get s.controllers k ≡ Some (plan.Truss o) → has_functions o ≡ true
+  pub functions : (k : ℕ) (o : Options) → slice_get s.controllers k ≡ Some (plan.Truss o) → o.functions ≢ []
       → IsFunctionTrussKept (controllers_of s) (first_state_of s) h k o
   pub tools : (k : ℕ) (kind : ToolKind) (pid : ℕ) → slice_get s.controllers k ≡ Some (plan.Tool kind pid)
       → IsToolKept (controllers_of s) (first_state_of s) h k kind pid

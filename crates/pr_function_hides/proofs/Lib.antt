@@ -11,4 +11,5 @@ pub mod OwnWrites
 pub mod PlantedReplies
 pub mod PlantedWalk
 pub mod StillMessages
+pub mod TidyChanges
 pub mod TidyLaw

@@ -7,7 +7,7 @@ use Rattle.std.specs.Option.{option_and_then}
 use Rattle.std.specs.Prelude.{map}
 use Rattle.pr_api.specs.Entries.{call_entry}
 use Rattle.pr_hidden.specs.Covers.{Covers, Patch}
-use Rattle.pr_hidden.specs.Hiders.{Hiders, are_some, covers_after, covers_at, covers_called, hides, is_ctl, no_covers, patch_at}
+use Rattle.pr_hidden.specs.Hiders.{Hiders, are_some, covers_after, covers_at, covers_called, hides, is_ctl, no_covers, patch_at, replaces_memory}
 use Rattle.pr_hidden.specs.Tidiness.{IsFunctionWriteIn, IsPlantable, IsTidyCall, IsTidyControl, IsTidySent, IsTidyTargeted, IsTidyWrite}
 use Rattle.pr_lawful.proofs.HandleLemmas.{control-writes, handle-at, handle-writer}
 use Rattle.pr_lawful.proofs.HistoryLemmas.{history-state}
@@ -31,11 +31,14 @@ use Rattle.pr_model.specs.declared.events.Act.{Act}
 use Rattle.pr_model.specs.declared.events.Act.TheVariants as act
 use Rattle.pr_model.specs.declared.events.Actor.{Actor}
 use Rattle.pr_model.specs.declared.events.Actor.TheVariants.{Controller, Lwp, Clock}
+use Rattle.pr_model.specs.declared.events.Did.{Did}
+use Rattle.pr_model.specs.declared.events.Did.TheVariants.{Made}
 use Rattle.pr_model.specs.declared.events.Entry.{Entry}
 use Rattle.pr_model.specs.declared.events.Turned.{Turned}
 use Rattle.pr_model.specs.declared.handles.Held.{Held}
 use Rattle.pr_num.proofs.SearchLemmas.{All-at}
 use Rattle.pr_num.specs.Messages.{first_message, spelling}
+use Rattle.pr_num.specs.Syscalls.{is_fork_call}
 use Rattle.pr_num.specs.Words.{IsByte}
 use Rattle.pr_num.specs.declared.messages.Message.{Message}
 use Rattle.pr_num.specs.declared.messages.Message.TheVariants as message
@@ -44,7 +47,9 @@ use Rattle.pr_report_laws.proofs.Invariant.StandLemmas.{Each}
 use Rattle.pr_tool_laws.proofs.ProtocolLemmas.{fed-other, fed-own}
 use Rattle.pr_tool_laws.proofs.WholeLemmas.{front-legal}
 use Rattle.pr_truss.specs.Asides.{marks_at}
+use Rattle.pr_num.specs.declared.syscalls.Sysno.TheVariants.{Exec, Vfork}
 use Rattle.pr_truss.specs.FunctionCalls.{next_function_call_of}
+use Rattle.pr_truss.specs.FunctionEvents.{copies_memory}
 use Rattle.pr_truss.specs.FunctionFeeding.{fed_functions}
 use Rattle.pr_truss.specs.Marks.{has_functions}
 use Rattle.pr_truss.specs.Replies.{answer_of}
@@ -74,11 +79,19 @@ use Rattle.pr_function_hides.proofs.OwnTidy.{Kind, kind, other, sends, writes}
 use Rattle.pr_function_hides.proofs.OwnWrites.{write-read, write-tail}
 use Rattle.pr_function_hides.proofs.PlantedReplies.{first-so-truss}
 use Rattle.pr_function_hides.proofs.StillMessages.{BeginStill, is_still}
+use Rattle.pr_function_hides.proofs.TidyChanges.{kill-tidy, turn-changes}
 use Rattle.pr_function_hides.specs.FunctionHiders.{ArePatchable, AreTrusses, IsPatchable, IsTrussAt, StandAsMarked, patch_of}
 use Rattle.pr_function_hides.proofs.OwnFiles.{HoldsItsFiles}
-use Rattle.pr_function_hides.specs.TidyWrites.{AreUndisturbed, IsTrussAfter, WritesTidily}
+use Rattle.pr_function_hides.specs.TidyWrites.{AreUndisturbed, IsTrussAfter, WritesTidily, makes_copy}
 
 -- The writes of each truss are tidy, and the breakpoints that stand are those that it has marked.
+
+-- a turn that replaces the memory makes a call that copies or replaces it
+pub replaced-copies : (did : Did) → replaces_memory did ≡ true → makes_copy did ≡ true
+unfolding copies_memory is_fork_call
+replaced-copies (Made Vfork result) is = refl
+replaced-copies (Made Exec result) is = refl
+replaced-copies _ is = absurd (false≢true is)
 
 -- ---- the walk
 
@@ -247,7 +260,7 @@ module _ (n : ℕ) (who : Hiders) (controllers : List ControllerState) (first : 
       (λ pid.
       subst (λ (cs : Covers). IsAsPatched (at front pid) (cs pid)) (sym (at-is front e back place kept))
       (turn-stays who none (at front) (now front) acting id turned.did pid (kept.no_agent acting)
-      (λ is. und.copies front back acting id turned place is)))
+      (λ is. und.copies front back acting id turned place (replaced-copies turned.did is))))
       (λ k hider. ap (λ (cs : List ControllerState). slice_get cs k) (controllers-push controllers front e))
       (λ k m hider.
       ap (λ (x : TracedState). handle_of x.opens k m) (now-is front e back place kept)
@@ -884,6 +897,10 @@ module _ (n : ℕ) (who : Hiders) (controllers : List ControllerState) (first : 
     tidy = λ front back k handle bytes r place hider begins.
         sent-tidy front back k handle bytes r place (kept-at front (call_entry k (call.Ctl handle bytes) r ∷ back) place)
         hider begins;
+    turns = λ front back pid id t p l place live there.
+        turn-changes n who controllers first h legal und front back pid id t p l place live there;
+    kills = λ front back k pid number r place.
+        kill-tidy n who controllers first h legal und front back k pid number r place;
     marked = λ front back k t q p place hider is within live.
         let w = let kept = kept-at front back place in kept.trusses k hider in
         let same : w.t ≡ t = same-truss w.t t (sym w.is ∙ is) in

@@ -1,24 +1,29 @@
--- The writes of a truss that shows calls of functions are tidy, and the breakpoints that stand are those that it has
--- marked; and what is asked of a history for that.
-use Rattle.std.specs.Prelude.{◌≡◌, ◌≢◌, ◌<◌, ◌++◌, ℕ, true, List, [], ◌∷◌, None, Some, Ok, length, option_and_then, slice_get}
+-- The writes of a truss that shows calls of functions are tidy, and so is what each turn changes; the breakpoints that
+-- stand are those that it has marked; and what is asked of a history for that.
+use Rattle.std.specs.Prelude.{◌≡◌, ◌≢◌, ◌<◌, ◌++◌, ℕ, Bool, true, false, List, [], ◌∷◌, None, Some, Ok, length, option_and_then, slice_get}
 use Rattle.pr_api.specs.Entries.{call_entry}
 use Rattle.pr_function_hides.specs.FunctionHiders.{StandAsMarked}
 use Rattle.pr_function_laws.specs.Stretches.{BeginWithWrite}
 use Rattle.pr_hidden.specs.Covers.{Covers, Patch}
-use Rattle.pr_hidden.specs.Hiders.{Hiders, covers_at, hides, patch_at, replaces_memory}
-use Rattle.pr_hidden.specs.Tidiness.{IsTidyCall}
+use Rattle.pr_hidden.specs.Hiders.{Hiders, covers_at, hides, patch_at}
+use Rattle.pr_hidden.specs.Following.{IsReturnable}
+use Rattle.pr_hidden.specs.Tidiness.{AreTidyChanges, IsTidyCall}
 use Rattle.pr_line.specs.declared.events.Event.{Event}
+use Rattle.pr_model.specs.Changes.{Ending}
 use Rattle.pr_model.specs.ControlMessages.{target_of}
 use Rattle.pr_model.specs.Handles.{handle_of}
 use Rattle.pr_model.specs.Legal.{state_after}
 use Rattle.pr_model.specs.Replies.{bytes_in}
-use Rattle.pr_model.specs.State.{TracedProcess, TracedState, live_process}
+use Rattle.pr_model.specs.Rows.{row_for}
+use Rattle.pr_model.specs.State.{TracedLwp, TracedProcess, TracedState, live_process, lwp_of}
 use Rattle.pr_model.specs.declared.calls.Call.{Call}
 use Rattle.pr_model.specs.declared.calls.Call.TheVariants as call
 use Rattle.pr_model.specs.declared.calls.Reply.{Reply}
 use Rattle.pr_model.specs.declared.calls.Reply.TheVariants.{Fail, Used}
 use Rattle.pr_model.specs.declared.events.Act.TheVariants.{Turn}
 use Rattle.pr_model.specs.declared.events.Actor.TheVariants.{Lwp}
+use Rattle.pr_model.specs.declared.events.Did.{Did}
+use Rattle.pr_model.specs.declared.events.Did.TheVariants.{Made, Slept, Woke}
 use Rattle.pr_model.specs.declared.events.Entry.{Entry}
 use Rattle.pr_model.specs.declared.events.Turned.{Turned}
 use Rattle.pr_model.specs.declared.handles.Held.{Held}
@@ -28,7 +33,7 @@ use Rattle.pr_num.specs.declared.messages.Message.TheVariants as message
 use Rattle.pr_parts.specs.AddressSpaces.{with_bytes}
 use Rattle.pr_rec.specs.declared.lwps.LwpStatus.{LwpStatus}
 use Rattle.pr_truss.specs.Asides.{marks_at}
-use Rattle.pr_truss.specs.FunctionEvents.{fresh_event, function_event}
+use Rattle.pr_truss.specs.FunctionEvents.{copies_memory, fresh_event, function_event}
 use Rattle.pr_truss.specs.Records.{status_lwp}
 use Rattle.pr_truss.specs.Replies.{answer_of}
 use Rattle.pr_truss.specs.Trusses.{TrussState, traced_at}
@@ -37,6 +42,14 @@ use Rattle.pr_truss.specs.declared.replies.Answer.TheVariants.{Accepted}
 use Rattle.pr_truss.specs.declared.stages.Stage.TheVariants.{ReadingStatus}
 use Rattle.pr_world.specs.ControllerStates.{ControllerState, FnTruss}
 use Rattle.pr_world.specs.Protocol.{controllers_at}
+
+-- A turn makes a call that copies or replaces the memory, a fork(2), a vfork(2) or an exec(2), granted or not; or falls
+-- asleep in it.
+abbrev pub makes_copy : Did → Bool
+makes_copy (Made call result) = copies_memory call
+makes_copy (Woke call result) = copies_memory call
+makes_copy (Slept call) = copies_memory call
+makes_copy did = false
 
 -- A reply tells truss, which reads the status of the process at a place, that its memory was replaced by exec, or that
 -- a child has it too by vfork.
@@ -77,8 +90,9 @@ module _ (who : Hiders) (controllers : List ControllerState) (first : TracedStat
     pub len : ℕ
     pub read : first_message bytes ≡ Ok (message.Write at size, len)
 
-  -- Where a breakpoint is planted, the code of its function stands. One that stands is lifted without refusal, as long
-  -- as the process lives. A vfork or an exec that is granted finds no breakpoint, and neither does the read of its exit.
+  -- Where a breakpoint is planted, the code of its function stands. One that stands is lifted without refusal, as
+  -- long as the process lives. A fork, a vfork and an exec find no breakpoint, and neither does the read of the exit
+  -- of a vfork or an exec that was granted. None stands in a process that has borrowed its memory, nor in its lender.
   -- And truss is not interrupted.
   pub record AreUndisturbed : Type 0 where
     pub stands : (front : List Entry) (k used at pid : ℕ) (p : TracedProcess) (f : Patch)
@@ -88,22 +102,39 @@ module _ (who : Hiders) (controllers : List ControllerState) (first : TracedStat
         → WritesAt front k r at pid p → patch_at at (hidden_after front pid).patches ≡ Some f
         → (used : ℕ) × (r ≡ Used used)
     pub copies : (front back : List Entry) (pid id : ℕ) (t : Turned)
-        → h ≡ front ++ record { actor = Lwp pid id; act = Turn t } ∷ back → replaces_memory t.did ≡ true
+        → h ≡ front ++ record { actor = Lwp pid id; act = Turn t } ∷ back → makes_copy t.did ≡ true
         → (hidden_after front pid).patches ≡ []
     pub replaced : (front back : List Entry) (k : ℕ) (c : Call) (r : Reply) (t : TrussState) (place : ℕ)
         → h ≡ front ++ call_entry k c r ∷ back → hides who k ≡ true → IsTrussAfter front k t
         → TellsReplaced t place r → (hidden_after front (traced_at t place).pid).patches ≡ []
+    pub lenders : (front back : List Entry) (pid lender : ℕ) (p : TracedProcess) → h ≡ front ++ back
+        → live_process (state_there front).system pid ≡ Some p → p.lender ≡ Some lender
+        → ((hidden_after front pid).patches ≡ []) × ((hidden_after front lender).patches ≡ [])
     pub unbroken : (front back : List Entry) (k : ℕ) (c : Call) (r : Reply) → h ≡ front ++ call_entry k c r ∷ back
         → hides who k ≡ true → r ≢ Fail Intr
 
   -- ---- what is so then
 
-  -- Each PCWRITE of one who hides is tidy. And of each process that truss traces, as long as it lives, those breakpoints
-  -- stand that its marks say.
+  -- What a turn changes is tidy, of whatever process: a fork, a vfork and an exec find no breakpoint, and a process
+  -- that ends by it, or is killed, gives back memory that is seen alike.
+  pub record TurnsTidily (front : List Entry) (pid id : ℕ) (p : TracedProcess) (l : TracedLwp) : Type 0 where
+    pub changes : AreTidyChanges (hidden_after front) pid p id l
+        (row_for (state_there front).system pid p id l).transition.changes (state_there front).system
+    pub returns : (how : Ending) → (row_for (state_there front).system pid p id l).transition.ending ≡ Some how
+        → IsReturnable (hidden_after front) pid p
+
+  -- Each PCWRITE of one who hides is tidy, and so is what each turn changes, and whom a controller kills. And of each
+  -- process that truss traces, as long as it lives, those breakpoints stand that its marks say.
   pub record WritesTidily : Type 0 where
     pub tidy : (front back : List Entry) (k handle : ℕ) (bytes : List ℕ) (r : Reply)
         → h ≡ front ++ call_entry k (call.Ctl handle bytes) r ∷ back → hides who k ≡ true → BeginWithWrite bytes
         → IsTidyCall who (hidden_after front) (state_there front) k (call.Ctl handle bytes) r
+    pub turns : (front back : List Entry) (pid id : ℕ) (t : Turned) (p : TracedProcess) (l : TracedLwp)
+        → h ≡ front ++ record { actor = Lwp pid id; act = Turn t } ∷ back
+        → live_process (state_there front).system pid ≡ Some p → lwp_of p id ≡ Some l → TurnsTidily front pid id p l
+    pub kills : (front back : List Entry) (k pid number : ℕ) (r : Reply)
+        → h ≡ front ++ call_entry k (call.Kill pid number) r ∷ back
+        → IsTidyCall who (hidden_after front) (state_there front) k (call.Kill pid number) r
     pub marked : (front back : List Entry) (k : ℕ) (t : TrussState) (place : ℕ) (p : TracedProcess) → h ≡ front ++ back
         → hides who k ≡ true → IsTrussAfter front k t → place < length t.traced
         → live_process (state_there front).system (traced_at t place).pid ≡ Some p

@@ -11,8 +11,8 @@ ghost use Rattle.pr_world.specs.ControllerStates.{ControllerState};
 
 /// In a legal history from a lawful state, in which these controllers make their own calls, where those who hide are each
 /// a truss that shows calls of functions and that is undisturbed: each PCWRITE of such a truss is tidy, so programs have
-/// the memory after it that they had before; and the breakpoints that stand in a process that it traces are those that
-/// its marks say.
+/// the memory after it that they had before; what each turn changes is tidy, and whom a controller kills; and the
+/// breakpoints that stand in a process that it traces are those that its marks say.
 #[tactic(auto, using(crate::proofs::TidyLaw::tidily))]
 pub fn truss_writes_tidily()
     ensures { (n : ℕ) (who : Hiders) (controllers : List ControllerState) (s : TracedState) (h : List Entry)

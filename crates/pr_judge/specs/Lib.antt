@@ -1,3 +1,5 @@
+pub mod Hearings
 pub mod Judgements
+pub mod Players
 pub mod Replies
 pub mod Turns

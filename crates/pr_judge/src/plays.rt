@@ -5,21 +5,12 @@ ghost use Rattle.pr_api.specs.Entries.{call_entry, last_reply_of, tick_entry, tu
 ghost use Rattle.pr_judge.specs.Judgements.{Plays};
 
 use crate::replies::same_reply;
-use crate::turns::same_did;
+use crate::turns::same_turn;
 use pr_api::Kernel;
 use pr_model::{Act, Actor, Call, Entry, Reply, Turned};
 use pr_num::NoMemory;
 use pr_num::limits::CLOCK_LIMIT;
 use std::alloc::Global;
-
-/// Whether two turns are one.
-#[tactic(auto, using(crate::proofs::TurnLemmas::turns))]
-fn same_turn(one: Turned, other: Turned) -> bool
-    ensures same { result ≡ true → one ≡ other }
-    ensures differ { result ≡ false → one ≢ other }
-{
-    one.stop == other.stop && same_did(one.did, other.did)
-}
 
 /// Whether the reply to the last call is this one.
 fn has_replied<Q: Kernel>(kernel: &Q, reply: &Reply) -> bool

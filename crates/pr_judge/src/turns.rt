@@ -1,8 +1,8 @@
 //! Whether two lwps did the same in their turns.
-ghost use Rattle.std.specs.Prelude.{◌≡◌};
-ghost use Rattle.pr_judge.specs.Turns.{same_did, same_how, same_result};
+ghost use Rattle.std.specs.Prelude.{◌≡◌, ◌≢◌, true, false};
+ghost use Rattle.pr_judge.specs.Turns.{same_did, same_how, same_result, same_turn};
 
-use pr_model::{Did, How, Res};
+use pr_model::{Did, How, Res, Turned};
 
 #[tactic(auto, unfolding(crate::specs::Turns::same_result))]
 fn same_result(one: Res, other: Res) -> bool
@@ -31,7 +31,7 @@ fn same_how(one: How, other: How) -> bool
 
 /// Whether what an lwp did is what another one did, with all that it says.
 #[tactic(auto, unfolding(crate::specs::Turns::same_did))]
-pub(crate) fn same_did(one: Did, other: Did) -> bool
+fn same_did(one: Did, other: Did) -> bool
     ensures { result ≡ same_did one other }
 {
     match (one, other) {
@@ -47,4 +47,14 @@ pub(crate) fn same_did(one: Did, other: Did) -> bool
         (Did::Acted(a, r), Did::Acted(b, q)) => a.number() == b.number() && same_how(r, q),
         _ => false,
     }
+}
+
+/// Whether two turns are one.
+#[tactic(auto, using(crate::proofs::TurnLemmas::turns), unfolding(crate::specs::Turns::same_turn))]
+pub(crate) fn same_turn(one: Turned, other: Turned) -> bool
+    ensures is { result ≡ same_turn one other }
+    ensures same { result ≡ true → one ≡ other }
+    ensures differ { result ≡ false → one ≢ other }
+{
+    one.stop == other.stop && same_did(one.did, other.did)
 }

@@ -4,7 +4,7 @@ use Rattle.pr_proc.specs.Counts.{AllUsedAtMost}
 use Rattle.pr_model.specs.HistoryViews.{HistoryView}
 use Rattle.pr_model.specs.Lawful.{IsLawful}
 use Rattle.pr_model.specs.State.{TracedState, TracedSystem}
-use Rattle.pr_ready.specs.Queues.{AreReady}
+use Rattle.pr_ready.specs.Queues.{AreReady, IsQueue, queue_of}
 use Rattle.pr_ready.specs.Ready.{ReadySets}
 
 -- What the kernel keeps of its state and its history, so that all numbers fit their types, each step has its place, and
@@ -21,7 +21,9 @@ pub record IsSoundKernel (s : TracedState) (history : HistoryView) (places : ℕ
   pub lawful : IsLawful s
   pub room : HasRoom history places
 
--- So the kernel is, and its sets have every process that is looked at for a turn.
+-- So the kernel is, and its sets have every process that is looked at for a turn. So the lwps that are asked for a turn are
+-- a queue: sorted, without repeats, of live lwps, with every one that can have a turn.
 pub record IsReadyKernel (s : TracedState) (history : HistoryView) (places : ℕ) (ready : ReadySets) : Type 0 where
   pub kept : IsSoundKernel s history places
   pub looks : AreReady s.system ready
+  pub queue : IsQueue s.system (queue_of s.system ready)

@@ -11,9 +11,11 @@ ghost use Rattle.pr_kern.specs.Orders.{next_movable};
 use pr_model::Turned;
 use pr_num::NoMemory;
 use pr_pids::ProcessSet;
-use pr_proc::{Question, Sys};
-use pr_ready::{Ready, after_instruction, after_turn, around_lwp, next_ready, renew};
-use pr_turn::{movable, run_instruction, turn};
+use pr_proc::{Lwp, Proc, Question, Sys};
+use pr_ready::{
+    FoundQuestion, Ready, after_instruction, after_turn, around_lwp, next_ready, renew,
+};
+use pr_turn::{movable, movable_in, run_instruction, turn};
 use std::alloc::Global;
 
 /// Whether an lwp of the system can have a turn.
@@ -27,6 +29,14 @@ impl Question for CanMove<'_> {
 
     fn ask(&self, pid: u32, lwp: u32) -> bool {
         movable(self.0, pid, lwp)
+    }
+}
+
+impl FoundQuestion for CanMove<'_> {
+    ghost system = { λ question. question.0.now };
+
+    fn ask_found(&self, pid: u32, process: &Proc, id: u32, lwp: &Lwp) -> bool {
+        movable_in(self.0, pid, process, id, lwp)
     }
 }
 

@@ -8,8 +8,11 @@ use Rattle.pr_parts.specs.WatchedAreas.{hit_in}
 use Rattle.pr_num.specs.declared.mappings.BadByte.TheVariants.{Hole, NotAllowed}
 use Rattle.pr_num.specs.declared.faults.Flt.TheVariants.{Watch}
 use Rattle.pr_parts.specs.AddressSpaces.{with_bytes}
-use Rattle.pr_model.specs.InstructionEffects.{faults, Load, Store, load_effect, store_effect, loaded, access_fault, is_stack_load, unless_watched, trapped_after, hit_before, hit_after}
-use Rattle.pr_lwp.specs.Plain.{loaded_from, outcome_of, space_after, stores_bytes, with_store}
+use Rattle.pr_num.specs.declared.instructions.Instruction.{Instruction}
+use Rattle.pr_model.specs.InstructionEffects.{faults, leaves, Load, Store, decoded, executed, of_instruction, load_effect, store_effect, loaded, access_fault, is_stack_load, unless_watched, trapped_after, hit_before, hit_after}
+use Rattle.pr_lwp.specs.Plain.{decoded_of, leaves_registers, loaded_from, outcome_of, space_after, stores_bytes, with_store}
+use Rattle.pr_lwp.specs.declared.decoding.Decoded.{Decoded}
+use Rattle.pr_lwp.specs.declared.decoding.Decoded.TheVariants.{Leaves}
 
 -- Loads and stores, by whether their bytes can be had.
 
@@ -129,3 +132,25 @@ no-hit kind [] at (suc size) none = no-hit kind [] ((at + 1) % 2 ^ 64) size refl
 no-hit kind (area ∷ areas) at size none = absurd (omega arith)
 
 pub ruleset no_hits = (no-hit)
+
+-- ---- an instruction that was carried out when it was decoded
+
+left-decoded : (d : Decoded) (regs : List ℕ) → leaves_registers d ≡ true → decoded_of d regs ≡ leaves regs
+left-decoded Leaves regs is = refl
+left-decoded _ regs is = absurd (cc)
+
+module _ (space : Space) (areas : List Area) (exec_hit : Option ℕ) (regs new : List ℕ) (i : Instruction)
+    (d : Decoded) where
+  pub left-executed : decoded_of d new ≡ decoded i regs → leaves_registers d ≡ true
+      → of_instruction space areas exec_hit regs (Some i) ≡ trapped_after exec_hit None new None
+  unfolding executed
+  left-executed value is = rw (sym value ∙ left-decoded d new is) refl
+
+  -- any other is carried out then
+  pub other-executed : decoded_of d new ≡ decoded i regs → new ≡ regs
+      → of_instruction space areas exec_hit regs (Some i) ≡ executed space areas exec_hit new (decoded_of d new)
+  other-executed value same =
+      ap (λ (r : List ℕ). executed space areas exec_hit r (decoded i regs)) (sym same)
+      ∙ ap (executed space areas exec_hit new) (sym value)
+
+pub ruleset in_place = (left-executed, other-executed, load-space)

@@ -1,3 +1,4 @@
 pub mod AccessLemmas
 pub mod ExecutionLemmas
 pub mod RegisterLemmas
+pub mod StepLemmas

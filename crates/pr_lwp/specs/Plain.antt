@@ -1,4 +1,4 @@
-use Rattle.std.specs.Prelude.{ℕ, Bool, false, List, [], ◌∷◌, ◌++◌, Option, Some, None, Result, Ok, Err, is_some}
+use Rattle.std.specs.Prelude.{ℕ, Bool, true, false, List, [], ◌∷◌, ◌++◌, Option, Some, None, Result, Ok, Err, is_some}
 use Rattle.pr_num.specs.Spaces.{Space}
 use Rattle.pr_num.specs.Words.{word_bytes}
 use Rattle.pr_num.specs.declared.mappings.BadByte.{BadByte}
@@ -36,12 +36,18 @@ size_of (load.Word to) = 8
 size_of (load.Byte to) = 1
 size_of load.Frame = 16
 
-abbrev pub decoded_of : Decoded → model.Decoded
-decoded_of (FaultsItself f) = faults_itself f
-decoded_of (EntersCall call) = enters_call call
-decoded_of (Leaves regs) = leaves regs
-decoded_of (Loads load at) = loads (load_of load) at (size_of load)
-decoded_of (Stores stack regs store) = stores stack regs (store_of store)
+-- a decoded instruction, where the registers are these now
+abbrev pub decoded_of : Decoded → List ℕ → model.Decoded
+decoded_of (FaultsItself f) regs = faults_itself f
+decoded_of (EntersCall call) regs = enters_call call
+decoded_of Leaves regs = leaves regs
+decoded_of (Loads load at) regs = loads (load_of load) at (size_of load)
+decoded_of (Stores stack new store) regs = stores stack new (store_of store)
+
+-- whether one leaves registers and does not touch memory
+abbrev pub leaves_registers : Decoded → Bool
+leaves_registers Leaves = true
+leaves_registers _ = false
 
 -- the registers after a read, or the first byte that cannot be read
 abbrev pub loaded_from : model.Load → List ℕ → Result (List ℕ) BadByte → Result (List ℕ) BadByte
@@ -54,6 +60,16 @@ outcome_of (runs regs store) = Runs regs
 outcome_of (calls call regs) = Calls call regs
 outcome_of (faults f address) = Faults f address
 outcome_of (runs_into_watch address regs store) = RunsIntoWatch address regs
+
+-- what is told of an instruction: what it came to, or nothing where it ran and left the registers as they are now
+abbrev pub told : Option Outcome → List ℕ → Outcome
+told None regs = Runs regs
+told (Some outcome) regs = outcome
+
+-- whether that is a fault, which leaves the registers as they were
+abbrev pub tells_fault : Option Outcome → Bool
+tells_fault (Some (Faults f address)) = true
+tells_fault _ = false
 
 -- memory after a store, if there is one
 abbrev pub with_store : Option model.Store → Space → Space

@@ -2,10 +2,10 @@
 ghost use Rattle.std.specs.Prelude.{◌≡◌, false, true};
 ghost use Rattle.pr_model.specs.InstructionEffects.{access_at, after_call, call_frame, call_sp, decoded, divided, stores};
 ghost use Rattle.pr_model.specs.Registers.{moved_on};
-ghost use Rattle.pr_lwp.specs.Plain.{decoded_of, stored_bytes};
+ghost use Rattle.pr_lwp.specs.Plain.{decoded_of, leaves_registers, stored_bytes};
 
 use crate::registers::{
-    FP, FRAME, SP, access_at, called, computed, jumped, jumped_if, moved_on, value,
+    FP, FRAME, SP, access_at, called, compute, jump, jump_if, move_on, moved_on, value,
 };
 use pr_model::PC;
 use pr_num::{Flt, Instruction, Reg, Sysno};
@@ -34,15 +34,15 @@ pub enum Load {
     Frame,
 }
 
-/// An instruction once it is decoded.
+/// An instruction once it is decoded. One that leaves registers and does not touch memory has been carried out then.
 #[derive(Clone, Copy, Debug, PartialEq, Eq)]
 pub enum Decoded {
     /// It faults by itself.
     FaultsItself(Flt),
     /// It comes to a system call.
     EntersCall(Sysno),
-    /// It leaves these registers and does not touch memory.
-    Leaves([u64; 11]),
+    /// It leaves the registers as they are now and does not touch memory.
+    Leaves,
     /// It reads bytes from an address on.
     Loads {
         load: Load,
@@ -56,20 +56,35 @@ pub enum Decoded {
     },
 }
 
+/// Whether an instruction leaves registers and does not touch memory.
+pub fn leaves_registers(decoded: Decoded) -> bool
+    ensures { result ≡ leaves_registers decoded }
+{
+    match decoded {
+        Decoded::Leaves => true,
+        _ => false,
+    }
+}
+
 /// A quotient; a divisor of 0 faults.
-fn divided(to: Reg, from: Reg, regs: &[u64; 11]) -> Decoded
-    ensures { decoded_of result ≡ divided to from regs.now }
+fn divide(to: Reg, from: Reg, regs: &mut [u64; 11]) -> Decoded
+    ensures value { decoded_of result regs.new ≡ divided to from regs.old }
+    ensures kept { leaves_registers result ≡ false → regs.new ≡ regs.old }
 {
     let divisor = value(regs, from);
     if divisor == 0 {
         return Decoded::FaultsItself(Flt::Izdiv);
     }
-    Decoded::Leaves(computed(regs, to, value(regs, to) / divisor))
+    let quotient = value(regs, to) / divisor;
+    compute(regs, to, quotient);
+    Decoded::Leaves
 }
 
 /// A store through a register and an offset.
 fn store_through(base: Reg, offset: u64, regs: &[u64; 11], bytes: Stored) -> Decoded
-    ensures { decoded_of result ≡ stores false (moved_on regs.now) (record { at = access_at base offset regs.now; bytes = stored_bytes bytes }) }
+    ensures { decoded_of result regs.now
+        ≡ stores false (moved_on regs.now)
+        (record { at = access_at base offset regs.now; bytes = stored_bytes bytes }) }
 {
     Decoded::Stores {
         stack: false,
@@ -83,7 +98,8 @@ fn store_through(base: Reg, offset: u64, regs: &[u64; 11], bytes: Stored) -> Dec
 
 /// A call of a subroutine, which keeps fp and the next pc on the stack.
 fn call(target: u64, regs: &[u64; 11]) -> Decoded
-    ensures { decoded_of result ≡ stores true (after_call target regs.now) (record { at = call_sp regs.now; bytes = call_frame regs.now }) }
+    ensures { decoded_of result regs.now
+        ≡ stores true (after_call target regs.now) (record { at = call_sp regs.now; bytes = call_frame regs.now }) }
 {
     Decoded::Stores {
         stack: true,
@@ -98,29 +114,44 @@ fn call(target: u64, regs: &[u64; 11]) -> Decoded
     }
 }
 
-/// What each instruction is, a row an instruction.
+/// What each instruction is, a row an instruction. One that leaves registers and does not touch memory is carried out;
+/// any other changes nothing.
 #[tactic(auto, unfolding(pr_model::specs::InstructionEffects::decoded))]
-pub fn decode(instruction: Instruction, regs: &[u64; 11]) -> Decoded
-    ensures { decoded_of result ≡ decoded instruction regs.now }
+pub fn decode(instruction: Instruction, regs: &mut [u64; 11]) -> Decoded
+    ensures value { decoded_of result regs.new ≡ decoded instruction regs.old }
+    ensures kept { leaves_registers result ≡ false → regs.new ≡ regs.old }
 {
     match instruction {
         Instruction::Bpt => Decoded::FaultsItself(Flt::Bpt),
-        Instruction::Nop => Decoded::Leaves(moved_on(regs)),
-        Instruction::Set { to, imm } => Decoded::Leaves(computed(regs, to, imm)),
-        Instruction::Mov { to, from } => Decoded::Leaves(computed(regs, to, value(regs, from))),
+        Instruction::Nop => {
+            move_on(regs);
+            Decoded::Leaves
+        }
+        Instruction::Set { to, imm } => {
+            compute(regs, to, imm);
+            Decoded::Leaves
+        }
+        Instruction::Mov { to, from } => {
+            let copied = value(regs, from);
+            compute(regs, to, copied);
+            Decoded::Leaves
+        }
         Instruction::Add { to, from } => {
             let sum = value(regs, to).wrapping_add(value(regs, from));
-            Decoded::Leaves(computed(regs, to, sum))
+            compute(regs, to, sum);
+            Decoded::Leaves
         }
         Instruction::Sub { to, from } => {
             let difference = value(regs, to).wrapping_sub(value(regs, from));
-            Decoded::Leaves(computed(regs, to, difference))
+            compute(regs, to, difference);
+            Decoded::Leaves
         }
         Instruction::Mul { to, from } => {
             let product = value(regs, to).wrapping_mul(value(regs, from));
-            Decoded::Leaves(computed(regs, to, product))
+            compute(regs, to, product);
+            Decoded::Leaves
         }
-        Instruction::Div { to, from } => divided(to, from, regs),
+        Instruction::Div { to, from } => divide(to, from, regs),
         Instruction::Ld { to, base, offset } => Decoded::Loads {
             load: Load::Word(to),
             at: access_at(base, offset, regs),
@@ -140,20 +171,28 @@ pub fn decode(instruction: Instruction, regs: &[u64; 11]) -> Decoded
                 Stored::Byte((value(regs, from) % 256) as u8),
             )
         }
-        Instruction::Jmp { target } => Decoded::Leaves(jumped(regs, target)),
+        Instruction::Jmp { target } => {
+            jump(regs, target);
+            Decoded::Leaves
+        }
         Instruction::Jz { test, target } => {
-            Decoded::Leaves(jumped_if(value(regs, test) == 0, target, regs))
+            let taken = value(regs, test) == 0;
+            jump_if(regs, taken, target);
+            Decoded::Leaves
         }
         Instruction::Jnz { test, target } => {
-            Decoded::Leaves(jumped_if(value(regs, test) != 0, target, regs))
+            let taken = value(regs, test) != 0;
+            jump_if(regs, taken, target);
+            Decoded::Leaves
         }
         Instruction::Jlt {
             left,
             right,
             target,
         } => {
-            let below = value(regs, left) < value(regs, right);
-            Decoded::Leaves(jumped_if(below, target, regs))
+            let taken = value(regs, left) < value(regs, right);
+            jump_if(regs, taken, target);
+            Decoded::Leaves
         }
         Instruction::Call { target } => call(target, regs),
         Instruction::Ret => Decoded::Loads {

@@ -1,16 +1,16 @@
 //! What the instruction at pc does. It is tried in this order: its fetch, areas watched for execution, its decoding, its
 //! own faults, areas watched for the data that it reads or writes, and its effect.
-ghost use Rattle.std.specs.Prelude.{◌≡◌, true, length, None, Some, IfOk, OnOk, OnErr};
+ghost use Rattle.std.specs.Prelude.{◌≡◌, true, false, length, None, Some, IfOk, OnOk, OnErr};
 ghost use Rattle.pr_num.specs.Control.{prot_read, watch_exec, watch_write};
 ghost use Rattle.pr_num.specs.Instructions.{instruction_in};
 ghost use Rattle.pr_num.specs.Spaces.{bytes_for};
 ghost use Rattle.pr_parts.specs.WatchedAreas.{hit_in};
 ghost use Rattle.pr_model.specs.Registers.{pc_of};
 ghost use Rattle.pr_model.specs.InstructionEffects.{access_fault, executed, hit_after, hit_before, instruction_effect, load_effect, of_instruction, store_effect, trapped_after, unless_exec_watched, unless_watched};
-ghost use Rattle.pr_lwp.specs.Plain.{decoded_of, load_of, loaded_from, outcome_of, size_of, space_after, store_of, stored_bytes, stores_bytes};
+ghost use Rattle.pr_lwp.specs.Plain.{decoded_of, load_of, loaded_from, outcome_of, size_of, space_after, store_of, stored_bytes, stores_bytes, tells_fault, told};
 
 use crate::accesses::{bad_store, fetch, load, make_store};
-use crate::decoding::{Decoded, Load, Store, Stored, decode};
+use crate::decoding::{Decoded, Load, Store, Stored, decode, leaves_registers};
 use crate::registers::{computed, moved_on, returned};
 use pr_mem::Space;
 use pr_model::PC;
@@ -205,15 +205,18 @@ fn executed(
     regs: &[u64; 11],
     decoded: Decoded,
 ) -> Result<Outcome, NoMemory>
-    ensures outcome { IfOk result (λ outcome. outcome ≡ outcome_of (executed space.old areas.now exec_hit regs.now (decoded_of decoded))) }
-    ensures space { OnOk result (space.new ≡ space_after (executed space.old areas.now exec_hit regs.now (decoded_of decoded)) space.old) }
-    ensures memory { OnErr result (stores_bytes (executed space.old areas.now exec_hit regs.now (decoded_of decoded)) ≡ true) }
+    ensures outcome { IfOk result (λ outcome. outcome
+        ≡ outcome_of (executed space.old areas.now exec_hit regs.now (decoded_of decoded regs.now))) }
+    ensures space { OnOk result (space.new
+        ≡ space_after (executed space.old areas.now exec_hit regs.now (decoded_of decoded regs.now)) space.old) }
+    ensures memory { OnErr result
+        (stores_bytes (executed space.old areas.now exec_hit regs.now (decoded_of decoded regs.now)) ≡ true) }
     ensures err { OnErr result (space.new ≡ space.old) }
 {
     match decoded {
         Decoded::FaultsItself(fault) => Ok(Outcome::Faults(fault, regs[PC])),
         Decoded::EntersCall(call) => Ok(Outcome::Calls(call, moved_on(regs))),
-        Decoded::Leaves(new) => Ok(trapped_after(exec_hit, None, new)),
+        Decoded::Leaves => Ok(trapped_after(exec_hit, None, *regs)),
         Decoded::Loads { load, at } => Ok(load_effect(space, areas, exec_hit, regs, load, at)),
         Decoded::Stores { stack, regs, store } => {
             store_effect(space, areas, exec_hit, stack, regs, store)
@@ -221,24 +224,46 @@ fn executed(
     }
 }
 
-/// What 16 bytes do: those that spell no instruction incur FLTILL.
+/// What is told of an instruction that left the registers as they are now, after which a hit of the execution traps.
+fn left(exec_hit: Option<u64>, regs: &[u64; 11]) -> Option<Outcome>
+    ensures outcome { told result regs.now ≡ outcome_of (trapped_after exec_hit None regs.now None) }
+    ensures fault { tells_fault result ≡ false }
+{
+    match exec_hit {
+        None => None,
+        Some(at) => Some(Outcome::RunsIntoWatch(at, *regs)),
+    }
+}
+
+/// What 16 bytes do: those that spell no instruction incur FLTILL. `None`: the instruction ran, and left the registers
+/// as they are now.
+#[tactic(auto, using(crate::proofs::ExecutionLemmas::in_place))]
 fn of_instruction(
     space: &mut Space,
     areas: &Areas,
     exec_hit: Option<u64>,
-    regs: &[u64; 11],
+    regs: &mut [u64; 11],
     instruction: Option<Instruction>,
-) -> Result<Outcome, NoMemory>
-    ensures outcome { IfOk result (λ outcome. outcome ≡ outcome_of (of_instruction space.old areas.now exec_hit regs.now instruction)) }
-    ensures space { OnOk result (space.new ≡ space_after (of_instruction space.old areas.now exec_hit regs.now instruction) space.old) }
-    ensures memory { OnErr result (stores_bytes (of_instruction space.old areas.now exec_hit regs.now instruction) ≡ true) }
+) -> Result<Option<Outcome>, NoMemory>
+    ensures outcome { IfOk result (λ ran. told ran regs.new
+        ≡ outcome_of (of_instruction space.old areas.now exec_hit regs.old instruction)) }
+    ensures regs { IfOk result (λ ran. tells_fault ran ≡ true → regs.new ≡ regs.old) }
+    ensures space { OnOk result (space.new
+        ≡ space_after (of_instruction space.old areas.now exec_hit regs.old instruction) space.old) }
+    ensures memory { OnErr result
+        (stores_bytes (of_instruction space.old areas.now exec_hit regs.old instruction) ≡ true) }
+    ensures kept { OnErr result (regs.new ≡ regs.old) }
     ensures err { OnErr result (space.new ≡ space.old) }
 {
     match instruction {
-        None => Ok(Outcome::Faults(Flt::Ill, regs[PC])),
+        None => Ok(Some(Outcome::Faults(Flt::Ill, regs[PC]))),
         Some(instruction) => {
             let decoded = decode(instruction, regs);
-            executed(space, areas, exec_hit, regs, decoded)
+            if leaves_registers(decoded) {
+                return Ok(left(exec_hit, regs));
+            }
+            let outcome = executed(space, areas, exec_hit, regs, decoded)?;
+            Ok(Some(outcome))
         }
     }
 }
@@ -259,17 +284,22 @@ fn exec_hit(areas: &Areas, at: u64) -> Option<(u64, bool)>
 fn unless_watched(
     space: &mut Space,
     areas: &Areas,
-    regs: &[u64; 11],
+    regs: &mut [u64; 11],
     bytes: &[u8; 16],
-) -> Result<Outcome, NoMemory>
-    ensures outcome { IfOk result (λ outcome. outcome ≡ outcome_of (unless_exec_watched space.old areas.now (hit_in watch_exec areas.now (pc_of regs.now) 16) regs.now bytes.now)) }
-    ensures space { OnOk result (space.new ≡ space_after (unless_exec_watched space.old areas.now (hit_in watch_exec areas.now (pc_of regs.now) 16) regs.now bytes.now) space.old) }
-    ensures memory { OnErr result (stores_bytes (unless_exec_watched space.old areas.now (hit_in watch_exec areas.now (pc_of regs.now) 16) regs.now bytes.now) ≡ true) }
+) -> Result<Option<Outcome>, NoMemory>
+    ensures outcome { IfOk result (λ ran. told ran regs.new ≡ outcome_of (unless_exec_watched space.old areas.now
+        (hit_in watch_exec areas.now (pc_of regs.old) 16) regs.old bytes.now)) }
+    ensures regs { IfOk result (λ ran. tells_fault ran ≡ true → regs.new ≡ regs.old) }
+    ensures space { OnOk result (space.new ≡ space_after (unless_exec_watched space.old areas.now
+        (hit_in watch_exec areas.now (pc_of regs.old) 16) regs.old bytes.now) space.old) }
+    ensures memory { OnErr result (stores_bytes (unless_exec_watched space.old areas.now
+        (hit_in watch_exec areas.now (pc_of regs.old) 16) regs.old bytes.now) ≡ true) }
+    ensures kept { OnErr result (regs.new ≡ regs.old) }
     ensures err { OnErr result (space.new ≡ space.old) }
 {
     let hit = exec_hit(areas, regs[PC]);
     match hit_before(hit) {
-        Some(at) => Ok(Outcome::Faults(Flt::Watch, at)),
+        Some(at) => Ok(Some(Outcome::Faults(Flt::Watch, at))),
         None => {
             let instruction = Instruction::decode(bytes);
             of_instruction(space, areas, hit_after(hit), regs, instruction)
@@ -277,16 +307,24 @@ fn unless_watched(
     }
 }
 
-/// What the instruction at pc does. Memory runs out only for what it stores; the space then stays as it is.
+/// What the instruction at pc does. `None`: it ran, and left the registers as they are now; after a fault they are as
+/// they were. Memory runs out only for what it stores; nothing is changed then.
 #[tactic(auto, unfolding(pr_model::specs::InstructionEffects::instruction_effect))]
-pub fn execute(regs: &[u64; 11], space: &mut Space, areas: &Areas) -> Result<Outcome, NoMemory>
-    ensures outcome { IfOk result (λ outcome. outcome ≡ outcome_of (instruction_effect space.old areas.now regs.now)) }
-    ensures space { OnOk result (space.new ≡ space_after (instruction_effect space.old areas.now regs.now) space.old) }
-    ensures memory { OnErr result (stores_bytes (instruction_effect space.old areas.now regs.now) ≡ true) }
+pub fn execute(
+    regs: &mut [u64; 11],
+    space: &mut Space,
+    areas: &Areas,
+) -> Result<Option<Outcome>, NoMemory>
+    ensures outcome { IfOk result (λ ran. told ran regs.new
+        ≡ outcome_of (instruction_effect space.old areas.now regs.old)) }
+    ensures regs { IfOk result (λ ran. tells_fault ran ≡ true → regs.new ≡ regs.old) }
+    ensures space { OnOk result (space.new ≡ space_after (instruction_effect space.old areas.now regs.old) space.old) }
+    ensures memory { OnErr result (stores_bytes (instruction_effect space.old areas.now regs.old) ≡ true) }
+    ensures kept { OnErr result (regs.new ≡ regs.old) }
     ensures err { OnErr result (space.new ≡ space.old) }
 {
     match fetch(space, regs[PC]) {
-        Err(bad) => Ok(access_fault(false, bad)),
+        Err(bad) => Ok(Some(access_fault(false, bad))),
         Ok(bytes) => unless_watched(space, areas, regs, &bytes),
     }
 }

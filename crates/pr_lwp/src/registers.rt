@@ -22,50 +22,56 @@ pub fn value(regs: &[u64; 11], r: Reg) -> u64
     regs[r.number() as usize]
 }
 
-/// The registers with pc at the next instruction.
+/// Moves pc to the next instruction.
 #[tactic(auto, unfolding(pr_model::specs::Registers::moved_on))]
+pub fn move_on(regs: &mut [u64; 11])
+    ensures { regs.new ≡ moved_on regs.old }
+{
+    regs[PC] = regs[PC].wrapping_add(16);
+}
+
+/// The registers with pc at the next instruction.
 pub fn moved_on(regs: &[u64; 11]) -> [u64; 11]
     ensures { result ≡ moved_on regs.now }
 {
     let mut new = *regs;
-    new[PC] = regs[PC].wrapping_add(16);
+    move_on(&mut new);
     new
 }
 
-/// The registers with a value in one of them.
+/// Puts a value that an instruction computes into a register.
 #[tactic(auto, using(crate::proofs::RegisterLemmas::registers))]
-fn with(regs: &[u64; 11], to: Reg, value: u64) -> [u64; 11]
-    ensures { result ≡ with_register to value regs.now }
+pub fn compute(regs: &mut [u64; 11], to: Reg, value: u64)
+    ensures { regs.new ≡ moved_on (with_register to value regs.old) }
 {
-    let mut new = *regs;
-    new[to.number() as usize] = value;
-    new
+    regs[to.number() as usize] = value;
+    move_on(regs);
 }
 
-/// The registers after an instruction that computes a value.
+/// The registers after an instruction that puts a value into one of them.
 pub fn computed(regs: &[u64; 11], to: Reg, value: u64) -> [u64; 11]
     ensures { result ≡ moved_on (with_register to value regs.now) }
 {
-    moved_on(&with(regs, to, value))
-}
-
-/// The registers after a jump.
-pub fn jumped(regs: &[u64; 11], target: u64) -> [u64; 11]
-    ensures { result ≡ with_pc target regs.now }
-{
     let mut new = *regs;
-    new[PC] = target;
+    compute(&mut new, to, value);
     new
 }
 
-/// The registers after a jump that is taken or not.
-pub fn jumped_if(taken: bool, target: u64, regs: &[u64; 11]) -> [u64; 11]
-    ensures { result ≡ jumped_if taken target regs.now }
+/// Jumps.
+pub fn jump(regs: &mut [u64; 11], target: u64)
+    ensures { regs.new ≡ with_pc target regs.old }
+{
+    regs[PC] = target;
+}
+
+/// Jumps or moves on.
+pub fn jump_if(regs: &mut [u64; 11], taken: bool, target: u64)
+    ensures { regs.new ≡ jumped_if taken target regs.old }
 {
     if taken {
-        jumped(regs, target)
+        jump(regs, target);
     } else {
-        moved_on(regs)
+        move_on(regs);
     }
 }
 

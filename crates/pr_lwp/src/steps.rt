@@ -20,17 +20,25 @@ pub enum Effect {
     Fault(Flt, u64),
 }
 
-/// An instruction ran and left these registers; a step mark is used up.
+/// An instruction ran and left the registers as they are; a step mark is used up.
+#[tactic(auto, unfolding(crate::specs::Steps::ran))]
+fn use_step<P>(lwp: &mut Lwp<P>) -> Effect
+    ensures { (record { lwp = lwp.new; effect = result }) ≡ ran lwp.old.regs lwp.old }
+{
+    if !lwp.control.step {
+        return Effect::Ran;
+    }
+    lwp.control.step = false;
+    Effect::Fault(Flt::Trace, lwp.regs[PC])
+}
+
+/// An instruction ran and left these registers.
 #[tactic(auto, unfolding(crate::specs::Steps::ran))]
 fn run<P>(lwp: &mut Lwp<P>, regs: [u64; 11]) -> Effect
     ensures { (record { lwp = lwp.new; effect = result }) ≡ ran regs lwp.old }
 {
     lwp.regs = regs;
-    if !lwp.control.step {
-        return Effect::Ran;
-    }
-    lwp.control.step = false;
-    Effect::Fault(Flt::Trace, regs[PC])
+    use_step(lwp)
 }
 
 /// What an instruction makes of its lwp.
@@ -63,6 +71,8 @@ pub fn step<P>(lwp: &mut Lwp<P>, space: &mut Space, areas: &Areas) -> Result<Eff
     ensures kept_lwp { OnErr result (lwp.new ≡ lwp.old) }
     ensures kept_space { OnErr result (space.new ≡ space.old) }
 {
-    let outcome = execute(&lwp.regs, space, areas)?;
-    Ok(finish(lwp, outcome))
+    match execute(&mut lwp.regs, space, areas)? {
+        None => Ok(use_step(lwp)),
+        Some(outcome) => Ok(finish(lwp, outcome)),
+    }
 }

@@ -1,6 +1,7 @@
-use Rattle.std.proofs.Common.{◌≡◌, ◌≢◌, ◌⊎◌, ◌<◌, ◌+◌, ◌==◌, ℕ, Some, None, length, if◌then◌else◌, refl, sym, subst, ap, ◌∙◌, inl, inr, arith}
+use Rattle.std.proofs.Common.{◌≡◌, ◌≢◌, ◌⊎◌, ◌<◌, ◌+◌, ◌==◌, ℕ, zero, suc, Some, None, length, if◌then◌else◌, refl, sym, subst, ap, ◌∙◌, inl, inr, arith}
 use Rattle.std.proofs.lemmas.Bool.{cases_eq}
 use Rattle.std.proofs.lemmas.List.{get_or-set_other, get_or-set_same, length-set}
+use Rattle.std.proofs.lemmas.Option.{same_Some}
 use Rattle.pr_model.specs.Handles.{handle_of}
 use Rattle.pr_model.specs.State.{Places, TracedState}
 use Rattle.pr_model.specs.declared.calls.Reply.{Reply}
@@ -16,7 +17,7 @@ use Rattle.pr_truss_laws.proofs.OpensLemmas.{Opens, held_by}
 -- The files that apfiles has open, by their places.
 
 -- the file of a place
-abbrev file_at : ℕ → ProbeFile
+abbrev pub file_at : ℕ → ProbeFile
 file_at place =
     if place == 0 then Control else (if place == 1 then Status else (if place == 2 then Lstatus
     else (if place == 3 then Map else (if place == 4 then AgentControl else AgentStatus))))
@@ -39,6 +40,16 @@ few-places Map = omega arith
 few-places AgentControl = omega arith
 few-places AgentStatus = omega arith
 
+pub at-file : (place : ℕ) → place < 6 → place_of (file_at place) ≡ place
+unfolding place_of
+at-file zero few = refl
+at-file (suc zero) few = refl
+at-file (suc (suc zero)) few = refl
+at-file (suc (suc (suc zero))) few = refl
+at-file (suc (suc (suc (suc zero)))) few = refl
+at-file (suc (suc (suc (suc (suc zero))))) few = refl
+at-file (suc (suc (suc (suc (suc (suc place)))))) few = absurd (omega (arith, few))
+
 -- two files at one place are one
 same-file : (f g : ProbeFile) → place_of f ≡ place_of g → f ≡ g
 same-file f g same = sym (its-file f) ∙ ap file_at same ∙ its-file g
@@ -58,6 +69,12 @@ module _ (k pid : ℕ) where
   pub record HasFirst (many : ℕ) (opens : Places) (o : Opened) : Type 0 where
     pub each : (f : ProbeFile) → place_of f < many → HasFile opens o f
     pub places : length o.handles ≡ most_open
+
+  -- what is noted at the place of a file is a handle of it
+  abbrev pub AreStanding : Places → Opened → Type 0
+  AreStanding opens o =
+      (f : ProbeFile) (number : ℕ) → handle_at o (place_of f) ≡ Some number
+      → handle_of opens k number ≡ Some (held_of f)
 
   pub none-first : (opens : Places) → HasFirst 0 opens nothing_open
   unfolding nothing_open
@@ -108,6 +125,21 @@ module _ (k pid : ℕ) where
       at = handle-other (place_of g) apart ∙ old.at;
       stands = old-stands s k (held_of f) refl r opens granted old.number (held_of g) old.stands;
     }
+
+    pub stands-more : length o.handles ≡ most_open → AreStanding s.opens o → AreStanding opens now
+    stands-more places all g number at = by (cases_eq (place_of g) (place_of f))
+      where
+        by : (place_of g ≡ place_of f) ⊎ (place_of g ≢ place_of f) → handle_of opens k number ≡ Some (held_of g)
+        by (inl same) =
+            let is : granted.place ≡ number =
+            same_Some granted.place number
+            (sym (handle-same places) ∙ ap (handle_at now) (sym same) ∙ at) in
+            subst (λ (m : ℕ). handle_of opens k m ≡ Some (held_of g)) is
+            (subst (λ (x : ProbeFile). handle_of opens k granted.place ≡ Some (held_of x)) (same-file f g (sym same))
+            (new-stands s k (held_of f) refl r opens granted))
+        by (inr apart) =
+            old-stands s k (held_of f) refl r opens granted number (held_of g)
+            (all g number (sym (handle-other (place_of g) apart) ∙ at))
 
     pub one-more : HasFirst (place_of f) s.opens o → HasFirst (place_of f + 1) opens now
     one-more has = record { each = each; places = new-places has.places }

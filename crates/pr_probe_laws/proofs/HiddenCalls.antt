@@ -180,6 +180,7 @@ written-gone : (at : ℕ) (bytes : List ℕ) (p : TracedProcess) → IsGone p
     → IsGone (with_space (with_bytes at bytes p.space) p)
 unfolding with_space
 written-gone at bytes p gone = record {
+  none = gone.none;
   halts = record { each = gone.halts.each };
   own = gone.own;
   text = still-allowed 0 p.space at bytes text_base code_size ∙ gone.text;

@@ -38,6 +38,7 @@ use Rattle.pr_probe_laws.proofs.AgentTurns.{IsAgent, IsFetchable, IsPlanted, Pos
 use Rattle.pr_probe_laws.proofs.HiddenCovers.{AreAlike}
 use Rattle.pr_probe_laws.proofs.HiddenStages.{Asked, AsksNow, Hides, HidesAgent, HidesBoth, HidesOut, HidesStack, Made, StandsOut, asked-at, made-at, runs, saved_patches, stands}
 use Rattle.pr_probe_laws.proofs.HiddenTurns.{did-is, is-settled}
+use Rattle.pr_probe_laws.proofs.AgentGone.{still-without}
 use Rattle.pr_probe_laws.proofs.LeavingRows.{GoesOut, IsGone, Leaving, Turns, at_exit, in_exit, leaving-turn, out_of_call}
 use Rattle.pr_probe_laws.proofs.RoomStages.{Where}
 use Rattle.pr_probe_laws.proofs.TextStages.{IsAsking, Making, Reads, Rests, Runs, WithAgent, agent-alike, in_program, on_its_way, stands-still}
@@ -88,6 +89,8 @@ module _ (n k pid : ℕ) (first : TracedState) (h : List Entry) (lawful : IsLawf
         let after_it = (others-halt n s k pid lawful sole made actor it x legal other halts).each q later in
         let memory = after_it.1.own here.own in
         record {
+          none =
+              still-without n s k pid lawful sole x live here.halts here.none actor it legal other q later;
           halts = after_it.0;
           own = memory.0;
           text = ap (λ (sp : Space). is_ok (bytes_for 0 sp text_base code_size)) memory.1 ∙ here.text;

@@ -1,7 +1,7 @@
-use Rattle.std.proofs.Common.{◌≡◌, ◌≢◌, ◌==◌, ◌⊎◌, ◌∷◌, ◌++◌, ◌<◌, ◌&&◌, ◌||◌, ℕ, Bool, true, false, not, cond, List, [], Option, Some, None, Ok, All, slice_get, refl, sym, subst, ap, ◌∙◌, inl, inr, arith}
+use Rattle.std.proofs.Common.{◌≡◌, ◌≢◌, ◌==◌, ◌⊎◌, ◌∷◌, ◌++◌, ◌<◌, ◌&&◌, ◌||◌, ℕ, Bool, true, false, not, cond, List, [], Option, Some, None, Ok, All, is_some, slice_get, refl, sym, subst, ap, ◌∙◌, inl, inr, arith}
 use Rattle.std.proofs.lemmas.Bool.{and_parts, cases_Bool, cases_eq, eqb-true, false≢true}
-use Rattle.std.proofs.lemmas.List.{append_assoc}
-use Rattle.std.proofs.lemmas.List.Elements.{All-cons, All-head, All-nil, All-tail}
+use Rattle.std.proofs.lemmas.List.{append_assoc, append-nil}
+use Rattle.std.proofs.lemmas.List.Elements.{All-cons, All-nil}
 use Rattle.std.proofs.lemmas.Option.{none-some, same_Some}
 use Rattle.std.specs.Bool.{IsTrue}
 use Rattle.pr_api.specs.Entries.{call_entry}
@@ -31,7 +31,7 @@ use Rattle.pr_model.specs.Machines.{traced}
 use Rattle.pr_model.specs.Rows.{row_for}
 use Rattle.pr_model.specs.SignalCalls.{Sending, sending, sends, with_sent}
 use Rattle.pr_model.specs.Signals.{generated, is_kill}
-use Rattle.pr_model.specs.State.{TracedLwp, TracedProcess, TracedState, TracedSystem, live_process, lwp_of}
+use Rattle.pr_model.specs.State.{TracedLwp, TracedProcess, TracedState, TracedSystem, has_agent, live_process, lwp_of}
 use Rattle.pr_model.specs.declared.calls.Call as calls
 use Rattle.pr_model.specs.declared.calls.Call.TheVariants as call
 use Rattle.pr_model.specs.declared.calls.File.{File}
@@ -71,16 +71,22 @@ use Rattle.pr_truss_laws.specs.Handles.{HasNoOtherWriter}
 use Rattle.pr_world.specs.ControllerStates.{ControllerState, Probe}
 use Rattle.pr_tool_laws.specs.OwnCalls.{AreOwnCalls, IsOwnCall}
 use Rattle.pr_world.specs.Protocol.{controllers_after, controllers_at}
+use Rattle.pr_num.specs.Layout.{stack_base}
+use Rattle.pr_probe.specs.AgentCode.{stack_size}
 use Rattle.pr_probe_laws.proofs.AcceptedCalls.{takes}
+use Rattle.pr_probe_laws.proofs.AgentGone.{writes-stack-at}
 use Rattle.pr_probe_laws.proofs.HiddenCalls.{IsBareAfter, makes, special-names, special-tidy, step-hides}
 use Rattle.pr_probe_laws.proofs.HiddenCovers.{AreAlike, HaveNoFaults, agent-turned, alike-self, bare-turned, called-faults, covers-push, ctl-apart, ctl-other, ctl-plain, is_plain, plain-tidy, stopped-turned, tidy-called, turned-faults, turned-other, turned-own}
 use Rattle.pr_probe_laws.proofs.AgentTurns.{asks}
 use Rattle.pr_probe_laws.proofs.DeathLemmas.{dead-none, generated-dead}
+use Rattle.pr_probe_laws.proofs.HiddenPassive.{All-there, others-enough}
 use Rattle.pr_probe_laws.proofs.HiddenPlain.{ComesToHide, IsInOrder, comes-to-hide, is_over, is_special, order-fed, plain-of}
+use Rattle.pr_probe_laws.proofs.ProbeCalls.{not-refusing}
+use Rattle.pr_probe_laws.proofs.ReasonStages.{passed-poll}
 use Rattle.pr_probe_laws.proofs.SetCalls.{control-stands, sent-by, taken}
 use Rattle.pr_probe_laws.proofs.HiddenMessages.{agent-used}
 use Rattle.pr_probe_laws.proofs.TextMessages.{agent-read}
-use Rattle.pr_probe_laws.specs.PutBack.{SendsTo}
+use Rattle.pr_probe_laws.specs.Reasons.{IsInterruptedPoll}
 use Rattle.pr_probe_laws.proofs.HiddenFacts.{Facts, asks-at, controllers-push, facts, legal-call, legal-there}
 use Rattle.pr_probe_laws.proofs.HiddenFacts.{legal-turn}
 use Rattle.pr_probe_laws.proofs.HiddenFacts.{next-is, others-leave, own-feeds, own-there, probe-at, reached-at}
@@ -95,6 +101,7 @@ use Rattle.pr_probe_laws.proofs.StepTurns.{turn-plain, turn-unstepped}
 use Rattle.pr_probe_laws.specs.ShownDescriptors.{WasUnlent}
 use Rattle.pr_probe_laws.specs.StepMarks.{IsUnstepped}
 use Rattle.pr_probe_laws.specs.HiddenProbes.{AreLeftAlone, AreProbes, IsAsSeen, IsLeftAlone, IsHidingAfter, IsAlive, MakesAgent, StandsSaved, is_hiding, is_signal_turn}
+use Rattle.pr_tool_laws.specs.Leaving.{SendsTo}
 
 -- Each apfiles is tidy.
 
@@ -143,6 +150,21 @@ works k pid first h s p stage.AwaitExit it knows = at-work k pid first h s p 6 (
 works k pid first h s p stage.WriteCode it knows = at-work k pid first h s p 6 (omega arith) knows
 works k pid first h s p stage.WriteStack it knows = at-work k pid first h s p 6 (omega arith) knows
 works k pid first h s p _ it knows = absurd (false≢true it)
+
+-- where something is hidden it does not undo what it did, and so was refused nothing
+hiding-goes : (g : ProbeStage) → is_hiding g ≡ true → is_over g ≡ false
+unfolding is_hiding
+hiding-goes (stage.Restore kind) hides = absurd (false≢true hides)
+hiding-goes stage.Release hides = absurd (false≢true hides)
+hiding-goes stage.Close hides = absurd (false≢true hides)
+hiding-goes _ hides = refl
+
+still-accepted : (u : ProbeState) → IsInOrder u → is_hiding u.stage ≡ true → u.refusal ≡ None
+still-accepted u order hides = by u.refusal refl
+  where
+    by : (o : Option Errno) → u.refusal ≡ o → u.refusal ≡ None
+    by None none_of = none_of
+    by (Some e) refused = absurd (false≢true (sym (hiding-goes u.stage hides) ∙ order.refused e refused))
 
 -- ---- handles
 
@@ -245,10 +267,6 @@ passive-plain _ is = refl
 all-clear : (c : Cover) → ((id : ℕ) → c.faulted id ≡ false) → (ls : List (ℕ × TracedLwp)) → All (IsClearLwp c) ls
 all-clear c clean [] = All-nil (IsClearLwp c)
 all-clear c clean (e ∷ ls) = All-cons (IsClearLwp c) e ls (λ f address at. clean e.0) (all-clear c clean ls)
-
-All-there : (P : Entry → Type 0) (front : List Entry) (e : Entry) (back : List Entry) → All P (front ++ e ∷ back) → P e
-All-there P [] e back all = All-head P e back all
-All-there P (x ∷ front) e back all = All-there P front e back (All-tail P x (front ++ e ∷ back) all)
 
 -- ---- what is hidden after each front
 
@@ -1246,21 +1264,6 @@ module _ (n : ℕ) (who : Hiders) (controllers : List ControllerState) (first : 
           (ask front (called_entry ∷ back) place pid mine) l.process l.lives p p.stage (known.knows one.accepted)
           (known.reads one.accepted) hides_it next right
 
-      -- it was refused nothing
-      still-accepted : (u : ProbeState) → IsInOrder u → is_hiding u.stage ≡ true → u.refusal ≡ None
-      unfolding is_hiding
-      still-accepted u order hides = by u.refusal refl
-        where
-          both : (g : ProbeStage) → is_over g ≡ true → is_hiding g ≡ true → ⊥
-          both (stage.Restore kind) is other = false≢true other
-          both stage.Release is other = false≢true other
-          both stage.Close is other = false≢true other
-          both _ is other = false≢true is
-
-          by : (o : Option Errno) → u.refusal ≡ o → u.refusal ≡ None
-          by None none_of = none_of
-          by (Some e) refused = absurd (both u.stage (order.refused e refused) hides)
-
       own-later : Later pid
       own-later = by step
         where
@@ -1565,17 +1568,122 @@ module _ (n : ℕ) (who : Hiders) (controllers : List ControllerState) (first : 
     unstepped = first_unstepped;
   }
 
-  pub apfiles-tidy : IsTidy who first h
+  -- ---- a call of one that hides something: it is refused nothing, and its agent is gone before all is written back
+
+  kept-after : (front more back : List Entry) → h ≡ front ++ (more ++ back) → Kept front → Kept (front ++ more)
+  kept-after front [] back place kept = subst Kept (sym (append-nil front)) kept
+  kept-after front (e ∷ more) back place kept =
+      let step = steps front e.actor e.act (more ++ back) place kept in
+      subst Kept (append_assoc front (e ∷ []) more)
+      (kept-after (front ++ e ∷ []) more back (place ∙ sym (append_assoc front (e ∷ []) (more ++ back))) step.kept)
+
+  module _ (k pid : ℕ) (hider : who.probes k ≡ true) (starts : slice_get controllers k ≡ Some (Probe (first_probe pid)))
+      (front : List Entry) (c : calls.Call) (r : Reply) (back : List Entry)
+      (place : h ≡ front ++ call_entry k c r ∷ back) (p : ProbeState)
+      (its_way : IsHidingAfter k pid controllers first front p) where
+    abbrev its_rest : List Entry
+    its_rest = call_entry k c r ∷ back
+
+    kept_here : Kept front
+    kept_here = kept-after [] front its_rest place at_first
+
+    its_fact : Facts n controllers first h reached bytes legal theirs k pid starts front p
+    its_fact = facts n controllers first h reached bytes legal theirs k pid starts front its_rest place p its_way.is
+
+    its_one : IsOne pid front k p
+    its_one = record {
+      hider = hider;
+      starts = starts;
+      is = its_way.is;
+      accepted = still-accepted p its_fact.order its_way.hides;
+    }
+
+    its_hides : Hides pid (at front pid) (state_after first front).system p p.stage
+    its_hides = by (kept_here.covering pid)
+      where
+        by : IsBare pid front ⊎ IsHiddenBy pid front
+            → Hides pid (at front pid) (state_after first front).system p p.stage
+        by (inl bare) = absurd (false≢true (sym (bare.nobody k p its_one) ∙ its_way.hides))
+        by (inr b) =
+            let same : k ≡ b.k = alone-hides front its_rest place pid b k p its_one its_way.hides in
+            let its_is : slice_get (controllers_at controllers front) k ≡ Some (Probe b.p) =
+            subst (λ (i : ℕ). slice_get (controllers_at controllers front) i ≡ Some (Probe b.p)) (sym same)
+            b.one.is in
+            let both : Some (Probe b.p) ≡ Some (Probe p) = sym its_is ∙ its_way.is in
+            let its_state : b.p ≡ p = cc in
+            subst (λ (u : ProbeState). Hides pid (at front pid) (state_after first front).system u u.stage) its_state
+            b.hides
+
+    its_next : call_of p p.stage ≡ Some c
+    unfolding next_call_of
+    its_next = next front k c r back place kept_here pid p its_one its_hides
+
+    interrupted : (e : Errno) → r ≡ reply.Fail e → IsInterruptedPoll c e
+    unfolding refusal_in
+    interrupted e is =
+        let accepts = right front k c r back place kept_here pid p its_one its_hides in
+        passed-poll p p.stage e c (hiding-goes p.stage its_way.hides)
+        (not-refusing e (is_passed_over p.stage e) (ap (refusal_in p.stage) (sym is) ∙ accepts)) its_next
+
+    agent-gone : p.stage ≡ stage.WriteStack → (q : TracedProcess)
+        → live_process (state_after first front).system pid ≡ Some q → has_agent q ≡ false
+    unfolding Hides
+    agent-gone stage_is q live =
+        let hides : Hides pid (at front pid) (state_after first front).system p stage.WriteStack =
+        subst (Hides pid (at front pid) (state_after first front).system p) stage_is its_hides in
+        ap (λ (o : Option TracedLwp). is_some o) (hides.1 q live).none
+
+  apfiles-tidy : IsTidy who first h
   apfiles-tidy = walk-tidy [] h refl at_first
 
-  pub apfiles-spares : IsSparing who first h
+  apfiles-spares : IsSparing who first h
   apfiles-spares = walk-spares [] h refl at_first
 
--- So programs see nothing of it.
-pub apfiles-hidden : (n : ℕ) (who : Hiders) (controllers : List ControllerState) (s : TracedState) (h : List Entry)
-    → IsReached s → IsUntouched s.system → HasBytes h → IsLegal n s h → AreOwnCalls controllers h
-    → AreLeftAlone who controllers s h → IsHidden who s h
-apfiles-hidden n who controllers s h reached untouched bytes legal theirs are =
-    hidden-later n who s h reached.lawful untouched legal are.passive
-    (apfiles-spares n who controllers s h reached bytes legal theirs are.probes are.passive are.alone (untouched-unstepped s.system untouched))
-    (apfiles-tidy n who controllers s h reached bytes legal theirs are.probes are.passive are.alone (untouched-unstepped s.system untouched))
+-- Where all who hide nothing make passive calls alone, and each apfiles is left alone, each is tidy, and programs leave
+-- alone what it wrote over.
+module _ (n : ℕ) (who : Hiders) (controllers : List ControllerState) (s : TracedState) (h : List Entry)
+    (reached : IsReached s) (bytes : HasBytes h) (legal : IsLegal n s h) (theirs : AreOwnCalls controllers h)
+    (are : AreLeftAlone who controllers s h) where
+  passive_but : IsPassiveBut who h
+  passive_but = others-enough n who controllers s h legal theirs are.probes are.passive
+
+  pub alone-tidy : IsUnstepped s.system → IsTidy who s h
+  alone-tidy unstepped =
+      apfiles-tidy n who controllers s h reached bytes legal theirs are.probes passive_but are.alone unstepped
+
+  pub alone-spares : IsUnstepped s.system → IsSparing who s h
+  alone-spares unstepped =
+      apfiles-spares n who controllers s h reached bytes legal theirs are.probes passive_but are.alone unstepped
+
+  -- who hides something is refused nothing, but that a wait for its agent may be interrupted
+  pub alone-accepted : IsUnstepped s.system → (k pid : ℕ) → who.probes k ≡ true
+      → slice_get controllers k ≡ Some (Probe (first_probe pid)) → (front back : List Entry) (c : calls.Call)
+      (e : Errno) (p : ProbeState) → h ≡ front ++ call_entry k c (reply.Fail e) ∷ back
+      → IsHidingAfter k pid controllers s front p → IsInterruptedPoll c e
+  alone-accepted unstepped k pid hider starts front back c e p place hides =
+      interrupted n who controllers s h reached bytes legal theirs are.probes passive_but are.alone unstepped k pid
+      hider starts front c (reply.Fail e) back place p hides e refl
+
+  -- where it writes back what its agent was answered, that agent is gone
+  pub alone-gone : IsUnstepped s.system → (k pid : ℕ) → who.probes k ≡ true
+      → slice_get controllers k ≡ Some (Probe (first_probe pid)) → (front back : List Entry) (c : calls.Call)
+      (r : Reply) (tail : List ℕ) → h ≡ front ++ call_entry k c r ∷ back
+      → SendsTo k pid (message.Write stack_base stack_size) tail (state_after s front) c → (q : TracedProcess)
+      → live_process (state_after s front).system pid ≡ Some q → has_agent q ≡ false
+  unfolding next_call_of is_hiding
+  alone-gone unstepped k pid hider starts front back c r tail place sent q live =
+      let now = probe-at k controllers front (first_probe pid, starts) in
+      let p : ProbeState = now.0 in
+      let its_own =
+      own-there controllers front (call_entry k c r) back (subst (AreOwnCalls controllers) place theirs) in
+      let made = next-is k (controllers_at controllers front) p c r now.1 its_own in
+      let at_write : p.stage ≡ stage.WriteStack =
+      writes-stack-at k pid (state_after s front) c tail sent p p.stage made in
+      agent-gone n who controllers s h reached bytes legal theirs are.probes passive_but are.alone unstepped k pid hider
+      starts front c r back place p (record { is = now.1; hides = ap is_hiding at_write }) at_write q live
+
+  -- so programs see nothing of it
+  pub alone-hidden : IsUntouched s.system → IsHidden who s h
+  alone-hidden untouched =
+      hidden-later n who s h reached.lawful untouched legal passive_but
+      (alone-spares (untouched-unstepped s.system untouched)) (alone-tidy (untouched-unstepped s.system untouched))

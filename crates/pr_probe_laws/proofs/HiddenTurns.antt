@@ -80,7 +80,7 @@ module _ (who : Hiders) (covers : Covers) (clean : HaveNoFaults covers) (s : Tra
           never_posted = λ is. absurd (false≢true (sym (clean pid id) ∙ is));
           own_steps = λ is. absurd (unstepped is);
           changes =
-              row-tidy covers s.system pid p id l bare back
+              row-tidy covers s.system pid p id l back (λ woken call args since copying does. bare)
               (λ target killed.
               kills target
               (ap (λ (x : LwpTurn). live_process x.system target) (is-settled s pid id t turn p l live there)

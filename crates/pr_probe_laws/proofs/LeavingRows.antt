@@ -111,6 +111,7 @@ pub record GoesOut (q : TracedProcess) : Type 0 where
 
 -- it is there no more, each other lwp stands still or will stop, and what was written over is mapped
 pub record IsGone (q : TracedProcess) : Type 0 where
+  pub none : lwp_of q agent_id ≡ None
   pub halts : IsHalting q
   pub own : q.borrower ≡ None
   pub text : is_ok (bytes_for 0 q.space text_base code_size) ≡ true
@@ -232,6 +233,7 @@ module _ (s : TracedSystem) (pid : ℕ) (p : TracedProcess) (l : TracedLwp) (liv
     gone-halts : IsGone without
     unfolding with_counted without_lwp with_lwp
     gone-halts = record {
+      none = agent-without;
       halts = record { each = λ id k at_id. by id k at_id (cases_eq agent_id id) };
       own = ready.own;
       text = any-ok prot_exec p.space text_base code_size (ap is_ok ready.code);
@@ -241,12 +243,16 @@ module _ (s : TracedSystem) (pid : ℕ) (p : TracedProcess) (l : TracedLwp) (liv
         changed : List (ℕ × TracedLwp)
         changed = change_under agent_id (moved traced stays) p.lwps
 
+        agent-without : under agent_id (without_id agent_id changed) ≡ None
+        agent-without =
+            under-without_id 0 agent_id changed
+            (rises_from-change_under 0 agent_id (moved traced stays) p.lwps ∙ rising)
+
         by : (id : ℕ) (k : TracedLwp) → under id (without_id agent_id changed) ≡ Some k
             → (agent_id ≡ id) ⊎ (agent_id ≢ id) → will_stop k ≡ true
         by id k at_id (inl same) =
             absurd (none-some k
-            (sym (under-without_id 0 agent_id changed
-            (rises_from-change_under 0 agent_id (moved traced stays) p.lwps ∙ rising))
+            (sym agent-without
             ∙ subst (λ (n : ℕ). under n (without_id agent_id changed) ≡ Some k) (sym same) at_id))
         by id k at_id (inr apart) =
             ready.others id k (λ is. apart (sym is))

@@ -1,6 +1,7 @@
 pub mod AcceptedCalls
 pub mod AgentCalls
 pub mod AgentEntries
+pub mod AgentGone
 pub mod AgentMemory
 pub mod AgentMoves
 pub mod AgentRows
@@ -17,12 +18,16 @@ pub mod HiddenFacts
 pub mod HiddenKept
 pub mod HiddenLaw
 pub mod HiddenMessages
+pub mod HiddenPassive
 pub mod HiddenPlain
 pub mod HiddenStages
 pub mod HiddenTidy
 pub mod HiddenTurns
 pub mod LeavingRows
+pub mod LetsBe
 pub mod MemoryMessages
+pub mod OwnCallRows
+pub mod OwnFiles
 pub mod ProbeCalls
 pub mod ProbeLaw
 pub mod ProbeStages
@@ -43,6 +48,7 @@ pub mod StatusSets
 pub mod StepCalls
 pub mod StepLemmas
 pub mod StepTurns
+pub mod TakesBack
 pub mod TextCalls
 pub mod TextLaw
 pub mod TextMessages

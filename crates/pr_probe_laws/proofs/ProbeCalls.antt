@@ -1,4 +1,5 @@
-use Rattle.std.proofs.Common.{◌≡◌, ◌≢◌, ◌∷◌, ◌++◌, ◌⊎◌, ◌+◌, ◌-◌, ◌^◌, ◌<◌, ℕ, Bool, true, false, cond, List, [], Option, Some, None, nat_lt, take, refl, sym, subst, ap, ◌∙◌, inl, inr, arith}
+use Rattle.std.proofs.Common.{◌≡◌, ◌≢◌, ◌∷◌, ◌++◌, ◌⊎◌, ◌+◌, ◌-◌, ◌^◌, ◌<◌, ℕ, Bool, true, false, cond, List, [], Option, Some, None, Result, Ok, Err, nat_lt, take, refl, sym, subst, ap, ◌∙◌, inl, inr, arith}
+use Rattle.std.proofs.lemmas.Bool.{false≢true}
 use Rattle.std.proofs.lemmas.List.{get_or-set_other, take_all}
 use Rattle.std.proofs.lemmas.Option.{same_Some}
 use Rattle.pr_api.specs.Entries.{call_entry}
@@ -15,13 +16,16 @@ use Rattle.pr_model.specs.declared.calls.Mode.{Mode}
 use Rattle.pr_model.specs.declared.calls.Mode.TheVariants as mode
 use Rattle.pr_model.specs.declared.calls.Reply.{Reply}
 use Rattle.pr_model.specs.declared.calls.Reply.TheVariants as reply
+use Rattle.pr_model.specs.declared.events.Act.TheVariants as act
 use Rattle.pr_model.specs.declared.events.Entry.{Entry}
 use Rattle.pr_num.specs.Layout.{stack_base, text_base}
 use Rattle.pr_num.specs.Limits.{descriptor_limit}
 use Rattle.pr_num.specs.Messages.{first_message}
 use Rattle.pr_num.specs.declared.errnos.Errno.{Errno}
 use Rattle.pr_num.specs.declared.files.FdKind.{FdKind}
+use Rattle.pr_num.specs.declared.messages.Message.{Message}
 use Rattle.pr_num.specs.declared.messages.Message.TheVariants as message
+use Rattle.pr_num.specs.declared.messages.MsgFault.{MsgFault}
 use Rattle.pr_probe.proofs.FedLemmas.{answer-by, fed-back, fed-by, kind-kept, map-by, not-refused, poll-by, run-next-by}
 use Rattle.pr_probe.specs.AgentCode.{code_size, stack_size}
 use Rattle.pr_probe.specs.DescriptorLines.{kind_in}
@@ -42,14 +46,16 @@ use Rattle.pr_tools.specs.declared.handles.Opened.{Opened}
 use Rattle.pr_truss_laws.proofs.OpensLemmas.{Opens, Refuses, held_by, keeps_handles, open-opens, plain-leaves}
 use Rattle.pr_truss_laws.proofs.TakenLemmas.{ReadsAs}
 use Rattle.pr_probe_laws.proofs.MemoryMessages.{IsWriteOf, code-reads, code-written, read-given, read_bytes, stack-reads, stack-written, write_bytes, writer_of, written-stands}
-use Rattle.pr_probe_laws.proofs.ProbeStages.{BothSaved, Holds, IsBack, IsSaved, So, back-still, both-back, both-still, saved-still}
-use Rattle.pr_probe_laws.specs.PutBack.{StandAt}
+use Rattle.pr_probe_laws.proofs.HiddenCovers.{is_plain}
+use Rattle.pr_probe_laws.proofs.HiddenPlain.{is_special, plain-of}
+use Rattle.pr_probe_laws.proofs.ProbeStages.{BothSaved, Comes, Holds, IsBack, IsSaved, So, Unwritten, back-still, both-back, both-still, saved-still, unwritten-still}
+use Rattle.pr_probe_laws.specs.PutBack.{StandAt, WritesNoMemory, begins_with_write, is_write}
 
 -- What a call of apfiles makes of its stage.
 
 -- ---- what was not refused
 
-not-refusing : (e : Errno) (b : Bool) → cond b None (Some e) ≡ None → b ≡ true
+pub not-refusing : (e : Errno) (b : Bool) → cond b None (Some e) ≡ None → b ≡ true
 not-refusing e true none = refl
 not-refusing e false none = absurd cc
 
@@ -75,6 +81,24 @@ asked-next P asks out d = by (nat_lt d (descriptor_limit - 1))
 first-at : (number : ℕ) → handle_at (with_handle nothing_open 0 (opened_in (reply.Handle number))) 0 ≡ Some number
 unfolding handle_at with_handle nothing_open opened_in
 first-at number = refl
+
+no-write : (m : Message) → is_plain m ≡ true → is_write m ≡ false
+no-write (message.Write at size) plain = absurd (false≢true plain)
+no-write _ plain = refl
+
+-- the call of a plain stage writes to no memory
+plain-call : (k : ℕ) (c : Call) (r : Reply) (p : ProbeState) (g : ProbeStage) → is_special g ≡ false
+    → call_of p g ≡ Some c → WritesNoMemory k (call_entry k c r)
+plain-call k c r p g plain same handle bytes d is = by (first_message bytes) refl
+  where
+    its : c ≡ call.Ctl handle bytes
+    its = let made : act.Call c r ≡ act.Call (call.Ctl handle bytes) d = ap (λ (x : Entry). x.act) is in cc
+
+    by : (q : Result (Message × ℕ) MsgFault) → first_message bytes ≡ q → begins_with_write q ≡ false
+    by (Err fault) read = refl
+    by (Ok first) read =
+        no-write first.0
+        (plain-of handle bytes first.0 first.1 read p g plain (same ∙ ap (λ (x : Call). Some x) its))
 
 module _ (k pid : ℕ) (first : TracedState) (h : List Entry) (c : Call) (a : Answer)
     (given : answer_to (state_after first h) k c ≡ Some a) where
@@ -178,11 +202,12 @@ module _ (k pid : ℕ) (first : TracedState) (h : List Entry) (c : Call) (a : An
       sent-by = ap (answer_to s k) (sym call-is) ∙ given
 
     -- what a read gave is saved
-    saved-on : (at size : ℕ) → ReadsAs (message.Read at size) (first_message (read_bytes at size))
+    saved-on : (at size : ℕ) → Unwritten k pid first h
+        → ReadsAs (message.Read at size) (first_message (read_bytes at size))
         → Some (call.Ctl (number_of (handle_at o (place_of Control))) (read_bytes at size)) ≡ Some c
         → IsSaved k pid first at size (take size (bytes_read a.reply)) longer
     unfolding bytes_in
-    saved-on at size reads same =
+    saved-on at size unwritten reads same =
         let gives =
         read-given s k number pid a holds.stands accepts at size reads (sent-by (read_bytes at size) same) in
         let bytes = gives.bytes in
@@ -197,6 +222,7 @@ module _ (k pid : ℕ) (first : TracedState) (h : List Entry) (c : Call) (a : An
             reply = a.reply;
             after = [];
             place = refl;
+            unwritten = unwritten;
             reads = record {
               handle = number;
               held = writer_of k pid;
@@ -262,6 +288,18 @@ module _ (k pid : ℕ) (first : TracedState) (h : List Entry) (c : Call) (a : An
   asked-on p d so =
       asked-next (λ (g : ProbeStage). So k pid first longer a.state (asked p d) g) (λ e step. so) so d
 
+  -- ---- what it has not written
+
+  more-unwritten : (p : ProbeState) (g : ProbeStage) → is_special g ≡ false → call_of p g ≡ Some c
+      → Unwritten k pid first h → Unwritten k pid first longer
+  more-unwritten p g plain same so = unwritten-still k pid first h it (plain-call k c a.reply p g plain same) so
+
+  -- its control file stays open, and nothing is written
+  comes-on : (p : ProbeState) (g : ProbeStage) (d : Call) → Some d ≡ Some c → keeps_handles d ≡ true
+      → is_special g ≡ false → call_of p g ≡ Some c → Comes k pid first h s p → Comes k pid first longer a.state p
+  comes-on p g d made keeps plain same so =
+      (holds-still d made keeps p.opened so.0, more-unwritten p g plain same so.1)
+
   -- ---- the stages
 
   -- a step of asking for a descriptor
@@ -286,42 +324,61 @@ module _ (k pid : ℕ) (first : TracedState) (h : List Entry) (c : Call) (a : An
   step-on : (p : ProbeState) (g : ProbeStage) → So k pid first h s (at_stage p g) g
       → call_of (at_stage p g) g ≡ Some c → refusal_in g a.reply ≡ None → Next (accepted (at_stage p g) a.reply g)
   unfolding So call_of accepted advanced with_next with_status stage_after stage_opened place_of file_of lwp_of mode_of
-      is_passed_over kind_after set_word trace_message
+      is_passed_over kind_after set_word trace_message is_special
   step-on p (stage.Open Control) so same right =
-      λ none. control-open p so same (granted (stage.Open Control) a.reply (λ e. refl) right)
+      λ none. (
+        control-open p (so.0, so.1) same (granted (stage.Open Control) a.reply (λ e. refl) right),
+        more-unwritten (at_stage p (stage.Open Control)) (stage.Open Control) refl same so.2,
+      )
   step-on p (stage.Open Status) so same right =
-      λ none. another-open p.opened 1 _ _ _ _ (λ e. omega arith) same
-      (granted (stage.Open Status) a.reply (λ e. refl) right) so
+      λ none. (
+        another-open p.opened 1 _ _ _ _ (λ e. omega arith) same
+            (granted (stage.Open Status) a.reply (λ e. refl) right) so.0,
+        more-unwritten (at_stage p (stage.Open Status)) (stage.Open Status) refl same so.1,
+      )
   step-on p (stage.Open Lstatus) so same right =
-      λ none. another-open p.opened 2 _ _ _ _ (λ e. omega arith) same
-      (granted (stage.Open Lstatus) a.reply (λ e. refl) right) so
+      λ none. (
+        another-open p.opened 2 _ _ _ _ (λ e. omega arith) same
+            (granted (stage.Open Lstatus) a.reply (λ e. refl) right) so.0,
+        more-unwritten (at_stage p (stage.Open Lstatus)) (stage.Open Lstatus) refl same so.1,
+      )
   step-on p (stage.Open Map) so same right =
-      λ none. another-open p.opened 3 _ _ _ _ (λ e. omega arith) same
-      (granted (stage.Open Map) a.reply (λ e. refl) right) so
+      λ none. (
+        another-open p.opened 3 _ _ _ _ (λ e. omega arith) same
+            (granted (stage.Open Map) a.reply (λ e. refl) right) so.0,
+        more-unwritten (at_stage p (stage.Open Map)) (stage.Open Map) refl same so.1,
+      )
   step-on p (stage.Open AgentControl) so same right =
       λ none. another-both p.opened 4 _ _ _ _ (λ e. omega arith) same
       (granted (stage.Open AgentControl) a.reply (λ e. refl) right) p refl so
   step-on p (stage.Open AgentStatus) so same right =
       λ none. another-both p.opened 5 _ _ _ _ (λ e. omega arith) same
       (granted (stage.Open AgentStatus) a.reply (λ e. refl) right) p refl so
-  step-on p stage.ReadFirst so same right = λ none. holds-still _ same refl p.opened so
-  step-on p stage.Stop so same right = λ none. holds-still _ same refl p.opened so
-  step-on p stage.AwaitStop so same right = λ none. holds-still _ same refl p.opened so
-  step-on p stage.ReadStatus so same right = λ none. holds-still _ same refl p.opened so
+  step-on p stage.ReadFirst so same right =
+      λ none. comes-on (at_stage p stage.ReadFirst) stage.ReadFirst _ same refl refl same so
+  step-on p stage.Stop so same right =
+      λ none. comes-on (at_stage p stage.Stop) stage.Stop _ same refl refl same so
+  step-on p stage.AwaitStop so same right =
+      λ none. comes-on (at_stage p stage.AwaitStop) stage.AwaitStop _ same refl refl same so
+  step-on p stage.ReadStatus so same right =
+      λ none. comes-on (at_stage p stage.ReadStatus) stage.ReadStatus _ same refl refl same so
   step-on p stage.ReadMap so same right =
       map-by Next (at_stage p stage.ReadMap) (bytes_read a.reply)
-      (λ e none. not-refused (at_stage p stage.ReadMap) e none) (λ none. holds-still _ same refl p.opened so)
+      (λ e none. not-refused (at_stage p stage.ReadMap) e none)
+      (λ none. comes-on (at_stage p stage.ReadMap) stage.ReadMap _ same refl refl same so)
   step-on p stage.SaveCode so same right =
       λ none. (
-        holds-still _ same refl p.opened so,
-        saved-on p.opened so (granted stage.SaveCode a.reply (λ e. refl) right) text_base code_size code-reads same,
+        holds-still _ same refl p.opened so.0,
+        saved-on p.opened so.0 (granted stage.SaveCode a.reply (λ e. refl) right) text_base code_size so.1 code-reads
+            same,
+        more-unwritten (at_stage p stage.SaveCode) stage.SaveCode refl same so.1,
       )
   step-on p stage.SaveStack so same right =
       λ none. (
         holds-still _ same refl p.opened so.0,
         saved-still k pid first h it text_base code_size p.code so.1,
-        saved-on p.opened so.0 (granted stage.SaveStack a.reply (λ e. refl) right) stack_base stack_size stack-reads
-            same,
+        saved-on p.opened so.0 (granted stage.SaveStack a.reply (λ e. refl) right) stack_base stack_size so.2
+            stack-reads same,
       )
   step-on p (stage.Trace Signals) so same right = λ none. both-on _ same refl p so
   step-on p (stage.Trace Faults) so same right = λ none. both-on _ same refl p so

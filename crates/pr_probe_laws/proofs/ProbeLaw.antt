@@ -1,8 +1,10 @@
 use Rattle.std.proofs.Common.{◌≡◌, ◌++◌, ◌∷◌, ℕ, Some, None, List, [], true, refl, sym, subst, slice_get}
+use Rattle.std.proofs.lemmas.List.Elements.{All-nil}
 use Rattle.pr_api.specs.Entries.{call_entry}
 use Rattle.pr_model.proofs.HistoryLemmas.{state_after-push}
 use Rattle.pr_model.specs.Legal.{IsLegal, after, state_after}
 use Rattle.pr_model.specs.State.{TracedState}
+use Rattle.pr_model.specs.declared.calls.Call.TheVariants as call
 use Rattle.pr_model.specs.declared.events.Entry.{Entry}
 use Rattle.pr_probe.proofs.FedLemmas.{ended-closes}
 use Rattle.pr_probe.specs.Probes.{ProbeState, fed, first_probe, has_ended}
@@ -16,27 +18,29 @@ use Rattle.pr_world.specs.Protocol.{controllers_at}
 use Rattle.pr_tool_laws.specs.OwnCalls.{AreOwnCalls}
 use Rattle.pr_probe_laws.proofs.ProbeCalls.{called-so}
 use Rattle.pr_probe_laws.proofs.ProbeStages.{BothBack, So, others-hold, so-still}
-use Rattle.pr_probe_laws.specs.PutBack.{PutsBack}
+use Rattle.pr_probe_laws.proofs.SetStages.{others-call}
+use Rattle.pr_probe_laws.specs.PutBack.{PutsBack, WritesNoMemory}
 
 -- apfiles puts back what it wrote over.
 
 module _ (n k pid : ℕ) (first : TracedState) where
   -- apfiles at its stage, unless it was refused
-  IsProbeKept : List Entry → ControllerState → Type 0
+  unfoldable pub IsProbeKept : List Entry → ControllerState → Type 0
   IsProbeKept h (Probe p) = p.refusal ≡ None → So k pid first h (state_after first h) p p.stage
   IsProbeKept h _ = ⊥
 
-  others-kept : KeptByOthers n k first IsProbeKept
+  pub others-kept : KeptByOthers n k first IsProbeKept
   unfolding IsProbeKept
   others-kept h (Probe p) actor it legal other kept = λ none.
       let e : Entry = record { actor = actor; act = it } in
       let s : TracedState = state_after first h in
       subst (λ (t : TracedState). So k pid first (h ++ e ∷ []) t p p.stage) (sym (state_after-push first h e))
-      (so-still k pid first h e s (after s e) p (others-hold n k pid s actor it p.opened legal other) p.stage
+      (so-still k pid first h e s (after s e) p (others-hold n k pid s actor it p.opened legal other)
+      (λ handle bytes r is. absurd (others-call k pid first actor it other (call.Ctl handle bytes) r is)) p.stage
       (kept none))
   others-kept h _ actor it legal other kept = absurd kept
 
-  calls-kept : KeptByCalls n k first IsProbeKept
+  pub calls-kept : KeptByCalls n k first IsProbeKept
   unfolding IsProbeKept next_call after_reply
   calls-kept h (Probe p) c a next given kept = λ none.
       let u : ProbeState = fed p a.reply in
@@ -44,9 +48,9 @@ module _ (n k pid : ℕ) (first : TracedState) where
       (sym (state-called first h k c a given)) (called-so k pid first h c a given p next kept none)
   calls-kept h _ c a next given kept = absurd kept
 
-  at_first : So k pid first [] first (first_probe pid) (first_probe pid).stage
+  pub at_first : So k pid first [] first (first_probe pid) (first_probe pid).stage
   unfolding So first_probe
-  at_first = (refl, refl)
+  at_first = (refl, refl, All-nil (WritesNoMemory k))
 
   all-back : (h : List Entry) (p : ProbeState) → So k pid first h (state_after first h) p p.stage → p.stage ≡ Close
       → BothBack k pid first h p

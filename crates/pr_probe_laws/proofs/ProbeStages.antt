@@ -1,4 +1,6 @@
 use Rattle.std.proofs.Common.{◌≡◌, ◌∷◌, ◌++◌, ℕ, List, [], Some, length}
+use Rattle.std.proofs.lemmas.List.Elements.{All-append, All-cons, All-nil}
+use Rattle.std.specs.List.{All}
 use Rattle.pr_api.specs.Entries.{call_entry}
 use Rattle.pr_model.specs.Legal.{IsLegalEntry, after}
 use Rattle.pr_model.specs.State.{TracedState}
@@ -17,7 +19,7 @@ use Rattle.pr_tool_laws.proofs.ToolLemmas.{place-still}
 use Rattle.pr_tools.specs.Handles.{handle_at, nothing_open}
 use Rattle.pr_tools.specs.declared.handles.Opened.{Opened}
 use Rattle.pr_probe_laws.proofs.MemoryMessages.{writer_of}
-use Rattle.pr_probe_laws.specs.PutBack.{HasPutBack, HasSaved}
+use Rattle.pr_probe_laws.specs.PutBack.{HasPutBack, HasSaved, WritesNoMemory}
 
 -- The stages of apfiles, with what it has saved of the memory of its process and put back so far.
 
@@ -49,6 +51,14 @@ module _ (k pid : ℕ) (first : TracedState) where
   abbrev pub StackBack : List Entry → ProbeState → Type 0
   StackBack h p = IsBack stack_base stack_size p.stack h
 
+  -- it has written to no memory so far
+  abbrev pub Unwritten : List Entry → Type 0
+  Unwritten h = All (WritesNoMemory k) h
+
+  -- and has its control file open
+  abbrev pub Comes : List Entry → TracedState → ProbeState → Type 0
+  Comes h s p = Holds k pid s p.opened × Unwritten h
+
   -- both are saved; both are put back
   abbrev pub BothSaved : List Entry → TracedState → ProbeState → Type 0
   BothSaved h s p = Holds k pid s p.opened × CodeSaved h p × StackSaved h p
@@ -58,19 +68,19 @@ module _ (k pid : ℕ) (first : TracedState) where
 
   -- what is so at a stage of a probe that was not refused
   unfoldable pub So : List Entry → TracedState → ProbeState → ProbeStage → Type 0
-  So h s p (stage.Open Control) = (p.pid ≡ pid) × (p.opened ≡ nothing_open)
-  So h s p (stage.Open Status) = Holds k pid s p.opened
-  So h s p (stage.Open Lstatus) = Holds k pid s p.opened
-  So h s p (stage.Open Map) = Holds k pid s p.opened
+  So h s p (stage.Open Control) = (p.pid ≡ pid) × (p.opened ≡ nothing_open) × Unwritten h
+  So h s p (stage.Open Status) = Comes h s p
+  So h s p (stage.Open Lstatus) = Comes h s p
+  So h s p (stage.Open Map) = Comes h s p
   So h s p (stage.Open AgentControl) = BothSaved h s p
   So h s p (stage.Open AgentStatus) = BothSaved h s p
-  So h s p stage.ReadFirst = Holds k pid s p.opened
-  So h s p stage.Stop = Holds k pid s p.opened
-  So h s p stage.AwaitStop = Holds k pid s p.opened
-  So h s p stage.ReadStatus = Holds k pid s p.opened
-  So h s p stage.ReadMap = Holds k pid s p.opened
-  So h s p stage.SaveCode = Holds k pid s p.opened
-  So h s p stage.SaveStack = Holds k pid s p.opened × CodeSaved h p
+  So h s p stage.ReadFirst = Comes h s p
+  So h s p stage.Stop = Comes h s p
+  So h s p stage.AwaitStop = Comes h s p
+  So h s p stage.ReadStatus = Comes h s p
+  So h s p stage.ReadMap = Comes h s p
+  So h s p stage.SaveCode = Comes h s p
+  So h s p stage.SaveStack = Holds k pid s p.opened × CodeSaved h p × Unwritten h
   So h s p (stage.Trace kind) = BothSaved h s p
   So h s p stage.MakeAgent = BothSaved h s p
   So h s p stage.PlantCode = BothSaved h s p
@@ -100,6 +110,7 @@ module _ (k pid : ℕ) (first : TracedState) where
         after = it.saved.after ++ e ∷ [];
         place = place-still h it.saved.before (call_entry k it.saved.call it.saved.reply) it.saved.after e
             it.saved.place;
+        unwritten = it.saved.unwritten;
         reads = it.saved.reads;
         stood = it.saved.stood;
       };
@@ -124,6 +135,11 @@ module _ (k pid : ℕ) (first : TracedState) where
     both-back p it =
         (back-still text_base code_size p.code it.0, back-still stack_base stack_size p.stack it.1)
 
+    pub unwritten-still : WritesNoMemory k e → Unwritten h → Unwritten (h ++ e ∷ [])
+    unwritten-still none so =
+        All-append (WritesNoMemory k) h (e ∷ []) so
+        (All-cons (WritesNoMemory k) e [] none (All-nil (WritesNoMemory k)))
+
     module _ (s t : TracedState) (p : ProbeState) (keeps : Holds k pid s p.opened → Holds k pid t p.opened) where
       pub both-still : BothSaved h s p → BothSaved (h ++ e ∷ []) t p
       both-still it = (
@@ -132,41 +148,49 @@ module _ (k pid : ℕ) (first : TracedState) where
         saved-still stack_base stack_size p.stack it.2,
       )
 
-      -- where the control file stays open, so does all of it
-      pub so-still : (now : ProbeStage) → So h s p now → So (h ++ e ∷ []) t p now
-      unfolding So
-      so-still (stage.Open Control) so = so
-      so-still (stage.Open Status) so = keeps so
-      so-still (stage.Open Lstatus) so = keeps so
-      so-still (stage.Open Map) so = keeps so
-      so-still (stage.Open AgentControl) so = both-still so
-      so-still (stage.Open AgentStatus) so = both-still so
-      so-still stage.ReadFirst so = keeps so
-      so-still stage.Stop so = keeps so
-      so-still stage.AwaitStop so = keeps so
-      so-still stage.ReadStatus so = keeps so
-      so-still stage.ReadMap so = keeps so
-      so-still stage.SaveCode so = keeps so
-      so-still stage.SaveStack so = (keeps so.0, saved-still text_base code_size p.code so.1)
-      so-still (stage.Trace kind) so = both-still so
-      so-still stage.MakeAgent so = both-still so
-      so-still stage.PlantCode so = both-still so
-      so-still (stage.Asking descriptor step) so = both-still so
-      so-still stage.UntraceExits so = both-still so
-      so-still stage.SetExit so = both-still so
-      so-still stage.RunExit so = both-still so
-      so-still stage.AwaitExit so = both-still so
-      so-still stage.WriteCode so = both-still so
-      so-still stage.WriteStack so = (
-        keeps so.0,
-        back-still text_base code_size p.code so.1,
-        saved-still stack_base stack_size p.stack so.2,
-      )
-      so-still (stage.Retrace kind) so = both-back p so
-      so-still stage.Run so = both-back p so
-      so-still stage.Close so = both-back p so
-      so-still (stage.Restore kind) so = so
-      so-still stage.Release so = so
+      -- where the control file stays open, and nothing is written, so does all of it
+      module _ (none : WritesNoMemory k e) where
+        comes-still : Comes h s p → Comes (h ++ e ∷ []) t p
+        comes-still so = (keeps so.0, unwritten-still none so.1)
+
+        pub so-still : (now : ProbeStage) → So h s p now → So (h ++ e ∷ []) t p now
+        unfolding So
+        so-still (stage.Open Control) so = (so.0, so.1, unwritten-still none so.2)
+        so-still (stage.Open Status) so = comes-still so
+        so-still (stage.Open Lstatus) so = comes-still so
+        so-still (stage.Open Map) so = comes-still so
+        so-still (stage.Open AgentControl) so = both-still so
+        so-still (stage.Open AgentStatus) so = both-still so
+        so-still stage.ReadFirst so = comes-still so
+        so-still stage.Stop so = comes-still so
+        so-still stage.AwaitStop so = comes-still so
+        so-still stage.ReadStatus so = comes-still so
+        so-still stage.ReadMap so = comes-still so
+        so-still stage.SaveCode so = comes-still so
+        so-still stage.SaveStack so = (
+          keeps so.0,
+          saved-still text_base code_size p.code so.1,
+          unwritten-still none so.2,
+        )
+        so-still (stage.Trace kind) so = both-still so
+        so-still stage.MakeAgent so = both-still so
+        so-still stage.PlantCode so = both-still so
+        so-still (stage.Asking descriptor step) so = both-still so
+        so-still stage.UntraceExits so = both-still so
+        so-still stage.SetExit so = both-still so
+        so-still stage.RunExit so = both-still so
+        so-still stage.AwaitExit so = both-still so
+        so-still stage.WriteCode so = both-still so
+        so-still stage.WriteStack so = (
+          keeps so.0,
+          back-still text_base code_size p.code so.1,
+          saved-still stack_base stack_size p.stack so.2,
+        )
+        so-still (stage.Retrace kind) so = both-back p so
+        so-still stage.Run so = both-back p so
+        so-still stage.Close so = both-back p so
+        so-still (stage.Restore kind) so = so
+        so-still stage.Release so = so
 
 -- what others do leaves its control file open
 pub others-hold : (n k pid : ℕ) (s : TracedState) (actor : Actor) (it : Act) (o : Opened)

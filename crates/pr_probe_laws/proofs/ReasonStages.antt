@@ -56,7 +56,7 @@ is-intr Intr is = refl
 is-intr _ is = absurd (false≢true is)
 
 -- elsewhere none does but an interrupt
-passed-poll : (p : ProbeState) (g : ProbeStage) (e : Errno) (c : Call) → is_over g ≡ false → is_passed_over g e ≡ true
+pub passed-poll : (p : ProbeState) (g : ProbeStage) (e : Errno) (c : Call) → is_over g ≡ false → is_passed_over g e ≡ true
     → call_of p g ≡ Some c → IsInterruptedPoll c e
 unfolding is_passed_over is_asking_passed_over call_of asking_call
 passed-poll p (stage.Asking d Await) e c over passed same =

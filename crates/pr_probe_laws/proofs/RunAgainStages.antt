@@ -30,11 +30,11 @@ use Rattle.pr_probe.specs.declared.probe_stages.ProbeFile.TheVariants.{Control, 
 use Rattle.pr_probe.specs.declared.probe_stages.ProbeStage.{ProbeStage}
 use Rattle.pr_probe.specs.declared.probe_stages.ProbeStage.TheVariants as stage
 use Rattle.pr_probe.specs.declared.traced_sets.SetKind.TheVariants.{Signals, Faults, Entries, Exits}
+use Rattle.pr_tool_laws.proofs.LeavingLemmas.{Comes, HasLookedFirst, comes-still, looked-still, opens-more, ran-still}
 use Rattle.pr_tool_laws.proofs.SentEffects.{runs}
 use Rattle.pr_tool_laws.proofs.StageLemmas.{state-called}
 use Rattle.pr_tool_laws.proofs.ToolLemmas.{place-still}
-use Rattle.pr_tool_laws.specs.Reads.{IsToolRead}
-use Rattle.pr_tool_laws.specs.Stacks.{HasLooked, OpensAtMost}
+use Rattle.pr_tool_laws.specs.Stacks.{OpensAtMost}
 use Rattle.pr_tools.specs.Calls.{run_bytes}
 use Rattle.pr_tools.specs.Handles.{handle_at, last_open}
 use Rattle.pr_tools.specs.Replies.{bytes_read}
@@ -43,30 +43,21 @@ use Rattle.pr_probe_laws.proofs.FilePlaces.{HasFirst, held_of}
 use Rattle.pr_probe_laws.proofs.ProbeCalls.{asked-next}
 use Rattle.pr_probe_laws.proofs.SetCalls.{only-closes, taken}
 use Rattle.pr_probe_laws.proofs.SetStages.{Knows}
-use Rattle.pr_probe_laws.specs.RunAgain.{HasRunAtLast}
-use Rattle.pr_probe_laws.specs.SetsBack.{ClosesAtMost, IsNoCall}
+use Rattle.pr_tool_laws.specs.Leaving.{ClosesAtMost, HasRunAtLast, IsNoCall}
 
 -- The stages of apfiles, with what it has noted of the process when it came, and whether it has run that again.
 
 module _ (k pid : ℕ) (first : TracedState) where
-  -- it has looked, and has only opened before
-  abbrev HasLookedFirst : List Entry → Bool → Type 0
-  HasLookedFirst h stood = (look : HasLooked k pid stood first h) × All (OpensAtMost k) look.before
-
   abbrev Looked : List Entry → ProbeState → Type 0
-  Looked h p = HasLookedFirst h p.stood
-
-  -- so far it has only opened
-  abbrev Comes : List Entry → Type 0
-  Comes h = All (OpensAtMost k) h
+  Looked h p = HasLookedFirst k pid first h p.stood
 
   -- what is so at a stage of a probe that was not refused
   unfoldable pub Leads : List Entry → ProbeState → ProbeStage → Type 0
-  Leads h p (stage.Open Control) = Comes h
-  Leads h p (stage.Open Status) = Comes h
-  Leads h p (stage.Open Lstatus) = Comes h
-  Leads h p (stage.Open Map) = Comes h
-  Leads h p stage.ReadFirst = Comes h
+  Leads h p (stage.Open Control) = Comes k h
+  Leads h p (stage.Open Status) = Comes k h
+  Leads h p (stage.Open Lstatus) = Comes k h
+  Leads h p (stage.Open Map) = Comes k h
+  Leads h p stage.ReadFirst = Comes k h
   Leads h p stage.Run = Looked h p × (p.stood ≡ false)
   Leads h p stage.Close = Looked h p × (p.stood ≡ false → HasRunAtLast k pid first h)
   Leads h p (stage.Restore kind) = ⊥
@@ -75,48 +66,9 @@ module _ (k pid : ℕ) (first : TracedState) where
 
   -- ---- an entry later
 
-  looked-still : (h : List Entry) (e : Entry) (stood : Bool) → HasLookedFirst h stood
-      → HasLookedFirst (h ++ e ∷ []) stood
-  looked-still h e stood it = (
-    record {
-      before = it.0.before;
-      call = it.0.call;
-      reply = it.0.reply;
-      after = it.0.after ++ e ∷ [];
-      place = place-still h it.0.before (call_entry k it.0.call it.0.reply) it.0.after e it.0.place;
-      reads = it.0.reads;
-      noted = it.0.noted;
-    },
-    it.1,
-  )
-
-  comes-still : (h : List Entry) (e : Entry) → OpensAtMost k e → Comes h → Comes (h ++ e ∷ [])
-  comes-still h e opens so =
-      All-append (OpensAtMost k) h (e ∷ []) so
-      (All-cons (OpensAtMost k) e [] opens (All-nil (OpensAtMost k)))
-
-  ran-still : (h : List Entry) (e : Entry) → ClosesAtMost k e → HasRunAtLast k pid first h
-      → HasRunAtLast k pid first (h ++ e ∷ [])
-  ran-still h e close it = record {
-    before = it.before;
-    call = it.call;
-    reply = it.reply;
-    after = it.after ++ e ∷ [];
-    place = place-still h it.before (call_entry k it.call it.reply) it.after e it.place;
-    sends = it.sends;
-    was = it.was;
-    lived = it.lived;
-    now = it.now;
-    lives = it.lives;
-    goes = it.goes;
-    closes =
-        All-append (ClosesAtMost k) it.after (e ∷ []) it.closes
-        (All-cons (ClosesAtMost k) e [] close (All-nil (ClosesAtMost k)));
-  }
-
   module _ (h : List Entry) (e : Entry) (none : IsNoCall k e) where
-    no-more : Comes h → Comes (h ++ e ∷ [])
-    no-more so = comes-still h e (λ c r is. absurd (none c r is)) so
+    no-more : Comes k h → Comes k (h ++ e ∷ [])
+    no-more so = comes-still k h e (λ c r is. absurd (none c r is)) so
 
     pub leads-still : (p : ProbeState) (g : ProbeStage) → Leads h p g → Leads (h ++ e ∷ []) p g
     unfolding Leads
@@ -125,12 +77,14 @@ module _ (k pid : ℕ) (first : TracedState) where
     leads-still p (stage.Open Lstatus) so = no-more so
     leads-still p (stage.Open Map) so = no-more so
     leads-still p stage.ReadFirst so = no-more so
-    leads-still p stage.Run so = (looked-still h e p.stood so.0, so.1)
-    leads-still p stage.Close so =
-        (looked-still h e p.stood so.0, λ not. ran-still h e (λ c r is. absurd (none c r is)) (so.1 not))
+    leads-still p stage.Run so = (looked-still k pid first h e p.stood so.0, so.1)
+    leads-still p stage.Close so = (
+      looked-still k pid first h e p.stood so.0,
+      λ not. ran-still k pid first h e (λ c r is. absurd (none c r is)) (so.1 not),
+    )
     leads-still p (stage.Restore kind) so = absurd so
     leads-still p stage.Release so = absurd so
-    leads-still p _ so = looked-still h e p.stood so
+    leads-still p _ so = looked-still k pid first h e p.stood so
 
   -- ---- its calls
 
@@ -149,31 +103,23 @@ module _ (k pid : ℕ) (first : TracedState) where
     abbrev Next : ProbeState → Type 0
     Next u = u.refusal ≡ None → Leads longer u u.stage
 
-    on : (stood : Bool) → HasLookedFirst h stood → HasLookedFirst longer stood
-    on stood so = looked-still h it stood so
+    on : (stood : Bool) → HasLookedFirst k pid first h stood → HasLookedFirst k pid first longer stood
+    on stood so = looked-still k pid first h it stood so
 
     -- it opens a file more
-    opens-on : (of id : ℕ) (name : File) (way : Mode) → Some (call.Open of id name way) ≡ Some c → Comes h
-        → Comes longer
+    opens-on : (of id : ℕ) (name : File) (way : Mode) → Some (call.Open of id name way) ≡ Some c
+        → Comes k h → Comes k longer
     opens-on of id name way same so =
-        comes-still h it
-        (λ d r is.
-        let made : act.Call c a.reply ≡ act.Call d r = ap (λ (x : Entry). x.act) is in
-        let its : c ≡ d = cc in
-        record {
-          pid = of;
-          lwp = id;
-          name = name;
-          way = way;
-          is = sym its ∙ sym (same_Some (call.Open of id name way) c same);
-        }) so
+        comes-still k h it
+        (opens-more k c a.reply of id name way (sym (same_Some (call.Open of id name way) c same))) so
 
     -- its first look at the process
     first-look : (p : ProbeState) → HasFirst k pid 4 s.opens p.opened
         → Some (call.Read (number_of (handle_at p.opened (place_of Lstatus))) 0 read_limit) ≡ Some c
-        → Comes h → HasLookedFirst longer (process_stands (bytes_read a.reply))
-    unfolding IsToolRead place_of file_of lwp_of mode_of
-    first-look p holds same comes =
+        → Comes k h → ((e : Errno) → a.reply ≢ reply.Fail e)
+        → HasLookedFirst k pid first longer (process_stands (bytes_read a.reply))
+    unfolding place_of file_of lwp_of mode_of
+    first-look p holds same comes accepts =
         let file = holds.each Lstatus (omega arith) in (
           record {
             before = h;
@@ -181,15 +127,10 @@ module _ (k pid : ℕ) (first : TracedState) where
             reply = a.reply;
             after = [];
             place = refl;
-            reads = record {
-              handle = file.number;
-              held = held_of k pid Lstatus;
-              is_read =
-                  sym (same_Some _ c same) ∙ ap (λ (o : Option ℕ). call.Read (number_of o) 0 read_limit) file.at;
-              there = file.stands;
-              of = refl;
-              file = refl;
-            };
+            handle = file.number;
+            is_read = sym (same_Some _ c same) ∙ ap (λ (o : Option ℕ). call.Read (number_of o) 0 read_limit) file.at;
+            there = file.stands;
+            granted = accepts;
             noted = refl;
           },
           comes,
@@ -247,7 +188,7 @@ module _ (k pid : ℕ) (first : TracedState) where
         let q : ProbeState = at_stage p (stage.Asking d ReadKind) in
         let kind : Option FdKind = kind_in (bytes_read a.reply) in
         λ none. leads-asked (with_kind q d kind) d
-        (subst (λ (b : Bool). HasLookedFirst longer b)
+        (subst (λ (b : Bool). HasLookedFirst k pid first longer b)
         (sym (kind-kept (λ t. t.stood) (λ t lines. refl) q d kind)) (on p.stood so))
     asks-on p d _ so = λ none. on p.stood so
 
@@ -259,7 +200,9 @@ module _ (k pid : ℕ) (first : TracedState) where
     step-on p (stage.Open Status) knows so same right = λ none. opens-on _ _ _ _ same so
     step-on p (stage.Open Lstatus) knows so same right = λ none. opens-on _ _ _ _ same so
     step-on p (stage.Open Map) knows so same right = λ none. opens-on _ _ _ _ same so
-    step-on p stage.ReadFirst knows so same right = λ none. first-look p knows.holds same so
+    step-on p stage.ReadFirst knows so same right =
+        λ none.
+        first-look p knows.holds same so (taken k pid first h c a lawful given stage.ReadFirst (λ e. refl) right)
     step-on p stage.ReadMap knows so same right =
         map-by Next (at_stage p stage.ReadMap) (bytes_read a.reply)
         (λ e none. not-refused (at_stage p stage.ReadMap) e none) (λ none. on p.stood so)
@@ -284,7 +227,9 @@ module _ (k pid : ℕ) (first : TracedState) where
         )
     step-on p stage.Close knows so same right = λ none. (
       on p.stood so.0,
-      λ not. ran-still h it (only-closes k pid first h c a lawful given (last_open p.opened) same) (so.1 not),
+      λ not.
+          ran-still k pid first h it (only-closes k pid first h c a lawful given (last_open p.opened) same)
+          (so.1 not),
     )
     step-on p (stage.Restore kind) knows so same right = absurd so
     step-on p stage.Release knows so same right = absurd so

@@ -68,7 +68,8 @@ use Rattle.pr_probe_laws.proofs.ProbeCalls.{asked-next, granted}
 use Rattle.pr_probe_laws.proofs.StatusSets.{bytes-given, proper-sets, same-system, keeps_system, status-sets}
 use Rattle.pr_probe_laws.proofs.SetMessages.{set-done, setting, still-lives, without-none}
 use Rattle.pr_probe_laws.proofs.SetStages.{AllBack, Began, EntriesBack, FaultsBack, Goes, HasLeft, IsFair, IsProper, Knows, Leaves, Looks, NoneBack, Noted, Put, SignalsBack, Untouched, Works, began-still, fair-front, found, left-still, noted-still, ranged-now}
-use Rattle.pr_probe_laws.specs.SetsBack.{ClosesAtMost, HoldsControl, IsNoCall, WasTraced, sets_in_control, sets_on}
+use Rattle.pr_probe_laws.specs.SetsBack.{HoldsControl, WasTraced, sets_in_control, sets_on}
+use Rattle.pr_tool_laws.specs.Leaving.{ClosesAtMost, IsNoCall}
 
 -- What a call of apfiles makes of what it knows of the traced sets.
 

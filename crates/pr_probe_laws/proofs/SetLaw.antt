@@ -33,7 +33,8 @@ use Rattle.pr_world.specs.Protocol.{controllers_at}
 use Rattle.pr_tool_laws.specs.OwnCalls.{AreOwnCalls}
 use Rattle.pr_probe_laws.proofs.SetCalls.{called-knows}
 use Rattle.pr_probe_laws.proofs.SetStages.{AllBack, HasLeft, Knows, Leaves, knows-still}
-use Rattle.pr_probe_laws.specs.SetsBack.{HoldsControl, IsNoCall, SetsBack}
+use Rattle.pr_probe_laws.specs.SetsBack.{HoldsControl, SetsBack}
+use Rattle.pr_tool_laws.specs.Leaving.{IsNoCall}
 
 -- apfiles sets the traced sets back.
 

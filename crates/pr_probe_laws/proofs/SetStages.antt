@@ -32,7 +32,8 @@ use Rattle.pr_truss_laws.specs.Handles.{HasNoOtherWriter}
 use Rattle.pr_probe_laws.proofs.FilePlaces.{HasFirst, held_of, keeps-first}
 use Rattle.pr_probe_laws.proofs.SetFrames.{others-sets}
 use Rattle.pr_probe_laws.proofs.SetMessages.{AreProper}
-use Rattle.pr_probe_laws.specs.SetsBack.{ClosesAtMost, HoldsControl, IsNoCall, IsSoleIn, WasTraced, opening_entry, sets_on}
+use Rattle.pr_probe_laws.specs.SetsBack.{HoldsControl, IsSoleIn, WasTraced, opening_entry, sets_on}
+use Rattle.pr_tool_laws.specs.Leaving.{ClosesAtMost, IsNoCall}
 
 -- The stages of apfiles, with what it knows of the sets by which its process was traced when it came.
 

@@ -21,7 +21,7 @@ use Rattle.pr_model.specs.Statuses.{errno_in, error_of, lwpstatus_of}
 use Rattle.pr_model.specs.declared.lwps.Phase.{Phase}
 use Rattle.pr_model.specs.declared.lwps.Phase.TheVariants as phase
 use Rattle.pr_num.specs.declared.messages.Message.{Message}
-use Rattle.pr_probe_laws.specs.SetsBack.{IsNoCall, IsSoleIn}
+use Rattle.pr_probe_laws.specs.SetsBack.{IsSoleIn}
 use Rattle.pr_model.specs.declared.calls.Call.{Call}
 use Rattle.pr_model.specs.declared.calls.Call.TheVariants as call
 use Rattle.pr_model.specs.declared.calls.File.TheVariants as file
@@ -87,9 +87,9 @@ use Rattle.pr_probe_laws.proofs.HiddenMessages.{agent-used}
 use Rattle.pr_probe_laws.proofs.TextMessages.{agent-made, agent-read, asked-agent, asked-so, changed-fds, changed-with, code-planted, kind-reads, made-with, planted-size, planted-with, read-stays, registers-read, run-agent, run-so}
 use Rattle.pr_probe_laws.proofs.TextReads.{agent-shows, agent-there, found-all, found-first, found-open, found-shut, kind-back, kind-noted, shows}
 use Rattle.pr_probe_laws.proofs.TextStages.{Asks, Comes, HasFound, HasShown, IsAll, IsAnsweredOf, IsAsked, IsAsking, IsBack, IsFree, IsKnown, IsMade, IsOut, IsRanged, IsToAsk, Making, Nothing, Reads, Runs, SameKinds, Stands, TellsKind, TracesSo, TracesWith, WithAgent, asking-front, found-still, making-still, on_its_way, ranged-now, shown-still}
-use Rattle.pr_probe_laws.specs.PutBack.{SendsTo}
 use Rattle.pr_probe_laws.specs.SetsBack.{sets_on}
 use Rattle.pr_probe_laws.specs.ShownDescriptors.{HasRoom, WasUnlent, kind_at}
+use Rattle.pr_tool_laws.specs.Leaving.{IsNoCall, SendsTo}
 
 -- What a call of apfiles makes of what its agent was answered.
 

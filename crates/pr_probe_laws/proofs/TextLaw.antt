@@ -28,9 +28,9 @@ use Rattle.pr_tool_laws.specs.OwnCalls.{AreOwnCalls}
 use Rattle.pr_probe_laws.proofs.AgentTurns.{asks}
 use Rattle.pr_probe_laws.proofs.TextCalls.{called-reads}
 use Rattle.pr_probe_laws.proofs.TextStages.{HasShown, IsAsking, IsRanged, Reads, reads-still}
-use Rattle.pr_probe_laws.specs.PutBack.{SendsTo}
-use Rattle.pr_probe_laws.specs.SetsBack.{IsNoCall, opening_entry}
+use Rattle.pr_probe_laws.specs.SetsBack.{opening_entry}
 use Rattle.pr_probe_laws.specs.ShownDescriptors.{HasRoom, WasUnlent, ShowsDescriptors, ShowsOneState}
+use Rattle.pr_tool_laws.specs.Leaving.{IsNoCall, SendsTo}
 
 -- The text of apfiles is that of one state.
 

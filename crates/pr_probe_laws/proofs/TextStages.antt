@@ -70,9 +70,9 @@ use Rattle.pr_probe_laws.proofs.RoomFrames.{IsKept}
 use Rattle.pr_probe_laws.proofs.RoomStages.{HasBoth, HasCode, IsLooked, IsRoomy, Unlent, Where, both-kept, code-kept, looked-kept, roomy-kept, unlent-on, where-on}
 use Rattle.pr_probe_laws.proofs.SetFrames.{others-sets}
 use Rattle.pr_probe_laws.proofs.SetStages.{AllBack, Began, EntriesBack, FaultsBack, IsFair, NoneBack, SignalsBack, began-still, fair-front, fair-now, no-call-on, since}
-use Rattle.pr_probe_laws.specs.PutBack.{SendsTo}
-use Rattle.pr_probe_laws.specs.SetsBack.{IsNoCall, IsSoleIn, sets_on}
+use Rattle.pr_probe_laws.specs.SetsBack.{IsSoleIn, sets_on}
 use Rattle.pr_probe_laws.specs.ShownDescriptors.{HasRoom, WasUnlent, descriptors_from, kind_at, open_descriptors}
+use Rattle.pr_tool_laws.specs.Leaving.{IsNoCall, SendsTo}
 
 -- The stages of apfiles, with what its agent was answered.
 

@@ -40,10 +40,18 @@ use Rattle.pr_model.specs.Signals.{is_kill}
 use Rattle.pr_model.specs.State.{TracedLwp, TracedProcess, TracedSystem}
 use Rattle.pr_model.specs.declared.frames.Frame.{Frame}
 
--- What a system call changes is tidy, where nothing is written over in its process: a line a call.
+-- What a system call changes is tidy, where nothing is written over in its process, if it is one that copies or replaces
+-- the memory: a line a call.
+
+-- a call that copies the memory of its process, or replaces it
+abbrev pub IsCopying : Sysno → Type 0
+IsCopying sys.Fork = Unit {0}
+IsCopying sys.Vfork = Unit {0}
+IsCopying sys.Exec = Unit {0}
+IsCopying call = ⊥
 
 module _ (covers : Covers) (s : TracedSystem) (pid : ℕ) (p : TracedProcess) (id : ℕ) (l : TracedLwp)
-    (bare : (covers pid).patches ≡ []) (back : IsReturnable covers pid p) (Does : Effect → Type 0)
+    (back : IsReturnable covers pid p) (Does : Effect → Type 0)
     (kills : (target : ℕ) (g : Sig) (info : Info) → is_kill g ≡ true → (is_kill g && eqb target pid) ≡ false
     → Does (gives 0 (signals target g info ∷ [])) → MayEnd covers s target) where
   unfoldable pub IsTidyEffect : Effect → Type 0
@@ -178,20 +186,20 @@ module _ (covers : Covers) (s : TracedSystem) (pid : ℕ) (p : TracedProcess) (i
   -- ---- processes
 
   -- a child is made last
-  fork-tidy : (args : List ℕ) → IsTidyEffect (fork_effect s p id args)
+  fork-tidy : (covers pid).patches ≡ [] → (args : List ℕ) → IsTidyEffect (fork_effect s p id args)
   unfolding fork_effect IsTidyEffect
-  fork-tidy args =
+  fork-tidy bare args =
       after-two (eqb id agent_id) (leb process_limit s.made) _ _ _
       (if-it-can (total_has_room s (size_of p) 0) _ _ (bare, tt))
 
-  vfork-tidy : (args : List ℕ) → IsTidyEffect (vfork_effect s p id args)
+  vfork-tidy : (covers pid).patches ≡ [] → (args : List ℕ) → IsTidyEffect (vfork_effect s p id args)
   unfolding vfork_effect IsTidyEffect
-  vfork-tidy args =
+  vfork-tidy bare args =
       after-two (eqb id agent_id || not (eqb (length p.lwps) 1)) (leb process_limit s.made) _ _ _ (bare, tt)
 
-  exec-tidy : (at : ℕ) → IsTidyEffect (exec_effect s p id at)
+  exec-tidy : (covers pid).patches ≡ [] → (at : ℕ) → IsTidyEffect (exec_effect s p id at)
   unfolding exec_effect IsTidyEffect
-  exec-tidy at = by (path_at p.space at) refl
+  exec-tidy bare at = by (path_at p.space at) refl
     where
       run : (name : List ℕ) (o : Option Program) → path_at p.space at ≡ Ok name → program_named s.programs name ≡ o
           → IsTidyEffect (exec_effect s p id at)
@@ -275,42 +283,42 @@ module _ (covers : Covers) (s : TracedSystem) (pid : ℕ) (p : TracedProcess) (i
 
   -- ---- the calls
 
-  pub call-tidy : (since : ℕ) (call : Sysno) (args : List ℕ) → Does (call_effect s pid p id l since call args)
-      → IsTidyEffect (call_effect s pid p id l since call args)
+  pub call-tidy : (since : ℕ) (call : Sysno) (args : List ℕ) → (IsCopying call → (covers pid).patches ≡ [])
+      → Does (call_effect s pid p id l since call args) → IsTidyEffect (call_effect s pid p id l since call args)
   unfolding call_effect exit_effect dup_effect lseek_effect sigmask_effect lwp_continue_effect IsTidyEffect
-  call-tidy since sys.Exit args doing = tt
-  call-tidy since sys.Fork args doing = fork-tidy args
-  call-tidy since sys.Read args doing = read-tidy (slice_index args 0) (slice_index args 1) (slice_index args 2)
-  call-tidy since sys.Write args doing = write-tidy (slice_index args 0) (slice_index args 1) (slice_index args 2)
-  call-tidy since sys.Open args doing = open-tidy (slice_index args 0) (slice_index args 1)
-  call-tidy since sys.Close args doing = close-tidy (slice_index args 0)
-  call-tidy since sys.Wait args doing =
+  call-tidy since sys.Exit args bare doing = tt
+  call-tidy since sys.Fork args bare doing = fork-tidy (bare tt) args
+  call-tidy since sys.Read args bare doing = read-tidy (slice_index args 0) (slice_index args 1) (slice_index args 2)
+  call-tidy since sys.Write args bare doing = write-tidy (slice_index args 0) (slice_index args 1) (slice_index args 2)
+  call-tidy since sys.Open args bare doing = open-tidy (slice_index args 0) (slice_index args 1)
+  call-tidy since sys.Close args bare doing = close-tidy (slice_index args 0)
+  call-tidy since sys.Wait args bare doing =
       wait-tidy (children_of s pid) (slice_index args 0)
-  call-tidy since sys.Getpid args doing = tt
-  call-tidy since sys.Getppid args doing = tt
-  call-tidy since sys.Exec args doing = exec-tidy (slice_index args 0)
-  call-tidy since sys.Pipe args doing = pipe-tidy (slice_index args 0)
-  call-tidy since sys.Dup args doing = file-tidy (duplicated s.files p.fds (slice_index args 0))
-  call-tidy since sys.Lseek args doing =
+  call-tidy since sys.Getpid args bare doing = tt
+  call-tidy since sys.Getppid args bare doing = tt
+  call-tidy since sys.Exec args bare doing = exec-tidy (bare tt) (slice_index args 0)
+  call-tidy since sys.Pipe args bare doing = pipe-tidy (slice_index args 0)
+  call-tidy since sys.Dup args bare doing = file-tidy (duplicated s.files p.fds (slice_index args 0))
+  call-tidy since sys.Lseek args bare doing =
       file-tidy (sought s.files p.fds (slice_index args 0) (slice_index args 1))
-  call-tidy since sys.Kill args doing = send-tidy (slice_index args 0) (slice_index args 1) (killed_by pid) doing
-  call-tidy since sys.Sigaction args doing = sigaction-tidy (slice_index args 0) (slice_index args 1)
-  call-tidy since sys.Sigmask args doing = if-it-can (ltb (slice_index args 0) _) _ _ (tt, tt)
-  call-tidy since sys.Pause args doing = tt
-  call-tidy since sys.Sigreturn args doing = sigreturn-tidy
-  call-tidy since sys.Brk args doing = brk-tidy (slice_index args 0)
-  call-tidy since sys.Mmap args doing = mmap-tidy (slice_index args 0) (slice_index args 1)
-  call-tidy since sys.Munmap args doing = munmap-tidy (slice_index args 0) (slice_index args 1)
-  call-tidy since sys.Mprotect args doing =
+  call-tidy since sys.Kill args bare doing = send-tidy (slice_index args 0) (slice_index args 1) (killed_by pid) doing
+  call-tidy since sys.Sigaction args bare doing = sigaction-tidy (slice_index args 0) (slice_index args 1)
+  call-tidy since sys.Sigmask args bare doing = if-it-can (ltb (slice_index args 0) _) _ _ (tt, tt)
+  call-tidy since sys.Pause args bare doing = tt
+  call-tidy since sys.Sigreturn args bare doing = sigreturn-tidy
+  call-tidy since sys.Brk args bare doing = brk-tidy (slice_index args 0)
+  call-tidy since sys.Mmap args bare doing = mmap-tidy (slice_index args 0) (slice_index args 1)
+  call-tidy since sys.Munmap args bare doing = munmap-tidy (slice_index args 0) (slice_index args 1)
+  call-tidy since sys.Mprotect args bare doing =
       mprotect-tidy (slice_index args 0) (slice_index args 1) (slice_index args 2)
-  call-tidy since sys.Time args doing = tt
-  call-tidy since sys.Sleep args doing = sleep-tidy since (slice_index args 0)
-  call-tidy since sys.LwpCreate args doing =
+  call-tidy since sys.Time args bare doing = tt
+  call-tidy since sys.Sleep args bare doing = sleep-tidy since (slice_index args 0)
+  call-tidy since sys.LwpCreate args bare doing =
       create-tidy (slice_index args 0) (slice_index args 1) (slice_index args 2)
-  call-tidy since sys.LwpExit args doing = tt
-  call-tidy since sys.LwpSuspend args doing = suspend-tidy (slice_index args 0)
-  call-tidy since sys.LwpContinue args doing = if-it-can (can_be_named p (slice_index args 0)) _ _ (tt, tt)
-  call-tidy since sys.Fstat args doing = fstat-tidy (slice_index args 0) (slice_index args 1)
-  call-tidy since sys.Sigqueue args doing =
+  call-tidy since sys.LwpExit args bare doing = tt
+  call-tidy since sys.LwpSuspend args bare doing = suspend-tidy (slice_index args 0)
+  call-tidy since sys.LwpContinue args bare doing = if-it-can (can_be_named p (slice_index args 0)) _ _ (tt, tt)
+  call-tidy since sys.Fstat args bare doing = fstat-tidy (slice_index args 0) (slice_index args 1)
+  call-tidy since sys.Sigqueue args bare doing =
       send-tidy (slice_index args 0) (slice_index args 1) (queued_by pid (slice_index args 2)) doing
-  call-tidy since sys.Vfork args doing = vfork-tidy args
+  call-tidy since sys.Vfork args bare doing = vfork-tidy (bare tt) args

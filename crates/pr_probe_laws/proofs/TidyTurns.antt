@@ -33,12 +33,16 @@ use Rattle.pr_num.specs.declared.syscalls.Sysno.{Sysno}
 use Rattle.pr_num.specs.declared.syscalls.Sysno.TheVariants as sys
 use Rattle.pr_parts.specs.AddressSpaces.{gap_in}
 use Rattle.pr_probe_laws.proofs.DeathLemmas.{Kills}
-use Rattle.pr_probe_laws.proofs.TidyEffects.{IsTidyEffect, call-tidy}
+use Rattle.pr_probe_laws.proofs.TidyEffects.{IsCopying, IsTidyEffect, call-tidy}
 
--- The turns of a process of which nothing is hidden are tidy, and they spare what is written over, since nothing is.
+-- Turns are tidy where nothing is written over in a process whose memory is copied or replaced; and where nothing is
+-- written over they spare that.
 
 module _ (covers : Covers) (s : TracedSystem) (pid : ℕ) (p : TracedProcess) (id : ℕ) (l : TracedLwp)
-    (bare : (covers pid).patches ≡ []) (back : IsReturnable covers pid p)
+    (back : IsReturnable covers pid p)
+    (bare : (woken : Bool) (call : Sysno) (args : List ℕ) (since : ℕ) → IsCopying call
+    → row_for s pid p id l ≡ performed_row woken call args since (call_effect s pid p id l since call args)
+    → (covers pid).patches ≡ [])
     (kills : (target : ℕ) → Kills pid target (row_for s pid p id l) → MayEnd covers s target) where
   unfoldable pub IsTidyRow : Row → Type 0
   IsTidyRow row = AreTidyChanges covers pid p id l row.transition.changes s
@@ -78,11 +82,13 @@ module _ (covers : Covers) (s : TracedSystem) (pid : ℕ) (p : TracedProcess) (i
         })
 
     call-kept : Does (call_effect s pid p id l since call args)
-        → IsTidyEffect covers s pid p id l bare back Does kills-by (call_effect s pid p id l since call args)
-    call-kept = call-tidy covers s pid p id l bare back Does kills-by since call args
+        → IsTidyEffect covers s pid p id l back Does kills-by (call_effect s pid p id l since call args)
+    call-kept does =
+        call-tidy covers s pid p id l back Does kills-by since call args
+        (λ copying. bare woken call args since copying does) does
 
   performed-tidy : (woken : Bool) (call : Sysno) (args : List ℕ) (since : ℕ) (effect : Effect)
-      → IsTidyEffect covers s pid p id l bare back (Does woken call args since) (kills-by woken call args since) effect
+      → IsTidyEffect covers s pid p id l back (Does woken call args since) (kills-by woken call args since) effect
       → IsTidyRow (performed_row woken call args since effect)
   unfolding IsTidyRow performed_row performed IsTidyEffect
   performed-tidy woken call args since (change.does result changes) tidy = tidy

@@ -1,15 +1,17 @@
-use Rattle.std.specs.Prelude.{◌≡◌, ◌≢◌, ◌⊎◌, ℕ, Bool, true, false, List, [], ◌∷◌, ◌++◌, Some, Ok, slice_get}
+use Rattle.std.specs.Prelude.{◌≡◌, ◌≢◌, ◌⊎◌, ℕ, Bool, true, false, List, [], ◌∷◌, ◌++◌, All, IsTrue, Some, Ok, slice_get}
 use Rattle.pr_api.specs.Entries.{call_entry}
 use Rattle.pr_hidden.specs.Hiders.{Hiders}
-use Rattle.pr_hidden.specs.Tidiness.{IsPassiveBut}
 use Rattle.pr_model.specs.Legal.{state_after}
+use Rattle.pr_model.specs.Passive.{is_passive_call}
 use Rattle.pr_model.specs.State.{TracedProcess, TracedState, live_process}
 use Rattle.pr_model.specs.declared.calls.Call.{Call}
 use Rattle.pr_model.specs.declared.calls.Reply.{Reply}
 use Rattle.pr_model.specs.declared.calls.Reply.TheVariants as reply
 use Rattle.pr_model.specs.declared.calls.Reply.TheVariants.{Used}
+use Rattle.pr_model.specs.declared.events.Act.{Act}
 use Rattle.pr_model.specs.declared.events.Act.TheVariants as act
-use Rattle.pr_model.specs.declared.events.Actor.TheVariants.{Lwp}
+use Rattle.pr_model.specs.declared.events.Actor.{Actor}
+use Rattle.pr_model.specs.declared.events.Actor.TheVariants.{Controller, Lwp}
 use Rattle.pr_model.specs.declared.events.Did.{Did}
 use Rattle.pr_model.specs.declared.events.Did.TheVariants.{Acted, Took}
 use Rattle.pr_model.specs.declared.events.Entry.{Entry}
@@ -24,11 +26,11 @@ use Rattle.pr_probe.specs.Probes.{ProbeState, first_probe}
 use Rattle.pr_probe.specs.declared.probe_stages.ProbeFile.TheVariants.{AgentControl, AgentStatus}
 use Rattle.pr_probe.specs.declared.probe_stages.ProbeStage.{ProbeStage}
 use Rattle.pr_probe.specs.declared.probe_stages.ProbeStage.TheVariants.{Open, PlantCode, Asking, UntraceExits, SetExit, RunExit, AwaitExit, WriteCode, WriteStack}
-use Rattle.pr_probe_laws.specs.PutBack.{SendsTo}
 use Rattle.pr_probe_laws.specs.SetsBack.{IsSoleIn, opening_entry}
 use Rattle.pr_probe_laws.specs.ShownDescriptors.{HasRoom, WasUnlent}
 use Rattle.pr_world.specs.ControllerStates.{ControllerState, Probe}
 use Rattle.pr_world.specs.Protocol.{controllers_at}
+use Rattle.pr_tool_laws.specs.Leaving.{SendsTo}
 
 -- Who hides an agent, and what others leave alone meanwhile: then programs see nothing of apfiles.
 
@@ -121,11 +123,19 @@ module _ (k pid : ℕ) (controllers : List ControllerState) (first : TracedState
         → MakesAgent front e → IsAfter front p → (q : TracedProcess)
         → live_process (state_after first front).system pid ≡ Some q → WasUnlent k pid first front ⊎ IsAsSeen p q
 
--- Those who hide in a history are apfiles that are left alone while they hide something, and every other call is
--- passive.
+-- an entry of one who hides nothing is passive
+abbrev pub IsPassiveOf : Hiders → Entry → Type 0
+IsPassiveOf who e = by e.actor e.act
+  where
+    by : Actor → Act → Type 0
+    by (Controller k) (act.Call c r) = who.probes k ≡ false → IsTrue (is_passive_call c r)
+    by _ _ = Unit {0}
+
+-- Those who hide in a history are apfiles that are left alone while they hide something, and every call of another one
+-- is passive.
 pub record AreLeftAlone (who : Hiders) (controllers : List ControllerState) (first : TracedState) (h : List Entry)
     : Type 0 where
   pub probes : AreProbes who controllers
-  pub passive : IsPassiveBut who h
+  pub passive : All (IsPassiveOf who) h
   pub alone : (k pid : ℕ) → who.probes k ≡ true → slice_get controllers k ≡ Some (Probe (first_probe pid))
       → IsLeftAlone k pid controllers first h

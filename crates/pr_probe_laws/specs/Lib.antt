@@ -1,4 +1,5 @@
 pub mod HiddenProbes
+pub mod ProbeCalls
 pub mod PutBack
 pub mod Reasons
 pub mod RunAgain

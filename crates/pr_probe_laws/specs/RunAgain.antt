@@ -1,39 +1,39 @@
-use Rattle.std.specs.Prelude.{◌≡◌, ℕ, Bool, false, List, [], ◌∷◌, ◌++◌, Some}
-use Rattle.std.specs.List.{All}
+use Rattle.std.specs.Prelude.{◌≡◌, ◌⊎◌, ℕ, true, false, List, [], ◌∷◌, ◌++◌}
 use Rattle.pr_api.specs.Entries.{call_entry}
+use Rattle.pr_api.specs.Shapes.{is_failure}
 use Rattle.pr_model.specs.Legal.{state_after}
-use Rattle.pr_model.specs.State.{TracedProcess, TracedState, live_process}
+use Rattle.pr_model.specs.State.{TracedState}
 use Rattle.pr_model.specs.declared.calls.Call.{Call}
 use Rattle.pr_model.specs.declared.calls.Reply.{Reply}
 use Rattle.pr_model.specs.declared.events.Entry.{Entry}
 use Rattle.pr_num.specs.declared.messages.Message.TheVariants as message
-use Rattle.pr_probe_laws.specs.PutBack.{SendsTo}
-use Rattle.pr_probe_laws.specs.SetsBack.{ClosesAtMost}
-use Rattle.pr_tool_laws.specs.SentMessages.{IsSetGoing}
-use Rattle.pr_tool_laws.specs.Stacks.{HasLooked, OpensAtMost}
+use Rattle.pr_tool_laws.specs.Leaving.{RunsAtLast, SendsTo}
+use Rattle.pr_tool_laws.specs.Requests.{asks_still}
+use Rattle.pr_tool_laws.specs.Stacks.{HasLooked}
+use Rattle.pr_truss_laws.specs.Exchanges.{exchanges}
 
 -- How apfiles leaves its process.
 
--- It has run the process by PCRUN, and since then it has done nothing but close.
-pub record HasRunAtLast (k pid : ℕ) (first : TracedState) (h : List Entry) : Type 0 where
-  pub before : List Entry
-  pub call : Call
-  pub reply : Reply
-  pub after : List Entry
-  pub place : h ≡ before ++ call_entry k call reply ∷ after
-  pub sends : SendsTo k pid (message.Run 0) [] (state_after first before) call
-  pub was : TracedProcess
-  pub lived : live_process (state_after first before).system pid ≡ Some was
-  pub now : TracedProcess
-  pub lives : live_process (state_after first (before ++ call_entry k call reply ∷ [])).system pid ≡ Some now
-  pub goes : IsSetGoing was now
-  pub closes : All (ClosesAtMost k) after
+-- A controller has sent the process no PCRUN, whatever its flags.
+pub record RunsNobody (k pid : ℕ) (first : TracedState) (h : List Entry) : Type 0 where
+  pub each : (front back : List Entry) (c : Call) (r : Reply) (flags : ℕ) (tail : List ℕ)
+      → h ≡ front ++ call_entry k c r ∷ back → SendsTo k pid (message.Run flags) tail (state_after first front) c → ⊥
 
--- As pstack does, it has read the status of all lwps, and has noted whether every lwp stood there: on an event of
--- interest, or suspended. It has done nothing but open before: it has not stopped the process itself. Where not every
--- one did, it has run the process at last.
-pub record RunsAtLast (k pid : ℕ) (first : TracedState) (h : List Entry) : Type 0 where
-  pub stood : Bool
-  pub looked : HasLooked k pid stood first h
-  pub came : All (OpensAtMost k) looked.before
-  pub runs : stood ≡ false → HasRunAtLast k pid first h
+-- It has run the process at last, unless every lwp stood when it came; and where every one did, never.
+pub record LeavesItsProcess (k pid : ℕ) (first : TracedState) (h : List Entry) : Type 0 where
+  pub left : RunsAtLast k pid first h
+  pub lets_be : left.stood ≡ true → RunsNobody k pid first h
+
+-- ---- without an agent
+
+-- A controller has made no agent in the process: each PCAGENT of its was refused.
+pub record MakesNoAgent (k pid : ℕ) (first : TracedState) (h : List Entry) : Type 0 where
+  pub each : (front back : List Entry) (c : Call) (r : Reply) (regs : List ℕ)
+      → h ≡ front ++ call_entry k c r ∷ back → SendsTo k pid (message.Agent regs) [] (state_after first front) c
+      → is_failure r ≡ true
+
+-- Where it has made none it has not asked for a stop, or has sent PCRUN since; or every lwp stood when it came.
+abbrev pub TakesBack : ℕ → ℕ → TracedState → List Entry → Type 0
+TakesBack k pid first h =
+    MakesNoAgent k pid first h
+    → (asks_still false (exchanges k h) ≡ false) ⊎ HasLooked k pid true first h

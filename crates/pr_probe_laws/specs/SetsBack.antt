@@ -12,6 +12,7 @@ use Rattle.pr_model.specs.declared.calls.Reply.{Reply}
 use Rattle.pr_model.specs.declared.events.Entry.{Entry}
 use Rattle.pr_model.specs.declared.handles.Held.{Held}
 use Rattle.pr_probe.specs.declared.traced_sets.TracedSets.{TracedSets}
+use Rattle.pr_tool_laws.specs.Leaving.{ClosesAtMost, IsNoCall}
 use Rattle.pr_truss_laws.specs.Handles.{HasNoOtherWriter}
 
 -- The four sets by which a process is traced (proc(4), "PCSTRACE", "PCSFAULT", "PCSENTRY", "PCSEXIT"). apfiles sets
@@ -46,20 +47,6 @@ pub record HoldsControl (k pid : ℕ) (opens : Places) : Type 0 where
   pub there : handle_of opens k number ≡ Some held
   pub of : held.pid ≡ pid
   pub file : held.file ≡ file.Ctl
-
--- an entry is no call of a controller but a close
-pub record IsClose (c : Call) : Type 0 where
-  pub handle : ℕ
-  pub is : c ≡ call.Close handle
-
-abbrev pub ClosesAtMost : ℕ → Entry → Type 0
-ClosesAtMost k e = (c : Call) (r : Reply) → e ≡ call_entry k c r → IsClose c
-
--- ---- how it comes
-
--- an entry is no call of a controller
-abbrev pub IsNoCall : ℕ → Entry → Type 0
-IsNoCall k e = (c : Call) (r : Reply) → e ≢ call_entry k c r
 
 -- ---- the sets are back
 

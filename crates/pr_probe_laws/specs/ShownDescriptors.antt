@@ -20,9 +20,9 @@ use Rattle.pr_probe.specs.AgentCode.{agent_registers, code_size, stack_size}
 use Rattle.pr_probe.specs.DescriptorLines.{apfiles_text}
 use Rattle.pr_probe.specs.ProbeRuns.{descriptor_of}
 use Rattle.pr_probe.specs.declared.descriptor_lines.OpenDescriptor.{OpenDescriptor}
-use Rattle.pr_probe_laws.specs.PutBack.{SendsTo}
-use Rattle.pr_probe_laws.specs.SetsBack.{IsNoCall, IsSoleIn, opening_entry}
+use Rattle.pr_probe_laws.specs.SetsBack.{IsSoleIn, opening_entry}
 use Rattle.pr_tool_laws.specs.Reads.{ReadsFile}
+use Rattle.pr_tool_laws.specs.Leaving.{IsNoCall, SendsTo}
 
 -- The text of apfiles as a function of one state of the machine.
 

@@ -1,27 +1,62 @@
 ghost use Rattle.std.specs.Prelude.{◌≡◌, ℕ, List, None, Some, slice_get, true};
+ghost use Rattle.pr_lawful.specs.Starts.{IsStart};
+ghost use Rattle.pr_model.specs.FirstState.{first_state};
 ghost use Rattle.pr_model.specs.Lawful.{IsLawful};
 ghost use Rattle.pr_model.specs.Legal.{IsLegal};
 ghost use Rattle.pr_model.specs.State.{TracedState};
 ghost use Rattle.pr_model.specs.declared.events.Entry.{Entry};
+ghost use Rattle.pr_num.specs.Programs.{Program};
 ghost use Rattle.pr_num.specs.declared.errnos.Errno.{Errno};
+ghost use Rattle.pr_num.specs.declared.files.StoredFile.{StoredFile};
 ghost use Rattle.pr_probe.specs.ProbeText.{printed};
 ghost use Rattle.pr_probe.specs.Probes.{ProbeState, first_probe, has_ended};
 ghost use Rattle.pr_probe_laws.specs.Reasons.{TellsWhy};
-ghost use Rattle.pr_probe_laws.specs.RunAgain.{RunsAtLast};
+ghost use Rattle.pr_probe_laws.specs.RunAgain.{LeavesItsProcess, TakesBack};
+ghost use Rattle.pr_reached.specs.ByteHistories.{HasBytes};
+ghost use Rattle.pr_reached.specs.InRange.{IsInRange, IsStartInRange};
 ghost use Rattle.pr_world.specs.ControllerStates as cores;
 ghost use Rattle.pr_world.specs.ControllerStates.{ControllerState};
 ghost use Rattle.pr_tool_laws.specs.OwnCalls.{AreOwnCalls};
 ghost use Rattle.pr_world.specs.Protocol.{controllers_at};
 
-/// In a legal history where these controllers make their own calls, from a lawful state, an apfiles that has finished,
-/// and was not refused, has run its process again by PCRUN, and done nothing but close since then, unless it noted that
-/// every lwp stood when it came.
+/// In a legal history where these controllers make their own calls, from a lawful state in range or from a first
+/// state, and in which controllers write bytes, an apfiles that has finished, and was not refused, has run its process
+/// again by PCRUN, and done nothing but close since then, unless every lwp of it stood when apfiles came; then it has
+/// sent that no PCRUN.
 pub fn apfiles_runs_its_process_again()
-    ensures { (controllers : List ControllerState) (n k pid : ℕ) (s : TracedState) (h : List Entry) (p : ProbeState)
-        → IsLawful s → slice_get controllers k ≡ Some (cores.Probe (first_probe pid)) → IsLegal n s h
+    ensures later { (controllers : List ControllerState) (n k pid : ℕ) (s : TracedState) (h : List Entry)
+        (p : ProbeState)
+        → IsLawful s → IsInRange s.system → HasBytes h
+        → slice_get controllers k ≡ Some (cores.Probe (first_probe pid)) → IsLegal n s h
         → AreOwnCalls controllers h
         → slice_get (controllers_at controllers h) k ≡ Some (cores.Probe p) → has_ended p ≡ true → p.refusal ≡ None
-        → RunsAtLast k pid s h }
+        → LeavesItsProcess k pid s h }
+    ensures first { (programs : List Program) (files : List StoredFile) (spawns : List ℕ)
+        → (controllers : List ControllerState) (n k pid : ℕ) (h : List Entry) (p : ProbeState)
+        → IsStart programs files spawns → IsStartInRange programs files → HasBytes h
+        → slice_get controllers k ≡ Some (cores.Probe (first_probe pid))
+        → IsLegal n (first_state programs files spawns) h → AreOwnCalls controllers h
+        → slice_get (controllers_at controllers h) k ≡ Some (cores.Probe p) → has_ended p ≡ true → p.refusal ≡ None
+        → LeavesItsProcess k pid (first_state programs files spawns) h }
+{}
+
+/// In such a history an apfiles that has finished and made no agent, since it was refused before, has taken back its
+/// request to stop by PCRUN, or had made none, unless every lwp of its process stood when it came.
+pub fn apfiles_takes_back_its_request()
+    ensures later { (controllers : List ControllerState) (n k pid : ℕ) (s : TracedState) (h : List Entry)
+        (p : ProbeState)
+        → IsLawful s → IsInRange s.system → HasBytes h
+        → slice_get controllers k ≡ Some (cores.Probe (first_probe pid)) → IsLegal n s h
+        → AreOwnCalls controllers h
+        → slice_get (controllers_at controllers h) k ≡ Some (cores.Probe p) → has_ended p ≡ true
+        → TakesBack k pid s h }
+    ensures first { (programs : List Program) (files : List StoredFile) (spawns : List ℕ)
+        → (controllers : List ControllerState) (n k pid : ℕ) (h : List Entry) (p : ProbeState)
+        → IsStart programs files spawns → IsStartInRange programs files → HasBytes h
+        → slice_get controllers k ≡ Some (cores.Probe (first_probe pid))
+        → IsLegal n (first_state programs files spawns) h → AreOwnCalls controllers h
+        → slice_get (controllers_at controllers h) k ≡ Some (cores.Probe p) → has_ended p ≡ true
+        → TakesBack k pid (first_state programs files spawns) h }
 {}
 
 /// In such a history an apfiles that has finished and was refused prints the line of a refusal. Its errno has its

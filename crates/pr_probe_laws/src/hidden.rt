@@ -1,21 +1,32 @@
-ghost use Rattle.std.specs.Prelude.{ℕ, List};
+ghost use Rattle.std.specs.Prelude.{◌≡◌, ◌∷◌, ◌++◌, ℕ, List, Some, false, slice_get, true};
+ghost use Rattle.pr_api.specs.Entries.{call_entry};
 ghost use Rattle.pr_erasure.specs.Untouched.{IsUntouched};
 ghost use Rattle.pr_hidden.specs.HiddenSteps.{IsHidden};
 ghost use Rattle.pr_hidden.specs.Hiders.{Hiders};
 ghost use Rattle.pr_hidden.specs.Tidiness.{IsSparing, IsTidy};
 ghost use Rattle.pr_lawful.specs.Starts.{IsStart};
 ghost use Rattle.pr_model.specs.FirstState.{first_state};
-ghost use Rattle.pr_model.specs.Legal.{IsLegal};
-ghost use Rattle.pr_model.specs.State.{TracedState};
+ghost use Rattle.pr_model.specs.Legal.{IsLegal, state_after};
+ghost use Rattle.pr_model.specs.State.{TracedProcess, TracedState, has_agent, live_process};
+ghost use Rattle.pr_model.specs.declared.calls.Call.{Call};
+ghost use Rattle.pr_model.specs.declared.calls.Reply.{Reply};
+ghost use Rattle.pr_model.specs.declared.calls.Reply.TheVariants as reply;
 ghost use Rattle.pr_model.specs.declared.events.Entry.{Entry};
+ghost use Rattle.pr_num.specs.Layout.{stack_base};
 ghost use Rattle.pr_num.specs.Programs.{Program};
+ghost use Rattle.pr_num.specs.declared.errnos.Errno.{Errno};
 ghost use Rattle.pr_num.specs.declared.files.StoredFile.{StoredFile};
-ghost use Rattle.pr_probe_laws.specs.HiddenProbes.{AreLeftAlone};
+ghost use Rattle.pr_num.specs.declared.messages.Message.TheVariants as message;
+ghost use Rattle.pr_probe.specs.AgentCode.{stack_size};
+ghost use Rattle.pr_probe.specs.Probes.{ProbeState, first_probe};
+ghost use Rattle.pr_probe_laws.specs.HiddenProbes.{AreLeftAlone, IsHidingAfter};
+ghost use Rattle.pr_tool_laws.specs.Leaving.{SendsTo};
+ghost use Rattle.pr_probe_laws.specs.Reasons.{IsInterruptedPoll};
 ghost use Rattle.pr_probe_laws.specs.StepMarks.{IsUnstepped};
 ghost use Rattle.pr_reached.specs.ByteHistories.{HasBytes};
 ghost use Rattle.pr_reached.specs.InRange.{IsStartInRange};
 ghost use Rattle.pr_reached.specs.Reached.{IsReached};
-ghost use Rattle.pr_world.specs.ControllerStates.{ControllerState};
+ghost use Rattle.pr_world.specs.ControllerStates.{ControllerState, Probe};
 ghost use Rattle.pr_tool_laws.specs.OwnCalls.{AreOwnCalls};
 
 /// In a legal history where these controllers make their own calls, from a state that is reached or from a first one,
@@ -41,4 +52,27 @@ pub fn apfiles_is_hidden()
         → IsLegal n (first_state programs files spawns) h → AreOwnCalls controllers h
         → AreLeftAlone who controllers (first_state programs files spawns) h
         → IsHidden who (first_state programs files spawns) h }
+{}
+
+/// In such a history an apfiles that is left alone is refused nothing while it hides something, from PCAGENT until all
+/// is written back; but a wait for its agent may be interrupted, and is made again.
+pub fn apfiles_is_refused_nothing_while_it_hides_something()
+    ensures { (n : ℕ) (who : Hiders) (controllers : List ControllerState) (s : TracedState) (h : List Entry)
+        → IsReached s → HasBytes h → IsLegal n s h → AreOwnCalls controllers h → AreLeftAlone who controllers s h
+        → IsUnstepped s.system → (k pid : ℕ) → who.probes k ≡ true
+        → slice_get controllers k ≡ Some (Probe (first_probe pid)) → (front back : List Entry) (c : Call) (e : Errno)
+        → (p : ProbeState) → h ≡ front ++ call_entry k c (reply.Fail e) ∷ back
+        → IsHidingAfter k pid controllers s front p → IsInterruptedPoll c e }
+{}
+
+/// In such a history the agent of an apfiles that is left alone has ended before the bytes are written back at which it
+/// was answered.
+pub fn apfiles_waits_until_its_agent_has_ended()
+    ensures { (n : ℕ) (who : Hiders) (controllers : List ControllerState) (s : TracedState) (h : List Entry)
+        → IsReached s → HasBytes h → IsLegal n s h → AreOwnCalls controllers h → AreLeftAlone who controllers s h
+        → IsUnstepped s.system → (k pid : ℕ) → who.probes k ≡ true
+        → slice_get controllers k ≡ Some (Probe (first_probe pid)) → (front back : List Entry) (c : Call) (r : Reply)
+        → (tail : List ℕ) → h ≡ front ++ call_entry k c r ∷ back
+        → SendsTo k pid (message.Write stack_base stack_size) tail (state_after s front) c → (q : TracedProcess)
+        → live_process (state_after s front).system pid ≡ Some q → has_agent q ≡ false }
 {}

@@ -7,3 +7,4 @@ pub mod AroundLemmas
 pub mod AskingLemmas
 pub mod TickLemmas
 pub mod LookLemmas
+pub mod RanLemmas

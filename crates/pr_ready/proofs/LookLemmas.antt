@@ -4,7 +4,9 @@ use Rattle.std.proofs.lemmas.Option.{same_Some}
 use Rattle.std.proofs.lemmas.Bool.{and_parts, cases_Bool, eq-eqb, eqb-true, false≢true, or_parts, true≢false}
 use Rattle.pr_num.specs.Limits.{process_limit}
 use Rattle.pr_model.specs.State.{TracedLwp, TracedSystem}
-use Rattle.pr_model.specs.declared.lwps.Phase.TheVariants.{User}
+use Rattle.pr_model.specs.Running.{is_asleep}
+use Rattle.pr_model.specs.declared.lwps.Phase.{Phase}
+use Rattle.pr_model.specs.declared.lwps.Phase.TheVariants.{Asleep}
 use Rattle.pr_ready.specs.Around.{is_around}
 use Rattle.pr_ready.specs.Ready.{Covers, CoversEach, Grows, GrowsBut, IsWoken, ReadySets, is_at_pipe, is_dozing, is_woken}
 use Rattle.pr_ready_laws.specs.Reach.{Reach, changes_files, itself, reaches_around}
@@ -150,17 +152,29 @@ only f [] e one at fails = absurd (omega arith)
 only f (x ∷ []) e one at fails = let same : x ≡ e = same_Some x e at in rw (same, fails) refl
 only f (x ∷ y ∷ es) e one at fails = absurd (omega arith)
 
--- one in its program sleeps nowhere
-pub alone-waits : (es : List (ℕ × TracedLwp)) (e : ℕ × TracedLwp) → length es ≡ 1 → slice_get es 0 ≡ Some e → e.1.phase ≡ User
-    → list_any is_at_pipe es ≡ false
-alone-waits es e one at user = only is_at_pipe es e one at (ap sleeps_at_pipe user)
+-- one that is not asleep sleeps nowhere
+awake-waits : (ph : Phase) → is_asleep ph ≡ false → sleeps_at_pipe ph ≡ false
+awake-waits (Asleep call args since) awake = absurd (true≢false awake)
+awake-waits _ awake = refl
 
-pub alone-dozes : (es : List (ℕ × TracedLwp)) (e : ℕ × TracedLwp) → length es ≡ 1 → slice_get es 0 ≡ Some e → e.1.phase ≡ User
-    → list_any is_dozing es ≡ false
-alone-dozes es e one at user = only is_dozing es e one at (ap dozes user)
+awake-dozes : (ph : Phase) → is_asleep ph ≡ false → dozes ph ≡ false
+awake-dozes (Asleep call args since) awake = absurd (true≢false awake)
+awake-dozes _ awake = refl
 
-pub alone-wakes : (from to : ℕ) (es : List (ℕ × TracedLwp)) (e : ℕ × TracedLwp) → length es ≡ 1 → slice_get es 0 ≡ Some e
-    → e.1.phase ≡ User → list_any (is_woken from to) es ≡ false
-alone-wakes from to es e one at user = only (is_woken from to) es e one at (ap (wakes_between from to) user)
+awake-wakes : (from to : ℕ) (ph : Phase) → is_asleep ph ≡ false → wakes_between from to ph ≡ false
+awake-wakes from to (Asleep call args since) awake = absurd (true≢false awake)
+awake-wakes from to _ awake = refl
+
+pub alone-waits : (es : List (ℕ × TracedLwp)) (e : ℕ × TracedLwp) → length es ≡ 1 → slice_get es 0 ≡ Some e
+    → is_asleep e.1.phase ≡ false → list_any is_at_pipe es ≡ false
+alone-waits es e one at awake = only is_at_pipe es e one at (awake-waits e.1.phase awake)
+
+pub alone-dozes : (es : List (ℕ × TracedLwp)) (e : ℕ × TracedLwp) → length es ≡ 1 → slice_get es 0 ≡ Some e
+    → is_asleep e.1.phase ≡ false → list_any is_dozing es ≡ false
+alone-dozes es e one at awake = only is_dozing es e one at (awake-dozes e.1.phase awake)
+
+pub alone-wakes : (from to : ℕ) (es : List (ℕ × TracedLwp)) (e : ℕ × TracedLwp) → length es ≡ 1
+    → slice_get es 0 ≡ Some e → is_asleep e.1.phase ≡ false → list_any (is_woken from to) es ≡ false
+alone-wakes from to es e one at awake = only (is_woken from to) es e one at (awake-wakes from to e.1.phase awake)
 
 pub ruleset alone_laws = (alone-waits, alone-dozes, alone-wakes)

@@ -6,6 +6,7 @@ ghost use Rattle.pr_model.specs.Legal.{ticked};
 ghost use Rattle.pr_model.specs.LwpTurns.{LwpTurn, turn_of};
 ghost use Rattle.pr_model.specs.State.{TracedState, TracedSystem};
 ghost use Rattle.pr_model.specs.declared.calls.Call.{Call};
+ghost use Rattle.pr_model.specs.declared.events.Did.TheVariants.{Ran};
 ghost use Rattle.pr_ready.specs.Around.{is_around};
 ghost use Rattle.pr_ready.specs.Following.{around_call, around_lwp};
 ghost use Rattle.pr_ready.specs.Queues.{AreReady, IsQueue, is_movable, queue_of};
@@ -30,12 +31,14 @@ pub fn the_sets_follow_each_step()
 {}
 
 /// So sets that have every process that they have to have, and that follow a turn, a call or a tick, have every such
-/// process after it.
+/// process after it. After a turn in which its lwp only ran they have it as they are.
 pub fn the_sets_stay_ready()
     ensures turns { (s : TracedSystem) (pid id : ℕ) (t : LwpTurn) (old new : ReadySets) → IsLawfulSystem s → turn_of s pid id ≡ Some t
         → Follows (λ other. (pid == other) || (reaches_around (reach_of t.turned.did) && is_around (around_lwp s pid id) other))
         (changes_files (reach_of t.turned.did)) false (is_movable t.system) t.system old new
         → AreReady s old → AreReady t.system new }
+    ensures runs { (s : TracedSystem) (pid id : ℕ) (t : LwpTurn) (sets : ReadySets) → IsLawfulSystem s
+        → turn_of s pid id ≡ Some t → t.turned.did ≡ Ran → AreReady s sets → AreReady t.system sets }
     ensures calls { (s : TracedState) (by : ℕ) (c : Call) (a : Answer) (old new : ReadySets) → IsLawful s → answer_to s by c ≡ Some a
         → Follows (is_around (around_call s by c)) (call_changes_files c) false (is_movable a.state.system) a.state.system old new
         → AreReady s.system old → AreReady a.state.system new }

@@ -13,7 +13,7 @@ mod ticks;
 mod wakes;
 
 pub use around::{Around, Kin, around_lwp, note_around};
-pub use asking::next_ready;
+pub use asking::{FoundQuestion, next_ready};
 pub use laws::{the_queue_is_in_order, the_sets_follow_each_step, the_sets_stay_ready};
 pub use looks::renew;
 pub use moments::Moments;

@@ -3,8 +3,8 @@ ghost use Rattle.std.specs.Prelude.{◌≡◌, ◌<◌, ◌==◌, ℕ, true, fal
 ghost use Rattle.std.specs.List.{list_any};
 ghost use Rattle.std.specs.Option.{option_copied};
 ghost use Rattle.pr_model.specs.Lives.{is_id};
+ghost use Rattle.pr_model.specs.Running.{is_asleep};
 ghost use Rattle.pr_model.specs.State.{live_process};
-ghost use Rattle.pr_model.specs.declared.lwps.Phase.TheVariants.{User};
 ghost use Rattle.pr_num.specs.Limits.{process_limit};
 ghost use Rattle.pr_ready.specs.Around.{is_around, is_in_kin, is_in_kin_of};
 ghost use Rattle.pr_ready.specs.Ready.{Covers, CoversEach, Grows, GrowsBut, is_asked, is_at_pipe, is_dozing, some_answer_of, some_at_pipe, some_dozing, some_woken};
@@ -63,20 +63,20 @@ fn some_dozing(lwps: &[(u32, Lwp)]) -> bool
     lwps.iter().any(|entry| dozes(entry.1.phase))
 }
 
-/// Whether an lwp is in its program, and nobody stopped or suspended it.
-fn is_running(lwp: &Lwp) -> bool
-    ensures { result ≡ true → lwp.now.phase ≡ User }
+/// Whether an lwp is asleep in no call, and nobody stopped or suspended it.
+fn is_up(lwp: &Lwp) -> bool
+    ensures { result ≡ true → is_asleep lwp.now.phase ≡ false }
 {
     match lwp.phase {
-        Phase::User => lwp.control.stop.is_none() && !lwp.suspended,
-        _ => false,
+        Phase::Asleep { .. } => false,
+        _ => lwp.control.stop.is_none() && !lwp.suspended,
     }
 }
 
-/// Whether a process has one lwp, which is in its program, and nothing holds it back. Such an lwp sleeps nowhere, and of
+/// Whether a process has one lwp, which is not asleep, and nothing holds it back. Such an lwp sleeps nowhere, and of
 /// whether it can move nobody has to be asked: that a process is looked at does no harm.
 #[tactic(auto, using(crate::proofs::LookLemmas::alone_laws))]
-fn runs_alone(process: &Proc) -> bool
+fn moves_alone(process: &Proc) -> bool
     ensures waits { result ≡ true → some_at_pipe process.now ≡ false }
     ensures dozes { result ≡ true → some_dozing process.now ≡ false }
     ensures wakes { (from to : ℕ) → result ≡ true → some_woken from to process.now ≡ false }
@@ -85,7 +85,7 @@ fn runs_alone(process: &Proc) -> bool
         return false;
     }
     let (_, lwp) = process.lwps.at(0);
-    process.job_stop.is_none() && process.borrower.is_none() && is_running(lwp)
+    process.job_stop.is_none() && process.borrower.is_none() && is_up(lwp)
 }
 
 /// Looks at each lwp of a live process.
@@ -111,7 +111,7 @@ pub fn look<Q: Question>(ready: &mut Ready, sys: &Sys, pid: u32, question: &Q)
     let Some(process) = live(sys, pid) else {
         return;
     };
-    if runs_alone(process) {
+    if moves_alone(process) {
         put_if(&mut ready.movable, pid, true);
         return;
     }

@@ -1,12 +1,14 @@
 //! How the sets follow each step.
-ghost use Rattle.std.specs.Prelude.{◌≡◌, ◌==◌, ◌||◌, ◌&&◌, true, false};
+ghost use Rattle.std.specs.Prelude.{◌≡◌, ◌<◌, ◌==◌, ◌||◌, ◌&&◌, true, false};
+ghost use Rattle.pr_model.specs.declared.events.Did.TheVariants.{Ran};
+ghost use Rattle.pr_num.specs.Limits.{process_limit};
 ghost use Rattle.pr_ready.specs.Around.{is_around};
-ghost use Rattle.pr_ready.specs.Ready.{CoversEach, Grows, IsWoken};
+ghost use Rattle.pr_ready.specs.Ready.{Covers, CoversEach, Grows, IsWoken};
 ghost use Rattle.pr_ready.specs.Steps.{Follows};
 ghost use Rattle.pr_ready_laws.specs.Reach.{changes_files, itself, reach_of, reach_of_call, reaches_around};
 
 use crate::around::Around;
-use crate::looks::{look, look_around, renew};
+use crate::looks::{look_around, renew};
 use crate::ready::Ready;
 use crate::ticks::wake_due;
 use crate::wakes::wake;
@@ -107,7 +109,7 @@ pub fn after_turn<Q: Question>(
 }
 
 /// After a turn of an lwp of a process that reaches no further than that process, as one that runs an instruction: the
-/// process is looked at. Where the lwp only ran, it was looked for before, and no set has to be left.
+/// process is looked at anew. Where the lwp only ran, each set has the process as it has to, and nothing is looked at.
 pub fn after_instruction<Q: Question>(
     ready: &mut Ready,
     sys: &Sys,
@@ -115,11 +117,12 @@ pub fn after_instruction<Q: Question>(
     did: Did,
     question: &Q,
 )
-    requires { reach_of did ≡ itself }
+    requires reach { reach_of did ≡ itself }
+    requires ran { did ≡ Ran → pid < process_limit → Covers (Q.answer question.now) sys.now ready.old pid }
     ensures { (around : Around) → Follows (λ other. (pid == other) || (reaches_around (reach_of did) && is_around around other)) (changes_files (reach_of did)) false (Q.answer question.now) sys.now ready.old ready.new }
 {
     match did {
-        Did::Ran => look(ready, sys, pid, question),
+        Did::Ran => {}
         _ => renew(ready, sys, pid, question),
     }
 }

@@ -1,5 +1,7 @@
 -- The children of forks that truss has not opened yet: they stand at their births.
 pub mod Births
+pub mod ChildReads
+pub mod ClaimBegun
 pub mod ClaimCalls
 pub mod ClaimEntries
 pub mod ClaimFed

@@ -2,6 +2,7 @@
 pub mod AttachmentLaws
 pub mod BeginLaws
 pub mod BeginsOnlyLaws
+pub mod ChildPlaces
 pub mod EndLaws
 pub mod ExchangeEntries
 pub mod GripLaws

@@ -21,9 +21,19 @@ pub record WasChildRead (k : ℕ) (o : Options) (child : ℕ) (first : TracedSta
   pub reads : ReadsChild k o parent child first before entry
   pub last : exchanges k since ≡ []
 
--- Truss never opened this process as the child of a fork: it was granted no open of its control file right behind such
--- a read.
+-- In a history truss opened this process as the child of that one: it was granted an open of its control file right
+-- behind a read of the status of the parent that told of the child.
+pub record WasOpenedAsChild (k : ℕ) (o : Options) (parent child : ℕ) (first : TracedState) (h : List Entry)
+    : Type 0 where
+  pub before : List Entry
+  pub entry : Entry
+  pub handle : ℕ
+  pub later : List Entry
+  pub is : h ≡ before ++ entry ∷ later
+  pub opens : exchange_of k entry ≡ Some (record { call = open_control child; reply = Handle handle })
+  pub told : WasChildRead k o child first before
+  pub of : told.parent ≡ parent
+
+-- Truss opened this process as the child of none.
 pub record IsNeverOpenedAsChild (k : ℕ) (o : Options) (pid : ℕ) (first : TracedState) (h : List Entry) : Type 0 where
-  pub none : (before later : List Entry) (e : Entry) (handle : ℕ) → h ≡ before ++ e ∷ later
-      → exchange_of k e ≡ Some (record { call = open_control pid; reply = Handle handle })
-      → WasChildRead k o pid first before → ⊥
+  pub none : (parent : ℕ) → WasOpenedAsChild k o parent pid first h → ⊥

@@ -1,4 +1,4 @@
-use Rattle.std.specs.Prelude.{◌≡◌, ℕ, true, All, List, ◌∷◌, ◌++◌, Some}
+use Rattle.std.specs.Prelude.{◌≡◌, ◌≢◌, ℕ, true, All, List, ◌∷◌, ◌++◌, Some}
 use Rattle.pr_line.specs.declared.options.Options.{Options}
 use Rattle.pr_model.specs.Legal.{state_after}
 use Rattle.pr_model.specs.Replies.{handle_in}
@@ -18,7 +18,7 @@ use Rattle.pr_report_laws.specs.OwnOpens.{IsGoingOn, WasLastGranted}
 
 -- What truss sends once it has polled, or was interrupted: it runs processes, sets PR_RLC of a child whose control file
 -- it has just opened, and no longer has the children of a process followed that it leaves, of which it still has hold.
--- So it stops no process again, and traces nothing else of it.
+-- So it stops no process again, and traces nothing else of it. The last it never sends before it was interrupted.
 
 -- the last of these exchanges opened the control file of this process, and gave this handle
 pub record WasJustOpened (pid control : ℕ) (xs : List Exchange) : Type 0 where
@@ -27,7 +27,8 @@ pub record WasJustOpened (pid control : ℕ) (xs : List Exchange) : Type 0 where
 
 -- What truss may send, or wait for with a message, after this history.
 pub data MaySend (k : ℕ) (o : Options) (first : TracedState) (h : List Entry) : Call → Type 0 where
-  as_given : {c : Call} → All IsGoingOn (exchanges k h) → MaySend k o first h c
+  as_given : {c : Call} → All IsGoingOn (exchanges k h) → ((control : ℕ) → c ≢ message_call control (Unset fork_mode))
+      → MaySend k o first h c
   runs : {control : ℕ} → MaySend k o first h (run_call control)
   releases : {pid control : ℕ} → WasJustOpened pid control (exchanges k h)
       → MaySend k o first h (message_call control (Set rlc_mode))

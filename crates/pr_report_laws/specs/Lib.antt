@@ -34,4 +34,5 @@ pub mod ShownOnce
 pub mod SoonOpen
 pub mod ToldForks
 pub mod Unfollowed
+pub mod WatchedGrips
 pub mod Watching

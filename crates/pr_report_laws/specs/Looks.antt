@@ -1,4 +1,4 @@
-use Rattle.std.specs.Prelude.{◌≡◌, ◌⊎◌, ℕ, List, [], ◌∷◌, ◌++◌, Some}
+use Rattle.std.specs.Prelude.{◌≡◌, ◌≢◌, ℕ, List, [], ◌∷◌, ◌++◌, Some}
 use Rattle.pr_line.specs.declared.options.Options.{Options}
 use Rattle.pr_model.specs.Legal.{state_after}
 use Rattle.pr_model.specs.State.{TracedState}
@@ -11,6 +11,7 @@ use Rattle.pr_model.specs.declared.events.Entry.{Entry}
 use Rattle.pr_num.specs.Control.{fork_mode}
 use Rattle.pr_num.specs.Limits.{read_limit}
 use Rattle.pr_num.specs.Messages.{spelling}
+use Rattle.pr_num.specs.declared.errnos.Errno.TheVariants.{Noent}
 use Rattle.pr_num.specs.declared.messages.Message.TheVariants as message
 use Rattle.pr_truss.specs.Messages.{message_call}
 use Rattle.pr_truss_laws.specs.Exchanges.{Exchange, exchange_of, exchanges}
@@ -67,18 +68,17 @@ pub record LooksInPlace (k : ℕ) (o : Options) (first : TracedState) (h : List 
 
 -- ---- the message before the last look
 
--- The first of these exchanges, if there is one, reads the statuses of the lwps of a process, whole, by a file of it that
--- the controller has open in this state; or it closes a file.
-abbrev pub LooksOrCloses : ℕ → ℕ → TracedState → List Exchange → Type 0
-LooksOrCloses k pid s [] = Unit {0}
-LooksOrCloses k pid s (x ∷ xs) =
-    ((number : ℕ) × (HasFile k pid Lstatus number s × (x.call ≡ call.Read number 0 read_limit)))
-    ⊎ ((number : ℕ) × (x.call ≡ call.Close number))
+-- The first of these exchanges, if there is one, reads the statuses of the lwps of a process, whole, by a file of it
+-- that the controller has open in this state.
+abbrev pub LooksFirst : ℕ → ℕ → TracedState → List Exchange → Type 0
+LooksFirst k pid s [] = Unit {0}
+LooksFirst k pid s (x ∷ xs) =
+    (number : ℕ) × (HasFile k pid Lstatus number s × (x.call ≡ call.Read number 0 read_limit))
 
--- Once it was interrupted truss looks at the lwps of a process right behind PCUNSET PR_FORK, or closes a file. So it
--- sends that once to each process of which it has hold.
+-- Once it was interrupted truss looks at the lwps of a process right behind PCUNSET PR_FORK, unless the reply tells
+-- that the process has ended. So it sends that once to each process of which it has hold.
 pub record LooksAtWhatItLeaves (k : ℕ) (first : TracedState) (h : List Entry) : Type 0 where
   pub each : (before later : List Entry) (e : Entry) (pid control : ℕ) (r : Reply) → h ≡ before ++ e ∷ later
       → exchange_of k e ≡ Some (record { call = message_call control (message.Unset fork_mode); reply = r })
-      → WasInterrupted k before → HasFile k pid Ctl control (state_after first before)
-      → LooksOrCloses k pid (state_after first before) (exchanges k later)
+      → r ≢ reply.Fail Noent → WasInterrupted k before → HasFile k pid Ctl control (state_after first before)
+      → LooksFirst k pid (state_after first before) (exchanges k later)

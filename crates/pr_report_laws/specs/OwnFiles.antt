@@ -1,7 +1,8 @@
-use Rattle.std.specs.Prelude.{◌≡◌, ◌⊎◌, ℕ, List, [], ◌∷◌, ◌++◌, Some, slice_get}
+use Rattle.std.specs.Prelude.{◌≡◌, ◌⊎◌, ℕ, List, [], ◌∷◌, ◌++◌, None, Some, slice_get}
 use Rattle.pr_line.specs.declared.options.Options.{Options}
 use Rattle.pr_model.specs.Handles.{handle_of}
 use Rattle.pr_model.specs.Legal.{state_after}
+use Rattle.pr_model.specs.Replies.{handle_in}
 use Rattle.pr_model.specs.State.{TracedState}
 use Rattle.pr_model.specs.declared.calls.Call.{Call}
 use Rattle.pr_model.specs.declared.calls.Call.TheVariants as call
@@ -10,13 +11,20 @@ use Rattle.pr_model.specs.declared.calls.File.TheVariants.{Ctl, Lstatus, Mem, St
 use Rattle.pr_model.specs.declared.calls.Reply.{Reply}
 use Rattle.pr_model.specs.declared.events.Entry.{Entry}
 use Rattle.pr_model.specs.declared.handles.Held.{Held}
+use Rattle.pr_num.specs.Control.{rlc_mode}
+use Rattle.pr_num.specs.declared.errnos.Errno.{Errno}
+use Rattle.pr_num.specs.declared.messages.Message.TheVariants.{Set}
+use Rattle.pr_truss.specs.Messages.{message_call}
+use Rattle.pr_truss.specs.NextCalls.{open_control}
 use Rattle.pr_truss_laws.specs.Business.{IsAmong}
-use Rattle.pr_truss_laws.specs.Exchanges.{Exchange, exchange_of, exchanges}
+use Rattle.pr_truss_laws.specs.Exchanges.{Exchange, errno_in, exchange_of, exchanges}
 use Rattle.pr_report_laws.specs.Attachments.{HasFile}
+use Rattle.pr_report_laws.specs.Grips.{IsLeftIn}
 use Rattle.pr_report_laws.specs.Holds.{HasHold, IsToldOfEnd}
 
 -- Truss calls nothing but files that it has open, and polls each of them once; it closes none of a process of which it
--- has hold; and once a process has ended it closes all that it has of it.
+-- has hold, and the control file last; and once a process has ended, or truss has looked at it for the last time, it
+-- closes all that it has of it.
 
 -- ---- what it calls
 
@@ -55,7 +63,15 @@ pub record ClosesNothingHeld (k : ℕ) (o : Options) (first : TracedState) (h : 
       → exchange_of k e ≡ Some (record { call = call.Close handle; reply = r })
       → HasFile k pid f handle (state_after first before) → HasHold k o pid first before → ⊥
 
--- ---- what has ended
+-- Where it closes the control file of a process it has no other file of that process open. So its last close of a
+-- process is the one that releases it.
+pub record ClosesControlsLast (k : ℕ) (first : TracedState) (h : List Entry) : Type 0 where
+  pub each : (before later : List Entry) (e : Entry) (pid handle number : ℕ) (f : File) (r : Reply)
+      → h ≡ before ++ e ∷ later → exchange_of k e ≡ Some (record { call = call.Close handle; reply = r })
+      → HasFile k pid Ctl handle (state_after first before) → HasFile k pid f number (state_after first before)
+      → number ≡ handle
+
+-- ---- all files of a process
 
 -- These calls close these handles, one after another, as far as they go, before they do anything else.
 abbrev pub CloseFirst : List Exchange → List ℕ → Type 0
@@ -69,10 +85,41 @@ pub record AreAllOf (k pid : ℕ) (s : TracedState) (handles : List ℕ) : Type 
       → IsAmong handle handles
   pub only : (handle : ℕ) → IsAmong handle handles → (f : File) × HasFile k pid f handle s
 
+-- These calls close each file of a process that a controller has open in a state, before they do anything else.
+abbrev pub CloseAllOf : ℕ → ℕ → TracedState → List Exchange → Type 0
+CloseAllOf k pid s xs = (handles : List ℕ) × (AreAllOf k pid s handles × CloseFirst xs handles)
+
+-- ---- what has ended
+
 -- Where truss is told that a process has ended it closes each file of it that it has open, before it calls anything
 -- else.
 pub record ClosesAllThatEnded (k : ℕ) (first : TracedState) (h : List Entry) : Type 0 where
   pub each : (before later : List Entry) (e : Entry) (pid : ℕ) → h ≡ before ++ e ∷ later
-      → IsToldOfEnd k pid (state_after first before) e
+      → IsToldOfEnd k pid (state_after first before) e → CloseAllOf k pid (state_after first before) (exchanges k later)
+
+-- ---- what it leaves
+
+-- These calls set PR_RLC by the control file of a child, and close that file; and then these handles.
+abbrev pub FreeAndClose : ℕ → List ℕ → List Exchange → Type 0
+FreeAndClose control handles [] = Unit {0}
+FreeAndClose control handles (x ∷ xs) =
+    (x.call ≡ message_call control (Set rlc_mode)) × CloseFirst xs (control ∷ handles)
+
+-- What truss calls behind its last look at a process, which it leaves: it closes these handles. One read of memory of
+-- the process may come before, for the line of the event that the look showed; or it sets a child free, of which the
+-- look told, where its control file is granted.
+pub data CloseSoon (k pid : ℕ) (s : TracedState) (handles : List ℕ) : List Exchange → Type 0 where
+  at_once : {xs : List Exchange} → CloseFirst xs handles → CloseSoon k pid s handles xs
+  with_text : {x : Exchange} {xs : List Exchange} (memory from len : ℕ) → HasFile k pid Mem memory s
+      → x.call ≡ call.Read memory from len → CloseFirst xs handles → CloseSoon k pid s handles (x ∷ xs)
+  with_child : {x : Exchange} {xs : List Exchange} (child : ℕ) → x.call ≡ open_control child
+      → errno_in x.reply ≡ None → FreeAndClose (handle_in x.reply) handles xs → CloseSoon k pid s handles (x ∷ xs)
+  without_child : {x : Exchange} {xs : List Exchange} (child : ℕ) (errno : Errno) → x.call ≡ open_control child
+      → errno_in x.reply ≡ Some errno → CloseFirst xs handles → CloseSoon k pid s handles (x ∷ xs)
+
+-- So it closes each file that it has open of a process at which it has looked for the last time.
+pub record ClosesWhatItLeaves (k : ℕ) (first : TracedState) (h : List Entry) : Type 0 where
+  pub each : (before later : List Entry) (e : Entry) (pid : ℕ) → h ≡ before ++ e ∷ later → IsLeftIn k pid first before e
       → (handles : List ℕ)
-      × (AreAllOf k pid (state_after first before) handles × CloseFirst (exchanges k later) handles)
+      × (AreAllOf k pid (state_after first before) handles
+      × CloseSoon k pid (state_after first before) handles (exchanges k later))

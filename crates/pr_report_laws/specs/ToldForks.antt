@@ -8,14 +8,13 @@ use Rattle.pr_model.specs.declared.calls.File.TheVariants.{Ctl, Status, Lstatus,
 use Rattle.pr_model.specs.declared.events.Entry.{Entry}
 use Rattle.pr_rec.specs.declared.lwps.LwpStatus.{LwpStatus}
 use Rattle.pr_truss.specs.NextCalls.{next_call_of}
-use Rattle.pr_truss.specs.Records.{child_of, event_stops, is_on_event}
+use Rattle.pr_truss.specs.Records.{child_of, event_stops, is_on_event, status_lwp}
 use Rattle.pr_truss_laws.specs.Exchanges.{Exchange, exchange_of, exchanges, truss_at}
 use Rattle.pr_truss_laws.specs.Given.{reply_at}
 use Rattle.pr_report_laws.specs.Attachments.{HasFile, HasFollowed, HasOpened, ReadsFile}
 use Rattle.pr_report_laws.specs.Follows.{IsFollowedUp, ReadsFork}
 use Rattle.pr_report_laws.specs.Freed.{IsSetFree, ReadsLastFork}
 use Rattle.pr_report_laws.specs.Holds.{HasHold}
-use Rattle.pr_report_laws.specs.Lineages.{TellsChild}
 use Rattle.pr_report_laws.specs.Reads.{AreRead}
 use Rattle.pr_report_laws.specs.Shown.{LwpEvent}
 
@@ -40,6 +39,13 @@ pub record HasNoOldStop (k : ℕ) (o : Options) (pid : ℕ) (s : TracedState) (h
   pub enough : old_stops k o pid (held.front ++ held.opening ∷ []) held.begins.complete ≤ length events
 
 -- ---- the read
+
+-- In an entry truss reads a status of a process, and it tells that an lwp of the process has made this child.
+pub record TellsChild (k parent child : ℕ) (s : TracedState) (e : Entry) : Type 0 where
+  pub read : ReadsFile k parent Status s e
+  pub lwp : LwpStatus
+  pub told : status_lwp read.bytes ≡ Some lwp
+  pub made : child_of lwp ≡ Some child
 
 -- After the entries before, in this one truss reads the status of a process, and it tells of a new stop on the return
 -- of a fork or vfork, which made this child.

@@ -8,7 +8,14 @@ ghost use Rattle.pr_report_laws.specs.HeldRefusals.{TellsNoRefusalOfWhatItHolds,
 ghost use Rattle.pr_report_laws.specs.LaterSends.{SendsLittleLater};
 ghost use Rattle.pr_report_laws.specs.LineReads.{ReadsForItsLines};
 ghost use Rattle.pr_report_laws.specs.Looks.{LooksAtWhatItLeaves, LooksInPlace};
-ghost use Rattle.pr_report_laws.specs.OwnFiles.{CallsItsFiles, ClosesAllThatEnded, ClosesNothingHeld, PollsEachOnce};
+ghost use Rattle.pr_report_laws.specs.OwnFiles.{
+  CallsItsFiles,
+  ClosesAllThatEnded,
+  ClosesControlsLast,
+  ClosesNothingHeld,
+  ClosesWhatItLeaves,
+  PollsEachOnce,
+};
 ghost use Rattle.pr_report_laws.specs.OwnOpens.{OpensInPlace};
 ghost use Rattle.pr_report_laws.specs.ShownOnce.{ShowsStopsOnce, ShowsWhatIsNew, ShowsWhatItReads};
 ghost use Rattle.pr_report_laws.specs.SoonOpen.{PollsByItsFiles};
@@ -34,10 +41,17 @@ pub fn truss_closes_nothing_that_it_has_hold_of()
         → ClosesNothingHeld k o s h }
 {}
 
+/// In such a history truss has no other file of a process open when it closes the control file of it.
+#[tactic(auto, using(crate::proofs::OwnFiles::ControlsLast::controls_last))]
+pub fn truss_closes_the_control_file_of_a_process_last()
+    ensures { (n k : ℕ) (o : Options) (s : TracedState) (h : List Entry) → IsTrussRun n k o s h
+        → ClosesControlsLast k s h }
+{}
+
 /// In such a history truss reads the status of a process, whole, right after a poll has named the process, of which it
 /// has hold; and the statuses of its lwps, whole, right behind the granted wait of the opening, or, once truss was
-/// interrupted and as long as it has hold of the process, right behind PCUNSET PR_FORK, behind which nothing else comes
-/// but a close.
+/// interrupted and as long as it has hold of the process, right behind PCUNSET PR_FORK, behind which nothing else comes,
+/// unless the reply tells that the process has ended.
 #[tactic(auto, using(crate::proofs::Asking::LeavingLooks::left_looks))]
 pub fn truss_looks_at_a_process_in_its_place()
     ensures places { (n k : ℕ) (o : Options) (s : TracedState) (h : List Entry) → IsTrussRun n k o s h
@@ -58,7 +72,7 @@ pub fn truss_opens_each_file_in_its_place()
 
 /// In such a history truss sends, once it has polled or a wait of it was interrupted, nothing but these: PCRUN; PCSET
 /// PR_RLC right behind the granted open of the control file to which it goes; and, once it was interrupted, PCUNSET
-/// PR_FORK to a process of which it has hold. Nor does it wait for a stop then.
+/// PR_FORK to a process of which it has hold, which it sends at no other time. Nor does it wait for a stop then.
 #[tactic(auto, using(crate::proofs::OwnFiles::SentLater::sent_later))]
 pub fn truss_sends_little_once_it_has_polled()
     ensures { (n k : ℕ) (o : Options) (s : TracedState) (h : List Entry) → IsTrussRun n k o s h
@@ -79,6 +93,15 @@ pub fn truss_polls_soon_by_the_control_files_that_it_has_open()
 pub fn truss_closes_all_that_it_has_of_what_has_ended()
     ensures { (n k : ℕ) (o : Options) (s : TracedState) (h : List Entry) → IsTrussRun n k o s h
         → ClosesAllThatEnded k s h }
+{}
+
+/// In such a history, where truss was interrupted and has looked at the lwps of a process for the last time, it closes
+/// all files that it has of the process before it calls anything else; but that one read of its memory may come before,
+/// or the calls that set a child free.
+#[tactic(auto, using(crate::proofs::OwnFiles::LeftFiles::left_files))]
+pub fn truss_closes_all_that_it_has_of_what_it_leaves()
+    ensures { (n k : ℕ) (o : Options) (s : TracedState) (h : List Entry) → IsTrussRun n k o s h
+        → ClosesWhatItLeaves k s h }
 {}
 
 /// In such a history truss shows what it reads, right then: in each entry nothing new of a process, whichever it is, or

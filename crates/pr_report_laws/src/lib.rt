@@ -24,7 +24,8 @@ pub use attachments::{
 };
 pub use business::{
     truss_calls_files_that_it_has_open, truss_closes_all_that_it_has_of_what_has_ended,
-    truss_closes_nothing_that_it_has_hold_of, truss_looks_at_a_process_in_its_place,
+    truss_closes_all_that_it_has_of_what_it_leaves, truss_closes_nothing_that_it_has_hold_of,
+    truss_closes_the_control_file_of_a_process_last, truss_looks_at_a_process_in_its_place,
     truss_opens_each_file_in_its_place, truss_polls_soon_by_the_control_files_that_it_has_open,
     truss_prints_what_it_has_counted, truss_reads_memory_for_its_lines,
     truss_sends_little_once_it_has_polled, truss_shows_what_it_reads_right_then_and_once,

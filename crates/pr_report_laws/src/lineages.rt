@@ -38,9 +38,11 @@ pub fn the_text_of_an_event_is_that_of_its_moment_where_truss_follows_at_the_bir
         → HasBytes h → IsFollowedAtBirth k o pid s h → AreOfTheirEvents k o pid s h (truss_at k o h).reports }
 {}
 
-/// A process that is left to truss, as each is that it descends from by the children of which truss was told, stands so
-/// where truss gets hold of it: between the fork that made it and truss's open of its control file no other controller
-/// was granted a handle for writing of it. Other children of forks may be anybody's.
+/// A process that is left to truss, as each is that it descends from by the children that truss opened, stands so where
+/// truss gets hold of it: between the fork that made it and the open by which truss took it as a child no other
+/// controller was granted a handle for writing of it, nor was truss itself, where its options name it, granted its
+/// `as`, the last file of an opening. Other children of forks may be anybody's, and so may those be of which truss was
+/// told, but which it did not open as children.
 #[tactic(auto, using(crate::proofs::UnopenedChildren::Births::reports))]
 pub fn what_is_left_to_truss_is_followed_at_its_birth()
     ensures { (n k : ℕ) (o : Options) (pid : ℕ) (s : TracedState) (h : List Entry) → IsReached s → IsTrussRun n k o s h

@@ -18,7 +18,6 @@ ghost use Rattle.pr_truss.specs.Trusses.{traced_at};
 ghost use Rattle.pr_truss.specs.declared.replies.Answer.TheVariants.{Accepted};
 ghost use Rattle.pr_truss.specs.declared.stages.FreeingStep.TheVariants.{Close as Free};
 ghost use Rattle.pr_truss.specs.declared.stages.Stage.TheVariants.{FreeingChild};
-ghost use Rattle.pr_report_laws.specs.Holds.{HasHold};
 ghost use Rattle.pr_report_laws.specs.SetModes.{HasSetRelease};
 ghost use Rattle.pr_model.specs.declared.calls.Reply.{Reply};
 ghost use Rattle.pr_truss_laws.specs.Exchanges.{errno_in, exchange_of, truss_at};
@@ -117,18 +116,12 @@ pub fn truss_is_granted_the_modes()
 {}
 
 /// What truss has set by its messages is released, told by the messages and their replies alone. A live process of which
-/// truss has set PR_RLC by a control file, which it has had open since, is released when truss closes that file; so is
-/// one of which it has hold, by whatever control file. The message is refused for no live process but process 0.
+/// truss has set PR_RLC by a control file, which it has had open since, is released when truss closes that file. The
+/// message is refused for no live process but process 0.
 #[tactic(auto, using(crate::proofs::Holding::SetReleases::set_releases))]
 pub fn what_truss_has_set_by_its_messages_is_released()
     ensures set { (n k : ℕ) (o : Options) (s : TracedState) (h : List Entry) → IsTrussRun n k o s h → (number : ℕ)
         (held : Held) (p : TracedProcess) (a : Answer) → HasSetRelease k number held s h
-        → live_process (state_after s h).system held.pid ≡ Some p
-        → answer_to (state_after s h) k (Close number) ≡ Some a
-        → (q : TracedProcess) × ((live_process a.state.system held.pid ≡ Some q) × IsReleased q) }
-    ensures held { (n k : ℕ) (o : Options) (s : TracedState) (h : List Entry) → IsTrussRun n k o s h → (pid : ℕ)
-        → HasHold k o pid s h → (number : ℕ) (held : Held) (p : TracedProcess) (a : Answer)
-        → handle_of (state_after s h).opens k number ≡ Some held → held.pid ≡ pid → is_control held.file ≡ true
         → live_process (state_after s h).system held.pid ≡ Some p
         → answer_to (state_after s h) k (Close number) ≡ Some a
         → (q : TracedProcess) × ((live_process a.state.system held.pid ≡ Some q) × IsReleased q) }

@@ -1,11 +1,14 @@
-use Rattle.std.proofs.Common.{◌≡◌, ◌==◌, ◌++◌, ℕ, Bool, true, false, not, All, Some, List, [], ◌∷◌, flat_map, length, map, refl, sym, subst, ap, ◌∙◌}
+use Rattle.std.proofs.Common.{◌≡◌, ◌≢◌, ◌==◌, ◌++◌, ℕ, Bool, true, false, not, All, Some, List, [], ◌∷◌, flat_map, length, map, refl, sym, subst, ap, arith, ◌∙◌}
 use Rattle.std.specs.List.{slice_get}
 use Rattle.std.specs.Option.{option_map}
+use Rattle.std.proofs.lemmas.Bool.{ne_eqb}
 use Rattle.std.proofs.lemmas.Option.{slice_get-map}
 use Rattle.std.proofs.lemmas.List.Elements.{All-cons, All-nil}
 use Rattle.pr_api.specs.Views.{kernel_of}
 use Rattle.pr_core.specs.Gcores.{first_gcore}
+use Rattle.pr_core_laws.proofs.EndingLaw.{gcore-makes-calls, gcore-runs-again, gcore-takes-back, gcore-tells-why}
 use Rattle.pr_core_laws.proofs.GcoreLaw.{shows-one-core}
+use Rattle.pr_core_laws.proofs.OwnFiles.{gcore-closes, gcore-holds}
 use Rattle.pr_erasure.proofs.HistoryLemmas.{transparent-first}
 use Rattle.pr_erasure.specs.Transparency.{IsTransparent}
 use Rattle.pr_line.specs.declared.functions.Function.{Function}
@@ -18,7 +21,11 @@ use Rattle.pr_model.specs.declared.tools.ToolKind.TheVariants.{Prun, Pstack, Pst
 use Rattle.pr_probe.specs.Probes.{first_probe}
 use Rattle.pr_function_hides.proofs.TidyLaw.{writes-tidily}
 use Rattle.pr_hidden.proofs.FirstLemmas.{first-untouched}
-use Rattle.pr_probe_laws.proofs.HiddenLaw.{apfiles-hidden}
+use Rattle.pr_probe_laws.proofs.HiddenLaw.{alone-accepted, alone-gone, alone-hidden, alone-tidy}
+use Rattle.pr_probe_laws.proofs.StepCalls.{untouched-unstepped}
+use Rattle.pr_probe_laws.proofs.TakesBack.{probe-takes-back}
+use Rattle.pr_probe_laws.specs.StepMarks.{IsUnstepped}
+use Rattle.pr_probe_laws.proofs.OwnCallRows.{makes-its-calls, probe-closes, probe-holds}
 use Rattle.pr_probe_laws.proofs.ProbeLaw.{puts-back}
 use Rattle.pr_probe_laws.proofs.ReasonLaw.{tells-why}
 use Rattle.pr_probe_laws.proofs.RunAgainLaw.{runs-at-last}
@@ -80,6 +87,14 @@ none-both (x ∷ xs) ys e = absurd (cc)
 bare-truss : (o : Options) → o.functions ≡ [] → has_functions o ≡ false
 bare-truss o none = ap (λ (functions : List Function). not (length functions == 0)) none
 
+full-truss : (o : Options) → o.functions ≢ [] → has_functions o ≡ true
+full-truss o some = at o.functions some
+  where
+    at : (functions : List Function) → functions ≢ [] → not (length functions == 0) ≡ true
+    at [] some = absurd (some refl)
+    at (f ∷ functions) some =
+        ap not (ne_eqb (length (f ∷ functions)) 0 (λ (none : length (f ∷ functions) ≡ 0). omega (arith, none)))
+
 truss-tracer : (o : Options) → has_functions o ≡ false → IsTracer (truss_of o (has_functions o))
 unfolding IsTracer
 truss-tracer o bare = subst (λ b. IsTracer (truss_of o b)) (sym bare) tt
@@ -133,19 +148,20 @@ truss-plan s k o b at is =
 
 pub trusses-kept : (s : Scenario) (n : ℕ) (h : List Entry) → IsScenarioInRange s → HasBytes h
     → IsLegal n (first_state_of s) h → AreOwnCalls (controllers_of s) h → (k : ℕ) (o : Options) → slice_get
-    s.controllers k ≡ Some (plan.Truss o) → has_functions o ≡ false
+    s.controllers k ≡ Some (plan.Truss o) → o.functions ≡ []
     → IsTrussKept (controllers_of s) (first_state_of s) h k o
-trusses-kept s n h range bytes legal own k o at bare =
+trusses-kept s n h range bytes legal own k o at none =
     truss-kept (controllers_of s) n (first_state_of s) h k o (state-reached s range) bytes
-    (truss-plan s k o false at bare) (first-held s k) legal own
+    (truss-plan s k o false at (bare-truss o none)) (first-held s k) legal own
 
 pub functions-kept : (s : Scenario) (n : ℕ) (h : List Entry) → IsScenarioInRange s → HasBytes h
     → IsLegal n (first_state_of s) h → AreOwnCalls (controllers_of s) h → (k : ℕ)
-    (o : Options) → slice_get s.controllers k ≡ Some (plan.Truss o) → has_functions o ≡ true
+    (o : Options) → slice_get s.controllers k ≡ Some (plan.Truss o) → o.functions ≢ []
     → IsFunctionTrussKept (controllers_of s) (first_state_of s) h k o
 functions-kept s n h range bytes legal own k o at some =
+    let has = full-truss o some in
     function-kept (controllers_of s) n (first_state_of s) h k o (state-reached s range) bytes
-    (first-held s k) (truss-plan s k o true at some) some legal own
+    (first-held s k) (truss-plan s k o true at has) has legal own
 
 -- ---- tools
 
@@ -175,7 +191,7 @@ tools-kept s n h range bytes legal own k kind pid at = record {
       bytes (kind-first s k kind Pstack pid at same) legal own ends ended accepted;
   runs_again = λ t ends ended accepted same.
       let reached = state-reached s range in
-      runs-again (controllers_of s) n k pid (first_state_of s) h t reached.lawful
+      runs-again (controllers_of s) n k pid (first_state_of s) h t reached.lawful reached.in_range bytes
       (kind-first s k kind Pstack pid at same) legal own ends ended accepted;
   takes_back = λ t ends ended was same.
       takes-back n k pid (first_state_of s) (controllers_of s) h t
@@ -214,6 +230,26 @@ gcores-kept s n h range bytes legal own k pid at = record {
       let reached = state-reached s range in
       shows-one-core (controllers_of s) n k pid (first_state_of s) h g reached.lawful reached.in_range
       bytes (gcore-first s k pid at) legal own ends ended accepted;
+  runs_again = λ g ends ended accepted.
+      let reached = state-reached s range in
+      gcore-runs-again (controllers_of s) n k pid (first_state_of s) h g reached.lawful reached.in_range
+      bytes (gcore-first s k pid at) legal own ends ended accepted;
+  takes_back = λ g ends ended was.
+      gcore-takes-back (controllers_of s) n k pid (first_state_of s) h g (state-reached s range).lawful
+      (gcore-first s k pid at) legal own ends ended was;
+  calls = λ g ends.
+      gcore-makes-calls (controllers_of s) n k pid (first_state_of s) h g (state-reached s range).lawful
+      (gcore-first s k pid at) legal own ends;
+  opens = λ g ends.
+      gcore-holds (controllers_of s) n k pid (first_state_of s) h g (first-held s k)
+      (gcore-first s k pid at) legal own ends;
+  closes = λ g ends ended.
+      gcore-closes (controllers_of s) n k pid (first_state_of s) h g (first-held s k)
+      (gcore-first s k pid at) legal own ends ended;
+  refuses = λ g e ends ended was.
+      let reached = state-reached s range in
+      gcore-tells-why (controllers_of s) n k pid (first_state_of s) h g e reached.lawful reached.in_range
+      bytes (gcore-first s k pid at) legal own ends ended was;
 }
 
 -- ---- probes
@@ -227,6 +263,13 @@ pub probes-kept : (s : Scenario) (n : ℕ) (h : List Entry) → IsScenarioInRang
     → IsLegal n (first_state_of s) h → AreOwnCalls (controllers_of s) h → (k pid : ℕ)
     → slice_get s.controllers k ≡ Some (plan.Probe pid) → IsProbeKept (controllers_of s) (first_state_of s) h k pid
 probes-kept s n h range bytes legal own k pid at = record {
+  calls = makes-its-calls (controllers_of s) n k pid (first_state_of s) h (probe-first s k pid at) legal own;
+  opens = λ p ends.
+      probe-holds (controllers_of s) n k pid (first_state_of s) h p (first-held s k) (probe-first s k pid at) legal own
+      ends;
+  closes = λ p ends ended.
+      probe-closes (controllers_of s) n k pid (first_state_of s) h p (first-held s k) (probe-first s k pid at) legal own
+      ends ended;
   puts_back =
       λ p ends ended accepted.
       puts-back (controllers_of s) n k pid (first_state_of s) h p (probe-first s k pid at)
@@ -236,8 +279,13 @@ probes-kept s n h range bytes legal own k pid at = record {
       sets-back (controllers_of s) n k pid (first_state_of s) h p reached.lawful reached.in_range
       bytes (probe-first s k pid at) legal own ends ended accepted;
   runs_again = λ p ends ended accepted.
-      runs-at-last (controllers_of s) n k pid (first_state_of s) h p (state-reached s range).lawful
+      let reached = state-reached s range in
+      runs-at-last (controllers_of s) n k pid (first_state_of s) h p reached.lawful reached.in_range bytes
       (probe-first s k pid at) legal own ends ended accepted;
+  takes_back = λ p ends ended.
+      let reached = state-reached s range in
+      probe-takes-back (controllers_of s) n k pid (first_state_of s) h p reached.lawful reached.in_range bytes
+      (probe-first s k pid at) legal own ends ended;
   refuses = λ p e ends ended refused.
       tells-why (controllers_of s) n k pid (first_state_of s) h p e (state-reached s range).lawful
       (probe-first s k pid at) legal own ends ended refused;
@@ -247,16 +295,27 @@ probes-kept s n h range bytes legal own k pid at = record {
       (probe-first s k pid at) legal own ends ended accepted;
 }
 
+first-unstepped : (s : Scenario) → IsUnstepped (first_state_of s).system
+first-unstepped s = untouched-unstepped (first_state_of s).system (first-untouched s.programs (files_of s) s.spawns)
+
 -- programs see nothing of them where they are left alone
 pub hidden-kept : (s : Scenario) (n : ℕ) (h : List Entry) → IsScenarioInRange s → HasBytes h
     → IsLegal n (first_state_of s) h → AreOwnCalls (controllers_of s) h
     → AreHidden (controllers_of s) (first_state_of s) h
 hidden-kept s n h range bytes legal own = record {
+  tidy = λ who are.
+      alone-tidy n who (controllers_of s) (first_state_of s) h (state-reached s range) bytes legal own are
+      (first-unstepped s);
+  accepted = λ who are.
+      alone-accepted n who (controllers_of s) (first_state_of s) h (state-reached s range) bytes legal own are
+      (first-unstepped s);
+  gone = λ who are.
+      alone-gone n who (controllers_of s) (first_state_of s) h (state-reached s range) bytes legal own are
+      (first-unstepped s);
   hidden = λ who are.
       let reached = state-reached s range in
-      apfiles-hidden n who (controllers_of s) (first_state_of s) h reached
-      (first-untouched s.programs (files_of s) s.spawns)
-      bytes legal own are;
+      alone-hidden n who (controllers_of s) (first_state_of s) h reached bytes legal own are
+      (first-untouched s.programs (files_of s) s.spawns);
 }
 
 -- what truss with calls of functions writes

@@ -1,4 +1,3 @@
-pub mod AnswerLemmas
 pub mod ByteLemmas
 pub mod GrowthLemmas
 pub mod KeptLemmas

@@ -1,6 +1,5 @@
 use Rattle.std.proofs.Common.{◌≡◌, ◌≢◌, ◌⊎◌, inl, inr, ℕ, Some, List, [], ◌∷◌, IfSome, IsTrue, refl, subst, sym, ap}
 use Rattle.std.proofs.Common.{◌∙◌}
-use Rattle.std.specs.List.{All}
 use Rattle.std.specs.Option.{option_and_then}
 use Rattle.std.proofs.lemmas.Bool.{cases_eq}
 use Rattle.std.proofs.lemmas.List.Elements.{All-cons, All-head, All-nil, All-tail}
@@ -20,9 +19,10 @@ use Rattle.pr_tool_laws.specs.OwnCalls.{AreOwnCalls, IsOwnCall}
 use Rattle.pr_world.specs.Controllers.{after_reply, call_by, next_call, with_fed}
 use Rattle.pr_world.specs.ControllerStates.{ControllerState}
 use Rattle.pr_world.specs.Protocol.{controllers_after}
-use Rattle.pr_run_laws.proofs.AnswerLemmas.{reply-passive}
+use Rattle.pr_tool_laws.proofs.AnswerLemmas.{reply-passive}
 use Rattle.pr_run_laws.proofs.TracerLemmas.{core-passive, reply-tracer}
-use Rattle.pr_run_laws.specs.Tracers.{IsPassiveCall, IsPassiveOrTracers, IsTracerAt, OthersArePassive}
+use Rattle.pr_run_laws.specs.Tracers.{IsPassiveOrTracers, IsTracerAt, OthersArePassive}
+use Rattle.pr_tool_laws.specs.PassiveCalls.{IsPassiveCall}
 
 -- Where all who are no tracers make passive calls alone, a history is passive.
 

@@ -30,7 +30,7 @@ use Rattle.pr_truss.specs.declared.stages.OpeningStep.{OpeningStep}
 use Rattle.pr_truss.specs.declared.stages.OpeningStep.TheVariants as opening
 use Rattle.pr_truss.specs.declared.stages.Stage.{Stage}
 use Rattle.pr_truss.specs.declared.stages.Stage.TheVariants as stage
-use Rattle.pr_run_laws.specs.Tracers.{BeginsPassively, IsPassiveCall}
+use Rattle.pr_tool_laws.specs.PassiveCalls.{BeginsPassively, IsPassiveCall}
 
 -- Truss, the tools and gcore send passive calls alone.
 

@@ -16,9 +16,10 @@ use Rattle.pr_model.specs.declared.events.Entry.{Entry}
 use Rattle.pr_world.specs.Controllers.{after_reply, call_by, feed_at, next_call, with_fed}
 use Rattle.pr_world.specs.ControllerStates.{ControllerState, Script, Truss, FnTruss, Tool, Gcore, Probe}
 use Rattle.pr_world.specs.Protocol.{Follows, FollowsAt, controllers_after}
-use Rattle.pr_run_laws.proofs.AnswerLemmas.{reply-passive}
+use Rattle.pr_tool_laws.proofs.AnswerLemmas.{reply-passive}
 use Rattle.pr_run_laws.proofs.PassiveLemmas.{gcore-passive, tool-passive, truss-passive}
-use Rattle.pr_run_laws.specs.Tracers.{IsPassiveCall, IsTracer}
+use Rattle.pr_run_laws.specs.Tracers.{IsTracer}
+use Rattle.pr_tool_laws.specs.PassiveCalls.{IsPassiveCall}
 
 -- Where no controller is a script or asks by an agent, a history is passive.
 

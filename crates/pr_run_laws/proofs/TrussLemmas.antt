@@ -10,7 +10,7 @@ use Rattle.pr_report_laws.specs.Shown.{LwpEvent}
 use Rattle.pr_line.specs.Selections.{is_selected}
 use Rattle.pr_line.specs.declared.options.Options.{Options}
 use Rattle.pr_model.specs.Handles.{handle_of, own}
-use Rattle.pr_model.specs.Legal.{IsLegal, after, state_after}
+use Rattle.pr_model.specs.Legal.{IsLegal, state_after}
 use Rattle.pr_model.specs.State.{Places, TracedProcess, TracedState, live_process, nothing_open}
 use Rattle.pr_model.specs.declared.calls.Call.{Call}
 use Rattle.pr_model.specs.declared.calls.File.TheVariants.{Ctl}
@@ -36,8 +36,10 @@ use Rattle.pr_report_laws.proofs.Asking.ReadShown.{shows-what-is-new}
 use Rattle.pr_report_laws.proofs.Asking.RefusedOpens.{tells-of-opens}
 use Rattle.pr_report_laws.proofs.Asking.ShownLaws.{shows-read}
 use Rattle.pr_report_laws.proofs.OwnFiles.CalledFiles.{calls-files, polls-once}
+use Rattle.pr_report_laws.proofs.OwnFiles.ControlsLast.{closes-controls-last}
 use Rattle.pr_report_laws.proofs.OwnFiles.EndedFiles.{closes-ended}
 use Rattle.pr_report_laws.proofs.OwnFiles.KeptOpen.{closes-nothing-held}
+use Rattle.pr_report_laws.proofs.OwnFiles.LeftFiles.{closes-left}
 use Rattle.pr_report_laws.proofs.OwnFiles.PlacedOpens.{opens-in-place}
 use Rattle.pr_report_laws.proofs.OwnFiles.SentLater.{sends-later}
 use Rattle.pr_report_laws.proofs.OwnFiles.SoonOpens.{polls-by-files}
@@ -61,7 +63,7 @@ use Rattle.pr_truss_laws.proofs.BusinessLemmas.{does-business}
 use Rattle.pr_report_laws.proofs.Watching.NamedSoon.{looks-at-named, runs-before-polls, soon-done}
 use Rattle.pr_report_laws.proofs.Holding.HeldLaws.{cares-for-children, gripped-once, lets-go-for-reason, moments-while-held, read-while-held, shown-while-held}
 use Rattle.pr_report_laws.proofs.Holding.HoldPlaces.{gets-off, hold-watched, unwatched-hold}
-use Rattle.pr_report_laws.proofs.Holding.SetReleases.{grants-release, holds-control, releases-held, releases-set}
+use Rattle.pr_report_laws.proofs.Holding.SetReleases.{grants-release, holds-control, releases-set}
 use Rattle.pr_report_laws.specs.Grips.{GetsHold}
 use Rattle.pr_report_laws.specs.HeldEvents.{DiedHeld, IsLacking, ShowsHeld}
 use Rattle.pr_report_laws.specs.Holds.{HasHold, LetsGoIn}
@@ -257,7 +259,6 @@ module _ (n k : ℕ) (o : Options) (first : TracedState) (h : List Entry) (run :
   releases : Releases k o first h
   releases = record {
     set = releases-set n k o first h run;
-    held = releases-held n k o first h run;
     controls = λ pid g.
         let c = holds-control n k o first h run pid g in
         (c.0, file-has k pid Ctl WriteExcl c.0 (state_after first h) c.1);
@@ -377,6 +378,8 @@ truss-kept controllers n first h k o reached bytes at none legal own =
         lets_go = let-go n k o first h run;
         keeps = closes-nothing-held n k o first h run;
         ended = closes-ended n k o first h run;
+        closes = closes-left n k o first h run;
+        controls_last = closes-controls-last n k o first h run;
         polls = polls-by-files n k o first h run;
       };
       releases = record {

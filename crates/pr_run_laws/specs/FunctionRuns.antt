@@ -36,7 +36,8 @@ pub record IsFunctionTrussKept (controllers : List ControllerState) (first : Tra
 
 -- Where those who hide what they do in a history are each a truss that shows calls of functions, on the conditions of
 -- AreUndisturbed: each PCWRITE of such a truss is tidy, so that programs have the memory after it that they had before;
--- and the breakpoints that stand in a process that it traces are those that it has marked.
+-- what each turn changes is tidy, and whom controllers kill; and the breakpoints that stand in a process that it traces
+-- are those that it has marked.
 pub record WriteUnseen (controllers : List ControllerState) (first : TracedState) (h : List Entry) : Type 0 where
   pub tidily : (who : Hiders) → AreTrusses who controllers → AreUndisturbed who controllers first h
       → WritesTidily who controllers first h

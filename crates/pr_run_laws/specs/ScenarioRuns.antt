@@ -1,4 +1,4 @@
-use Rattle.std.specs.Prelude.{◌≡◌, ℕ, Bool, true, false, List, [], None, Some, length, map, slice_get}
+use Rattle.std.specs.Prelude.{◌≡◌, ◌≢◌, ℕ, Bool, true, false, List, [], None, Some, length, map, slice_get}
 use Rattle.pr_api.specs.Views.{kernel_of}
 use Rattle.pr_core.specs.Gcores.{first_gcore}
 use Rattle.pr_probe.specs.Probes.{first_probe}
@@ -87,9 +87,9 @@ pub record IsKept (s : Scenario) (h : List Entry) : Type 0 where
   pub transparent : IsPassive h → IsTransparent (first_state_of s) h
   pub transparent_without_scripts : scripts_of s ≡ [] → probes_of s ≡ [] → shown_functions s ≡ []
       → IsTransparent (first_state_of s) h
-  pub trusses : (k : ℕ) (o : Options) → slice_get s.controllers k ≡ Some (plan.Truss o) → has_functions o ≡ false
+  pub trusses : (k : ℕ) (o : Options) → slice_get s.controllers k ≡ Some (plan.Truss o) → o.functions ≡ []
       → IsTrussKept (controllers_of s) (first_state_of s) h k o
-  pub functions : (k : ℕ) (o : Options) → slice_get s.controllers k ≡ Some (plan.Truss o) → has_functions o ≡ true
+  pub functions : (k : ℕ) (o : Options) → slice_get s.controllers k ≡ Some (plan.Truss o) → o.functions ≢ []
       → IsFunctionTrussKept (controllers_of s) (first_state_of s) h k o
   pub tools : (k : ℕ) (kind : ToolKind) (pid : ℕ) → slice_get s.controllers k ≡ Some (plan.Tool kind pid)
       → IsToolKept (controllers_of s) (first_state_of s) h k kind pid

@@ -1,13 +1,10 @@
-use Rattle.std.specs.Prelude.{◌≡◌, ◌⊎◌, ℕ, List, All, IfOk, IsTrue, Some, slice_get}
-use Rattle.pr_model.specs.Passive.{is_passive_call, is_passive_message}
-use Rattle.pr_model.specs.declared.calls.Call.{Call}
-use Rattle.pr_model.specs.declared.calls.Call.TheVariants as call
+use Rattle.std.specs.Prelude.{◌≡◌, ◌⊎◌, ℕ, List, All, IsTrue, Some, slice_get}
+use Rattle.pr_model.specs.Passive.{is_passive_call}
 use Rattle.pr_model.specs.declared.events.Act.{Act}
 use Rattle.pr_model.specs.declared.events.Act.TheVariants as act
 use Rattle.pr_model.specs.declared.events.Actor.{Actor}
 use Rattle.pr_model.specs.declared.events.Actor.TheVariants.{Controller}
 use Rattle.pr_model.specs.declared.events.Entry.{Entry}
-use Rattle.pr_num.specs.Messages.{first_message}
 use Rattle.pr_world.specs.ControllerStates.{ControllerState, Script, FnTruss, Probe}
 
 -- Controllers that trace and show: truss without functions, the proc tools and gcore. A script may make any call, a truss
@@ -18,16 +15,6 @@ IsTracer (Script s) = ⊥
 IsTracer (FnTruss t) = ⊥
 IsTracer (Probe p) = ⊥
 IsTracer _ = Unit {0}
-
--- The control message with which bytes begin is passive. Bytes that begin with none are refused.
-abbrev pub BeginsPassively : List ℕ → Type 0
-BeginsPassively bytes = IfOk (first_message bytes) (λ first. IsTrue (is_passive_message first.0))
-
--- a call that sends a passive message, or none
-unfoldable pub IsPassiveCall : Call → Type 0
-IsPassiveCall (call.Ctl handle bytes) = BeginsPassively bytes
-IsPassiveCall (call.CtlWait handle until bytes) = BeginsPassively bytes
-IsPassiveCall _ = Unit {0}
 
 -- the controller of a number is a tracer
 pub record IsTracerAt (controllers : List ControllerState) (k : ℕ) : Type 0 where

@@ -5,7 +5,7 @@ use Rattle.pr_report_laws.specs.Unfollowed.{HasUnfollowed}
 use Rattle.pr_line.specs.Selections.{is_selected}
 use Rattle.pr_line.specs.declared.options.Options.{Options}
 use Rattle.pr_model.specs.Events.{Logged, events_from}
-use Rattle.pr_model.specs.Handles.{handle_of, is_control}
+use Rattle.pr_model.specs.Handles.{handle_of}
 use Rattle.pr_model.specs.Legal.{state_after}
 use Rattle.pr_model.specs.Calls.{Answer, answer_to}
 use Rattle.pr_model.specs.State.{TracedProcess, TracedState, live_process}
@@ -26,7 +26,7 @@ use Rattle.pr_report_laws.specs.Asked.{AsksForItsLines, ReadsItsReplies, TracesW
 use Rattle.pr_report_laws.specs.Counted.{PrintsItsCounts}
 use Rattle.pr_report_laws.specs.LineReads.{ReadsForItsLines}
 use Rattle.pr_report_laws.specs.Looks.{LooksAtWhatItLeaves, LooksInPlace}
-use Rattle.pr_report_laws.specs.OwnFiles.{CallsItsFiles, ClosesAllThatEnded, ClosesNothingHeld, PollsEachOnce}
+use Rattle.pr_report_laws.specs.OwnFiles.{CallsItsFiles, ClosesAllThatEnded, ClosesControlsLast, ClosesNothingHeld, ClosesWhatItLeaves, PollsEachOnce}
 use Rattle.pr_report_laws.specs.LaterSends.{SendsLittleLater}
 use Rattle.pr_report_laws.specs.OwnOpens.{OpensInPlace}
 use Rattle.pr_report_laws.specs.ShownOnce.{ShowsStopsOnce, ShowsWhatIsNew, ShowsWhatItReads}
@@ -127,16 +127,10 @@ pub record HandlesChildren (k : ℕ) (o : Options) (first : TracedState) (h : Li
 -- ---- what truss releases
 
 -- What this truss leaves when it closes a control file after this history: a process of which it has set PR_RLC by that
--- file is released, if it lives, and so is one of which it has hold. Nothing of it is traced or watched then, and no lwp
--- of it stands on an event, is directed to stop, or has a mark. It has the control file open of each process of which it
--- has hold.
+-- file is released, if it lives. Nothing of it is traced or watched then, and no lwp of it stands on an event, is
+-- directed to stop, or has a mark. It has the control file open of each process of which it has hold.
 pub record Releases (k : ℕ) (o : Options) (first : TracedState) (h : List Entry) : Type 0 where
   pub set : (number : ℕ) (held : Held) (p : TracedProcess) (a : Answer) → HasSetRelease k number held first h
-      → live_process (state_after first h).system held.pid ≡ Some p
-      → answer_to (state_after first h) k (Close number) ≡ Some a
-      → (q : TracedProcess) × ((live_process a.state.system held.pid ≡ Some q) × IsReleased q)
-  pub held : (pid : ℕ) → HasHold k o pid first h → (number : ℕ) (held : Held) (p : TracedProcess) (a : Answer)
-      → handle_of (state_after first h).opens k number ≡ Some held → held.pid ≡ pid → is_control held.file ≡ true
       → live_process (state_after first h).system held.pid ≡ Some p
       → answer_to (state_after first h) k (Close number) ≡ Some a
       → (q : TracedProcess) × ((live_process a.state.system held.pid ≡ Some q) × IsReleased q)
@@ -167,7 +161,8 @@ pub record OpensItsOwn (k : ℕ) (o : Options) (first : TracedState) (h : List E
 -- Of each process truss has read the events that it traces and that came while it had hold of the process, each by a
 -- read of its own, and has shown those of them that the options select. Where it follows children, this is said only of
 -- a process that it never opened as the child of a fork, or that is left to truss: of this process, and of those that it
--- descends from, no other controller was granted a handle for writing between the fork that made it and its opening.
+-- descends from, as far as truss opened them as children, no other controller was granted a handle for writing between
+-- the fork that made it and that open, nor had truss opened all its files by its id.
 -- What it shows of a process, whichever it is, it reads right then, and it runs the process before it shows more of it;
 -- and what it reads and the options select it shows, once no stop is left that stood before truss came.
 -- It looks at a process where a poll has just named it, in the opening of it, and once as it leaves it. It reads memory
@@ -207,8 +202,9 @@ pub record FollowsItsChildren (k : ℕ) (o : Options) (first : TracedState) (h :
 -- polls again, it runs the process, or closes a file of it. Where it does not end an opening it runs just what the last
 -- poll has named, and once for each poll. Where it lets a process go, the process has ended, or truss was interrupted.
 -- Before its last look at a process that it leaves it has the children of that process followed no more. It closes no
--- file of a process of which it has hold; of what has ended it closes all its files before it calls anything else. How
--- many calls come at most before it polls is told by the control files that it has open.
+-- file of a process of which it has hold. Of what has ended it closes all its files before it calls anything else; so it
+-- does behind that last look, but that it may read memory for a line before, or set a child free. The control file of a
+-- process it closes last. How many calls come at most before it polls is told by the control files that it has open.
 pub record LetsItsProcessesGo (k : ℕ) (o : Options) (first : TracedState) (h : List Entry) : Type 0 where
   pub soon : IsSoonDone k first h
   pub looks : LooksAtWhatIsNamed k first h
@@ -220,13 +216,15 @@ pub record LetsItsProcessesGo (k : ℕ) (o : Options) (first : TracedState) (h :
       → HasHold k o pid first before → LetsGoIn k pid first before e → IsLetGo k pid first before e
   pub keeps : ClosesNothingHeld k o first h
   pub ended : ClosesAllThatEnded k first h
+  pub closes : ClosesWhatItLeaves k first h
+  pub controls_last : ClosesControlsLast k first h
   pub polls : PollsByItsFiles k o first h
 
 -- ---- what it releases
 
--- Wherever it has come to, truss releases the processes of which it has hold, and all of which it has set PR_RLC, when it
--- closes their control files, also where the opening of a process is broken off. The message by which it sets PR_RLC is
--- refused for no live process but process 0.
+-- Wherever it has come to, truss releases each process of which it has set PR_RLC, as each whole opening does, when it
+-- closes the control file, also where an opening is broken off behind that message, which is refused for no live
+-- process but process 0.
 pub record ReleasesItsProcesses (k : ℕ) (o : Options) (first : TracedState) (h : List Entry) : Type 0 where
   pub releases : (before later : List Entry) → h ≡ before ++ later → Releases k o first before
   pub granted : (before later : List Entry) (e : Entry) (number : ℕ) (reply : Reply) (held : Held) (p : TracedProcess)

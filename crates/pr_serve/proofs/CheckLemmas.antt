@@ -1,11 +1,8 @@
 -- What the command `check` answers.
 use Rattle.std.proofs.Common.{◌≡◌, ◌⊎◌, inl, inr, ⊎_elim, ℕ, List, [], Option, Some, None, Result, Ok, Err, IfOk, IfSome, length, refl, ◌∙◌, ap, subst}
-use Rattle.pr_judge.proofs.FirstLemmas.{first-judges, judged-first}
-use Rattle.pr_judge.specs.Judgements.{Judges, first_illegal}
-use Rattle.pr_model.specs.State.{TracedState}
+use Rattle.pr_judge.proofs.FirstLemmas.{first-judges}
 use Rattle.pr_model.specs.declared.events.Entry.{Entry}
 use Rattle.pr_num.specs.Limits.{checked_limit}
-use Rattle.pr_num.specs.declared.memory.NoMemory.{NoMemory}
 use Rattle.pr_run_laws.specs.ScenarioRuns.{first_state_of}
 use Rattle.pr_scen.specs.Scenarios.{Scenario}
 use Rattle.pr_serve.proofs.RunEndLemmas.{status_cases}
@@ -20,14 +17,6 @@ use Rattle.pr_serve.specs.declared.wrongs.Wrong.{Wrong}
 use Rattle.pr_serve.specs.declared.wrongs.Wrong.TheVariants as wrong
 use Rattle.pr_serve.specs.declared.outcomes.Status.{Status}
 use Rattle.pr_serve.specs.declared.outcomes.Status.TheVariants.{ReadFailed, WriteFailed, OutOfMemory}
-
--- ---- what the kernel finds is the answer
-
-pub first-found : (r : Result (Option ℕ) NoMemory) (controllers : ℕ) (state : TracedState) (s : Scenario) (h : List Entry) → controllers ≡ length s.controllers → state ≡ first_state_of s → IfOk r (λ first. Judges controllers state h first) → IfOk r (λ first. first ≡ first_illegal_of s h)
-unfolding first_illegal_of
-first-found (Ok first) controllers state s h count start judges =
-    judged-first controllers state h first judges ∙ ap (λ (x : TracedState). first_illegal controllers x h) start ∙ ap (λ (n : ℕ). first_illegal n (first_state_of s) h) count
-first-found (Err e) controllers state s h count start judges = tt
 
 -- ---- no history is left
 

@@ -2,6 +2,7 @@ pub mod CheckLemmas
 pub mod CommandLemmas
 pub mod CoreLemmas
 pub mod EarlyLemmas
+pub mod FindingLemmas
 pub mod GivingLemmas
 pub mod InputLemmas
 pub mod MadeLemmas

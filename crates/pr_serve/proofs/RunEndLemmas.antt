@@ -12,7 +12,7 @@ use Rattle.pr_scen.specs.Scenarios.{Scenario}
 use Rattle.pr_world.specs.Runs.{IsFresh, IsTold, after_moves}
 use Rattle.pr_world.specs.Worlds.{WorldState, all_finished, end_of, end_with, next_actor, quiet_end}
 use Rattle.pr_world.proofs.RestLemmas.{all-rest, next-acts}
-use Rattle.pr_world.proofs.RunLemmas.{moves-counted, moves-told, signalled-lawful}
+use Rattle.pr_world.proofs.RunLemmas.{moves-counted, moves-led, moves-told, signalled-lawful}
 use Rattle.pr_serve.proofs.InputLemmas.{input-range}
 use Rattle.pr_serve.proofs.UnseenLemmas.{kept-unseen}
 use Rattle.pr_serve.specs.Answers.{Answer, CommandText, answer_of, answer_to, end_status, ran, ran_so, refused_at}
@@ -100,7 +100,11 @@ run_given : (text : CommandText) (s : Result Scenario ScenFault) (status : Statu
 unfolding answer_of ran ran_so
 run_given text (Err fault) status is = tt
 run_given text (Ok s) status is =
-    record { given = λ whole. subst (EndsAs s.turns (run_of s)) (sym (is whole)) (run_ended s); answered = run_ended s }
+    record {
+      led = moves-led (first_world s) s.turns (first-told s);
+      given = λ whole. subst (EndsAs s.turns (run_of s)) (sym (is whole)) (run_ended s);
+      answered = run_ended s;
+    }
 
 runs-told : (text : CommandText) (left : Option (List ℕ)) (status : Status) (h : List Entry) (w v : Option (List ℕ)) → (IsWhole status → IfSome left (λ input. GivesOne (IsThe (answer_to text) (taken_of scenario_limit input)) status h w v))
     → EndsRounds text left status

@@ -1,7 +1,6 @@
 use Rattle.std.specs.Prelude.{ℕ, List, Option, Some, None, Result, Ok, Err, length, nat_le, take, if◌then◌else◌}
 use Rattle.pr_input.specs.Marks.{line_below, mark_place, text_below}
 use Rattle.pr_input.specs.declared.marks.Mark.TheVariants.{History}
-use Rattle.pr_model.specs.HistoryViews.{HistoryView}
 use Rattle.pr_model.specs.declared.events.Entry.{Entry}
 use Rattle.pr_num.specs.Limits.{scenario_limit}
 use Rattle.pr_plain.specs.EntryReading.{history_of}
@@ -10,8 +9,7 @@ use Rattle.pr_scen.specs.Scenarios.{Scenario}
 use Rattle.pr_scen.specs.declared.refusals.ScenKind.{ScenKind}
 use Rattle.pr_scen.specs.declared.refusals.ScenKind.TheVariants.{NoEnd, TooLong}
 use Rattle.pr_serve.specs.Inputs.{too_long}
-use Rattle.pr_serve.specs.Parts.{Gives, both_read, refused_as}
-use Rattle.pr_serve.specs.declared.wrongs.Misread.{Misread}
+use Rattle.pr_serve.specs.Parts.{both_read}
 use Rattle.pr_serve.specs.declared.wrongs.Wrong.{Wrong}
 use Rattle.pr_serve.specs.declared.wrongs.Wrong.TheVariants as wrong
 
@@ -40,7 +38,3 @@ checked_of text = by (mark_place History scenario_limit text)
 unfoldable pub checked_of_input : Option (List ℕ) → Result (Scenario × List Entry) Wrong
 checked_of_input None = Err (wrong.Scenario too_long)
 checked_of_input (Some input) = checked_of input
-
--- what a function that reads a history answers
-abbrev pub ReadsHistory : Result HistoryView Misread → Result (List Entry) ℕ → Type 0
-ReadsHistory result read = Gives (λ h. h.entries) result (refused_as wrong.History read)

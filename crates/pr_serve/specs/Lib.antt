@@ -3,6 +3,7 @@ pub mod Checks
 pub mod Commands
 pub mod CoreInputs
 pub mod Ends
+pub mod Findings
 pub mod Giving
 pub mod Hidings
 pub mod Histories

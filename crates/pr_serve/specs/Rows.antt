@@ -6,8 +6,9 @@ use Rattle.pr_model.specs.declared.events.Entry.{Entry}
 use Rattle.pr_model.specs.declared.tools.ToolKind.{ToolKind}
 use Rattle.pr_num.specs.Limits.{checked_limit, scenario_limit}
 use Rattle.pr_run_laws.specs.Prefixes.{IsPrefix}
-use Rattle.pr_run_laws.specs.ScenarioRuns.{first_state_of, run_of}
+use Rattle.pr_run_laws.specs.ScenarioRuns.{first_state_of, first_world, run_of}
 use Rattle.pr_scen.specs.Scenarios.{Scenario}
+use Rattle.pr_world.specs.Runs.{LedFrom}
 use Rattle.pr_serve.specs.Answers.{Answer, CommandText, MayAnswer, MayShowCore, ShowsEnd, answer_to, check_of, explained, generated, judged, plain_shown, run_text_of}
 use Rattle.pr_serve.specs.Checks.{checked_of_input}
 use Rattle.pr_serve.specs.CoreInputs.{core_limit}
@@ -201,8 +202,10 @@ pub record IsJudged (s : Scenario) (entries : List Entry) (old new : Ends) (stat
   pub given : IsGiven (judged (length entries) first) status history old.written new.written
 
 -- The status of an answer that was given whole says how the run of the scenario ended, and so does that of the answer
--- itself, also where its text was cut short by a write that failed or for memory, or never begun.
+-- itself, also where its text was cut short by a write that failed or for memory, or never begun. The controllers whose
+-- texts the answer shows are what the entries of the history have made of those of the scenario.
 pub record TellsEnd (s : Scenario) (answer : Answer) (status : Status) : Type 0 where
+  pub led : LedFrom (first_world s) (run_of s)
   pub given : IsWhole status → EndsAs s.turns (run_of s) status
   pub answered : EndsAs s.turns (run_of s) answer.status
 

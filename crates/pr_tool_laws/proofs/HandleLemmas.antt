@@ -108,7 +108,7 @@ none-held k IsSo s nothing =
 
 -- ---- a tool opens files of its process alone
 
-abbrev IsOf : ℕ → Held → Type 0
+abbrev pub IsOf : ℕ → Held → Type 0
 IsOf pid h = h.pid ≡ pid
 
 step-opens : (k : ℕ) (t : ToolState) (p : Step) → IfSome (call_of t p) (OpensSo (IsOf t.pid) k)

@@ -1,9 +1,13 @@
+pub mod AnswerLemmas
 pub mod EndedLemmas
 pub mod EntryLemmas
 pub mod HandleLemmas
 pub mod KindLemmas
 pub mod LawLemmas
+pub mod LeavingLemmas
 pub mod LineLemmas
+pub mod LookLemmas
+pub mod NotedFiles
 pub mod NothingOpenLemmas
 pub mod OtherStages
 pub mod ProgramLemmas
@@ -30,5 +34,6 @@ pub mod StackWalks
 pub mod StackWords
 pub mod StageLemmas
 pub mod StandingLemmas
+pub mod StandingLwps
 pub mod ToolLemmas
 pub mod WholeLemmas

@@ -1,16 +1,14 @@
-use Rattle.std.proofs.Common.{◌≡◌, ◌≢◌, ◌⊎◌, ◌<◌, ◌-◌, ◌∷◌, ◌++◌, ℕ, zero, suc, Bool, true, false, List, [], Option, Some, None, cond, length, get_or, refl, sym, subst, ap, ◌∙◌, arith, inl, inr, slice_get}
-use Rattle.std.proofs.lemmas.Bool.{cases_eq}
-use Rattle.std.proofs.lemmas.List.{get_or-set_other, get_or-set_same, length-set}
+use Rattle.std.proofs.Common.{◌≡◌, ◌≢◌, ◌<◌, ◌∷◌, ◌++◌, ℕ, Bool, true, false, List, [], Option, Some, None, cond, length, get_or, refl, sym, subst, ap, ◌∙◌, arith, slice_get}
+use Rattle.std.proofs.lemmas.List.{get_or-set_other, length-set}
 use Rattle.std.proofs.lemmas.Option.{none-some, same_Some}
 use Rattle.std.specs.Option.{option_map}
-use Rattle.pr_lawful.proofs.HandleLemmas.{handle-at}
 use Rattle.pr_api.specs.Entries.{call_entry}
 use Rattle.pr_model.proofs.HistoryLemmas.{state_after-push}
 use Rattle.pr_model.specs.Calls.{Answer, answer_to}
 use Rattle.pr_model.specs.Handles.{handle_of}
 use Rattle.pr_model.specs.Legal.{IsLegal, IsLegalEntry, state_after}
 use Rattle.pr_model.specs.Replies.{opened_in}
-use Rattle.pr_model.specs.State.{Places, TracedState}
+use Rattle.pr_model.specs.State.{TracedState}
 use Rattle.pr_model.specs.declared.calls.Call.{Call}
 use Rattle.pr_model.specs.declared.calls.Call.TheVariants as call
 use Rattle.pr_model.specs.declared.calls.File.{File}
@@ -20,11 +18,10 @@ use Rattle.pr_model.specs.declared.calls.Reply.TheVariants as reply
 use Rattle.pr_model.specs.declared.events.Act.{Act}
 use Rattle.pr_model.specs.declared.events.Actor.{Actor}
 use Rattle.pr_model.specs.declared.events.Entry.{Entry}
-use Rattle.pr_model.specs.declared.handles.Held.{Held}
 use Rattle.pr_model.specs.declared.tools.ToolKind.{ToolKind}
 use Rattle.pr_model.specs.declared.tools.ToolKind.TheVariants.{Pflags, Psig, Pstack, Pmap, Pfiles, Pstop, Prun, Pwait, Ptree}
 use Rattle.pr_num.specs.declared.errnos.Errno.{Errno}
-use Rattle.pr_probe.proofs.PlaceLemmas.{has-last, held, held-none}
+use Rattle.pr_probe.proofs.PlaceLemmas.{held, held-none}
 use Rattle.pr_tools.specs.Handles.{handle_at, last_open, last_place, most_open, nothing_open, places_to_last, with_handle, without_last}
 use Rattle.pr_tools.specs.Replies.{is_passed_over, refusal_in}
 use Rattle.pr_tools.specs.Steps.{after as step_after, after_in_prun, after_in_pstack, after_in_pstop, after_in_ptree, after_in_pwait, after_in_reader, control_place, first_step, memory_place, record_place, way_out, way_out_of_pstack}
@@ -38,51 +35,15 @@ use Rattle.pr_world.specs.Protocol.{controllers_at}
 use Rattle.pr_tool_laws.specs.OwnCalls.{AreOwnCalls}
 use Rattle.pr_tool_laws.proofs.KindLemmas.{accepted-opened, advanced-goes, moves_files}
 use Rattle.pr_tool_laws.proofs.LawLemmas.{tool-keeps}
+use Rattle.pr_tool_laws.proofs.NotedFiles.{Knows, closed-known, denied-known, no-handle, none-at, opened-known, same-known}
 use Rattle.pr_tool_laws.proofs.RunAgainLemmas.{granted-at}
 use Rattle.pr_tool_laws.proofs.StageLemmas.{state-called}
 use Rattle.pr_tool_laws.proofs.StandingLemmas.{IsOther, others-handles}
 use Rattle.pr_tool_laws.proofs.ToolLemmas.{close-passes, ended-closes, still-going}
-use Rattle.pr_truss_laws.proofs.OpensLemmas.{ClosesOne, NotOpen, Opens, Refuses, close-closes, held_by, keeps_handles, open-opens, own-other, own-set, plain-leaves}
+use Rattle.pr_truss_laws.proofs.OpensLemmas.{keeps_handles, plain-leaves}
 use Rattle.pr_truss_laws.specs.Handles.{HasNothingOpen}
 
 -- A tool that has finished, refused or not, has nothing open.
-
--- ---- the files that it knows
-
--- a handle is noted at a place
-pub record IsNoted (number : ℕ) (o : Opened) : Type 0 where
-  pub place : ℕ
-  pub at : handle_at o place ≡ Some number
-
--- where the last one is closed, none is noted
-none-at : (hs : List (Option ℕ)) (place number : ℕ) → held hs ≡ [] → get_or hs place None ≡ Some number → ⊥
-unfolding held
-none-at [] place number none at = none-some number at
-none-at (None ∷ hs) zero number none at = none-some number at
-none-at (None ∷ hs) (suc place) number none at = none-at hs place number none at
-none-at (Some h ∷ hs) place number none at = absurd cc
-
-all-closed : (o : Opened) (number : ℕ) → last_open o ≡ None → IsNoted number o → ⊥
-unfolding last_open handle_at
-all-closed o number none noted = by (places_to_last o.handles) refl
-  where
-    by : (n : ℕ) → places_to_last o.handles ≡ n → ⊥
-    by zero is = none-at o.handles noted.place number (held-none o.handles is) noted.at
-    by (suc n) is =
-        let last = has-last o.handles n is in
-        let at : n ≡ places_to_last o.handles - 1 = omega (arith, is) in
-        none-some last.handle
-        (sym none ∙ ap (λ (place : ℕ). get_or o.handles place None) (sym at) ∙ last.there)
-
--- another file at a place leaves those that are noted elsewhere
-noted-still : (o : Opened) (place number : ℕ) (x : Option ℕ) → IsNoted number o → handle_at o place ≢ Some number
-    → IsNoted number (with_handle o place x)
-unfolding handle_at with_handle
-noted-still o place number x noted apart = record {
-  place = noted.place;
-  at = get_or-set_other o.handles place noted.place x None (λ same. apart (ap (handle_at o) (sym same) ∙ noted.at))
-      ∙ noted.at;
-}
 
 -- ---- the places that are to be filled
 
@@ -242,10 +203,6 @@ refused-reply p _ e is = absurd (none-some e is)
 
 -- ---- a call of the tool
 
--- it knows each of its handles
-abbrev Knows : ℕ → Opened → TracedState → Type 0
-Knows k o s = (number : ℕ) (h : Held) → handle_of s.opens k number ≡ Some h → IsNoted number o
-
 module _ (k : ℕ) (s : TracedState) (c : Call) (a : Answer) (given : answer_to s k c ≡ Some a) (t : ToolState)
     (next : next_call_of t ≡ Some c) (known : Knows k t.opened s) (fresh : FreshNow t)
     (whole : length t.opened.handles ≡ most_open) where
@@ -259,14 +216,10 @@ module _ (k : ℕ) (s : TracedState) (c : Call) (a : Answer) (given : answer_to 
   fresh-at : (p : Step) → t.step ≡ p → IsFresh o p
   fresh-at p at = subst (IsFresh o) at fresh
 
-  -- the handles stay
-  same-known : a.state.opens ≡ s.opens → Knows k o a.state
-  same-known same number h there =
-      known number h (ap (λ (x : Places). handle_of x k number) (sym same) ∙ there)
-
   plain-known : (p : Step) → t.step ≡ p → (d : Call) → call_of t p ≡ Some d → keeps_handles d ≡ true → Knows k o a.state
   plain-known p at d is keeps =
-      same-known (plain-leaves s k d a keeps (ap (answer_to s k) (same_Some d c (sym is ∙ its p at)) ∙ given))
+      same-known k s a o known
+      (plain-leaves s k d a keeps (ap (answer_to s k) (same_Some d c (sym is ∙ its p at)) ∙ given))
 
   -- ---- an open
 
@@ -274,75 +227,15 @@ module _ (k : ℕ) (s : TracedState) (c : Call) (a : Answer) (given : answer_to 
     answers : answer_to s k (call.Open pid id name way) ≡ Some a
     answers = ap (answer_to s k) (same_Some (call.Open pid id name way) c is) ∙ given
 
-    opened-known : (place : ℕ) → place < most_open → handle_at o place ≡ None → ((e : Errno) → a.reply ≢ reply.Fail e)
+    opened-on : (place : ℕ) → place < most_open → handle_at o place ≡ None → ((e : Errno) → a.reply ≢ reply.Fail e)
         → Knows k (with_handle o place (opened_in a.reply)) a.state
-    unfolding handle_at with_handle opened_in
-    opened-known place within empty accepts number h there = of (open-opens s k pid id name way a answers)
-      where
-        mine : Held
-        mine = held_by k pid id name way
+    opened-on place within empty accepts =
+        opened-known k s a o known pid id name way answers place (omega (arith, within, whole)) empty accepts
 
-        of : Refuses s a.reply a.state.opens ⊎ Opens s k (held_by k pid id name way) a.reply a.state.opens
-            → IsNoted number (with_handle o place (opened_in a.reply))
-        of (inl denied) = absurd (accepts denied.errno denied.reply)
-        of (inr granted) = by (cases_eq granted.place number)
-          where
-            here : handle_at (with_handle o place (opened_in a.reply)) place ≡ Some granted.place
-            here =
-                get_or-set_same o.handles place (opened_in a.reply) None (omega (arith, within, whole))
-                ∙ ap opened_in granted.reply
-
-            by : (granted.place ≡ number) ⊎ (granted.place ≢ number)
-                → IsNoted number (with_handle o place (opened_in a.reply))
-            by (inl same) = record { place = place; at = here ∙ ap (λ (n : ℕ). Some n) same }
-            by (inr apart) =
-                noted-still o place number (opened_in a.reply)
-                (known number h
-                (sym (ap (λ (x : Places). handle_of x k number) granted.is
-                ∙ own-other s.opens k granted.place number (Some (held_by k pid id name way)) apart) ∙ there))
-                (λ is. none-some number (sym empty ∙ is))
-
-    denied-known : (e : Errno) → a.reply ≡ reply.Fail e → Knows k o a.state
-    denied-known e failed = of (open-opens s k pid id name way a answers)
-      where
-        of : Refuses s a.reply a.state.opens ⊎ Opens s k (held_by k pid id name way) a.reply a.state.opens
-            → Knows k o a.state
-        of (inl denied) = same-known denied.is
-        of (inr granted) =
-            absurd (let both : reply.Handle granted.place ≡ reply.Fail e = sym granted.reply ∙ failed in cc)
+    denied-on : (e : Errno) → a.reply ≡ reply.Fail e → Knows k o a.state
+    denied-on e failed = denied-known k s a o known pid id name way answers e failed
 
   -- ---- a close
-
-  module _ (number : ℕ) (last : last_open o ≡ Some number) where
-    others-noted : (m : ℕ) (h : Held) → m ≢ number → handle_of s.opens k m ≡ Some h → IsNoted m (without_last o)
-    unfolding without_last last_open
-    others-noted m h apart there =
-        noted-still o (last_place o) m None (known m h there)
-        (λ is. apart (same_Some m number (sym is ∙ last)))
-
-    closed-known : answer_to s k (call.Close number) ≡ Some a → Knows k (without_last o) a.state
-    closed-known given m h there = of (close-closes s k number a given)
-      where
-        of : NotOpen s k number a ⊎ ((held : Held) × ClosesOne s k number held a) → IsNoted m (without_last o)
-        of (inl none) =
-            let old : handle_of s.opens k m ≡ Some h =
-            ap (λ (x : Places). handle_of x k m) (sym none.is) ∙ there in
-            others-noted m h
-            (λ same. none-some h (sym none.none ∙ ap (handle_of s.opens k) (sym same) ∙ old)) old
-        of (inr closed) = by (cases_eq m number)
-          where
-            gone : handle_of a.state.opens k number ≡ None
-            gone =
-                ap (λ (x : Places). handle_of x k number) closed.1.is
-                ∙ own-set s.opens k number None (Some closed.0) (handle-at s.opens k number closed.0 closed.1.held)
-
-            by : (m ≡ number) ⊎ (m ≢ number) → IsNoted m (without_last o)
-            by (inl same) =
-                absurd (none-some h (sym gone ∙ ap (handle_of a.state.opens k) (sym same) ∙ there))
-            by (inr apart) =
-                others-noted m h apart
-                (sym (ap (λ (x : Places). handle_of x k m) closed.1.is
-                ∙ own-other s.opens k number m None (λ same. apart (sym same))) ∙ there)
 
   close-known : t.step ≡ step.Close → Knows k (without_last o) a.state
   unfolding call_of
@@ -351,7 +244,7 @@ module _ (k : ℕ) (s : TracedState) (c : Call) (a : Answer) (given : answer_to 
       by : (x : Option ℕ) → last_open o ≡ x → option_map call.Close x ≡ Some c → Knows k (without_last o) a.state
       by None last is = absurd (none-some c is)
       by (Some number) last is =
-          closed-known number last (ap (answer_to s k) (same_Some (call.Close number) c is) ∙ given)
+          closed-known k s a o known number last (ap (answer_to s k) (same_Some (call.Close number) c is) ∙ given)
 
   -- ---- a reply that is taken
 
@@ -363,7 +256,7 @@ module _ (k : ℕ) (s : TracedState) (c : Call) (a : Answer) (given : answer_to 
   filled p place pid id name way at is within empty counts none =
       subst (λ (x : Opened). Knows k x a.state)
       (sym (advanced-goes (record t { opened = with_handle o place (opened_in a.reply) })).1)
-      (opened-known pid id name way is place within empty (granted-at p a.reply counts none))
+      (opened-on pid id name way is place within empty (granted-at p a.reply counts none))
 
   plain-accepted : (p : Step) → t.step ≡ p → (d : Call) → call_of t p ≡ Some d → keeps_handles d ≡ true
       → moves_files p ≡ false → Knows k (accepted t a.reply p).opened a.state
@@ -441,11 +334,11 @@ module _ (k : ℕ) (s : TracedState) (c : Call) (a : Answer) (given : answer_to 
   refused-known : (p : Step) → t.step ≡ p → (e : Errno) → refusal_in p a.reply ≡ Some e → Knows k o a.state
   unfolding call_of
   refused-known step.OpenCtl at e is =
-      denied-known _ _ _ _ (its step.OpenCtl at) e (refused-reply step.OpenCtl a.reply e is)
+      denied-on _ _ _ _ (its step.OpenCtl at) e (refused-reply step.OpenCtl a.reply e is)
   refused-known step.OpenFile at e is =
-      denied-known _ _ _ _ (its step.OpenFile at) e (refused-reply step.OpenFile a.reply e is)
+      denied-on _ _ _ _ (its step.OpenFile at) e (refused-reply step.OpenFile a.reply e is)
   refused-known step.OpenMemory at e is =
-      denied-known _ _ _ _ (its step.OpenMemory at) e (refused-reply step.OpenMemory a.reply e is)
+      denied-on _ _ _ _ (its step.OpenMemory at) e (refused-reply step.OpenMemory a.reply e is)
   refused-known step.Close at e is = absurd (none-some e (sym (close-passes a.reply) ∙ is))
   refused-known step.ReadFirst at e is = plain-known step.ReadFirst at _ refl refl
   refused-known step.Stop at e is = plain-known step.Stop at _ refl refl
@@ -527,11 +420,6 @@ module _ (n k : ℕ) (kind : ToolKind) (pid : ℕ) (first : TracedState) where
           absurd (still-going t (call.Close number)
           (ap (call_of t) (ended-closes t ended) ∙ ap (option_map call.Close) is) ended)
 
-  no-handle : (o : Opened) (s : TracedState) (number : ℕ) (x : Option Held) → handle_of s.opens k number ≡ x
-      → last_open o ≡ None → Knows k o s → x ≡ None
-  no-handle o s number None there none known = refl
-  no-handle o s number (Some held) there none known = absurd (all-closed o number none (known number held there))
-
   pub tool-closes : (controllers : List ControllerState) (h : List Entry) (t : ToolState) → HasNothingOpen k first
       → slice_get controllers k ≡ Some (Tool (first_tool kind pid)) → IsLegal n first h → AreOwnCalls controllers h
       → slice_get (controllers_at controllers h) k ≡ Some (Tool t) → has_ended t ≡ true
@@ -549,5 +437,5 @@ module _ (n k : ℕ) (kind : ToolKind) (pid : ℕ) (first : TracedState) where
       let s : TracedState = state_after first h in
       record {
         none = λ number.
-            no-handle t.opened s number (handle_of s.opens k number) refl (ended-none t ended) kept.known;
+            no-handle k t.opened s number (handle_of s.opens k number) refl (ended-none t ended) kept.known;
       }

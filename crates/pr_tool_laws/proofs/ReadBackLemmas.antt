@@ -67,10 +67,10 @@ module _ (pid : ℕ) (lwps : List LwpStatus) (few : length lwps ≤ lwp_limit) (
       let small : length words < 2 ^ 64 = omega arith in
       number-back (length words) (entries_words words) small ∙ same
 
-  lwps-places : lwp_places bytes ≡ length lwps
+  pub lwps-places : lwp_places bytes ≡ length lwps
   lwps-places = let size = lwps-length in omega arith
 
-  lwps-counted : counts_lwps bytes ≡ true
+  pub lwps-counted : counts_lwps bytes ≡ true
   unfolding counts_lwps
   lwps-counted =
       let size = lwps-length in

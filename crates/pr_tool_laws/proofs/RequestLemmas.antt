@@ -41,27 +41,27 @@ use Rattle.pr_truss_laws.specs.Exchanges.{Exchange, exchanges}
 
 -- ---- requests
 
-asks-push : (asks : Bool) (xs : List Exchange) (x : Exchange)
+pub asks-push : (asks : Bool) (xs : List Exchange) (x : Exchange)
     → asks_still asks (xs ++ x ∷ []) ≡ asks_after (asks_still asks xs) x.call x.reply
 asks-push asks [] x = refl
 asks-push asks (y ∷ ys) x = asks-push (asks_after asks y.call y.reply) ys x
 
 -- what a message comes to
-run-asks : (asks : Bool) (handle : ℕ) (r : Reply) → asks_after asks (call.Ctl handle run_bytes) r ≡ false
+pub run-asks : (asks : Bool) (handle : ℕ) (r : Reply) → asks_after asks (call.Ctl handle run_bytes) r ≡ false
 unfolding message_code operands word_bytes
 run-asks asks handle r = refl
 
-stop-asks : (asks : Bool) (handle : ℕ) (e : Errno)
+pub stop-asks : (asks : Bool) (handle : ℕ) (e : Errno)
     → asks_after asks (call.Ctl handle stop_bytes) (reply.Fail e) ≡ asks
 unfolding message_code operands word_bytes
 stop-asks asks handle e = refl
 
 -- a call that is no control message
-abbrev is_message : Call → Bool
+abbrev pub is_message : Call → Bool
 is_message (call.Ctl handle bytes) = true
 is_message _ = false
 
-other-asks : (asks : Bool) (c : Call) (r : Reply) → is_message c ≡ false → asks_after asks c r ≡ asks
+pub other-asks : (asks : Bool) (c : Call) (r : Reply) → is_message c ≡ false → asks_after asks c r ≡ asks
 other-asks asks (call.Ctl handle bytes) r is = cc
 other-asks asks _ r is = refl
 

@@ -1,6 +1,6 @@
 use Rattle.std.proofs.Common.{◌≡◌, ◌≢◌, ◌∷◌, ◌++◌, ℕ, Bool, true, false, cond, List, [], Option, Some, None, IsSome, is_some, refl, sym, subst, ap, ◌∙◌, slice_get, arith, inl, inr}
 use Rattle.std.proofs.lemmas.Bool.{false≢true}
-use Rattle.std.proofs.lemmas.List.Elements.{All-append, All-cons, All-nil}
+use Rattle.std.proofs.lemmas.List.Elements.{All-nil}
 use Rattle.std.proofs.lemmas.List.{get_or-set_other}
 use Rattle.std.specs.List.{All}
 use Rattle.std.proofs.lemmas.Option.{none-some, same_Some}
@@ -22,15 +22,15 @@ use Rattle.pr_model.specs.declared.calls.Mode.TheVariants as mode
 use Rattle.pr_model.specs.declared.calls.Reply.{Reply}
 use Rattle.pr_model.specs.declared.calls.Reply.TheVariants as reply
 use Rattle.pr_model.specs.declared.events.Act.{Act}
-use Rattle.pr_model.specs.declared.events.Act.TheVariants as act
 use Rattle.pr_model.specs.declared.events.Actor.{Actor}
-use Rattle.pr_model.specs.declared.events.Actor.TheVariants.{Controller, Lwp, Clock}
 use Rattle.pr_model.specs.declared.events.Entry.{Entry}
 use Rattle.pr_model.specs.declared.handles.Held.{Held}
 use Rattle.pr_model.specs.declared.tools.ToolKind.{ToolKind}
 use Rattle.pr_model.specs.declared.tools.ToolKind.TheVariants.{Pstack}
 use Rattle.pr_num.specs.Limits.{read_limit}
 use Rattle.pr_num.specs.declared.errnos.Errno.{Errno}
+use Rattle.pr_reached.specs.ByteHistories.{HasBytes}
+use Rattle.pr_reached.specs.InRange.{IsInRange}
 use Rattle.pr_tools.specs.Calls.{run_bytes}
 use Rattle.pr_tools.specs.Handles.{handle_at, nothing_open, with_handle}
 use Rattle.pr_tools.specs.Replies.{bytes_read, is_passed_over, refusal_in}
@@ -46,6 +46,8 @@ use Rattle.pr_world.specs.Protocol.{controllers_at}
 use Rattle.pr_tool_laws.specs.OwnCalls.{AreOwnCalls}
 use Rattle.pr_tool_laws.proofs.KindLemmas.{fed-kind, fed-pid, refused-still}
 use Rattle.pr_tool_laws.proofs.LawLemmas.{tool-keeps}
+use Rattle.pr_tool_laws.proofs.LeavingLemmas.{Comes, HasLookedFirst, comes-still, looked-still, opens-more, others-none}
+use Rattle.pr_tool_laws.proofs.LookLemmas.{HasNoted, looks}
 use Rattle.pr_tool_laws.proofs.SentEffects.{runs}
 use Rattle.pr_tool_laws.proofs.SentPlaces.{sent-now, sent-still}
 use Rattle.pr_tool_laws.proofs.StackLaw.{entry-lawful}
@@ -53,10 +55,9 @@ use Rattle.pr_tool_laws.proofs.StackReads.{control_of, new-stands, old-stands, s
 use Rattle.pr_tool_laws.proofs.StackSteps.{with_control}
 use Rattle.pr_tool_laws.proofs.StageLemmas.{state-called}
 use Rattle.pr_tool_laws.proofs.StandingLemmas.{IsOther, others-handles}
-use Rattle.pr_tool_laws.proofs.ToolLemmas.{ended-closes, place-still}
-use Rattle.pr_tool_laws.specs.Reads.{IsToolRead}
+use Rattle.pr_tool_laws.proofs.ToolLemmas.{ended-closes}
 use Rattle.pr_tool_laws.specs.SentMessages.{HasSent, IsSetGoing}
-use Rattle.pr_tool_laws.specs.Stacks.{HasLooked, OpensAtMost, RunsAgain}
+use Rattle.pr_tool_laws.specs.Stacks.{OpensAtMost, RunsAgain}
 use Rattle.pr_truss_laws.proofs.OpensLemmas.{Opens, held_by, keeps_handles, open-opens, plain-leaves}
 
 -- pstack runs its process again, unless that stood when it came.
@@ -115,23 +116,15 @@ module _ (k pid : ℕ) (first : TracedState) where
   abbrev Status : TracedState → ToolState → Type 0
   Status s t = Has record_place (status_of k pid) s t.opened
 
-  -- it has looked, and has only opened before
-  abbrev HasLookedFirst : List Entry → Bool → Type 0
-  HasLookedFirst h stood = (look : HasLooked k pid stood first h) × All (OpensAtMost k) look.before
-
   abbrev Looked : List Entry → ToolState → Type 0
-  Looked h t = HasLookedFirst h t.stood
-
-  -- so far it has only opened
-  abbrev Comes : List Entry → Type 0
-  Comes h = All (OpensAtMost k) h
+  Looked h t = HasLookedFirst k pid first h t.stood
 
   -- what is so at a step of a pstack that was not refused
   unfoldable So : List Entry → TracedState → ToolState → Step → Type 0
-  So h s t step.OpenCtl = (t.opened ≡ nothing_open) × Comes h
-  So h s t step.OpenFile = HasControl s t.opened × Comes h
-  So h s t step.OpenMemory = Control s t × Status s t × Comes h
-  So h s t step.ReadFirst = Control s t × Status s t × Comes h
+  So h s t step.OpenCtl = (t.opened ≡ nothing_open) × Comes k h
+  So h s t step.OpenFile = HasControl s t.opened × Comes k h
+  So h s t step.OpenMemory = Control s t × Status s t × Comes k h
+  So h s t step.ReadFirst = Control s t × Status s t × Comes k h
   So h s t step.Stop = Control s t × Looked h t
   So h s t step.AwaitStop = Control s t × Looked h t
   So h s t step.ReadFile = Control s t × Looked h t
@@ -143,40 +136,6 @@ module _ (k pid : ℕ) (first : TracedState) where
 
   abbrev SoNow : List Entry → TracedState → ToolState → Type 0
   SoNow h s t = So h s t t.step
-
-  looked-still : (h : List Entry) (e : Entry) (stood : Bool) → HasLookedFirst h stood
-      → HasLookedFirst (h ++ e ∷ []) stood
-  looked-still h e stood it = (
-    record {
-      before = it.0.before;
-      call = it.0.call;
-      reply = it.0.reply;
-      after = it.0.after ++ e ∷ [];
-      place = place-still h it.0.before (call_entry k it.0.call it.0.reply) it.0.after e it.0.place;
-      reads = it.0.reads;
-      noted = it.0.noted;
-    },
-    it.1,
-  )
-
-  comes-still : (h : List Entry) (e : Entry) → OpensAtMost k e → Comes h → Comes (h ++ e ∷ [])
-  comes-still h e opens so =
-      All-append (OpensAtMost k) h (e ∷ []) so
-      (All-cons (OpensAtMost k) e [] opens (All-nil (OpensAtMost k)))
-
-  -- what others do is no call of its own
-  others-open : (actor : Actor) (it : Act) → IsOther k actor it
-      → OpensAtMost k (record { actor = actor; act = it })
-  others-open (Controller j) (act.Call d v) other c r same =
-      absurd (other (let by : Controller j ≡ Controller k = ap (λ (x : Entry). x.actor) same in cc))
-  others-open (Controller j) (act.Turn t) other c r same =
-      let it : act.Turn t ≡ act.Call c r = ap (λ (x : Entry). x.act) same in cc
-  others-open (Controller j) (act.Tick m) other c r same =
-      let it : act.Tick m ≡ act.Call c r = ap (λ (x : Entry). x.act) same in cc
-  others-open (Lwp acting id) it other c r same =
-      let by : Lwp acting id ≡ Controller k = ap (λ (x : Entry). x.actor) same in cc
-  others-open Clock it other c r same =
-      let by : Clock ≡ Controller k = ap (λ (x : Entry). x.actor) same in cc
 
   -- ---- what others do
 
@@ -194,13 +153,13 @@ module _ (k pid : ℕ) (first : TracedState) where
 
     others-both : (t : ToolState) → Control s t × Looked h t → Control (after s entry) t × Looked (h ++ entry ∷ []) t
     others-both t so =
-        (others-has control_place (control_of k pid) t.opened so.0, looked-still h entry t.stood so.1)
+        (others-has control_place (control_of k pid) t.opened so.0, looked-still k pid first h entry t.stood so.1)
 
-    others-come : Comes h → Comes (h ++ entry ∷ [])
-    others-come so = comes-still h entry (others-open actor it other) so
+    others-come : Comes k h → Comes k (h ++ entry ∷ [])
+    others-come so = comes-still k h entry (λ c r same. absurd (others-none k actor it other c r same)) so
 
-    others-files : (t : ToolState) → Control s t × Status s t × Comes h
-        → Control (after s entry) t × Status (after s entry) t × Comes (h ++ entry ∷ [])
+    others-files : (t : ToolState) → Control s t × Status s t × Comes k h
+        → Control (after s entry) t × Status (after s entry) t × Comes k (h ++ entry ∷ [])
     others-files t so =
         let control = others-has control_place (control_of k pid) t.opened so.0 in
         (control, others-has record_place (status_of k pid) t.opened so.1, others-come so.2)
@@ -225,7 +184,7 @@ module _ (k pid : ℕ) (first : TracedState) where
     others-so t step.ReadFrame so = others-both t so
     others-so t step.Run so = others-both t so
     others-so t step.Close so = (
-      looked-still h entry t.stood so.0,
+      looked-still k pid first h entry t.stood so.0,
       λ not. sent-still k run_bytes IsSetGoing first h pid entry (so.1 not),
     )
     others-so t _ so = absurd so
@@ -307,16 +266,12 @@ module _ (k pid : ℕ) (first : TracedState) where
         new-file = new-stands s k (held_by k pid 0 name way) refl a.reply a.state.opens grants
 
       -- it opens a file more
-      opens-on : (name : File) (way : Mode) → call.Open pid 0 name way ≡ c → Comes h → Comes longer
+      opens-on : (name : File) (way : Mode) → call.Open pid 0 name way ≡ c → Comes k h → Comes k longer
       opens-on name way opens so =
-          comes-still h it
-          (λ d r is.
-          let made : act.Call c a.reply ≡ act.Call d r = ap (λ (x : Entry). x.act) is in
-          let its : c ≡ d = cc in
-          record { pid = pid; lwp = 0; name = name; way = way; is = sym its ∙ sym opens }) so
+          comes-still k h it (opens-more k c a.reply pid 0 name way (sym opens)) so
 
       -- its control file
-      first-file : t.step ≡ step.OpenCtl → (t.opened ≡ nothing_open) × Comes h
+      first-file : t.step ≡ step.OpenCtl → (t.opened ≡ nothing_open) × Comes k h
           → ((e : Errno) → a.reply ≢ reply.Fail e) → Next (accepted t a.reply step.OpenCtl)
       unfolding So accepted call_of ctl_mode_of with_next after_in_pstack opened_in
       first-file at so accepts =
@@ -342,7 +297,8 @@ module _ (k pid : ℕ) (first : TracedState) where
           answers = ap (answer_to s k) is_call ∙ given
 
       -- the file of the statuses
-      second-file : t.step ≡ step.OpenFile → HasControl s t.opened × Comes h → ((e : Errno) → a.reply ≢ reply.Fail e)
+      second-file : t.step ≡ step.OpenFile → HasControl s t.opened × Comes k h
+          → ((e : Errno) → a.reply ≢ reply.Fail e)
           → Next (accepted t a.reply step.OpenFile)
       unfolding So accepted call_of file_of with_next after_in_pstack opened_in handle_at with_handle nothing_open
       second-file at so accepts =
@@ -383,7 +339,8 @@ module _ (k pid : ℕ) (first : TracedState) where
           }
 
       -- the memory
-      third-file : t.step ≡ step.OpenMemory → Control s t × Status s t × Comes h → ((e : Errno) → a.reply ≢ reply.Fail e)
+      third-file : t.step ≡ step.OpenMemory → Control s t × Status s t × Comes k h
+          → ((e : Errno) → a.reply ≢ reply.Fail e)
           → Next (accepted t a.reply step.OpenMemory)
       unfolding So accepted call_of with_next after_in_pstack
       third-file at has accepts =
@@ -418,33 +375,31 @@ module _ (k pid : ℕ) (first : TracedState) where
         control-still control = same-has control_place (control_of k pid) t.opened still control
 
         both-still : Control s t × Looked h t → Control a.state t × Looked longer t
-        both-still so = (control-still so.0, looked-still h it t.stood so.1)
+        both-still so = (control-still so.0, looked-still k pid first h it t.stood so.1)
 
       -- its first look at the process
-      first-look : t.step ≡ step.ReadFirst → Control s t × Status s t × Comes h → Next (accepted t a.reply step.ReadFirst)
-      unfolding So accepted call_of with_next after_in_pstack IsToolRead
-      first-look at has =
+      first-look : t.step ≡ step.ReadFirst → Control s t × Status s t × Comes k h
+          → ((e : Errno) → a.reply ≢ reply.Fail e)
+          → Next (accepted t a.reply step.ReadFirst)
+      unfolding So accepted call_of with_next after_in_pstack
+      first-look at has accepts =
           goes-on (record t { stood = process_stands (bytes_read a.reply) }) step.ReadFirst kind at
           (control-still step.ReadFirst at (call.Read has.1.number 0 read_limit) called refl has.0, (looked, has.2))
         where
           called : call_of t step.ReadFirst ≡ Some (call.Read has.1.number 0 read_limit)
           called = ap (λ (o : Option ℕ). Some (call.Read (number_of o) 0 read_limit)) has.1.at
 
-          looked : HasLooked k pid (process_stands (bytes_read a.reply)) first longer
+          looked : HasNoted k pid (process_stands (bytes_read a.reply)) first longer
           looked = record {
             before = h;
             call = c;
             reply = a.reply;
             after = [];
             place = refl;
-            reads = record {
-              handle = has.1.number;
-              held = status_of k pid;
-              is_read = call-is step.ReadFirst at (call.Read has.1.number 0 read_limit) called refl;
-              there = has.1.stands;
-              of = refl;
-              file = refl;
-            };
+            handle = has.1.number;
+            is_read = call-is step.ReadFirst at (call.Read has.1.number 0 read_limit) called refl;
+            there = has.1.stands;
+            granted = accepts;
             noted = refl;
           }
 
@@ -453,7 +408,7 @@ module _ (k pid : ℕ) (first : TracedState) where
           → Next (accepted t a.reply step.Run)
       unfolding So accepted call_of with_next after_in_pstack
       running at so accepts =
-          goes-on t step.Run kind at (looked-still h it t.stood so.1, λ not. sent)
+          goes-on t step.Run kind at (looked-still k pid first h it t.stood so.1, λ not. sent)
         where
           called : call_of t step.Run ≡ Some (call.Ctl so.0.number run_bytes)
           called = ap (λ (o : Option ℕ). Some (call.Ctl (number_of o) run_bytes)) so.0.at
@@ -476,7 +431,7 @@ module _ (k pid : ℕ) (first : TracedState) where
       step-so step.OpenCtl at so none = first-file at so (granted-at step.OpenCtl a.reply (λ e. refl) none)
       step-so step.OpenFile at so none = second-file at so (granted-at step.OpenFile a.reply (λ e. refl) none)
       step-so step.OpenMemory at so none = third-file at so (granted-at step.OpenMemory a.reply (λ e. refl) none)
-      step-so step.ReadFirst at so none = first-look at so
+      step-so step.ReadFirst at so none = first-look at so (granted-at step.ReadFirst a.reply (λ e. refl) none)
       step-so step.Stop at so none =
           goes-on (record t { until = until_in a.reply }) step.Stop kind at (both-still step.Stop at _ refl refl so)
       step-so step.AwaitStop at so none = goes-on t step.AwaitStop kind at (both-still step.AwaitStop at _ refl refl so)
@@ -502,7 +457,7 @@ module _ (k pid : ℕ) (first : TracedState) where
               → Next (with_closed t)
           closes is both =
               subst (λ (p : Step). So longer a.state (with_closed t) p) (sym is) (
-                looked-still h it t.stood both.0,
+                looked-still k pid first h it t.stood both.0,
                 λ not. sent-still k run_bytes IsSetGoing first h pid it (both.1 not),
               )
       step-so _ at so none = absurd so
@@ -564,15 +519,16 @@ module _ (n k pid : ℕ) (first : TracedState) where
 
 -- In the end it has done so, unless it was refused.
 pub runs-again : (controllers : List ControllerState) (n k pid : ℕ) (s : TracedState) (h : List Entry) (t : ToolState)
-    → IsLawful s → slice_get controllers k ≡ Some (Tool (first_tool Pstack pid)) → IsLegal n s h
-    → AreOwnCalls controllers h → slice_get (controllers_at controllers h) k ≡ Some (Tool t) → has_ended t ≡ true
-    → t.refusal ≡ None → RunsAgain k pid s h
+    → IsLawful s → IsInRange s.system → HasBytes h → slice_get controllers k ≡ Some (Tool (first_tool Pstack pid))
+    → IsLegal n s h → AreOwnCalls controllers h → slice_get (controllers_at controllers h) k ≡ Some (Tool t)
+    → has_ended t ≡ true → t.refusal ≡ None → RunsAgain k pid s h
 unfolding first_tool
-runs-again controllers n k pid s h t lawful begins legal follows ends ended accepted =
+runs-again controllers n k pid s h t lawful ranged bytes begins legal follows ends ended accepted =
     let begun : IsRunKept n k pid s [] (first_tool Pstack pid) =
     record { lawful = lawful; kind = refl; of = refl; so = λ none. first-so n k pid s } in
     let kept =
     tool-keeps n k s (IsRunKept n k pid s) (others-kept n k pid s) (calls-kept n k pid s) controllers h
     (first_tool Pstack pid) t legal follows begins ends begun in
     let both = ended-at n k pid s h t ended (kept.so accepted) in
-    record { stood = t.stood; looked = both.0.0; came = both.0.1; runs = both.1 }
+    let look = looks n k pid t.stood s h lawful ranged bytes legal both.0.0 (All (OpensAtMost k)) both.0.1 in
+    record { stood = t.stood; looked = look.0; came = look.1; runs = both.1 }

@@ -1,5 +1,8 @@
+pub mod FileHandles
+pub mod Leaving
 pub mod OneState
 pub mod OwnCalls
+pub mod PassiveCalls
 pub mod Reads
 pub mod Requests
 pub mod SentMessages

@@ -1,11 +1,11 @@
 use Rattle.std.specs.Prelude.{◌≡◌, ℕ, Bool, false, List, ◌∷◌, ◌++◌, Option, None, Some, option_map}
-use Rattle.std.specs.List.{All}
+use Rattle.std.specs.List.{All, list_all}
 use Rattle.pr_api.specs.Entries.{call_entry}
 use Rattle.pr_model.specs.Handles.{handle_of}
 use Rattle.pr_model.specs.Legal.{state_after}
 use Rattle.pr_model.specs.Readers.{space_seen}
 use Rattle.pr_model.specs.Records.{lstatus_of}
-use Rattle.pr_model.specs.State.{TracedProcess, TracedState, TracedSystem, live_process}
+use Rattle.pr_model.specs.State.{TracedLwp, TracedProcess, TracedState, TracedSystem, live_process}
 use Rattle.pr_model.specs.declared.calls.Call.{Call}
 use Rattle.pr_model.specs.declared.calls.Call.TheVariants.{CtlWait, Open}
 use Rattle.pr_model.specs.declared.calls.File.{File}
@@ -18,12 +18,10 @@ use Rattle.pr_model.specs.declared.handles.Held.{Held}
 use Rattle.pr_model.specs.declared.tools.ToolKind.TheVariants.{Pstack}
 use Rattle.pr_num.specs.Programs.{Program}
 use Rattle.pr_tools.specs.Calls.{run_bytes, stop_bytes}
-use Rattle.pr_tools.specs.Replies.{bytes_read}
 use Rattle.pr_tools.specs.SpaceStacks.{lwps_stacks}
-use Rattle.pr_tools.specs.Stacks.{process_stands}
 use Rattle.pr_tool_laws.specs.Reads.{IsToolRead}
 use Rattle.pr_tool_laws.specs.SentMessages.{HasSent, IsSetGoing}
-use Rattle.pr_truss_laws.specs.Stills.{IsHalting}
+use Rattle.pr_truss_laws.specs.Stills.{IsHalting, stands_still}
 
 -- The text of pstack(1) as a function of one state of the machine.
 
@@ -82,8 +80,12 @@ pub record IsOpen (c : Call) : Type 0 where
 abbrev pub OpensAtMost : ℕ → Entry → Type 0
 OpensAtMost k e = (c : Call) (r : Reply) → e ≡ call_entry k c r → IsOpen c
 
--- pstack has read the status of all lwps, and has noted whether every lwp stood there: on an event of interest, or
--- suspended.
+-- whether every lwp of a process stands on an event of interest or is suspended
+unfoldable pub all_still : TracedProcess → Bool
+all_still p = list_all (λ (e : ℕ × TracedLwp). stands_still e.1) p.lwps
+
+-- pstack has read the status of all lwps. The process lived, and this says whether every lwp of it stood in the state
+-- that the read found: on an event of interest, or suspended.
 pub record HasLooked (k pid : ℕ) (stood : Bool) (first : TracedState) (h : List Entry) : Type 0 where
   pub before : List Entry
   pub call : Call
@@ -91,7 +93,9 @@ pub record HasLooked (k pid : ℕ) (stood : Bool) (first : TracedState) (h : Lis
   pub after : List Entry
   pub place : h ≡ before ++ call_entry k call reply ∷ after
   pub reads : IsToolRead Pstack k pid (state_after first before) call
-  pub noted : process_stands (bytes_read reply) ≡ stood
+  pub process : TracedProcess
+  pub lives : live_process (state_after first before).system pid ≡ Some process
+  pub means : stood ≡ all_still process
 
 -- It has done nothing but open before that look, and where not every lwp stood then, it has run the process.
 pub record RunsAgain (k pid : ℕ) (first : TracedState) (h : List Entry) : Type 0 where

@@ -41,14 +41,23 @@ pub fn pstack_shows_one_state()
         → ShowsOneStack k pid labels (first_state programs files spawns) h (printed t labels) }
 {}
 
-/// In a legal history where these controllers make their own calls, from a lawful state, a pstack that has finished,
-/// and was not refused, has run its process again by PCRUN, unless it noted that every lwp stood when it came.
+/// In a legal history where these controllers make their own calls, from a lawful state in range or from a first state,
+/// and in which controllers write bytes, a pstack that has finished, and was not refused, has run its process again by
+/// PCRUN, unless every lwp of it stood when pstack came.
 pub fn pstack_runs_its_process_again()
-    ensures { (controllers : List ControllerState) (n k pid : ℕ) (s : TracedState) (h : List Entry) (t : ToolState)
-        → IsLawful s → slice_get controllers k ≡ Some (cores.Tool (first_tool Pstack pid)) → IsLegal n s h
+    ensures later { (controllers : List ControllerState) (n k pid : ℕ) (s : TracedState) (h : List Entry) (t : ToolState)
+        → IsLawful s → IsInRange s.system → HasBytes h
+        → slice_get controllers k ≡ Some (cores.Tool (first_tool Pstack pid)) → IsLegal n s h
         → AreOwnCalls controllers h
         → slice_get (controllers_at controllers h) k ≡ Some (cores.Tool t) → has_ended t ≡ true → t.refusal ≡ None
         → RunsAgain k pid s h }
+    ensures first { (programs : List Program) (files : List StoredFile) (spawns : List ℕ)
+        → (controllers : List ControllerState) (n k pid : ℕ) (h : List Entry) (t : ToolState)
+        → IsStart programs files spawns → IsStartInRange programs files → HasBytes h
+        → slice_get controllers k ≡ Some (cores.Tool (first_tool Pstack pid))
+        → IsLegal n (first_state programs files spawns) h → AreOwnCalls controllers h
+        → slice_get (controllers_at controllers h) k ≡ Some (cores.Tool t) → has_ended t ≡ true → t.refusal ≡ None
+        → RunsAgain k pid (first_state programs files spawns) h }
 {}
 
 /// In a legal history where these controllers make their own calls, a pstack that has finished and was refused has no

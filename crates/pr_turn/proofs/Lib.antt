@@ -1,6 +1,7 @@
 pub mod CallTurnLemmas
 pub mod ChangeUsageLemmas
 pub mod ClockLemmas
+pub mod InstructionLemmas
 pub mod MakeLemmas
 pub mod MoveLemmas
 pub mod NextLemmas

@@ -3,11 +3,12 @@ ghost use Rattle.std.specs.Prelude.{◌≡◌, ℕ, ◌+◌, ◌-◌, ◌^◌, t
 ghost use Rattle.std.specs.Option.{ForSome};
 ghost use Rattle.pr_lwp.specs.Plain.{space_after, stores_bytes};
 ghost use Rattle.pr_model.specs.InstructionEffects.{instruction_effect};
-ghost use Rattle.pr_model.specs.LwpTurns.{can_move, turn_of};
+ghost use Rattle.pr_model.specs.LwpTurns.{can_move, turn_of, with_counted};
+ghost use Rattle.pr_model.specs.Points.{after_meeting, meets};
 ghost use Rattle.pr_model.specs.State.{lwp_of};
 ghost use Rattle.pr_num.specs.ById.{change_under, under};
 ghost use Rattle.pr_parts.specs.PendingSignals.{pending_set};
-ghost use Rattle.pr_proc.specs.Counts.{AllUsedAtMost};
+ghost use Rattle.pr_proc.specs.Counts.{AllUsedAtMost, UsedAtMost};
 ghost use Rattle.pr_turn.specs.CallTurns.{may_take_memory, row_takes};
 ghost use Rattle.pr_turn.specs.Making.{effect_of, executed_by, made_by, of_row, process_after};
 ghost use Rattle.pr_turn.specs.NextRows.{row_of, runs_on};
@@ -16,10 +17,10 @@ ghost use Rattle.pr_turn.specs.Turns.{is_of_instruction};
 use crate::making::made_by;
 use crate::moving::execute_lwp;
 use crate::next::Next;
-use crate::turns::settle;
+use crate::turns::{count_in, settle};
 use pr_lwp::Effect;
 use pr_mem::Space;
-use pr_model::{Phase, Turned};
+use pr_model::{Did, Phase, Turned};
 use pr_num::{ById, NoMemory, SigSet};
 use pr_proc::{Lwp, Proc, Sys};
 use pr_sig::takeable;
@@ -93,6 +94,32 @@ fn run_in(process: &mut Proc, id: u32) -> Result<Option<Effect>, NoMemory>
     )
 }
 
+/// What is left of a turn whose instruction came to this: it is counted, and the lwp stops at what it met. One that
+/// only ran met nothing, and so nothing is asked of it.
+#[tactic(auto, unfolding(pr_model::specs::Points::after_meeting))]
+fn finish(process: &mut Proc, id: u32, effect: Effect) -> Turned
+    requires { UsedAtMost (2 ^ 64 - 2) process.old.control.usage }
+    ensures process { process.new ≡ after_meeting (made_by effect).point id
+        (with_counted (made_by effect).did (made_by effect).begun process.old) }
+    ensures turned { result
+        ≡ record { did = (made_by effect).did; stop = meets process.old.control (made_by effect).point } }
+{
+    if let Effect::Ran = effect {
+        count_in(process, Did::Ran, true);
+        return Turned {
+            did: Did::Ran,
+            stop: false,
+        };
+    }
+    let made = made_by(effect);
+    let stop = meets(&process.control, made.point);
+    settle(process, id, made);
+    Turned {
+        did: made.did,
+        stop,
+    }
+}
+
 /// The turn of an lwp that can have one, if it runs an instruction, before which no signal is acted on or taken. `None`:
 /// the turn is another one, and the system stays as it is. Where memory runs out, it stays so too; only an instruction
 /// that stores bytes takes any.
@@ -113,11 +140,6 @@ pub fn run_instruction(sys: &mut Sys, pid: u32, id: u32) -> Result<Option<Turned
     let Some(effect) = run_in(process, id)? else {
         return Ok(None);
     };
-    let made = made_by(effect);
-    let stop = meets(&process.control, made.point);
-    settle(process, id, made);
-    Ok(Some(Turned {
-        did: made.did,
-        stop,
-    }))
+    let turned = finish(process, id, effect);
+    Ok(Some(turned))
 }

@@ -10,4 +10,4 @@ mod turns;
 
 pub use instructions::run_instruction;
 pub use next::{Next, NextTurn};
-pub use turns::{movable, turn};
+pub use turns::{movable, movable_in, turn};

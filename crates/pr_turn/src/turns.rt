@@ -4,7 +4,7 @@ ghost use Rattle.pr_num.specs.ById.{change_under};
 ghost use Rattle.pr_model.specs.LwpTurns.{can_move, counted, may_go_on, may_turn, may_wake, turn_of, with_counted};
 ghost use Rattle.pr_model.specs.Points.{after_meeting, stopped_at, with_stop_at};
 ghost use Rattle.pr_model.specs.Lawful.{IsLawfulSystem};
-ghost use Rattle.pr_model.specs.State.{with_process};
+ghost use Rattle.pr_model.specs.State.{live_process, lwp_of, with_process};
 ghost use Rattle.pr_proc.specs.Counts.{AllUsedAtMost, UsedAtMost};
 ghost use Rattle.pr_turn.specs.CallTurns.{may_take_memory};
 ghost use Rattle.pr_turn.specs.Making.{ends};
@@ -37,8 +37,9 @@ fn count(usage: &mut Usage, did: Did, begun: bool)
     }
 }
 
+/// The same in a process.
 #[tactic(auto, unfolding(pr_model::specs::LwpTurns::with_counted))]
-fn count_in(process: &mut Proc, did: Did, begun: bool)
+pub fn count_in(process: &mut Proc, did: Did, begun: bool)
     requires { UsedAtMost (2 ^ 64 - 2) process.old.control.usage }
     ensures { process.new ≡ with_counted did begun process.old }
 {
@@ -107,7 +108,7 @@ fn may_wake(sys: &Sys, process: &Proc, lwp: &Lwp, request: &Request) -> bool
 }
 
 /// Whether an lwp may go on; only one that is asleep may not.
-#[inline]
+#[inline(always)]
 fn may_go_on(sys: &Sys, pid: u32, process: &Proc, id: u32, lwp: &Lwp) -> bool
     ensures { result ≡ may_go_on sys.now pid process.now id lwp.now lwp.now.phase }
 {
@@ -131,7 +132,7 @@ fn may_go_on(sys: &Sys, pid: u32, process: &Proc, id: u32, lwp: &Lwp) -> bool
 
 /// Whether an lwp, with its id, may have a turn: it is not held back, and it may go on.
 #[tactic(auto, unfolding(pr_model::specs::LwpTurns::may_turn))]
-#[inline]
+#[inline(always)]
 fn may_turn(sys: &Sys, pid: u32, process: &Proc, id: u32, lwp: &Lwp) -> bool
     ensures { result ≡ may_turn sys.now pid process.now id lwp.now }
 {
@@ -151,6 +152,17 @@ pub fn movable(sys: &Sys, pid: u32, lwp: u32) -> bool
         None => false,
         Some(found) => may_turn(sys, pid, process, lwp, found),
     }
+}
+
+/// The same of an lwp that was found in its live process.
+#[tactic(auto, unfolding(pr_model::specs::LwpTurns::can_move))]
+#[inline(always)]
+pub fn movable_in(sys: &Sys, pid: u32, process: &Proc, id: u32, lwp: &Lwp) -> bool
+    requires live { live_process sys.now pid ≡ Some process.now }
+    requires there { lwp_of process.now id ≡ Some lwp.now }
+    ensures { result ≡ can_move sys.now pid id }
+{
+    may_turn(sys, pid, process, id, lwp)
 }
 
 /// The next turn of an lwp that can have one.

@@ -1,5 +1,5 @@
-use Rattle.std.proofs.Common.{◌≡◌, ◌==◌, ◌<◌, ◌++◌, ℕ, true, false, Some, List, [], ◌∷◌, length, refl, sym, subst, ap, ◌∙◌, inl, inr}
-use Rattle.std.proofs.lemmas.Bool.{eq-eqb, false≢true}
+use Rattle.std.proofs.Common.{◌≡◌, ◌≢◌, ◌<◌, ◌++◌, ℕ, true, false, Some, List, [], ◌∷◌, length, refl, sym, subst, ap, ◌∙◌}
+use Rattle.std.proofs.lemmas.Bool.{false≢true}
 use Rattle.std.proofs.lemmas.Option.{none-some, same_Some}
 use Rattle.pr_line.specs.declared.options.Options.{Options}
 use Rattle.pr_model.specs.Handles.{handle_of}
@@ -10,16 +10,17 @@ use Rattle.pr_model.specs.declared.calls.Call.TheVariants as call
 use Rattle.pr_model.specs.declared.calls.File.TheVariants as file
 use Rattle.pr_model.specs.declared.calls.Mode.TheVariants.{Read, WriteExcl}
 use Rattle.pr_model.specs.declared.calls.Reply.{Reply}
+use Rattle.pr_model.specs.declared.calls.Reply.TheVariants as reply
 use Rattle.pr_model.specs.declared.events.Entry.{Entry}
 use Rattle.pr_model.specs.declared.handles.Held.{Held}
 use Rattle.pr_num.specs.Control.{fork_mode, rlc_mode}
 use Rattle.pr_num.specs.Limits.{read_limit}
 use Rattle.pr_num.specs.Messages.{message_code}
+use Rattle.pr_num.specs.declared.errnos.Errno.TheVariants.{Noent}
 use Rattle.pr_num.specs.declared.messages.Message.TheVariants as message
 use Rattle.pr_truss.specs.Feeding.{fed, with_reply}
 use Rattle.pr_truss.specs.Messages.{message_call}
 use Rattle.pr_truss.specs.NextCalls.{call_of, freeing_call, next_call_of, read_record}
-use Rattle.pr_truss.specs.Processes.{last_handle}
 use Rattle.pr_truss.specs.Replies.{answer_of}
 use Rattle.pr_truss.specs.Stops.{with_unfollowed}
 use Rattle.pr_truss.specs.Trusses.{TrussState, traced_at}
@@ -29,12 +30,13 @@ use Rattle.pr_truss.specs.declared.stages.FreeingStep.{FreeingStep}
 use Rattle.pr_truss.specs.declared.stages.FreeingStep.TheVariants as freeing
 use Rattle.pr_truss.specs.declared.stages.Stage.{Stage}
 use Rattle.pr_truss.specs.declared.stages.Stage.TheVariants.{Spawning, OpeningControl, Opening, Polling, ReadingStatus, ReadingText, OpeningChildControl, OpeningChild, Running, Closing, Unfollowing, ReadingLwps, FreeingChild, Finished}
+use Rattle.pr_truss_laws.proofs.AnswerLemmas.{IsAnswer, answer-is}
 use Rattle.pr_truss_laws.proofs.HeldLemmas.{Fits}
 use Rattle.pr_truss_laws.proofs.OwnLemmas.{Owns}
 use Rattle.pr_truss_laws.specs.Exchanges.{Exchange, Makes, exchange_of, exchanges, truss_at}
 use Rattle.pr_truss_laws.specs.Runs.{IsTrussRun}
 use Rattle.pr_report_laws.proofs.Asking.LooksMade.{looks-in-place}
-use Rattle.pr_report_laws.proofs.Asking.NamedRuns.{code-first, first_byte}
+use Rattle.pr_report_laws.proofs.Asking.NamedRuns.{codes-apart}
 use Rattle.pr_report_laws.proofs.Files.FileLaws.{HasFiles, IsFileOf}
 use Rattle.pr_report_laws.proofs.Files.FileSteps.{MakesNext, makes-next}
 use Rattle.pr_report_laws.proofs.Files.FileUses.{standing}
@@ -44,7 +46,7 @@ use Rattle.pr_report_laws.proofs.ToldForks.ToldReads.{file-has}
 use Rattle.pr_report_laws.proofs.Watching.HistoryParts.{front-run, rest-makes}
 use Rattle.pr_report_laws.proofs.Watching.LeavingOn.{interrupted-leaves}
 use Rattle.pr_report_laws.specs.Attachments.{HasFile, WasInterrupted}
-use Rattle.pr_report_laws.specs.Looks.{LooksAtWhatItLeaves, LooksOrCloses}
+use Rattle.pr_report_laws.specs.Looks.{LooksAtWhatItLeaves, LooksFirst}
 use Rattle.pr_report_laws.specs.Watching.{told_of, with_exchange}
 
 -- Right behind the message by which truss begins to leave a process it looks at the process.
@@ -68,11 +70,7 @@ module _ (t : TrussState) (control : ℕ) (on : t.leaving ≡ true) where
   unfolding freeing_call message_code
   freeing-apart pid freeing.OpenControl is = cc
   freeing-apart pid (freeing.SetRelease c) is =
-      let code : message_code (message.Set rlc_mode) ≡ message_code (message.Unset fork_mode) =
-      same_Some _ _ (sym (code-first c (message.Set rlc_mode)) ∙ ap first_byte is
-      ∙ code-first control (message.Unset fork_mode)) in
-      let other : (message_code (message.Set rlc_mode) == message_code (message.Unset fork_mode)) ≡ false = refl in
-      absurd (false≢true (sym other ∙ eq-eqb _ _ code))
+      codes-apart c control (message.Set rlc_mode) (message.Unset fork_mode) refl is
   freeing-apart pid (freeing.Close c) is = cc
 
   stage-leaving : (stage : Stage) → Leaves t.leaving stage → call_of t stage ≡ Some (unfollows control) → Leaving stage
@@ -96,8 +94,8 @@ module _ (t : TrussState) (control : ℕ) (on : t.leaving ≡ true) where
 
 module _ (n k : ℕ) (o : Options) (first : TracedState) (before later : List Entry) (e : Entry)
     (run : IsTrussRun n k o first (before ++ e ∷ later)) (pid control : ℕ) (r : Reply)
-    (own : exchange_of k e ≡ Some (record { call = unfollows control; reply = r })) (interrupted : WasInterrupted k before)
-    (mine : HasFile k pid file.Ctl control (state_after first before)) where
+    (own : exchange_of k e ≡ Some (record { call = unfollows control; reply = r })) (lives : r ≢ reply.Fail Noent)
+    (interrupted : WasInterrupted k before) (mine : HasFile k pid file.Ctl control (state_after first before)) where
   abbrev t : TrussState
   t = truss_at k o before
 
@@ -165,32 +163,33 @@ module _ (n k : ℕ) (o : Options) (first : TracedState) (before later : List En
         ),
       )
 
-  -- or closes a file
-  answered : (a : Answer) (x : Exchange) (xs : List Exchange) → next_call_of (with_unfollowed t a) ≡ Some x.call
-      → LooksOrCloses k pid s (x ∷ xs)
-  unfolding with_unfollowed next_call_of call_of
-  answered Gone x xs is = inr (last_handle (traced_at t 0), sym (same_Some _ x.call is))
-  answered Accepted x xs is = inl (looked x is)
-  answered (Refused errno) x xs is = inl (looked x is)
-  answered Interrupted x xs is = inl (looked x is)
+  -- unless the process has ended
+  answered : (a : Answer) → IsAnswer r a → (x : Exchange) (xs : List Exchange)
+      → next_call_of (with_unfollowed t a) ≡ Some x.call → LooksFirst k pid s (x ∷ xs)
+  unfolding with_unfollowed next_call_of call_of IsAnswer
+  answered Gone ended x xs is = absurd (lives ended)
+  answered Accepted w x xs is = looked x is
+  answered (Refused errno) w x xs is = looked x is
+  answered Interrupted w x xs is = looked x is
 
   fed-is : told_of k t e ≡ with_unfollowed t (answer_of r)
   unfolding fed with_reply
   fed-is = let a = at in ap (with_exchange t) own ∙ ap (with_reply t r) a.0
 
-  behind : (xs : List Exchange) → Makes (told_of k t e) xs → LooksOrCloses k pid s xs
+  behind : (xs : List Exchange) → Makes (told_of k t e) xs → LooksFirst k pid s xs
   behind [] made = tt
   behind (x ∷ xs) made =
-      answered (answer_of r) x xs (subst (λ (u : TrussState). next_call_of u ≡ Some x.call) fed-is made.0)
+      answered (answer_of r) (answer-is r) x xs (subst (λ (u : TrussState). next_call_of u ≡ Some x.call) fed-is made.0)
 
-  pub looks-behind : LooksOrCloses k pid s (exchanges k later)
+  pub looks-behind : LooksFirst k pid s (exchanges k later)
   looks-behind = let m = makes in behind (exchanges k later) m.1
 
 pub looks-at-left : (n k : ℕ) (o : Options) (first : TracedState) (h : List Entry) → IsTrussRun n k o first h
     → LooksAtWhatItLeaves k first h
 looks-at-left n k o first h run = record {
-  each = λ before later e pid control r is own interrupted mine.
-      looks-behind n k o first before later e (subst (IsTrussRun n k o first) is run) pid control r own interrupted mine;
+  each = λ before later e pid control r is own lives interrupted mine.
+      looks-behind n k o first before later e (subst (IsTrussRun n k o first) is run) pid control r own lives interrupted
+      mine;
 }
 
 pub ruleset left_looks = (looks-in-place, looks-at-left)

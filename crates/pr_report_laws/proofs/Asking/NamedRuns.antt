@@ -90,14 +90,19 @@ unfolding message_code operands word_bytes
 code-first control message.Stop = refl
 code-first control _ = refl
 
--- so no other message is PCRUN
+-- so messages with other codes are other messages
+pub codes-apart : {A : Type 0} (c d : ℕ) (m n : Message) → (message_code m == message_code n) ≡ false
+    → message_call c m ≡ message_call d n → A
+codes-apart c d m n other is =
+    let code : message_code m ≡ message_code n =
+    same_Some _ _ (sym (code-first c m) ∙ ap first_byte is ∙ code-first d n) in
+    absurd (false≢true (sym other ∙ eq-eqb (message_code m) (message_code n) code))
+
+-- no other message is PCRUN
 module _ (control : ℕ) where
   other-message : {A : Type 0} (c : ℕ) (m : Message) → (message_code m == message_code (message.Run 0)) ≡ false
       → message_call c m ≡ message_call control (message.Run 0) → A
-  other-message c m other is =
-      let code : message_code m ≡ message_code (message.Run 0) =
-      same_Some _ _ (sym (code-first c m) ∙ ap first_byte is ∙ code-first control (message.Run 0)) in
-      absurd (false≢true (sym other ∙ eq-eqb (message_code m) (message_code (message.Run 0)) code))
+  other-message c m other is = codes-apart c control m (message.Run 0) other is
 
   same-control : {a : ℕ} → message_call a (message.Run 0) ≡ message_call control (message.Run 0) → a ≡ control
   same-control is = cc

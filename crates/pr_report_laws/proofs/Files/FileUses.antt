@@ -222,7 +222,7 @@ module _ (k : ℕ) (t : TrussState) (s : TracedState) (h : HasFiles k t s) where
       → freed_control next ≡ Some control → IsFileOf k s child control file.Ctl WriteExcl
   freed-file child control next is its = freed-is child control next its (subst (FreedIs (FileOf k s)) is h.freed)
 
-  freed-once : (child control : ℕ) (next : FreeingStep) → freed_control next ≡ Some control
+  pub freed-once : (child control : ℕ) (next : FreeingStep) → freed_control next ≡ Some control
       → of_stage child control (FreeingChild child next) ≡ 1
   freed-once child control freeing.OpenControl its = absurd (none-some control its)
   freed-once child control (freeing.SetRelease m) its =

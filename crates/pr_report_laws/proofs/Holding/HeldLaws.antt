@@ -22,17 +22,16 @@ use Rattle.pr_report_laws.proofs.Holding.HoldEvents.{came-is}
 use Rattle.pr_report_laws.proofs.Holding.HoldPlaces.{came, gets-off, hold-watched, one-run, watched-hold}
 use Rattle.pr_report_laws.proofs.Holding.OverEnds.{goes-off}
 use Rattle.pr_report_laws.proofs.Memory.EventMemory.{lineage-memories, unfollowed-memories}
-use Rattle.pr_report_laws.proofs.OwnFiles.PlacedOpens.{child-read}
 use Rattle.pr_report_laws.proofs.Reading.ReadLaws.{lineage-reads, unfollowed-reads}
 use Rattle.pr_report_laws.proofs.SeenChildren.NoneLeft.{none-left}
 use Rattle.pr_report_laws.proofs.UnopenedChildren.Births.{left-report, unfollowed-report}
+use Rattle.pr_report_laws.proofs.UnopenedChildren.ChildReads.{child-told}
 use Rattle.pr_report_laws.proofs.Watching.EndLaws.{stage-called, watched-let}
 use Rattle.pr_report_laws.proofs.Watching.GripLaws.{grips-held}
 use Rattle.pr_report_laws.proofs.Watching.HistoryParts.{front-run}
-use Rattle.pr_report_laws.specs.AsChildren.{IsNeverOpenedAsChild}
+use Rattle.pr_report_laws.specs.AsChildren.{IsNeverOpenedAsChild, WasChildRead}
 use Rattle.pr_report_laws.specs.Attachments.{IsLetGo}
 use Rattle.pr_report_laws.specs.Births.{IsNeverFollowed}
-use Rattle.pr_report_laws.specs.Grips.{HasGrips}
 use Rattle.pr_report_laws.specs.HeldEvents.{DiedHeld, IsLacking, IsUnanswered, ReadsHeld, ShowsHeld}
 use Rattle.pr_report_laws.specs.HeldForks as care
 use Rattle.pr_report_laws.specs.HeldForks.{CaresForChildren, DiedUnread, IsCaredFor}
@@ -46,6 +45,7 @@ use Rattle.pr_report_laws.specs.Reported.{IsKilled, IsMissed, IsReported, IsUnre
 use Rattle.pr_report_laws.specs.SeenTo as seen
 use Rattle.pr_report_laws.specs.SeenTo.{IsSeenTo, LeavesNoChild, WasLost}
 use Rattle.pr_report_laws.specs.Shown.{LwpEvent, selected}
+use Rattle.pr_report_laws.specs.WatchedGrips.{HasGrips}
 use Rattle.pr_report_laws.specs.Watching.{watches}
 
 -- What truss has read and shown, in the words of the hold.
@@ -151,8 +151,17 @@ module _ (n k : ℕ) (o : Options) (pid : ℕ) (s : TracedState) (h : List Entry
           let next : next_call_of t ≡ Some opening.call = subst (MakesNext t) own (run-next n k o s before e one) in
           let called = opens-so pid t opening parent next stage in
           let same = same-exchange opening (open_control pid) (Handle handle) called given in
-          w.none before later e handle is (own ∙ ap (λ (x : Exchange). Some x) same)
-          (child-read n k o s before front parent pid stage)
+          let told : WasChildRead k o pid s before = (child-told n k o s before front parent pid stage).0 in
+          w.none told.parent (record {
+            before = before;
+            entry = e;
+            handle = handle;
+            later = later;
+            is = is;
+            opens = own ∙ ap (λ (x : Exchange). Some x) same;
+            told = told;
+            of = refl;
+          })
 
   -- ---- why truss lets it go
 

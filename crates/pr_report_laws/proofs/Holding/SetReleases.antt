@@ -1,4 +1,4 @@
-use Rattle.std.proofs.Common.{◌≡◌, ◌≢◌, ◌++◌, ◌||◌, ℕ, true, Some, None, List, [], ◌∷◌, refl, sym, subst, ap, ◌∙◌, append_assoc, arith}
+use Rattle.std.proofs.Common.{◌≡◌, ◌≢◌, ◌++◌, ℕ, true, Some, None, List, [], ◌∷◌, refl, sym, subst, ap, ◌∙◌, append_assoc, arith}
 use Rattle.std.proofs.lemmas.Bool.{eq-eqb}
 use Rattle.std.proofs.lemmas.List.{append-nil}
 use Rattle.std.proofs.lemmas.Option.{same_Some}
@@ -46,11 +46,11 @@ use Rattle.pr_report_laws.proofs.Files.WatchHistories.{IsAnswered, Reaches, exch
 use Rattle.pr_report_laws.proofs.Holding.HoldPlaces.{hold-watched, more-run, one-run}
 use Rattle.pr_report_laws.proofs.Machine.ControlLaws.{clear-reads, entries-read, exits-read, faults-read, follow-reads, run-reads, signals-read, unfollow-reads}
 use Rattle.pr_report_laws.proofs.Releasing.ReleaseGrants.{release-granted, release-whole}
-use Rattle.pr_report_laws.proofs.Releasing.ReleaseLaws.{modes-push, set-stays, traced-set}
+use Rattle.pr_report_laws.proofs.Releasing.ReleaseLaws.{modes-push, set-stays}
 use Rattle.pr_report_laws.proofs.Releasing.ReleaseSteps.{modes_told, truss-releases}
 use Rattle.pr_report_laws.proofs.Replies.WatchedPlaces.{IsWatched, watched-place}
 use Rattle.pr_report_laws.specs.Holds.{HasHold}
-use Rattle.pr_report_laws.specs.Releases.{Modes, has_set_at, is_opened_past, modes_next, modes_set, released}
+use Rattle.pr_report_laws.specs.Releases.{Modes, modes_next, modes_set, released}
 use Rattle.pr_report_laws.specs.SetModes.{HasSetRelease, SetsRelease}
 
 -- What truss has set, by its messages and their replies alone, is released when truss closes the control file.
@@ -248,22 +248,6 @@ module _ (n k : ℕ) (o : Options) (s : TracedState) (h : List Entry) (run : IsT
       truss-releases n k o s h run number held p a (has-open number held w) sets.control (has-set number held w) live
       close
 
-  -- And so is a process of which truss has hold.
-  pub releases-held : (pid : ℕ) → HasHold k o pid s h → (number : ℕ) (held : Held) (p : TracedProcess) (a : Answer)
-      → handle_of (state_after s h).opens k number ≡ Some held → held.pid ≡ pid → is_control held.file ≡ true
-      → live_process (state_after s h).system held.pid ≡ Some p
-      → answer_to (state_after s h) k (Close number) ≡ Some a
-      → (q : TracedProcess) × ((live_process a.state.system held.pid ≡ Some q) × IsReleased q)
-  releases-held pid g number held p a there of control live close =
-      let w = watched-place (truss_at k o h) pid (hold-watched n k o pid s h run g) in
-      let i : IsWatched (truss_at k o h) pid w.0 = w.1 in
-      let attached : has_set_at (truss_at k o h) w.0 ≡ true =
-      ap (λ b. b || is_opened_past (truss_at k o h).stage w.0) i.attached in
-      let set : modes_set k o (traced_at (truss_at k o h) w.0).pid h ≡ released =
-      traced-set n k o s h run w.0 i.within attached in
-      truss-releases n k o s h run number held p a there control
-      (subst (λ x. modes_set k o x h ≡ released) (i.of ∙ sym of) set) live close
-
   pub holds-control : (pid : ℕ) → HasHold k o pid s h
       → (number : ℕ) × IsFileOf k (state_after s h) pid number file.Ctl WriteExcl
   holds-control pid g =
@@ -290,4 +274,4 @@ grants-release n k o s before e run number r held p its there control live some 
     (ap answer_of (sym y.reply)
     ∙ release-granted (state_after s before) k number held there control p live some y.answer y.is)
 
-pub ruleset set_releases = (releases-set, releases-held, grants-release)
+pub ruleset set_releases = (releases-set, grants-release)

@@ -10,7 +10,7 @@ use Rattle.pr_line.specs.declared.events.Event.TheVariants.{Left}
 use Rattle.pr_line.specs.declared.options.Options.{Options}
 use Rattle.pr_num.proofs.ByIdLaws.{under-change_under_other, under-inserted}
 use Rattle.pr_num.specs.ById.{change_under}
-use Rattle.pr_num.specs.Control.{async_mode, fork_mode, has_flags, klc_mode}
+use Rattle.pr_num.specs.Control.{async_mode, fork_mode, has_flags, klc_mode, rlc_mode}
 use Rattle.pr_num.specs.Sets.{common_word, has_number, minus_word}
 use Rattle.pr_num.specs.Syscalls.{is_fork_call, syscall_number}
 use Rattle.pr_num.specs.declared.syscalls.Sysno.{Sysno}
@@ -28,8 +28,6 @@ use Rattle.pr_model.specs.Rows.{Row, row_for}
 use Rattle.pr_model.specs.State.{TracedControl, TracedLwp, TracedProcess, TracedState, TracedSystem, live_process, lwp_of, process_of, with_lwp, with_lwp_of, with_process}
 use Rattle.pr_model.specs.Statuses.{lwpstatus_of}
 use Rattle.pr_model.specs.Transitions.{after_transition, ended_if}
-use Rattle.pr_model.specs.declared.events.Act.TheVariants.{Turn}
-use Rattle.pr_model.specs.declared.events.Actor.TheVariants.{Lwp}
 use Rattle.pr_model.specs.declared.events.Entry.{Entry}
 use Rattle.pr_model.specs.declared.events.Res.TheVariants.{Value}
 use Rattle.pr_model.specs.declared.lwps.Phase.TheVariants.{Exiting}
@@ -38,6 +36,7 @@ use Rattle.pr_model.specs.declared.stops.Stop.{Stop}
 use Rattle.pr_model.specs.declared.stops.Stop.TheVariants.{SysExit}
 use Rattle.pr_truss.proofs.ForkLemmas.{with_forks-has}
 use Rattle.pr_truss.specs.Messages.{ending_calls, traced_exits, with_forks}
+use Rattle.pr_truss.specs.Trusses.{TrussState}
 use Rattle.pr_truss_laws.proofs.BridgeLemmas.{turn-tells}
 use Rattle.pr_truss_laws.proofs.FrameLemmas.{was-made}
 use Rattle.pr_truss_laws.proofs.OwnTurnLemmas.{quiet-stays}
@@ -45,7 +44,7 @@ use Rattle.pr_truss_laws.proofs.ToldLemmas.{exit-told}
 use Rattle.pr_truss_laws.specs.Stills.{IsQuiet, IsUndisturbed, stands_still}
 use Rattle.pr_truss_laws.specs.Told.{has_ended, told}
 use Rattle.pr_report_laws.proofs.Machine.ForkRows.{MakesOne, birth-makes, row-makes, told-made}
-use Rattle.pr_report_laws.proofs.Machine.NewBorn.{IsNew, IsNewBorn}
+use Rattle.pr_report_laws.proofs.Machine.NewBorn.{IsLeftTo, IsNew, IsNewBorn, stands_new}
 use Rattle.pr_report_laws.proofs.Machine.OwnTurnLaws as own
 use Rattle.pr_report_laws.proofs.Machine.OwnTurnLaws.{AfterTurn, quiet-turn, state-after}
 use Rattle.pr_report_laws.proofs.Machine.StayingLwps.{live-by}
@@ -53,7 +52,6 @@ use Rattle.pr_report_laws.proofs.Machine.StoppedLaws.{count-cons}
 use Rattle.pr_report_laws.proofs.Machine.TracedPoints.{fit-row, picks-traced}
 use Rattle.pr_report_laws.specs.Reads.{traces}
 use Rattle.pr_report_laws.specs.Births.{child_made}
-use Rattle.pr_report_laws.specs.Lineages.{IsTakenBefore}
 use Rattle.pr_reached.specs.Fits.{IsFitSystem}
 use Rattle.pr_report_laws.specs.Shown.{LwpEvent}
 use Rattle.pr_report_laws.proofs.Invariant.Positions.{HasEvent, IsTracedBy, has_met, is_met_if}
@@ -101,6 +99,10 @@ not-async = refl
 not-klc : has_flags fork_mode klc_mode ≡ false
 unfolding has_flags common_word
 not-klc = refl
+
+not-rlc : has_flags fork_mode rlc_mode ≡ false
+unfolding has_flags common_word
+not-rlc = refl
 
 has-fork : has_flags fork_mode fork_mode ≡ true
 unfolding has_flags common_word
@@ -166,6 +168,7 @@ module _ (o : Options) (birth : Birth) (pid : ℕ) (p : TracedProcess) (l : Trac
       };
     };
     follows = ap (λ (c : TracedControl). has_flags c.modes fork_mode) child-set ∙ has-fork;
+    kept = ap (λ (c : TracedControl). has_flags c.modes rlc_mode) child-set ∙ not-rlc;
   }
 
 -- ---- the system after the turn
@@ -327,40 +330,18 @@ module _ (o : Options) (s : TracedState) (pid id : ℕ) (p : TracedProcess) (t :
         subst (IsNew o) (same_Some x r (sym (live-by t.system c x f.1 refl) ∙ now))
         (child-new o one.birth pid p w.0 one.args s.system.clock by flag follow)
 
-    -- A child that is made so is new, where the history leaves it to one controller.
-    pub forked-born : (k : ℕ) (h : List Entry) → IsLawfulSystem t.system
-        → (IsTakenBefore k o c (record { actor = Lwp pid id; act = Turn t.turned } ∷ h) → ⊥)
-        → IsNewBorn k o (record s { system = t.system }) h c
-    forked-born k h after leaves =
+    -- A child that is made so is new, where the history leaves it to truss.
+    pub forked-born : (k : ℕ) (u : TrussState) (h : List Entry) → IsLawfulSystem t.system → IsLeftTo k o c u h
+        → IsNewBorn k o u (record s { system = t.system }) h c
+    forked-born k u h after left =
         let w = taken in
         let f = found w.0 w.1.0 w.1.1 in
         let one = f.0 in
         record {
           made = was-made c t.system (forked traced one.birth pid p w.0 one.args s.system.clock) after f.1;
-          now = inl (record {
+          now = stands_new (record {
             alone = ap (λ n. has_writer n s.opens) forked-next ∙ new-unopened s lawful;
             born = born-new;
-            left = record {
-              each = λ before between behind by lwp handle control opened_file mode rest writes other.
-                  leaves (record {
-                    before = [];
-                    parent = pid;
-                    id = id;
-                    turned = t.turned;
-                    between = before;
-                    by = by;
-                    lwp = lwp;
-                    file = opened_file;
-                    mode = mode;
-                    handle = handle;
-                    behind = between;
-                    control = control;
-                    later = behind;
-                    is = ap (λ (es : List Entry). record { actor = Lwp pid id; act = Turn t.turned } ∷ es) rest;
-                    forks = forked-did;
-                    writes = writes;
-                    other = other;
-                  });
-            };
+            left = left;
           });
         }

@@ -1,12 +1,12 @@
-use Rattle.std.proofs.Common.{◌≡◌, ◌≢◌, ◌==◌, ◌&&◌, ◌||◌, ◌<◌, ◌⊎◌, ℕ, true, false, None, Some, Option, List, [], ◌∷◌, ◌++◌, refl, sym, subst, ap, ◌∙◌, inl, inr}
-use Rattle.std.proofs.lemmas.Bool.{and_parts, cases_Bool, cases_eq, eq-eqb, eqb-true, false≢true, or_parts}
+use Rattle.std.proofs.Common.{◌≡◌, ◌≢◌, ◌==◌, ◌&&◌, ◌||◌, ◌<◌, ℕ, Bool, true, false, cond, None, Some, Option, List, [], ◌∷◌, length, refl, sym, subst, ap, ◌∙◌, inl, inr}
+use Rattle.std.proofs.lemmas.Bool.{and_parts, cases_Bool, eq-eqb, eqb-true, false≢true, or_parts}
 use Rattle.std.proofs.lemmas.Option.{none-some, same_Some}
 use Rattle.std.specs.List.{list_any, slice_get, slice_set}
 use Rattle.pr_lawful.proofs.EndLemmas.{found-live}
 use Rattle.pr_lawful.proofs.HandleLemmas.{any-at, any-swap, handle-at}
 use Rattle.pr_line.specs.declared.options.Options.{Options}
 use Rattle.pr_model.specs.Calls.{Answer, answer_to}
-use Rattle.pr_model.specs.Handles.{has_writer, is_writable, is_writer}
+use Rattle.pr_model.specs.Handles.{after_last_close, has_writer, is_writable, is_writer, was_last_writer, with_closed, with_last_close}
 use Rattle.pr_model.specs.Lawful.{IsLawful}
 use Rattle.pr_model.specs.Legal.{IsLegalEntry, after}
 use Rattle.pr_model.specs.LwpTurns.{LwpTurn, turn_of}
@@ -24,69 +24,125 @@ use Rattle.pr_model.specs.declared.events.Actor.{Actor}
 use Rattle.pr_model.specs.declared.events.Actor.TheVariants.{Controller, Lwp, Clock}
 use Rattle.pr_model.specs.declared.events.Entry.{Entry}
 use Rattle.pr_model.specs.declared.handles.Held.{Held}
-use Rattle.pr_num.specs.Control.{fork_mode, has_flags}
+use Rattle.pr_num.specs.Control.{fork_mode, has_flags, klc_mode, rlc_mode}
+use Rattle.pr_truss.specs.Trusses.{TrussState, traced_at}
+use Rattle.pr_truss.specs.declared.stages.AfterClosing.TheVariants.{OpenNext}
+use Rattle.pr_truss.specs.declared.stages.OpeningStep.TheVariants as opening
+use Rattle.pr_truss.specs.declared.stages.Stage.{Stage}
+use Rattle.pr_truss.specs.declared.stages.Stage.TheVariants.{Closing, Opening, OpeningChildControl}
 use Rattle.pr_truss_laws.proofs.ForeignLemmas.{call-passes}
 use Rattle.pr_truss_laws.proofs.FrameLemmas.{undisturbed-self}
 use Rattle.pr_truss_laws.proofs.OpensLemmas.{close-closes, held_by, open-opens, plain-leaves}
+use Rattle.pr_truss_laws.specs.Stills.{IsUndisturbed}
 use Rattle.pr_truss_laws.proofs.StillLemmas.{frozen-turns}
 use Rattle.pr_truss_laws.proofs.OutlastLemmas.{Outlasts, killed, lives, others-turn, outlasts, ticked-live}
 use Rattle.pr_report_laws.proofs.Machine.FrameLaws.{alone-birth, alone-control}
-use Rattle.pr_truss_laws.proofs.OverLemmas.{stays-made, stays-over}
+use Rattle.pr_truss_laws.proofs.OverLemmas.{stays-over}
 use Rattle.pr_report_laws.specs.Births.{granted}
-use Rattle.pr_report_laws.specs.Lineages.{IsNamed}
+use Rattle.pr_report_laws.specs.Lineages.{IsNamed, WasHad}
 use Rattle.pr_report_laws.proofs.Invariant.Positions.{IsAtBirth}
+use Rattle.pr_report_laws.proofs.UnopenedChildren.LeftChildren.{OpensAsChild, opens-now, opens-on, had-on}
+use Rattle.pr_report_laws.specs.Watching.{told_of}
 
 -- A child of a fork that nobody has open for writing stands at its birth.
 
 -- ---- what is said of it
 
--- In the rest of a history no other controller opens a process for writing, before one controller opens its control
--- file; nor does that controller itself, where the options name the process.
-pub record IsLeftTo (k : ℕ) (o : Options) (c : ℕ) (h : List Entry) : Type 0 where
-  pub each : (before between later : List Entry) (by lwp handle control : ℕ) (file : File) (mode : Mode)
-      → h ≡ before ++ granted by c lwp file mode handle ∷ (between ++ granted k c 0 Ctl WriteExcl control ∷ later)
-      → is_writable mode ≡ true → (by ≢ k) ⊎ IsNamed o c → ⊥
+-- In the rest of a history nobody has had a process before truss opens it as a child.
+pub record IsLeftTo (k : ℕ) (o : Options) (c : ℕ) (t : TrussState) (h : List Entry) : Type 0 where
+  pub each : (w : OpensAsChild k c t h) → WasHad k o c w.front → ⊥
 
-left-later : (k : ℕ) (o : Options) (c : ℕ) (e : Entry) (h : List Entry) → IsLeftTo k o c (e ∷ h) → IsLeftTo k o c h
-left-later k o c e h left = record {
-  each = λ before between later by lwp handle control file mode is.
-      left.each (e ∷ before) between later by lwp handle control file mode (ap (λ (es : List Entry). e ∷ es) is);
+pub left-later : (k : ℕ) (o : Options) (c : ℕ) (t : TrussState) (e : Entry) (h : List Entry) → IsLeftTo k o c t (e ∷ h)
+    → IsLeftTo k o c (told_of k t e) h
+left-later k o c t e h left = record {
+  each = λ w had. left.each (opens-on k c t e h w) (had-on k o c e w.front had);
 }
 
--- a controller never opens the control file of a process in the rest of a history
-pub record IsNeverGranted (k c : ℕ) (h : List Entry) : Type 0 where
-  pub none : (before later : List Entry) (control : ℕ) → h ≡ before ++ granted k c 0 Ctl WriteExcl control ∷ later → ⊥
+-- truss never opens a process as a child in the rest of a history
+pub record IsNeverGranted (k c : ℕ) (t : TrussState) (h : List Entry) : Type 0 where
+  pub none : OpensAsChild k c t h → ⊥
 
-pub never-later : (k c : ℕ) (e : Entry) (h : List Entry) → IsNeverGranted k c (e ∷ h) → IsNeverGranted k c h
-never-later k c e h never =
-    record {
-      none = λ before later control is. never.none (e ∷ before) later control (ap (λ (es : List Entry). e ∷ es) is);
-    }
+pub never-later : (k c : ℕ) (t : TrussState) (e : Entry) (h : List Entry) → IsNeverGranted k c t (e ∷ h)
+    → IsNeverGranted k c (told_of k t e) h
+never-later k c t e h never = record { none = λ w. never.none (opens-on k c t e h w) }
 
--- it stands at its birth, and its own children are to be followed too
+-- it stands at its birth, its own children are to be followed too, and its last close leaves it as it is
 pub record IsNew (o : Options) (p : TracedProcess) : Type 0 where
   pub birth : IsAtBirth o p
   pub follows : has_flags p.control.modes fork_mode ≡ true
+  pub kept : has_flags p.control.modes rlc_mode ≡ false
+
+pub new-alone : (o : Options) (p q : TracedProcess) → IsUndisturbed p q → IsNew o p → IsNew o q
+new-alone o p q alone was = record {
+  birth = alone-birth p q alone o was.birth;
+  follows = ap (λ (x : TracedControl). has_flags x.modes fork_mode) (alone-control p q alone) ∙ was.follows;
+  kept = ap (λ (x : TracedControl). has_flags x.modes rlc_mode) (alone-control p q alone) ∙ was.kept;
+}
 
 -- While the process lives it stands at its birth, nobody has it open for writing, and the rest of the history leaves it
--- to one controller.
-pub record IsUntouched (k : ℕ) (o : Options) (s : TracedState) (h : List Entry) (c : ℕ) : Type 0 where
+-- to truss.
+pub record IsUntouched (k : ℕ) (o : Options) (t : TrussState) (s : TracedState) (h : List Entry) (c : ℕ)
+    : Type 0 where
   pub alone : has_writer c s.opens ≡ false
   pub born : (p : TracedProcess) → live_process s.system c ≡ Some p → IsNew o p
-  pub left : IsLeftTo k o c h
+  pub left : IsLeftTo k o c t h
 
--- A process that was made: it stands at its birth, or the controller never opens it.
-pub record IsNewBorn (k : ℕ) (o : Options) (s : TracedState) (h : List Entry) (c : ℕ) : Type 0 where
+-- the place of the process of which truss opens the files, or closes those that it has opened
+abbrev pub begun_at : Stage → Option ℕ
+begun_at (Opening at opening.OpenStatus) = Some at
+begun_at (Opening at opening.OpenLstatus) = Some at
+begun_at (Opening at opening.OpenMemory) = Some at
+begun_at (Closing at OpenNext) = Some at
+begun_at _ = None
+
+-- Truss opens it by its id, and has not come behind the opens of its files: as long as it lives it stands at its birth.
+pub record IsBegun (k : ℕ) (o : Options) (t : TrussState) (s : TracedState) (h : List Entry) (c : ℕ) : Type 0 where
+  pub place : ℕ
+  pub within : place < length t.traced
+  pub at : begun_at t.stage ≡ Some place
+  pub of : (traced_at t place).pid ≡ c
+  pub named : IsNamed o c
+  pub born : (p : TracedProcess) → live_process s.system c ≡ Some p → IsNew o p
+  pub left : IsLeftTo k o c t h
+
+-- It stands at its birth, and nobody has it open for writing but truss in the opens of its files; or truss never opens
+-- it as a child.
+pub data Stands (k : ℕ) (o : Options) (t : TrussState) (s : TracedState) (h : List Entry) (c : ℕ) : Type 0 where
+  stands_new : IsUntouched k o t s h c → Stands k o t s h c
+  is_begun : IsBegun k o t s h c → Stands k o t s h c
+  is_never : IsNeverGranted k c t h → Stands k o t s h c
+
+-- a process that was made, and stands so
+pub record IsNewBorn (k : ℕ) (o : Options) (t : TrussState) (s : TracedState) (h : List Entry) (c : ℕ) : Type 0 where
   pub made : c < s.system.made
-  pub now : IsUntouched k o s h c ⊎ IsNeverGranted k c h
+  pub now : Stands k o t s h c
 
--- where the controller opens it now, it stands at its birth
-pub untouched-now : (k : ℕ) (o : Options) (s : TracedState) (h : List Entry) (c control : ℕ) (e : Entry)
-    → e ≡ granted k c 0 Ctl WriteExcl control → IsNewBorn k o s (e ∷ h) c → IsUntouched k o s (e ∷ h) c
-untouched-now k o s h c control e is new = elim new.now [
-  | inl untouched ↦ untouched
-  | inr never ↦ absurd (never.none [] h control (ap (λ x. x ∷ h) is))
+-- where truss opens it now, it stands at its birth
+pub untouched-now : (k : ℕ) (o : Options) (t : TrussState) (s : TracedState) (h : List Entry) (c place control : ℕ)
+    (e : Entry) → e ≡ granted k c 0 Ctl WriteExcl control → t.stage ≡ OpeningChildControl place c
+    → IsNewBorn k o t s (e ∷ h) c → IsUntouched k o t s (e ∷ h) c
+untouched-now k o t s h c place control e is at new = elim new.now [
+  | stands_new untouched ↦ untouched
+  | is_begun begun ↦ absurd (none-some begun.place (ap begun_at (sym at) ∙ begun.at))
+  | is_never never ↦ absurd (never.none (opens-now k c place control t e h is at))
 ]
+
+-- ---- its last close
+
+-- the close of a process under neither PR_KLC nor PR_RLC leaves the system
+pub closed-plain : (s : TracedState) (g : Held) (number : ℕ)
+    → ((p : TracedProcess) → live_process s.system g.pid ≡ Some p
+    → (has_flags p.control.modes klc_mode ≡ false) × (has_flags p.control.modes rlc_mode ≡ false))
+    → (with_closed g number s).system ≡ s.system
+unfolding with_closed with_last_close
+closed-plain s g number plain =
+    by (was_last_writer g (slice_set s.opens number None)) (live_process s.system g.pid) refl
+  where
+    by : (b : Bool) (x : Option TracedProcess) → live_process s.system g.pid ≡ x
+        → cond b (after_last_close g.pid x s.system) s.system ≡ s.system
+    by false x is = refl
+    by true None is = refl
+    by true (Some p) is = let w = plain p is in rw (w.0, w.1) refl
 
 -- ---- nobody has it open for writing
 
@@ -165,7 +221,7 @@ module _ (c : ℕ) where
 
 -- ---- an entry of a history
 
-module _ (n k : ℕ) (o : Options) (s : TracedState) (h : List Entry) (c : ℕ) where
+module _ (n k : ℕ) (o : Options) (t : TrussState) (s : TracedState) (h : List Entry) (c : ℕ) where
   -- a frozen process has no turn
   new-still : (id : ℕ) (it : Act) (p : TracedProcess) → live_process s.system c ≡ Some p → IsNew o p
       → IsLegalEntry n s (record { actor = Lwp c id; act = it }) → ⊥
@@ -203,7 +259,7 @@ module _ (n k : ℕ) (o : Options) (s : TracedState) (h : List Entry) (c : ℕ) 
   entry-alone _ _ legal none other = absurd legal
 
   module _ (e : Entry) (lawful : IsLawful s) (legal : IsLegalEntry n s e) (made : c < s.system.made)
-      (new : IsUntouched k o s (e ∷ h) c) where
+      (new : IsUntouched k o t s (e ∷ h) c) where
     -- it is still new, if it lives
     pub new-on : (q : TracedProcess) → live_process (after s e).system c ≡ Some q → IsNew o q
     new-on q later = by (live_process s.system c) refl
@@ -211,10 +267,7 @@ module _ (n k : ℕ) (o : Options) (s : TracedState) (h : List Entry) (c : ℕ) 
         left : (p : TracedProcess) → IsNew o p → Outlasts c p (after s e).system → IsNew o q
         left p was (lives r now alone) =
             let same : r ≡ q = same_Some r q (sym now ∙ later) in
-            subst (IsNew o) same (record {
-              birth = alone-birth p r alone o was.birth;
-              follows = ap (λ (x : TracedControl). has_flags x.modes fork_mode) (alone-control p r alone) ∙ was.follows;
-            })
+            subst (IsNew o) same (new-alone o p r alone was)
         left p was (killed z none at status) = absurd (none-some q (sym none ∙ later))
 
         by : (x : Option TracedProcess) → live_process s.system c ≡ x → IsNew o q
@@ -225,40 +278,32 @@ module _ (n k : ℕ) (o : Options) (s : TracedState) (h : List Entry) (c : ℕ) 
             (alone-outlasts c s lawful p is new.alone n e.actor e.act legal
             (own-actor e.actor e.act p is was legal))
 
-    -- An entry leaves it so, or somebody opens it, and the controller never does afterwards.
-    untouched-on :
+    -- An entry of another than truss leaves it so, or somebody opens it, and truss never opens it as a child then.
+    pub untouched-on :
         ((lwp handle : ℕ) (file : File)
-        (mode : Mode) → e ≡ granted k c lwp file mode handle → is_writable mode ≡ true
-        → IsNamed o c) → IsUntouched k o (after s e) h c ⊎ IsNeverGranted k c h
+        (mode : Mode) → e ≡ granted k c lwp file mode handle → is_writable mode ≡ true → ⊥)
+        → Stands k o (told_of k t e) (after s e) h c
     untouched-on own = elim (cases_Bool (has_writer c (after s e).opens)) [
-      | inr none ↦ inl (record { alone = none; born = new-on; left = left-later k o c e h new.left })
-      | inl taken ↦ inr (record {
-        none = λ between later control rest.
+      | inr none ↦ stands_new
+          (record { alone = none; born = new-on; left = left-later k o c t e h new.left })
+      | inl taken ↦ is_never (record {
+        none = λ w.
             false≢true
             (sym (entry-alone e.actor e.act legal new.alone (λ by lwp handle file mode is writes.
-            new.left.each [] between later by lwp handle control file mode
-            (ap (λ x. x ∷ h) is ∙ ap (λ (es : List Entry). granted by c lwp file mode handle ∷ es) rest) writes
-            (who by lwp handle file mode is writes))) ∙ taken);
+            let left = new.left in left.each (opens-on k c t e h w) (record {
+              before = [];
+              by = by;
+              lwp = lwp;
+              file = file;
+              mode = mode;
+              handle = handle;
+              later = w.front;
+              is = ap (λ x. x ∷ w.front) is;
+              who =
+                  inl (
+                    (λ same. own lwp handle file mode (is ∙ ap (λ b. granted b c lwp file mode handle) same) writes),
+                    writes,
+                  );
+            }))) ∙ taken);
       })
     ]
-      where
-        who : (by lwp handle : ℕ) (file : File) (mode : Mode) → e ≡ granted by c lwp file mode handle
-            → is_writable mode ≡ true → (by ≢ k) ⊎ IsNamed o c
-        who by lwp handle file mode is writes = elim (cases_eq by k) [
-          | inl same ↦ inr
-              (own lwp handle file mode (is ∙ ap (λ b. granted b c lwp file mode handle) same) writes)
-          | inr other ↦ inl other
-        ]
-
-  -- An entry leaves a process so, where the controller opens it for writing only if the options name it.
-  pub new-born-on : (e : Entry) → IsLawful s → IsLegalEntry n s e → IsNewBorn k o s (e ∷ h) c
-      → ((lwp handle : ℕ) (file : File)
-      (mode : Mode) → e ≡ granted k c lwp file mode handle → is_writable mode ≡ true
-      → IsNamed o c) → IsNewBorn k o (after s e) h c
-  new-born-on e lawful legal new own = record {
-    made = stays-made n s e c lawful legal new.made;
-    now = elim new.now [
-      | inl untouched ↦ untouched-on e lawful legal new.made untouched own
-      | inr never ↦ inr (never-later k c e h never)
-    ];
-  }

@@ -63,7 +63,7 @@ forked-before c past e f = record {
   made = f.made;
 }
 
-module _ (Line Told : ℕ → Type 0) (n k : ℕ) (o : Options) (t : TrussState) (s : TracedState) (e : Entry)
+module _ (Line : ℕ → Type 0) (n k : ℕ) (o : Options) (t : TrussState) (s : TracedState) (e : Entry)
     (h : List Entry) (lawful : IsLawful s) (fit : IsFitSystem s.system) (files : HasFiles k t s)
     (stand : (pid : ℕ) → Line pid → IsStanding o pid t s)
     (stays : t.leaving ≡ false) (legal : IsLegalEntry n s e) (later : IsLawful (after s e))
@@ -111,7 +111,7 @@ module _ (Line Told : ℕ → Type 0) (n k : ℕ) (o : Options) (t : TrussState)
   claims-forked of c line (claims.reads place within same claim) = inl (claims.reads place within same claim)
   claims-forked of c line (stands place free same follow q now forked) =
       subst (λ m. Forked m c) same
-      (by (left Line Told n k o t s e h lawful fit files stand stays legal later others place free.within q
+      (by (left Line n k o t s e h lawful fit files stand stays legal later others place free.within q
       (ap (live_process (after s e).system) same ∙ now)))
     where
       by : Left (traced_at t place).pid s e q → Forked (traced_at t place).pid c

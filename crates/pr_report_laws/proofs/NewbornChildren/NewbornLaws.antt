@@ -1,5 +1,4 @@
 use Rattle.std.proofs.Common.{◌≡◌, ◌<◌, ℕ, false, true, None, Some, Option, List, [], ◌∷◌, ◌++◌, length, refl, sym, subst, ap, ◌∙◌, arith, inl, append_assoc}
-use Rattle.std.proofs.lemmas.List.{length-append}
 use Rattle.std.proofs.lemmas.List.Elements.{All-head, All-nil, All-push, All-tail}
 use Rattle.std.specs.List.{All}
 use Rattle.pr_line.specs.Selections.{is_selected}
@@ -9,29 +8,17 @@ use Rattle.pr_model.specs.Legal.{after, state_after}
 use Rattle.pr_model.specs.Replies.{handle_in}
 use Rattle.pr_model.specs.State.{TracedState}
 use Rattle.pr_model.specs.declared.events.Entry.{Entry}
-use Rattle.pr_num.specs.Control.{rlc_mode}
-use Rattle.pr_num.specs.declared.messages.Message.TheVariants as message
 use Rattle.pr_reached.specs.ByteHistories.{HasBytes}
 use Rattle.pr_reached.specs.Reached.{IsReached}
-use Rattle.pr_model.specs.declared.calls.File.TheVariants as file
-use Rattle.pr_truss.specs.Children.{with_child_control}
-use Rattle.pr_truss.specs.Feeding.{fed}
-use Rattle.pr_truss.specs.Messages.{message_call}
-use Rattle.pr_truss.specs.NextCalls.{next_call_of, open_file}
-use Rattle.pr_truss.specs.Replies.{answer_of}
-use Rattle.pr_truss.specs.Trusses.{TrussState, first_truss, with_stage}
+use Rattle.pr_truss.specs.Trusses.{first_truss}
 use Rattle.pr_truss.specs.declared.processes.Traced.{Traced}
-use Rattle.pr_truss.specs.declared.replies.Answer.TheVariants.{Accepted}
-use Rattle.pr_truss.specs.declared.stages.ChildStep.{ChildStep}
-use Rattle.pr_truss.specs.declared.stages.ChildStep.TheVariants as child
-use Rattle.pr_truss.specs.declared.stages.FreeingStep.TheVariants as freeing
-use Rattle.pr_truss.specs.declared.stages.Stage.TheVariants.{FreeingChild, OpeningChildControl}
-use Rattle.pr_truss_laws.specs.Exchanges.{Exchange, IsGranted, Makes, calls_in, exchange_of, exchanges, truss_after, truss_at}
+use Rattle.pr_truss_laws.specs.Exchanges.{Exchange, Makes, exchange_of, exchanges, truss_after, truss_at}
 use Rattle.pr_truss_laws.specs.Given.{reply_at}
 use Rattle.pr_truss_laws.specs.Runs.{IsTrussRun}
-use Rattle.pr_report_laws.proofs.Watching.BeginLaws.{BeginsChild, child-begins, followed-watches, freed-closes, freed-fed-again, given-opens, next-call}
+use Rattle.pr_report_laws.proofs.Watching.BeginLaws.{followed-watches}
 use Rattle.pr_report_laws.proofs.Watching.BeginsOnlyLaws.{stays-off}
-use Rattle.pr_report_laws.proofs.UnopenedChildren.Births.{ToldOf, all-left, first-going, first-traced, line-left}
+use Rattle.pr_report_laws.proofs.Watching.ChildPlaces.{Placed, child-placed, push-same}
+use Rattle.pr_report_laws.proofs.UnopenedChildren.Births.{all-left, first-going, first-traced, line-left}
 use Rattle.pr_report_laws.proofs.UnopenedChildren.Claims.{Claims}
 use Rattle.pr_report_laws.proofs.UnopenedChildren.Claims as claims
 use Rattle.pr_report_laws.proofs.Machine.FrameLaws.{no-events}
@@ -39,76 +26,15 @@ use Rattle.pr_report_laws.proofs.Invariant.HistoryLaw.{first-is, picked-both}
 use Rattle.pr_report_laws.proofs.Machine.MadeOnce.{not-both}
 use Rattle.pr_report_laws.proofs.NewbornChildren.NewbornForks.{forked-before}
 use Rattle.pr_report_laws.proofs.NewbornChildren.NewbornTurns.{HasRested, Rests, call-turn, rests-after}
-use Rattle.pr_report_laws.proofs.Invariant.OpeningRuns.{IsFollowing, OpensControl, born, born-fed, born-following, child-runs, child_left, freed, freed-fed, given, given-fed, granted-first, granted-rest, opens-control}
 use Rattle.pr_report_laws.proofs.Files.WatchHistories.{after-append, makes-front, makes-rest, run-pushed}
 use Rattle.pr_report_laws.specs.Births.{LeavesForks, NamesNoChild}
 use Rattle.pr_report_laws.specs.Lineages.{IsLeftToTruss, Lineage, itself}
-use Rattle.pr_report_laws.specs.Attachments.{HasFollowed, child_calls}
+use Rattle.pr_report_laws.specs.Attachments.{HasFollowed}
 use Rattle.pr_report_laws.specs.Newborn.{IsNoTurnOf, WasForked, WasSpawned}
 use Rattle.pr_report_laws.specs.Shown.{LwpEvent, picked, selected}
 use Rattle.pr_report_laws.specs.Watching.{watches}
 
 -- A child of a fork that truss follows does nothing before truss watches it.
-
--- ---- where truss has come to in the opening of a child
-
-module _ (pid : ℕ) (t : TrussState) (last : Exchange) where
-  -- before the last call of the opening
-  abbrev pub Placed : TrussState → Type 0
-  Placed u =
-      (parent : ℕ) ×
-      ((place : ℕ) × ((step : ChildStep) × ((child_left step ≡ 1) × IsFollowing u pid parent place step)))
-
-  born-placed : (x : Exchange) (xs : List Exchange) (parent : ℕ) → t.stage ≡ OpeningChildControl parent pid
-      → All IsGranted (x ∷ xs) → length xs ≡ 4 → Placed (truss_after (fed t x.reply) xs)
-  born-placed x xs parent stage all left =
-      let control = handle_in x.reply in
-      let runs =
-      child-runs xs (with_child_control t parent pid control) pid parent (length t.traced) child.SetRelease
-      (born-following t parent pid control) (granted-rest x xs all) (omega (arith, left)) in
-      subst (λ u. Placed (truss_after u xs)) (sym (born-fed t pid x.reply (granted-first x xs all) parent stage))
-      (parent, (length t.traced, (runs.0, runs.1)))
-
-  pub child-placed : (xs : List Exchange) (control : ℕ) → Makes t xs → calls_in
-      (xs ++ last ∷ []) ≡ child_calls pid control
-      → All IsGranted xs → Placed (truss_after t xs)
-  child-placed xs control makes calls granted =
-      let b = child-begins pid control last xs calls in
-      let all : All IsGranted (b.one ∷ b.two ∷ b.three ∷ b.more) = subst (All IsGranted) b.is granted in
-      let m : Makes t (b.one ∷ b.two ∷ b.three ∷ b.more) = subst (Makes t) b.is makes in
-      let accepted = granted-first b.one (b.two ∷ b.three ∷ b.more) all in
-      by b all accepted (m.1.0 ∙ ap Some b.sets) (m.1.1.0
-      ∙ ap Some b.status) (opens-control t pid (m.0 ∙ ap Some b.opens))
-    where
-      by : (b : BeginsChild pid control xs) → All IsGranted (b.one ∷ b.two ∷ b.three ∷ b.more)
-          → answer_of b.one.reply ≡ Accepted
-          → next_call_of (fed t b.one.reply) ≡ Some (message_call control (message.Set rlc_mode))
-          → next_call_of (fed (fed t b.one.reply) b.two.reply) ≡ Some (open_file pid file.Status)
-          → OpensControl pid t.stage → Placed (truss_after t xs)
-      by b all accepted second third (given stage) =
-          absurd (given-opens t pid (handle_in b.one.reply) control
-          (next-call _ (fed t b.one.reply) _ (given-fed t pid b.one.reply accepted stage) second))
-      by b all accepted second third (born parent stage) =
-          subst (λ ys. Placed (truss_after t ys)) (sym b.is)
-          (born-placed b.one (b.two ∷ b.three ∷ b.more) parent stage all (omega (arith, b.left)))
-      by b all accepted second third (freed stage) =
-          let h = handle_in b.one.reply in
-          let then : fed (fed t b.one.reply) b.two.reply ≡ with_stage t (FreeingChild pid (freeing.Close h)) =
-          ap (λ (u : TrussState). fed u b.two.reply) (freed-fed t pid b.one.reply accepted stage)
-          ∙ freed-fed-again t pid h b.two in
-          absurd (freed-closes t pid h pid (next-call _ (fed (fed t b.one.reply) b.two.reply) _ then third))
-
--- what stands before a last exchange
-pub push-same : (xs ys : List Exchange) (x y : Exchange) → xs ++ x ∷ [] ≡ ys ++ y ∷ [] → xs ≡ ys
-push-same [] [] x y is = refl
-push-same [] (b ∷ ys) x y is =
-    absurd (omega (arith, ap (λ (zs : List Exchange). length zs) is, length-append ys (y ∷ [])))
-push-same (a ∷ xs) [] x y is =
-    absurd (omega (arith, ap (λ (zs : List Exchange). length zs) is, length-append xs (x ∷ [])))
-push-same (a ∷ xs) (b ∷ ys) x y is =
-    let first : a ≡ b = cc in
-    let rest : xs ++ x ∷ [] ≡ ys ++ y ∷ [] = cc in
-    ap (λ (z : Exchange). z ∷ xs) first ∙ ap (λ (zs : List Exchange). b ∷ zs) (push-same xs ys x y rest)
 
 -- of a process that has no turn nothing is logged that is selected
 silent : (o : Options) (pid : ℕ) (h : List Entry) (s : TracedState) → All (IsNoTurnOf pid) h
@@ -128,10 +54,7 @@ module _ (n k : ℕ) (o : Options) (pid : ℕ) (s : TracedState) (before : List 
     (run : IsTrussRun n k o s (before ++ e ∷ [])) (bytes : HasBytes (before ++ e ∷ []))
     (left : IsLeftToTruss k o pid s (before ++ e ∷ [])) where
   abbrev Line : ℕ → Type 0
-  Line = Lineage k pid s (before ++ e ∷ [])
-
-  abbrev Told : ℕ → Type 0
-  Told = ToldOf k pid s (before ++ e ∷ [])
+  Line = Lineage k o pid s (before ++ e ∷ [])
 
   nowhere : {X : Type 0} (place : ℕ) → place < length (first_truss o).traced → X
   nowhere place within = absurd (omega (arith, ap (λ (ts : List Traced). length ts) (first-traced o)))
@@ -140,19 +63,19 @@ module _ (n k : ℕ) (o : Options) (pid : ℕ) (s : TracedState) (before : List 
   unclaimed p c (claims.reads place within same is) = nowhere place within
   unclaimed p c (claims.stands place free same follow process live forked) = nowhere place free.within
 
-  first-rests : Rests Line Told k o (first_truss o) s [] (before ++ e ∷ [])
+  first-rests : Rests Line k o (first_truss o) s [] (before ++ e ∷ [])
   first-rests = record {
     unmade = λ c above. All-nil (IsNoTurnOf c);
-    claimed = λ stays p c line told claim. inl (All-nil (IsNoTurnOf c));
-    forked = λ stays p c line told claim. unclaimed p c claim;
+    claimed = λ stays p c line its claim. inl (All-nil (IsNoTurnOf c));
+    forked = λ stays p c line its claim. unclaimed p c claim;
     child = λ parent place step is line. let first = first-is o 0 in absurd (first.follows parent place step is);
   }
 
-  rests : Rests Line Told k o (truss_at k o before) (state_after s before) before (e ∷ [])
+  rests : Rests Line k o (truss_at k o before) (state_after s before) before (e ∷ [])
   rests =
-      rests-after Line Told before n k o (e ∷ []) [] (first_truss o) s
-      (first-going Line Told n k o s (before ++ e ∷ []) reached run) run.legal run.makes reached.in_range bytes
-      (line-left k o pid s (before ++ e ∷ []) left) first-rests
+      rests-after Line before n k o (e ∷ []) [] (first_truss o) s
+      (first-going Line n k o s (before ++ e ∷ []) reached run) run.legal run.makes reached.in_range bytes
+      (line-left n k o pid s (before ++ e ∷ []) run left) first-rests
 
   module _ (off : watches (truss_at k o before) pid ≡ false) (followed : HasFollowed k pid (before ++ e ∷ [])) where
     on : watches (truss_at k o (before ++ e ∷ [])) pid ≡ true

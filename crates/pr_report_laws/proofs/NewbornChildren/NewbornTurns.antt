@@ -51,10 +51,10 @@ use Rattle.pr_report_laws.proofs.UnopenedChildren.ClaimEntries as entries
 use Rattle.pr_report_laws.proofs.UnopenedChildren.ClaimRuns.{call_entry}
 use Rattle.pr_report_laws.proofs.UnopenedChildren.Claims.{Claims, claim_of}
 use Rattle.pr_report_laws.proofs.UnopenedChildren.Claims as claims
-use Rattle.pr_report_laws.proofs.UnopenedChildren.LeftChildren.{LeavesTo, leaves-later}
+use Rattle.pr_report_laws.proofs.UnopenedChildren.LeftChildren.{LeavesTo, leaves-later, opens-now, parent-now}
 use Rattle.pr_report_laws.proofs.Files.FileSteps.{MakesNext, entry-lawful, makes-next}
 use Rattle.pr_report_laws.proofs.Invariant.HistoryLaw.{after-next, no-exchanges, reads-back}
-use Rattle.pr_report_laws.proofs.Machine.NewBorn.{IsNeverGranted, never-later}
+use Rattle.pr_report_laws.proofs.Machine.NewBorn.{IsNeverGranted, IsNew, is_begun, is_never, never-later, stands_new}
 use Rattle.pr_report_laws.proofs.NewbornChildren.NewbornForks.{IsForkOf, claims-forked, forked-before, forked-last}
 use Rattle.pr_report_laws.proofs.Replies.NextStages.{opens}
 use Rattle.pr_report_laws.proofs.Invariant.OpeningRuns.{born-following, child-pid}
@@ -126,12 +126,12 @@ HasRested c past = WasForked c past × All (IsNoTurnOf c) past
 -- Of what came so far no entry is a turn of a process that is not made yet; nor of a child that truss is to open, or
 -- truss never opens it; nor of the child that truss opens now. These children were made by forks in it. So it is of the
 -- processes of a line.
-pub record Rests (Line Told : ℕ → Type 0) (k : ℕ) (o : Options) (t : TrussState) (s : TracedState)
+pub record Rests (Line : ℕ → Type 0) (k : ℕ) (o : Options) (t : TrussState) (s : TracedState)
     (past h : List Entry) : Type 0 where
   pub unmade : (c : ℕ) → s.system.made ≤ c → All (IsNoTurnOf c) past
-  pub claimed : t.leaving ≡ false → (pid c : ℕ) → Line pid → Told c → Claims o t.traced t.stage s.system pid c
-      → All (IsNoTurnOf c) past ⊎ IsNeverGranted k c h
-  pub forked : t.leaving ≡ false → (pid c : ℕ) → Line pid → Told c → Claims o t.traced t.stage s.system pid c
+  pub claimed : t.leaving ≡ false → (pid c : ℕ) → Line pid → Line c → Claims o t.traced t.stage s.system pid c
+      → All (IsNoTurnOf c) past ⊎ IsNeverGranted k c t h
+  pub forked : t.leaving ≡ false → (pid c : ℕ) → Line pid → Line c → Claims o t.traced t.stage s.system pid c
       → WasForked c past
   pub child : (parent place : ℕ) (step : ChildStep) → t.stage ≡ OpeningChild parent place step
       → Line (traced_at t place).pid → HasRested (traced_at t place).pid past
@@ -146,20 +146,20 @@ data Came (o : Options) (t : TrussState) (s : TracedState) (e : Entry) (pid c : 
 abbrev ClaimsIn : Options → TrussState → TracedState → ℕ → ℕ → Type 0
 ClaimsIn o u v pid c = Claims o u.traced u.stage v.system pid c
 
-module _ (Line Told : ℕ → Type 0) (n k : ℕ) (o : Options) (t : TrussState) (s : TracedState) (h : List Entry) where
+module _ (Line : ℕ → Type 0) (n k : ℕ) (o : Options) (t : TrussState) (s : TracedState) (h : List Entry) where
   -- an entry that is no call of truss
-  others-came : (e : Entry) (g : Going Line Told k o t s (e ∷ h)) → LeavesTo Line Told k o s (e ∷ h)
-      → IsLegalEntry n s e → e.actor ≢ Controller k → t.leaving ≡ false → (pid c : ℕ) → Line pid → Told c
+  others-came : (e : Entry) (g : Going Line k o t s (e ∷ h)) → LeavesTo Line k o t (e ∷ h)
+      → IsLegalEntry n s e → e.actor ≢ Controller k → t.leaving ≡ false → (pid c : ℕ) → Line pid → Line c
       → ClaimsIn o t (after s e) pid c → Came o t s e pid c
-  others-came e g forks legal others stays pid c line told claim =
+  others-came e g forks legal others stays pid c line its claim =
       let w = g.common in
       let later = entry-lawful n s e w.lawful legal in
-      let stands = stand Line Told n k o t s h e g in
-      elim (claims-were Line Told n k o t s e h w.lawful w.fit w.files stands stays legal later others forks
-      (g.children stays) pid c line told claim) [
+      let stands = stand Line n k o t s h e g in
+      elim (claims-were Line n k o t s e h w.lawful w.fit w.files stands stays legal later others forks
+      (g.children stays) pid c line its claim) [
         | entries.claimed x ↦ was stays x
         | entries.made id actor next born ↦
-            elim (claims-forked Line Told n k o t s e h w.lawful w.fit w.files stands stays legal later others pid c
+            elim (claims-forked Line n k o t s e h w.lawful w.fit w.files stands stays legal later others pid c
             line claim) [
               | inl x ↦ was stays x
               | inr fork ↦ new next
@@ -168,42 +168,42 @@ module _ (Line Told : ℕ → Type 0) (n k : ℕ) (o : Options) (t : TrussState)
       ]
 
   -- a call of truss
-  own-came : (c : Call) (a : Answer) (g : Going Line Told k o t s (call_entry k c a ∷ h))
-      → LeavesTo Line Told k o s (call_entry k c a ∷ h) → ((pid : ℕ) → ReadsBack pid s)
+  own-came : (c : Call) (a : Answer) (g : Going Line k o t s (call_entry k c a ∷ h))
+      → LeavesTo Line k o t (call_entry k c a ∷ h) → ((pid : ℕ) → ReadsBack pid s)
       → IsLegalEntry n s (call_entry k c a) → MakesNext t (Some (record { call = c; reply = a.reply }))
       → answer_to s k c ≡ Some a
       → (fed t a.reply).leaving ≡ false → (e : Entry) (pid of : ℕ) → Line pid
       → ClaimsIn o (fed t a.reply) (after s (call_entry k c a)) pid of → Came o t s e pid of
   own-came c a g forks reads legal next answer on e pid of line claim =
-      let stays = own-stays Line Told n k o t s h c a g reads legal next answer on in
-      let later = own-after Line Told n k o t s h c a g reads legal next answer in
+      let stays = own-stays Line n k o t s h c a g reads legal next answer on in
+      let later = own-after Line n k o t s h c a g reads legal next answer in
       let w = g.common in
       was stays
-      (claims-before Line Told n k o t s c a (is-own Line Told n k o t s h c a g reads legal next answer stays) w.leaves
+      (claims-before Line n k o t s c a (is-own Line n k o t s h c a g reads legal next answer stays) w.leaves
       h (g.children stays) forks on pid of line
       (subst (λ (v : TracedState). ClaimsIn o (fed t a.reply) v pid of) later claim))
 
   module _ (reads : (pid : ℕ) → ReadsBack pid s) where
     call-came : (by : ℕ) (c : Call) (r : Reply) (mine : Bool) → (by == k) ≡ mine
-        → Going Line Told k o t s (record { actor = Controller by; act = act.Call c r } ∷ h)
-        → LeavesTo Line Told k o s (record { actor = Controller by; act = act.Call c r } ∷ h)
+        → Going Line k o t s (record { actor = Controller by; act = act.Call c r } ∷ h)
+        → LeavesTo Line k o t (record { actor = Controller by; act = act.Call c r } ∷ h)
         → IsLegalEntry n s (record { actor = Controller by; act = act.Call c r })
         → MakesNext t (cond mine (Some (record { call = c; reply = r })) None)
         → (with_exchange t (cond mine (Some (record { call = c; reply = r })) None)).leaving ≡ false
-        → (pid of : ℕ) → Line pid → Told of
+        → (pid of : ℕ) → Line pid → Line of
         → ClaimsIn o (with_exchange t (cond mine (Some (record { call = c; reply = r })) None))
         (after s (record { actor = Controller by; act = act.Call c r })) pid of
         → Came o t s (record { actor = Controller by; act = act.Call c r }) pid of
     unfolding IsLegalEntry
-    call-came by c r false is g forks legal next on pid of line told claim =
+    call-came by c r false is g forks legal next on pid of line its claim =
         others-came (record { actor = Controller by; act = act.Call c r }) g forks legal
-        (λ same. eqb-false by k is (of-controller by k same)) on pid of line told claim
+        (λ same. eqb-false by k is (of-controller by k same)) on pid of line its claim
       where
         of-controller : (x y : ℕ) → Controller x ≡ Controller y → x ≡ y
         of-controller x y same = cc
-    call-came by c r true is g forks legal next on pid of line told claim =
-        subst (λ b. Going Line Told k o t s (record { actor = Controller b; act = act.Call c r } ∷ h)
-        → LeavesTo Line Told k o s (record { actor = Controller b; act = act.Call c r } ∷ h) → IsLegalEntry n s
+    call-came by c r true is g forks legal next on pid of line its claim =
+        subst (λ b. Going Line k o t s (record { actor = Controller b; act = act.Call c r } ∷ h)
+        → LeavesTo Line k o t (record { actor = Controller b; act = act.Call c r } ∷ h) → IsLegalEntry n s
         (record { actor = Controller b; act = act.Call c r })
         → answer_to s b c ≡ Some (record { state = legal.1.0; reply = r })
         → ClaimsIn o (fed t r) (after s (record { actor = Controller b; act = act.Call c r })) pid of
@@ -212,29 +212,29 @@ module _ (Line Told : ℕ → Type 0) (n k : ℕ) (o : Options) (t : TrussState)
         (λ g' fs l answer x. own-came c (record { state = legal.1.0; reply = r }) g' fs reads l next answer on
         (record { actor = Controller by; act = act.Call c r }) pid of line x) g forks legal legal.1.1 claim
 
-    actor-came : (actor : Actor) (it : Act) → Going Line Told k o t s (record { actor = actor; act = it } ∷ h)
-        → LeavesTo Line Told k o s (record { actor = actor; act = it } ∷ h)
+    actor-came : (actor : Actor) (it : Act) → Going Line k o t s (record { actor = actor; act = it } ∷ h)
+        → LeavesTo Line k o t (record { actor = actor; act = it } ∷ h)
         → IsLegalEntry n s (record { actor = actor; act = it }) → MakesNext t (exchange_in k actor it)
         → (with_exchange t (exchange_in k actor it)).leaving ≡ false → (pid c : ℕ)
-        → Line pid → Told c
+        → Line pid → Line c
         → ClaimsIn o (with_exchange t (exchange_in k actor it)) (after s (record { actor = actor; act = it })) pid c
         → Came o t s (record { actor = actor; act = it }) pid c
     unfolding IsLegalEntry
-    actor-came (Controller by) (act.Call c r) g forks legal next on pid of line told claim =
-        call-came by c r (by == k) refl g forks legal next on pid of line told claim
-    actor-came (Lwp who id) it g forks legal next on pid c line told claim =
-        others-came (record { actor = Lwp who id; act = it }) g forks legal (λ same. cc) on pid c line told claim
-    actor-came Clock it g forks legal next on pid c line told claim =
-        others-came (record { actor = Clock; act = it }) g forks legal (λ same. cc) on pid c line told claim
-    actor-came (Controller by) (act.Turn did) g forks legal next on pid c line told claim = absurd legal
-    actor-came (Controller by) (act.Tick moment) g forks legal next on pid c line told claim = absurd legal
+    actor-came (Controller by) (act.Call c r) g forks legal next on pid of line its claim =
+        call-came by c r (by == k) refl g forks legal next on pid of line its claim
+    actor-came (Lwp who id) it g forks legal next on pid c line its claim =
+        others-came (record { actor = Lwp who id; act = it }) g forks legal (λ same. cc) on pid c line its claim
+    actor-came Clock it g forks legal next on pid c line its claim =
+        others-came (record { actor = Clock; act = it }) g forks legal (λ same. cc) on pid c line its claim
+    actor-came (Controller by) (act.Turn did) g forks legal next on pid c line its claim = absurd legal
+    actor-came (Controller by) (act.Tick moment) g forks legal next on pid c line its claim = absurd legal
 
 -- ---- what an entry leaves
 
-module _ (Line Told : ℕ → Type 0) (n k : ℕ) (o : Options) (t : TrussState) (s : TracedState) (h past : List Entry)
-    (e : Entry) (g : Going Line Told k o t s (e ∷ h)) (reads : (pid : ℕ) → ReadsBack pid s)
-    (forks : LeavesTo Line Told k o s (e ∷ h)) (legal : IsLegalEntry n s e) (next : MakesNext t (exchange_of k e))
-    (r : Rests Line Told k o t s past (e ∷ h)) where
+module _ (Line : ℕ → Type 0) (n k : ℕ) (o : Options) (t : TrussState) (s : TracedState) (h past : List Entry)
+    (e : Entry) (g : Going Line k o t s (e ∷ h)) (reads : (pid : ℕ) → ReadsBack pid s)
+    (forks : LeavesTo Line k o t (e ∷ h)) (legal : IsLegalEntry n s e) (next : MakesNext t (exchange_of k e))
+    (r : Rests Line k o t s past (e ∷ h)) where
   lawful : IsLawful s
   lawful = let w = g.common in w.lawful
 
@@ -263,29 +263,34 @@ module _ (Line Told : ℕ → Type 0) (n k : ℕ) (o : Options) (t : TrussState)
 
   -- ---- a child that truss is to open
 
-  claim-later : (stays : t.leaving ≡ false) (pid c : ℕ) → Line pid → Told c → ClaimsIn o t s pid c
-      → All (IsNoTurnOf c) (past ++ e ∷ []) ⊎ IsNeverGranted k c h
-  claim-later stays pid c line told claim =
+  still-later : (stays : t.leaving ≡ false) (pid c : ℕ) → Line pid → Line c → ClaimsIn o t s pid c
+      → ((p : TracedProcess) → live_process s.system c ≡ Some p → IsNew o p)
+      → All (IsNoTurnOf c) (past ++ e ∷ []) ⊎ IsNeverGranted k c (told_of k t e) h
+  still-later stays pid c line its claim born = elim (r.claimed stays pid c line its claim) [
+    | inr never ↦ inr (never-later k c t e h never)
+    | inl all ↦ inl
+        (pushed c (still-turn n s c e legal (λ p live. let is = born p live in is.birth.waits.frozen)) all)
+  ]
+
+  claim-later : (stays : t.leaving ≡ false) (pid c : ℕ) → Line pid → Line c → ClaimsIn o t s pid c
+      → All (IsNoTurnOf c) (past ++ e ∷ []) ⊎ IsNeverGranted k c (told_of k t e) h
+  claim-later stays pid c line its claim =
       let f = g.children stays in
-      let b = f.born pid c line told claim in
+      let b = f.born pid c line its claim in
       elim b.now [
-        | inr never ↦ inr (never-later k c e h never)
-        | inl untouched ↦ elim (r.claimed stays pid c line told claim) [
-          | inr never ↦ inr (never-later k c e h never)
-          | inl all ↦ inl
-              (pushed c
-              (still-turn n s c e legal (λ p live. let is = untouched.born p live in is.birth.waits.frozen)) all)
-        ]
+        | is_never never ↦ inr (never-later k c t e h never)
+        | stands_new untouched ↦ still-later stays pid c line its claim untouched.born
+        | is_begun begun ↦ still-later stays pid c line its claim begun.born
       ]
 
-  came-forked : (pid c : ℕ) → Line pid → Told c → Came o t s e pid c → WasForked c (past ++ e ∷ [])
-  came-forked pid c line told (was stays claim) = forked-before c past e (r.forked stays pid c line told claim)
-  came-forked pid c line told (new is fork) = forked-last c past e fork
+  came-forked : (pid c : ℕ) → Line pid → Line c → Came o t s e pid c → WasForked c (past ++ e ∷ [])
+  came-forked pid c line its (was stays claim) = forked-before c past e (r.forked stays pid c line its claim)
+  came-forked pid c line its (new is fork) = forked-last c past e fork
 
-  came-later : (pid c : ℕ) → Line pid → Told c → Came o t s e pid c
-      → All (IsNoTurnOf c) (past ++ e ∷ []) ⊎ IsNeverGranted k c h
-  came-later pid c line told (was stays claim) = claim-later stays pid c line told claim
-  came-later pid c line told (new is fork) =
+  came-later : (pid c : ℕ) → Line pid → Line c → Came o t s e pid c
+      → All (IsNoTurnOf c) (past ++ e ∷ []) ⊎ IsNeverGranted k c (told_of k t e) h
+  came-later pid c line its (was stays claim) = claim-later stays pid c line its claim
+  came-later pid c line its (new is fork) =
       inl (pushed c (unmade-turn c (omega (arith, is))) (r.unmade c (omega (arith, is))))
 
   -- ---- the child that truss opens
@@ -326,16 +331,15 @@ module _ (Line Told : ℕ → Type 0) (n k : ℕ) (o : Options) (t : TrussState)
         let its_claim : claim_of o t.stage parent ≡ Some pid =
         ap (λ (y : Stage). claim_of o y parent) is ∙ ap (λ b. cond b (Some pid) None) (eq-eqb parent parent refl) in
         let claim : ClaimsIn o t s (traced_at t parent).pid pid = claims.reads parent within refl its_claim in
-        let f = g.children stays in
-        let its = f.parents parent pid within its_claim line in
         let given = opened-handle parent pid is accepted in
         let entry : e ≡ granted k pid 0 file.Ctl WriteExcl given.0 =
-        child-granted Line Told n k o t s h e x pid given.0 parent next its_exchange is given.1 in
-        elim (r.claimed stays (traced_at t parent).pid pid its.0 its.1 claim) [
+        child-granted Line n k o t s h e x pid given.0 parent next its_exchange is given.1 in
+        let above = parent-now Line k o t e h forks pid parent given.0 entry is line in
+        elim (r.claimed stays (traced_at t parent).pid pid above line claim) [
           | inl all ↦
-              (r.forked stays (traced_at t parent).pid pid its.0 its.1 claim, all)
+              (r.forked stays (traced_at t parent).pid pid above line claim, all)
           | inr never ↦ absurd
-              (never.none [] h given.0 (ap (λ y. y ∷ h) entry))
+              (never.none (opens-now k pid parent given.0 t e h entry is))
         ]
 
     opens-past : (u : TrussState) (q : ℕ) → Opens t x.reply q u → (parent place : ℕ) (step : ChildStep)
@@ -390,40 +394,40 @@ module _ (Line Told : ℕ → Type 0) (n k : ℕ) (o : Options) (t : TrussState)
       rested (traced_at (fed t x.reply) place).pid (call-turn k (traced_at (fed t x.reply) place).pid e x is)
       (how-past x is (fed t x.reply) c.how parent place step now line)
 
-  pub rests-on : Rests Line Told k o (told_of k t e) (after s e) (past ++ e ∷ []) h
+  pub rests-on : Rests Line k o (told_of k t e) (after s e) (past ++ e ∷ []) h
   rests-on = record {
     unmade = unmade-later;
     claimed =
-        λ on pid c line told claim. came-later pid c line told
-        (actor-came Line Told n k o t s h reads e.actor e.act g forks legal next on pid c line told claim);
+        λ on pid c line its claim. came-later pid c line its
+        (actor-came Line n k o t s h reads e.actor e.act g forks legal next on pid c line its claim);
     forked =
-        λ on pid c line told claim. came-forked pid c line told
-        (actor-came Line Told n k o t s h reads e.actor e.act g forks legal next on pid c line told claim);
+        λ on pid c line its claim. came-forked pid c line its
+        (actor-came Line n k o t s h reads e.actor e.act g forks legal next on pid c line its claim);
     child = child-later (exchange_of k e) refl;
   }
 
 -- ---- histories
 
-pub rests-after : (Line Told : ℕ → Type 0) (before : List Entry) (n k : ℕ) (o : Options) (rest past : List Entry)
-    (t : TrussState) (s : TracedState) → Going Line Told k o t s (before ++ rest) → IsLegal n s (before ++ rest)
+pub rests-after : (Line : ℕ → Type 0) (before : List Entry) (n k : ℕ) (o : Options) (rest past : List Entry)
+    (t : TrussState) (s : TracedState) → Going Line k o t s (before ++ rest) → IsLegal n s (before ++ rest)
     → Makes t (exchanges k (before ++ rest)) → IsInRange s.system → HasBytes (before ++ rest)
-    → LeavesTo Line Told k o s (before ++ rest) → Rests Line Told k o t s past (before ++ rest)
-    → Rests Line Told k o (truss_after t (exchanges k before)) (state_after s before) (past ++ before) rest
-rests-after Line Told [] n k o rest past t s g legal makes range bytes forks r =
-    subst (λ (u : TrussState). Rests Line Told k o u s (past ++ []) rest) (sym (no-exchanges k t))
-    (subst (λ (es : List Entry). Rests Line Told k o t s es rest) (sym (append-nil past)) r)
-rests-after Line Told (e ∷ before) n k o rest past t s g legal makes range bytes forks r =
+    → LeavesTo Line k o t (before ++ rest) → Rests Line k o t s past (before ++ rest)
+    → Rests Line k o (truss_after t (exchanges k before)) (state_after s before) (past ++ before) rest
+rests-after Line [] n k o rest past t s g legal makes range bytes forks r =
+    subst (λ (u : TrussState). Rests Line k o u s (past ++ []) rest) (sym (no-exchanges k t))
+    (subst (λ (es : List Entry). Rests Line k o t s es rest) (sym (append-nil past)) r)
+rests-after Line (e ∷ before) n k o rest past t s g legal makes range bytes forks r =
     let first = makes-next k t e (before ++ rest) makes in
     let w = g.common in
     let reads : (pid : ℕ) → ReadsBack pid s = λ pid. reads-back pid s w.lawful range in
-    let later = rests-on Line Told n k o t s (before ++ rest) past e g reads forks legal.0 first.0 r in
-    subst (λ (u : TrussState). Rests Line Told k o u (state_after (after s e) before) (past ++ e ∷ before) rest)
+    let later = rests-on Line n k o t s (before ++ rest) past e g reads forks legal.0 first.0 r in
+    subst (λ (u : TrussState). Rests Line k o u (state_after (after s e) before) (past ++ e ∷ before) rest)
     (sym (after-next k t e before))
-    (subst (λ (es : List Entry). Rests Line Told k o (truss_after (told_of k t e) (exchanges k before))
+    (subst (λ (es : List Entry). Rests Line k o (truss_after (told_of k t e) (exchanges k before))
     (state_after (after s e) before) es rest) (append_assoc past (e ∷ []) before)
-    (rests-after Line Told before n k o rest (past ++ e ∷ []) (told_of k t e) (after s e)
-    (going-on Line Told n k o t s (before ++ rest) reads e g forks legal.0 first.0) legal.1 first.1
+    (rests-after Line before n k o rest (past ++ e ∷ []) (told_of k t e) (after s e)
+    (going-on Line n k o t s (before ++ rest) reads e g forks legal.0 first.0) legal.1 first.1
     (history-range n s (e ∷ []) w.lawful range
     (All-cons IsEntryOfBytes e [] (All-head IsEntryOfBytes e (before ++ rest) bytes) (All-nil IsEntryOfBytes))
     (legal.0, tt)) (All-tail IsEntryOfBytes e (before ++ rest) bytes)
-    (leaves-later Line Told k o s e (before ++ rest) forks) later))
+    (leaves-later Line k o t e (before ++ rest) forks) later))

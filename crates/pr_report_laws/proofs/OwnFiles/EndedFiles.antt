@@ -1,5 +1,5 @@
-use Rattle.std.proofs.Common.{◌≡◌, ◌==◌, ◌&&◌, ◌<◌, ◌≤◌, ◌+◌, ◌⊎◌, ◌++◌, ℕ, zero, suc, Bool, true, false, cond, Option, Some, None, List, [], ◌∷◌, length, refl, sym, subst, ap, ◌∙◌, arith, inl, inr}
-use Rattle.std.proofs.lemmas.Bool.{and_parts, cases_Bool, eq-eqb, eqb-true}
+use Rattle.std.proofs.Common.{◌≡◌, ◌==◌, ◌<◌, ◌≤◌, ◌+◌, ◌⊎◌, ◌++◌, ℕ, zero, suc, Bool, true, false, cond, Option, Some, None, List, [], ◌∷◌, length, refl, sym, subst, ap, ◌∙◌, arith, inl, inr}
+use Rattle.std.proofs.lemmas.Bool.{cases_Bool, eq-eqb, eqb-true}
 use Rattle.std.proofs.lemmas.List.{length-set}
 use Rattle.std.proofs.lemmas.List.Sums.{sum_by-append}
 use Rattle.std.proofs.lemmas.Option.{none-some, same_Some}
@@ -49,12 +49,13 @@ use Rattle.pr_truss_laws.specs.Runs.{IsTrussRun}
 use Rattle.pr_report_laws.proofs.Files.FileLaws.{FileOf, HasFiles, IsFileOf, free-apart, has-each}
 use Rattle.pr_report_laws.proofs.Files.FileSteps.{MakesNext, makes-next}
 use Rattle.pr_report_laws.proofs.Files.FileUses as uses
+use Rattle.pr_report_laws.proofs.Files.FileUses.{freed_control}
 use Rattle.pr_report_laws.proofs.Files.KeepLemmas.{FilesAre}
 use Rattle.pr_report_laws.proofs.Files.WatchHistories.{Reaches, run-reaches}
 use Rattle.pr_report_laws.proofs.ToldForks.ToldReads.{file-has}
 use Rattle.pr_report_laws.proofs.Watching.HistoryParts.{front-run, rest-makes}
 use Rattle.pr_report_laws.specs.Attachments.{HasFile}
-use Rattle.pr_report_laws.specs.OwnFiles.{AreAllOf, CloseFirst, ClosesAllThatEnded}
+use Rattle.pr_report_laws.specs.OwnFiles.{AreAllOf, CloseAllOf, CloseFirst, ClosesAllThatEnded}
 use Rattle.pr_report_laws.specs.Watching.{place_of, with_exchange}
 
 -- Where truss is told that a process has ended it closes all files of it that it has open.
@@ -77,7 +78,7 @@ among-either (Some x) h hs a = by a.place a.is
     by zero is = inl is
     by (suc i) is = inr (record { place = i; is = is })
 
-among-one : (h x : ℕ) → IsAmong h (x ∷ []) → x ≡ h
+pub among-one : (h x : ℕ) → IsAmong h (x ∷ []) → x ≡ h
 among-one h x a = by a.place a.is
   where
     by : (place : ℕ) → slice_get (x ∷ []) place ≡ Some h → x ≡ h
@@ -169,7 +170,7 @@ closed-first s place next t x xs at within closes later (Some u) first makes =
     subst (CloseFirst (x ∷ xs)) (sym first)
     (closes, subst (λ (v : Traced). CloseFirst xs (handles_of v)) (set-at s.traced place u within) it)
 
-closes-all : (xs : List Exchange) (s : TrussState) (place : ℕ) (next : AfterClosing) → s.stage ≡ Closing place next
+pub closes-all : (xs : List Exchange) (s : TrussState) (place : ℕ) (next : AfterClosing) → s.stage ≡ Closing place next
     → place < length s.traced → Makes s xs → CloseFirst xs (handles_of (traced_at s place))
 closes-all [] s place next at within makes = tt
 closes-all (x ∷ xs) s place next at within makes =
@@ -178,6 +179,74 @@ closes-all (x ∷ xs) s place next at within makes =
     (same_Some x.call (call.Close (last_handle t)) (sym makes.0 ∙ closes-next s t place next at refl))
     (λ u. closes-all xs u place next) (without_last t) (closes-first t)
     (subst (λ u. Makes u xs) (close-fed s x.reply place next at) makes.1)
+
+-- ---- all files of a process
+
+module _ (k : ℕ) (t : TrussState) (s : TracedState) (g : Reaches k t s) (pid : ℕ) where
+  -- a handle of the process is held at a place of it, or by a child that is set free
+  found : (h : ℕ) (x : Held) → handle_of s.opens k h ≡ Some x → x.pid ≡ pid
+      → 1 ≤ sum_by (of_traced pid h) t.traced + of_stage pid h t.stage
+  unfolding held
+  found h x at its =
+      let owns : Owns k t s = g.owns in
+      omega (arith, owns.counts pid h, ap (owned pid) at, ap unit (eq-eqb x.pid pid its))
+
+  -- those of a place are all that truss has of its process
+  pub all-of : (place : ℕ) → place < length t.traced → (traced_at t place).pid ≡ pid
+      → ((h : ℕ) → of_stage pid h t.stage ≡ 0) → AreAllOf k pid s (handles_of (traced_at t place))
+  all-of place within its alone =
+      let files : HasFiles k t s = g.files in
+      record {
+        all = λ h x at same.
+            let q = some-at (of_traced pid h) t.traced (omega (arith, found h x at same, alone h)) in
+            let own = holds-of pid h (at_place t.traced q.0) q.1.1 in
+            let is : q.0 ≡ place =
+            same_Some q.0 place
+            (sym (files.one q.0 q.1.0) ∙ ap (place_of t) (own.0 ∙ sym its) ∙ files.one place within) in
+            holds-among h (traced_at t place) (subst (λ n. 1 ≤ handles_in h (at_place t.traced n)) is own.1);
+        only = λ h among.
+            let it = handles-files k s (traced_at t place) (has-each k t s files place within) h among in
+            (it.0, subst (λ n. HasFile k n it.0 h s) its it.1);
+      }
+
+  stage-none : (control h : ℕ) (now : FreeingStep) → freed_control now ≡ Some control → (control == h) ≡ false
+      → of_stage pid h (FreeingChild pid now) ≡ 0
+  stage-none control h freeing.OpenControl its other = refl
+  stage-none control h (freeing.SetRelease m) its other =
+      rw (eq-eqb pid pid refl, subst (λ n. (n == h) ≡ false) (sym (same_Some m control its)) other) refl
+  stage-none control h (freeing.Close m) its other =
+      rw (eq-eqb pid pid refl, subst (λ n. (n == h) ≡ false) (sym (same_Some m control its)) other) refl
+
+  -- a child that is set free has its control file alone
+  pub freed-all : (control : ℕ) (now : FreeingStep) → t.stage ≡ FreeingChild pid now
+      → freed_control now ≡ Some control → AreAllOf k pid s (control ∷ [])
+  freed-all control now at its =
+      let files : HasFiles k t s = g.files in
+      let owns : Owns k t s = g.owns in
+      let lawful : IsLawful s = g.lawful in
+      let f = uses.freed-file k t s files pid control now at its in
+      let once : of_stage pid control t.stage ≡ 1 =
+      ap (of_stage pid control) at ∙ uses.freed-once k t s files pid control now its in
+      let apart = free-apart k t s owns lawful.exclusive (has-each k t s files) pid control once f in
+      record {
+        all = λ h x held own. by h (found h x held own) (λ q within. apart q within);
+        only = λ h among. (
+          file.Ctl,
+          subst (λ n. HasFile k pid file.Ctl n s) (among-one h control among)
+              (file-has k pid file.Ctl WriteExcl control s f),
+        );
+      }
+    where
+      by : (h : ℕ) → 1 ≤ sum_by (of_traced pid h) t.traced + of_stage pid h t.stage
+          → ((q : ℕ) → q < length t.traced → (traced_at t q).pid ≡ pid → ⊥) → IsAmong h (control ∷ [])
+      by h some apart = elim (cases_Bool (control == h)) [
+        | inl this ↦ record { place = 0; is = ap Some (eqb-true control h this) }
+        | inr other ↦
+            let none : of_stage pid h t.stage ≡ 0 = ap (of_stage pid h) at ∙ stage-none control h now its other in
+            let q = some-at (of_traced pid h) t.traced (omega (arith, some, none)) in
+            let own = holds-of pid h (at_place t.traced q.0) q.1.1 in
+            absurd (apart q.0 q.1.0 own.0)
+      ]
 
 -- ---- the reply
 
@@ -197,43 +266,18 @@ module _ (k : ℕ) (t : TrussState) (s : TracedState) (g : Reaches k t s) (pid h
   owns : Owns k t s
   owns = g.owns
 
-  -- what is said of the end
-  abbrev Closes : Type 0
-  Closes = (handles : List ℕ) × (AreAllOf k pid s handles × CloseFirst xs handles)
-
-  -- a handle of the process is held at a place of it, or by a child that is set free
-  found : (h : ℕ) (g : Held) → handle_of s.opens k h ≡ Some g → g.pid ≡ pid
-      → 1 ≤ sum_by (of_traced pid h) t.traced + of_stage pid h t.stage
-  unfolding held
-  found h g at its =
-      omega (arith, owns.counts pid h, ap (owned pid) at, ap unit (eq-eqb g.pid pid its))
-
   -- a file of a place is of this process
   file-pid : {of_pid : ℕ} {f : File} {mode : Mode} → IsFileOf k s of_pid handle f mode → of_pid ≡ pid
   file-pid its = ap (λ (x : Held). x.pid) (same_Some _ mine (sym its.is ∙ there)) ∙ of
 
   module _ (place : ℕ) (within : place < length t.traced) (its : (traced_at t place).pid ≡ pid)
       (alone : (h : ℕ) → of_stage pid h t.stage ≡ 0) where
-    all-of : AreAllOf k pid s (handles_of (traced_at t place))
-    all-of = record {
-      all = λ h x at same.
-          let q = some-at (of_traced pid h) t.traced (omega (arith, found h x at same, alone h)) in
-          let own = holds-of pid h (at_place t.traced q.0) q.1.1 in
-          let is : q.0 ≡ place =
-          same_Some q.0 place
-          (sym (files.one q.0 q.1.0) ∙ ap (place_of t) (own.0 ∙ sym its) ∙ files.one place within) in
-          holds-among h (traced_at t place) (subst (λ n. 1 ≤ handles_in h (at_place t.traced n)) is own.1);
-      only = λ h among.
-          let it = handles-files k s (traced_at t place) (has-each k t s files place within) h among in
-          (it.0, subst (λ n. HasFile k n it.0 h s) its it.1);
-    }
-
     closing : (u : TrussState) (next : AfterClosing) → fed t ended ≡ u → u.stage ≡ Closing place next
-        → u.traced ≡ t.traced → Closes
+        → u.traced ≡ t.traced → CloseAllOf k pid s xs
     closing u next is at same = (
       handles_of (traced_at t place),
       (
-        all-of,
+        all-of k t s g pid place within its alone,
         subst (λ ts. CloseFirst xs (handles_of (at_place ts place))) same
             (closes-all xs u place next at (subst (λ ts. place < length ts) (sym same) within)
             (subst (λ v. Makes v xs) is makes)),
@@ -270,7 +314,7 @@ module _ (k : ℕ) (t : TrussState) (s : TracedState) (g : Reaches k t s) (pid h
   opening-of place _ at within is = by-control place within is
 
   child-of : (parent place : ℕ) (now : ChildStep) → t.stage ≡ OpeningChild parent place now → place < length t.traced
-      → goes_to (child_call (traced_at t place) now) ≡ Some handle → Closes
+      → goes_to (child_call (traced_at t place) now) ≡ Some handle → CloseAllOf k pid s xs
   unfolding fed with_reply answer_of child_call with_child_answered with_child_step_answered with_child_started
       with_refused_child_step
   child-of parent place child.SetRelease at within is =
@@ -283,46 +327,13 @@ module _ (k : ℕ) (t : TrussState) (s : TracedState) (g : Reaches k t s) (pid h
   child-of parent place child.OpenLstatus at within is = cc
   child-of parent place child.OpenMemory at within is = cc
 
-  -- a child that is set free has its control file alone
-  freed-all : (of_child control : ℕ) → t.stage ≡ FreeingChild of_child (freeing.SetRelease control)
-      → Some control ≡ Some handle → AreAllOf k pid s (control ∷ [])
-  freed-all of_child control at is =
-      let its = uses.freed-file k t s files of_child control (freeing.SetRelease control) at refl in
-      let same : of_child ≡ pid =
-      file-pid (subst (λ n. IsFileOf k s of_child n file.Ctl WriteExcl) (same_Some control handle is) its) in
-      let once : of_stage of_child control t.stage ≡ 1 = ap (of_stage of_child control) at ∙ freed-once in
-      let lawful : IsLawful s = g.lawful in
-      let apart = free-apart k t s owns lawful.exclusive (has-each k t s files) of_child control once its in
-      record {
-        all = λ h x held own. by h (found h x held own) (λ q within. apart q within) same;
-        only = λ h among. (
-          file.Ctl,
-          subst (λ n. HasFile k pid file.Ctl n s) (among-one h control among)
-              (subst (λ n. HasFile k n file.Ctl control s) same
-              (file-has k of_child file.Ctl WriteExcl control s its)),
-        );
-      }
-    where
-      freed-once : unit ((of_child == of_child) && (control == control)) ≡ 1
-      freed-once =
-          ap unit
-          (ap (λ b. b && (control == control)) (eq-eqb of_child of_child refl) ∙ eq-eqb control control refl)
-
-      by : (h : ℕ) → 1 ≤ sum_by (of_traced pid h) t.traced + of_stage pid h t.stage
-          → ((q : ℕ) → q < length t.traced → (traced_at t q).pid ≡ of_child → ⊥) → of_child ≡ pid
-          → IsAmong h (control ∷ [])
-      by h some apart same =
-          elim (cases_Bool ((of_child == pid) && (control == h))) [
-            | inl this ↦ record {
-              place = 0;
-              is = ap Some (eqb-true control h ((and_parts (of_child == pid) (control == h) this).1));
-            }
-            | inr other ↦
-                let none : of_stage pid h t.stage ≡ 0 = ap (of_stage pid h) at ∙ ap unit other in
-                let q = some-at (of_traced pid h) t.traced (omega (arith, some, none)) in
-                let own = holds-of pid h (at_place t.traced q.0) q.1.1 in
-                absurd (apart q.0 q.1.0 (own.0 ∙ sym same))
-          ]
+  -- it is the child
+  freed-of : (of_child control : ℕ) → t.stage ≡ FreeingChild of_child (freeing.SetRelease control)
+      → Some control ≡ Some handle → of_child ≡ pid
+  freed-of of_child control at is =
+      file-pid
+      (subst (λ n. IsFileOf k s of_child n file.Ctl WriteExcl) (same_Some control handle is)
+      (uses.freed-file k t s files of_child control (freeing.SetRelease control) at refl))
 
   freed-closes : (of_child control : ℕ) (u : TrussState) (ys : List Exchange)
       → next_call_of u ≡ Some (call.Close control) → Makes u ys → CloseFirst ys (control ∷ [])
@@ -335,7 +346,7 @@ module _ (k : ℕ) (t : TrussState) (s : TracedState) (g : Reaches k t s) (pid h
       nothing (z ∷ zs) = tt
 
   freeing-of : (of_child : ℕ) (now : FreeingStep) → t.stage ≡ FreeingChild of_child now
-      → goes_to (freeing_call of_child now) ≡ Some handle → Closes
+      → goes_to (freeing_call of_child now) ≡ Some handle → CloseAllOf k pid s xs
   unfolding fed with_reply freeing_call with_freeing_answered next_call_of call_of
   freeing-of of_child freeing.OpenControl at is = cc
   freeing-of of_child (freeing.SetRelease control) at is =
@@ -343,14 +354,16 @@ module _ (k : ℕ) (t : TrussState) (s : TracedState) (g : Reaches k t s) (pid h
       ap (with_reply t ended) at in (
         control ∷ [],
         (
-          freed-all of_child control at is,
+          freed-all k t s g pid control (freeing.SetRelease control)
+              (at ∙ ap (λ c. FreeingChild c (freeing.SetRelease control)) (freed-of of_child control at is)) refl,
           freed-closes of_child control (with_stage t (FreeingChild of_child (freeing.Close control))) xs refl
               (subst (λ v. Makes v xs) to makes),
         ),
       )
   freeing-of of_child (freeing.Close control) at is = cc
 
-  stage-of : (stage : Stage) → t.stage ≡ stage → Fits t.traced stage → goes (call_of t stage) ≡ Some handle → Closes
+  stage-of : (stage : Stage) → t.stage ≡ stage → Fits t.traced stage → goes (call_of t stage) ≡ Some handle
+      → CloseAllOf k pid s xs
   unfolding fed with_reply answer_of call_of with_step_answered with_refused_step with_status_answered
       with_text_answered after_text with_event_shown with_run_answered with_unfollowed with_lwps_answered
   stage-of (Opening place now) at f is =
@@ -385,7 +398,7 @@ module _ (k : ℕ) (t : TrussState) (s : TracedState) (g : Reaches k t s) (pid h
   stage-of (FreeingChild of_child now) at f is = freeing-of of_child now at is
   stage-of _ at f is = cc
 
-  pub next-closes : (c : Call) → next_call_of t ≡ Some c → goes_to c ≡ Some handle → Closes
+  pub next-closes : (c : Call) → next_call_of t ≡ Some c → goes_to c ≡ Some handle → CloseAllOf k pid s xs
   unfolding next_call_of
   next-closes c is to = stage-of t.stage refl owns.fits (ap goes is ∙ to)
 

@@ -42,7 +42,7 @@ use Rattle.pr_report_laws.specs.Watching.{is_away, place_of, watches}
 
 -- ---- the stages that close
 
-data ClosesBy (t : TrussState) (handle : ℕ) (stage : Stage) : Type 0 where
+pub data ClosesBy (t : TrussState) (handle : ℕ) (stage : Stage) : Type 0 where
   closing : (place : ℕ) (next : AfterClosing) → stage ≡ Closing place next → last_handle (traced_at t place) ≡ handle
       → ClosesBy t handle stage
   freed : (pid : ℕ) → stage ≡ FreeingChild pid (freeing.Close handle) → ClosesBy t handle stage
@@ -79,9 +79,19 @@ module _ (t : TrussState) (handle : ℕ) where
   stage-closes Finished is = absurd (none-some _ is)
   stage-closes _ is = cc
 
-  next-closes : next_call_of t ≡ Some (call.Close handle) → ClosesBy t handle t.stage
+  pub next-closes : next_call_of t ≡ Some (call.Close handle) → ClosesBy t handle t.stage
   unfolding next_call_of
   next-closes is = stage-closes t.stage is
+
+-- ---- a handle is of one file
+
+pub file-one : (k : ℕ) (s : TracedState) (pid handle : ℕ) (f : File) → HasFile k pid f handle s → (of number : ℕ)
+    (other : File) (mode : Mode) → IsFileOf k s of number other mode → number ≡ handle → (other ≡ f) × (of ≡ pid)
+file-one k s pid handle f mine of number other mode its same =
+    let held : Held = record { controller = k; pid = of; lwp = 0; file = other; mode = mode } in
+    let is : held ≡ mine.held =
+    same_Some held mine.held (sym its.is ∙ ap (λ m. handle_of s.opens k m) same ∙ mine.there) in
+    (ap (λ (h : Held). h.file) is ∙ mine.file, ap (λ (h : Held). h.pid) is ∙ mine.of)
 
 -- ---- it does not watch the process then
 
@@ -96,10 +106,7 @@ module _ (k pid : ℕ) (t : TrussState) (s : TracedState) (g : Reaches k t s) (h
   same-process : (of : ℕ) (other : File) (mode : Mode) (number : ℕ) → IsFileOf k s of number other mode
       → number ≡ handle → of ≡ pid
   same-process of other mode number its same =
-      let held : Held = record { controller = k; pid = of; lwp = 0; file = other; mode = mode } in
-      let is : held ≡ mine.held =
-      same_Some held mine.held (sym its.is ∙ ap (λ m. handle_of s.opens k m) same ∙ mine.there) in
-      ap (λ (h : Held). h.pid) is ∙ mine.of
+      let one = file-one k s pid handle f mine of number other mode its same in one.1
 
   pub closes-unwatched : watches t pid ≡ false
   closes-unwatched = by (next-closes t handle next)

@@ -6,45 +6,24 @@ use Rattle.pr_model.specs.declared.calls.File.TheVariants.{Ctl}
 use Rattle.pr_model.specs.declared.events.Entry.{Entry}
 use Rattle.pr_truss.specs.NextCalls.{next_call_of}
 use Rattle.pr_truss.specs.Trusses.{TrussState, first_truss, traced_at}
-use Rattle.pr_truss.specs.declared.stages.Stage.TheVariants.{OpeningChildControl}
 use Rattle.pr_truss_laws.proofs.ExchangeLemmas.{makes-front, makes-rest}
 use Rattle.pr_truss_laws.specs.Exchanges.{Exchange, Makes, exchanges, truss_after, truss_at}
 use Rattle.pr_truss_laws.specs.Runs.{IsTrussRun}
 use Rattle.pr_report_laws.proofs.Files.FileSteps.{MakesNext, makes-next}
-use Rattle.pr_report_laws.proofs.OwnFiles.OpenPlaces.{ComesToControl, IsFork, IsLastFork, Knows, by_fork, by_last_fork, by_words, comes-control, comes-other, known}
-use Rattle.pr_report_laws.proofs.ToldForks.ToldReads.{fork-told, last-told}
+use Rattle.pr_report_laws.proofs.OwnFiles.OpenPlaces.{ComesToControl, IsFork, IsLastFork, by_fork, by_last_fork, by_words, comes-control, comes-other}
+use Rattle.pr_report_laws.proofs.ToldForks.ToldReads.{last-told}
+use Rattle.pr_report_laws.proofs.UnopenedChildren.ChildReads.{read-child}
 use Rattle.pr_report_laws.proofs.Watching.ExchangeEntries.{HasEntryOf, entry-of}
 use Rattle.pr_report_laws.proofs.Watching.HistoryParts.{front-run, rest-makes}
-use Rattle.pr_report_laws.specs.AsChildren.{WasChildRead}
-use Rattle.pr_report_laws.specs.Follows.{ReadsFork}
 use Rattle.pr_report_laws.specs.Freed.{ReadsLastFork}
 use Rattle.pr_report_laws.specs.OwnOpens.{MayOpenControl, OpensInPlace, WasToldLast, as_child, as_given}
 
 -- Each open of truss has its place in a history.
 
 module _ (n k : ℕ) (o : Options) (first : TracedState) (h : List Entry) (run : IsTrussRun n k o first h) where
-  -- the read by which truss comes to a child has its entry, and tells of the child by calls and replies
-  read-child : (of : ℕ) → IsFork o of (exchanges k h) → WasChildRead k o of first h
-  read-child of f =
-      let x : Exchange = f.read in
-      let w : HasEntryOf k h f.past x [] = entry-of k h f.past x [] f.is in
-      let same : truss_at k o w.before ≡ truss_after (first_truss o) f.past =
-      ap (truss_after (first_truss o)) w.earlier in
-      record {
-        parent = (traced_at (truss_at k o w.before) f.place).pid;
-        before = w.before;
-        entry = w.entry;
-        since = w.later;
-        is = w.is;
-        reads =
-            fork-told n k o first w.before w.later w.entry (subst (IsTrussRun n k o first) w.is run) x w.own f.place of
-            (subst (λ (t : TrussState). ReadsFork t x.reply f.place of) (sym same) f.reads);
-        last = w.rest;
-      }
-
   forked : (of : ℕ) → IsFork o of (exchanges k h) → WasToldLast k o of first h
   forked of f =
-      let w = read-child of f in
+      let w = read-child n k o first h run of f in
       record {
         parent = w.parent;
         before = w.before;
@@ -78,14 +57,6 @@ module _ (n k : ℕ) (o : Options) (first : TracedState) (h : List Entry) (run :
   placed pid (by_words w) = as_given w
   placed pid (by_fork f) = as_child f.follow (forked pid f)
   placed pid (by_last_fork f) = as_child f.follow (left-fork pid f)
-
--- where truss opens the control file of a child
-pub child-read : (n k : ℕ) (o : Options) (first : TracedState) (h : List Entry) → IsTrussRun n k o first h
-    → (parent of : ℕ) → (truss_at k o h).stage ≡ OpeningChildControl parent of → WasChildRead k o of first h
-child-read n k o first h run parent of at =
-    let t : TrussState = truss_at k o h in
-    read-child n k o first h run of
-    (subst (Knows o (exchanges k h) t.leaving t.traced) at (known o (exchanges k h) run.makes))
 
 pub opens-in-place : (n k : ℕ) (o : Options) (first : TracedState) (h : List Entry) → IsTrussRun n k o first h
     → OpensInPlace k o first h

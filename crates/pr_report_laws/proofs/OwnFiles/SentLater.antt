@@ -1,23 +1,30 @@
-use Rattle.std.proofs.Common.{◌≡◌, ◌<◌, ◌++◌, ℕ, true, false, Some, List, ◌∷◌, length, sym, subst, ap, refl, ◌∙◌}
+use Rattle.std.proofs.Common.{◌≡◌, ◌<◌, ◌++◌, ℕ, true, false, Option, None, Some, List, ◌∷◌, length, sym, subst, ap, refl, ◌∙◌, arith}
 use Rattle.std.proofs.lemmas.Bool.{false≢true}
 use Rattle.std.proofs.lemmas.Option.{none-some, same_Some}
+use Rattle.std.specs.List.{slice_get}
 use Rattle.pr_line.specs.declared.options.Options.{Options}
 use Rattle.pr_model.specs.Legal.{state_after}
 use Rattle.pr_model.specs.State.{TracedState}
 use Rattle.pr_model.specs.declared.calls.Call.{Call}
+use Rattle.pr_model.specs.declared.calls.Call.TheVariants.{Ctl as Sends}
 use Rattle.pr_model.specs.declared.calls.File.TheVariants.{Ctl}
 use Rattle.pr_model.specs.declared.calls.Mode.TheVariants.{WriteExcl}
 use Rattle.pr_model.specs.declared.events.Entry.{Entry}
-use Rattle.pr_num.specs.Control.{fork_mode}
+use Rattle.pr_num.specs.Control.{fork_mode, rlc_mode}
+use Rattle.pr_num.specs.Messages.{message_code, operands}
+use Rattle.pr_num.specs.Words.{word_bytes}
+use Rattle.pr_num.specs.declared.messages.Message.TheVariants as message
 use Rattle.pr_num.specs.declared.messages.Message.TheVariants.{Unset}
-use Rattle.pr_truss.specs.Messages.{message_call}
-use Rattle.pr_truss.specs.NextCalls.{call_of, child_call, freeing_call, next_call_of}
+use Rattle.pr_truss.specs.Messages.{all_modes, message_call, traced_entries, traced_exits, traced_faults, traced_signals}
+use Rattle.pr_truss.specs.NextCalls.{call_of, child_call, freeing_call, next_call_of, opening_call}
 use Rattle.pr_truss.specs.Trusses.{TrussState, traced_at}
 use Rattle.pr_truss.specs.declared.processes.Traced.{Traced}
 use Rattle.pr_truss.specs.declared.stages.ChildStep.{ChildStep}
 use Rattle.pr_truss.specs.declared.stages.ChildStep.TheVariants as child
 use Rattle.pr_truss.specs.declared.stages.FreeingStep.{FreeingStep}
 use Rattle.pr_truss.specs.declared.stages.FreeingStep.TheVariants as freeing
+use Rattle.pr_truss.specs.declared.stages.OpeningStep.{OpeningStep}
+use Rattle.pr_truss.specs.declared.stages.OpeningStep.TheVariants as opening
 use Rattle.pr_truss.specs.declared.stages.Stage.{Stage}
 use Rattle.pr_truss.specs.declared.stages.Stage.TheVariants.{Opening, OpeningChild, Running, Unfollowing, FreeingChild, Finished}
 use Rattle.pr_truss_laws.proofs.HeldLemmas.{Fits}
@@ -25,6 +32,7 @@ use Rattle.pr_truss_laws.proofs.OwnLemmas.{Owns}
 use Rattle.pr_truss_laws.specs.Exchanges.{Exchange, exchanges, truss_at}
 use Rattle.pr_truss_laws.specs.Runs.{IsTrussRun}
 use Rattle.pr_truss_laws.specs.Sent.{sends}
+use Rattle.pr_report_laws.proofs.Asking.NamedRuns.{codes-apart}
 use Rattle.pr_report_laws.proofs.Files.FileLaws.{HasFiles}
 use Rattle.pr_report_laws.proofs.Files.FileSteps.{MakesNext, makes-next}
 use Rattle.pr_report_laws.proofs.Files.FileUses.{standing}
@@ -40,6 +48,49 @@ use Rattle.pr_report_laws.specs.LaterSends.{MaySend, SendsLittleLater, as_given,
 use Rattle.pr_report_laws.specs.Watching.{is_away, watches}
 
 -- What truss sends once it has polled, or was interrupted.
+
+-- ---- what an opening sends
+
+-- the first byte of the modes that a message names
+abbrev modes_byte : Call → Option ℕ
+modes_byte (Sends handle bytes) = slice_get bytes 8
+modes_byte _ = None
+
+-- No step of an opening says that the children of the process are followed no more.
+module _ (o : Options) (t : Traced) (control : ℕ) where
+  abbrev Unfollows : Call → Type 0
+  Unfollows c = c ≡ message_call control (Unset fork_mode)
+
+  all-apart : Unfollows (message_call t.control (Unset all_modes)) → ⊥
+  unfolding message_code operands word_bytes
+  all-apart is =
+      let modes : all_modes ≡ fork_mode = same_Some all_modes fork_mode (ap modes_byte is) in
+      absurd (omega (arith, modes))
+
+  opening-apart : (now : OpeningStep) → Unfollows (opening_call o t now) → ⊥
+  unfolding opening_call message_code
+  opening-apart opening.OpenStatus is = cc
+  opening-apart opening.OpenLstatus is = cc
+  opening-apart opening.OpenMemory is = cc
+  opening-apart opening.ClearModes is = all-apart is
+  opening-apart opening.SetRelease is =
+      codes-apart t.control control (message.Set rlc_mode) (Unset fork_mode) refl is
+  opening-apart opening.Stop is = codes-apart t.control control message.Stop (Unset fork_mode) refl is
+  opening-apart (opening.AwaitStop until) is = cc
+  opening-apart opening.ReadLwps is = cc
+  opening-apart opening.TraceSignals is =
+      codes-apart t.control control (message.Strace (traced_signals o)) (Unset fork_mode) refl is
+  opening-apart opening.TraceFaults is =
+      codes-apart t.control control (message.Sfault (traced_faults o)) (Unset fork_mode) refl is
+  opening-apart opening.TraceEntries is =
+      codes-apart t.control control (message.Sentry (traced_entries o)) (Unset fork_mode) refl is
+  opening-apart opening.TraceExits is =
+      codes-apart t.control control (message.Sexit (traced_exits o)) (Unset fork_mode) refl is
+  opening-apart opening.Follow is =
+      codes-apart t.control control (message.Set fork_mode) (Unset fork_mode) refl is
+  opening-apart opening.Start is = codes-apart t.control control (message.Run 0) (Unset fork_mode) refl is
+
+-- ---- what a stage sends
 
 module _ (k : ℕ) (o : Options) (first : TracedState) (h : List Entry) (s : TrussState) (c : Call)
     (sent : sends c ≡ true)
@@ -74,7 +125,9 @@ module _ (k : ℕ) (o : Options) (first : TracedState) (h : List Entry) (s : Tru
   stage-sends : (stage : Stage) → s.stage ≡ stage → Knows o xs s.leaving s.traced stage → call_of s stage ≡ Some c
       → MaySend k o first h c
   unfolding call_of
-  stage-sends (Opening place now) at w is = as_given w.0
+  stage-sends (Opening place now) at w is =
+      as_given w.0
+      (λ control same. opening-apart s.options (traced_at s place) control now (same_Some _ c is ∙ same))
   stage-sends (OpeningChild parent place now) at w is = child-sends (traced_at s place) now w (same_Some _ c is)
   stage-sends (Running place) at w is = same-call _ (same_Some _ c is) runs
   stage-sends Unfollowing at w is = same-call _ (same_Some _ c is) (leaves at w)

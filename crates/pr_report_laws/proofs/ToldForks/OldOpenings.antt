@@ -30,7 +30,7 @@ use Rattle.pr_truss_laws.specs.Runs.{IsTrussRun}
 use Rattle.pr_report_laws.proofs.Files.FileLaws.{HasFiles}
 use Rattle.pr_report_laws.proofs.Files.WatchHistories.{after-append, makes-front, makes-rest, run-reaches}
 use Rattle.pr_report_laws.proofs.Invariant.OpeningRuns.{IsFollowing, IsOpening, child-started, child_left, granted-first, granted-rest, left_after, one-left, opening-goes, opening-runs, step-fed, step-left, stepped, learns, steps_left}
-use Rattle.pr_report_laws.proofs.NewbornChildren.NewbornLaws.{child-placed}
+use Rattle.pr_report_laws.proofs.Watching.ChildPlaces.{child-placed}
 use Rattle.pr_report_laws.proofs.Replies.NextStages.{comes-same, next_opening-comes}
 use Rattle.pr_report_laws.proofs.Replies.WatchedPlaces.{IsWatched, StandOnce}
 use Rattle.pr_report_laws.proofs.ToldForks.OldStops.{AllLeft, NewAt, at-left, reached-new}

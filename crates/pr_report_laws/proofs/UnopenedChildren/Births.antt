@@ -1,10 +1,12 @@
-use Rattle.std.proofs.Common.{◌≡◌, ◌≢◌, ◌==◌, ◌<◌, ◌⊎◌, ℕ, Bool, true, false, cond, None, Some, Option, List, [], ◌∷◌, ◌++◌, length, refl, sym, subst, ap, ◌∙◌, arith, inl, inr}
+use Rattle.std.proofs.Common.{◌≡◌, ◌≢◌, ◌==◌, ◌<◌, ◌⊎◌, ℕ, Bool, true, false, cond, None, Some, Option, List, [], ◌∷◌, ◌++◌, length, refl, sym, subst, ap, ◌∙◌, append_assoc, arith, inl, inr}
 use Rattle.std.proofs.lemmas.Bool.{cases_Bool, eq-eqb, eqb-false, eqb-true, false≢true}
 use Rattle.std.proofs.lemmas.List.Elements.{All-cons, All-head, All-nil, All-tail}
 use Rattle.std.proofs.lemmas.Option.{none-some, same_Some}
 use Rattle.std.specs.List.{slice_get}
+use Rattle.pr_api.specs.Entries.{turn_entry}
 use Rattle.pr_line.specs.declared.options.Options.{Options}
 use Rattle.pr_model.specs.Calls.{Answer, answer_to}
+use Rattle.pr_model.specs.Handles.{is_writable}
 use Rattle.pr_model.specs.Lawful.{IsLawful}
 use Rattle.pr_model.specs.Legal.{IsLegal, IsLegalEntry, after, after_call, state_after}
 use Rattle.pr_model.specs.State.{TracedProcess, TracedState, live_process}
@@ -33,7 +35,7 @@ use Rattle.pr_truss.specs.declared.stages.Stage.{Stage}
 use Rattle.pr_truss.specs.declared.stages.Stage.TheVariants.{Spawning, OpeningControl, OpeningChildControl}
 use Rattle.pr_truss_laws.proofs.HeldLemmas.{Fits}
 use Rattle.pr_truss_laws.proofs.OwnLemmas.{Owns}
-use Rattle.pr_truss_laws.specs.Exchanges.{Exchange, Makes, exchange_in, exchange_of, exchanges, truss_after}
+use Rattle.pr_truss_laws.specs.Exchanges.{Exchange, Makes, exchange_in, exchange_of, exchanges, truss_after, truss_at}
 use Rattle.pr_truss_laws.specs.Runs.{IsTrussRun}
 use Rattle.pr_report_laws.proofs.UnopenedChildren.Claims.{Claims, KeepsChildren, IsFree, IsSet, Names, claim_of, opened, stands, watched}
 use Rattle.pr_report_laws.proofs.UnopenedChildren.Claims as claims
@@ -41,7 +43,8 @@ use Rattle.pr_report_laws.proofs.UnopenedChildren.ClaimCalls.{call-follows}
 use Rattle.pr_report_laws.proofs.UnopenedChildren.ClaimEntries.{entry-follows}
 use Rattle.pr_report_laws.proofs.UnopenedChildren.ClaimFed.{fed-comes}
 use Rattle.pr_report_laws.proofs.UnopenedChildren.ClaimRuns.{IsOwn, call_entry}
-use Rattle.pr_report_laws.proofs.UnopenedChildren.LeftChildren.{LeavesTo, leaves-later}
+use Rattle.pr_report_laws.proofs.UnopenedChildren.ChildReads.{child-told, own-open}
+use Rattle.pr_report_laws.proofs.UnopenedChildren.LeftChildren.{LeavesTo, OpensAsChild, leaves-later, parent-now}
 use Rattle.pr_report_laws.proofs.UnopenedChildren.ClaimStands.{IsStanding}
 use Rattle.pr_report_laws.proofs.Files.FileLaws.{HasFiles}
 use Rattle.pr_report_laws.proofs.Files.FileSteps.{MakesNext, entry-files, entry-lawful, entry-owns, makes-next}
@@ -54,9 +57,11 @@ use Rattle.pr_report_laws.proofs.Machine.NewBorn.{untouched-now}
 use Rattle.pr_report_laws.proofs.Replies.OptionLemmas.{told-options}
 use Rattle.pr_report_laws.proofs.Replies.OwnLooks.{IsCall, ReadsBack}
 use Rattle.pr_report_laws.proofs.Invariant.StandLemmas.{Leaves}
+use Rattle.pr_report_laws.proofs.Watching.HistoryParts.{front-run}
+use Rattle.pr_report_laws.specs.AsChildren.{WasOpenedAsChild}
 use Rattle.pr_report_laws.specs.AtBirth.{IsFollowedAtBirth}
 use Rattle.pr_report_laws.specs.Births.{LeavesForks, NamesNoChild, granted, IsNeverFollowed}
-use Rattle.pr_report_laws.specs.Lineages.{IsLeftToTruss, IsNamed, IsTakenBefore, Lineage, WasToldOf, descends, itself}
+use Rattle.pr_report_laws.specs.Lineages.{IsLeftToTruss, IsNamed, Lineage, WasHad, WasTaken, descends, itself}
 use Rattle.pr_report_laws.proofs.Invariant.Positions.{IsAtBirth}
 use Rattle.pr_report_laws.proofs.Machine.TracedPoints.{picks-traced}
 use Rattle.pr_report_laws.proofs.Invariant.Tallies.{Tally}
@@ -84,11 +89,11 @@ pub record Common (k : ℕ) (o : Options) (t : TrussState) (s : TracedState) : T
   pub leaves : IsLeaving t
 
 -- what holds for the processes of a line, and for their children
-pub record Going (Line Told : ℕ → Type 0) (k : ℕ) (o : Options) (t : TrussState) (s : TracedState)
+pub record Going (Line : ℕ → Type 0) (k : ℕ) (o : Options) (t : TrussState) (s : TracedState)
     (h : List Entry) : Type 1 where
   pub common : Common k o t s
   pub each : (pid : ℕ) → Line pid → Holding k o pid t s
-  pub children : t.leaving ≡ false → KeepsChildren Line Told k o t s h
+  pub children : t.leaving ≡ false → KeepsChildren Line k o t s h
 
 -- where truss leaves its processes it opens none by its id
 names-leaving : (o : Options) (ts : List Traced) (leaving : Bool) (stage : Stage) → Leaves leaving stage
@@ -113,7 +118,7 @@ entry-of k (Controller by) (act.Call c r) x is = own (by == k) refl is
     own false same e = absurd (none-some x e)
 entry-of k _ _ x is = absurd (none-some x is)
 
-module _ (Line Told : ℕ → Type 0) (n k : ℕ) (o : Options) (t : TrussState) (s : TracedState) (h : List Entry) where
+module _ (Line : ℕ → Type 0) (n k : ℕ) (o : Options) (t : TrussState) (s : TracedState) (h : List Entry) where
   -- ---- where truss opens a child
 
   -- the entry in which its control file is opened
@@ -127,9 +132,9 @@ module _ (Line Told : ℕ → Type 0) (n k : ℕ) (o : Options) (t : TrussState)
       entry-of k e.actor e.act x is ∙ ap (λ (c : Call). entry_by (Controller k) (act.Call c x.reply)) (sym calls)
       ∙ ap (λ (r : Reply). entry_by (Controller k) (act.Call (call.Open pid 0 file.Ctl WriteExcl) r)) given
 
-  born-now : (e : Entry) → Going Line Told k o t s (e ∷ h) → MakesNext t (exchange_of k e) → (pid : ℕ) → Line pid
-      → IsBorn k o pid t s e
-  born-now e g next pid line =
+  born-now : (e : Entry) → Going Line k o t s (e ∷ h) → LeavesTo Line k o t (e ∷ h) → MakesNext t (exchange_of k e)
+      → (pid : ℕ) → Line pid → IsBorn k o pid t s e
+  born-now e g forks next pid line =
       record {
         child = λ x handle parent p is at given live. at-birth handle parent p
             (child-granted e x pid handle parent next is at given) at live;
@@ -147,17 +152,17 @@ module _ (Line Told : ℕ → Type 0) (n k : ℕ) (o : Options) (t : TrussState)
           let within : parent < length t.traced = subst (Fits t.traced) at owns.fits in
           let is : claim_of o t.stage parent ≡ Some pid =
           ap (λ (x : Stage). claim_of o x parent) at ∙ ap (λ b. cond b (Some pid) None) (eq-eqb parent parent refl) in
-          let its = f.parents parent pid within is line in
+          let above = parent-now Line k o t e h forks pid parent handle entry at line in
           let claim : Claims o t.traced t.stage s.system (traced_at t parent).pid pid =
           claims.reads parent within refl is in
-          let new = f.born (traced_at t parent).pid pid its.0 its.1 claim in
-          let untouched = untouched-now k o s h pid handle e entry new in
+          let new = f.born (traced_at t parent).pid pid above line claim in
+          let untouched = untouched-now k o t s h pid parent handle e entry at new in
           let born = untouched.born p live in
           born.birth
 
   -- ---- what an entry leaves
 
-  pub stand : (e : Entry) → Going Line Told k o t s (e ∷ h) → (pid : ℕ) → Line pid → IsStanding o pid t s
+  pub stand : (e : Entry) → Going Line k o t s (e ∷ h) → (pid : ℕ) → Line pid → IsStanding o pid t s
   stand e g pid line =
       let x = g.each pid line in
       let holds = x.holds in
@@ -167,7 +172,7 @@ module _ (Line Told : ℕ → Type 0) (n k : ℕ) (o : Options) (t : TrussState)
   told-leaves None leaves = leaves
   told-leaves (Some x) leaves = fed-leaving t x.reply leaves
 
-  module _ (e : Entry) (g : Going Line Told k o t s (e ∷ h)) (reads : (pid : ℕ) → ReadsBack pid s)
+  module _ (e : Entry) (g : Going Line k o t s (e ∷ h)) (reads : (pid : ℕ) → ReadsBack pid s)
       (legal : IsLegalEntry n s e) (next : MakesNext t (exchange_of k e)) where
     w : Common k o t s
     w = g.common
@@ -185,19 +190,19 @@ module _ (Line Told : ℕ → Type 0) (n k : ℕ) (o : Options) (t : TrussState)
       leaves = told-leaves (exchange_of k e) w.leaves;
     }
 
-    each-later : (pid : ℕ) → Line pid → Holding k o pid (told_of k t e) (after s e)
-    each-later pid line =
+    each-later : LeavesTo Line k o t (e ∷ h) → (pid : ℕ) → Line pid → Holding k o pid (told_of k t e) (after s e)
+    each-later forks pid line =
         let x = g.each pid line in
         record {
           K = _;
           tally = _;
           holds =
               entry-holds x.K n k o pid t s x.tally x.holds (uninterrupted k s) (reads pid) e
-              (born-now e g next pid line) legal next;
+              (born-now e g forks next pid line) legal next;
         }
 
   -- a call of truss
-  module _ (c : Call) (a : Answer) (g : Going Line Told k o t s (call_entry k c a ∷ h))
+  module _ (c : Call) (a : Answer) (g : Going Line k o t s (call_entry k c a ∷ h))
       (reads : (pid : ℕ) → ReadsBack pid s)
       (legal : IsLegalEntry n s (call_entry k c a)) (next : MakesNext t (Some (record { call = c; reply = a.reply })))
       (answer : answer_to s k c ≡ Some a) where
@@ -261,33 +266,33 @@ module _ (Line Told : ℕ → Type 0) (n k : ℕ) (o : Options) (t : TrussState)
       stays = stays;
     }
 
-    own-follows : LeavesTo Line Told k o s (call_entry k c a ∷ h) → (fed t a.reply).leaving ≡ false
-        → KeepsChildren Line Told k o (fed t a.reply) (after s (call_entry k c a)) h
+    own-follows : LeavesTo Line k o t (call_entry k c a ∷ h) → (fed t a.reply).leaving ≡ false
+        → KeepsChildren Line k o (fed t a.reply) (after s (call_entry k c a)) h
     own-follows forks on =
         let stays = own-stays on in
         let w = g.common in
-        subst (λ (v : TracedState). KeepsChildren Line Told k o (fed t a.reply) v h) (sym own-after)
-        (call-follows Line Told n k o t s c a (is-own stays) w.leaves h (g.children stays) forks on)
+        subst (λ (v : TracedState). KeepsChildren Line k o (fed t a.reply) v h) (sym own-after)
+        (call-follows Line n k o t s c a (is-own stays) w.leaves h (g.children stays) forks on)
 
   -- an entry that is no call of truss
-  others-follow : (e : Entry) (g : Going Line Told k o t s (e ∷ h)) → LeavesTo Line Told k o s (e ∷ h)
+  others-follow : (e : Entry) (g : Going Line k o t s (e ∷ h)) → LeavesTo Line k o t (e ∷ h)
       → IsLegalEntry n s e → e.actor ≢ Controller k → t.leaving ≡ false
-      → KeepsChildren Line Told k o t (after s e) h
+      → KeepsChildren Line k o t (after s e) h
   others-follow e g leaves legal others stays =
       let w = g.common in
-      entry-follows Line Told n k o t s e h w.lawful w.fit w.files (stand e g) stays legal
+      entry-follows Line n k o t s e h w.lawful w.fit w.files (stand e g) stays legal
       (entry-lawful n s e w.lawful legal) others leaves (g.children stays)
 
   -- ---- any entry
 
   module _ (reads : (pid : ℕ) → ReadsBack pid s) where
     call-follow : (by : ℕ) (c : Call) (r : Reply) (mine : Bool) → (by == k) ≡ mine
-        → Going Line Told k o t s (record { actor = Controller by; act = act.Call c r } ∷ h)
-        → LeavesTo Line Told k o s (record { actor = Controller by; act = act.Call c r } ∷ h)
+        → Going Line k o t s (record { actor = Controller by; act = act.Call c r } ∷ h)
+        → LeavesTo Line k o t (record { actor = Controller by; act = act.Call c r } ∷ h)
         → IsLegalEntry n s (record { actor = Controller by; act = act.Call c r })
         → MakesNext t (cond mine (Some (record { call = c; reply = r })) None)
         → (with_exchange t (cond mine (Some (record { call = c; reply = r })) None)).leaving ≡ false
-        → KeepsChildren Line Told k o (with_exchange t (cond mine (Some (record { call = c; reply = r })) None))
+        → KeepsChildren Line k o (with_exchange t (cond mine (Some (record { call = c; reply = r })) None))
         (after s (record { actor = Controller by; act = act.Call c r })) h
     unfolding IsLegalEntry
     call-follow by c r false is g forks legal next on =
@@ -297,20 +302,20 @@ module _ (Line Told : ℕ → Type 0) (n k : ℕ) (o : Options) (t : TrussState)
         of-controller : (x y : ℕ) → Controller x ≡ Controller y → x ≡ y
         of-controller x y same = cc
     call-follow by c r true is g forks legal next on =
-        subst (λ b. Going Line Told k o t s (record { actor = Controller b; act = act.Call c r } ∷ h)
-        → LeavesTo Line Told k o s (record { actor = Controller b; act = act.Call c r } ∷ h) → IsLegalEntry n s
+        subst (λ b. Going Line k o t s (record { actor = Controller b; act = act.Call c r } ∷ h)
+        → LeavesTo Line k o t (record { actor = Controller b; act = act.Call c r } ∷ h) → IsLegalEntry n s
         (record { actor = Controller b; act = act.Call c r })
         → answer_to s b c ≡ Some (record { state = legal.1.0; reply = r })
-        → KeepsChildren Line Told k o (fed t r) (after s (record { actor = Controller b; act = act.Call c r })) h)
+        → KeepsChildren Line k o (fed t r) (after s (record { actor = Controller b; act = act.Call c r })) h)
         (sym (eqb-true by k is))
         (λ g' fs l answer. own-follows c
         (record { state = legal.1.0; reply = r }) g' reads l next answer fs on) g forks legal legal.1.1
 
-    actor-follow : (actor : Actor) (it : Act) → Going Line Told k o t s (record { actor = actor; act = it } ∷ h)
-        → LeavesTo Line Told k o s (record { actor = actor; act = it } ∷ h)
+    actor-follow : (actor : Actor) (it : Act) → Going Line k o t s (record { actor = actor; act = it } ∷ h)
+        → LeavesTo Line k o t (record { actor = actor; act = it } ∷ h)
         → IsLegalEntry n s (record { actor = actor; act = it }) → MakesNext t (exchange_in k actor it)
         → (with_exchange t (exchange_in k actor it)).leaving ≡ false
-        → KeepsChildren Line Told k o (with_exchange t (exchange_in k actor it))
+        → KeepsChildren Line k o (with_exchange t (exchange_in k actor it))
         (after s (record { actor = actor; act = it })) h
     unfolding IsLegalEntry
     actor-follow (Controller by) (act.Call c r) g forks legal next on =
@@ -322,11 +327,11 @@ module _ (Line Told : ℕ → Type 0) (n k : ℕ) (o : Options) (t : TrussState)
     actor-follow (Controller by) (act.Turn did) g forks legal next on = absurd legal
     actor-follow (Controller by) (act.Tick moment) g forks legal next on = absurd legal
 
-    pub going-on : (e : Entry) → Going Line Told k o t s (e ∷ h) → LeavesTo Line Told k o s (e ∷ h)
-        → IsLegalEntry n s e → MakesNext t (exchange_of k e) → Going Line Told k o (told_of k t e) (after s e) h
+    pub going-on : (e : Entry) → Going Line k o t s (e ∷ h) → LeavesTo Line k o t (e ∷ h)
+        → IsLegalEntry n s e → MakesNext t (exchange_of k e) → Going Line k o (told_of k t e) (after s e) h
     going-on e g forks legal next = record {
       common = common-later e g reads legal next;
-      each = each-later e g reads legal next;
+      each = each-later e g reads legal next forks;
       children = λ on. actor-follow e.actor e.act g forks legal next on;
     }
 
@@ -356,24 +361,24 @@ births-join k o pid t s e h now rest = record { child = by }
         ∙ ap (λ (y : Entry). truss_after t (exchanges k (y ∷ before))) (sym same)) ∙ stage) given
         (ap (λ (y : Entry). live_process (state_after (after s y) before).system pid) (sym same) ∙ live)
 
-history-births : (Line Told : ℕ → Type 0) (n k : ℕ) (o : Options) (h : List Entry) (t : TrussState) (s : TracedState)
-    → Going Line Told k o t s h → IsLegal n s h → Makes t (exchanges k h) → IsInRange s.system → HasBytes h
-    → LeavesTo Line Told k o s h → (pid : ℕ) → Line pid → BirthsFrom k o pid t s h
-history-births Line Told n k o [] t s g legal makes range bytes forks pid line =
+history-births : (Line : ℕ → Type 0) (n k : ℕ) (o : Options) (h : List Entry) (t : TrussState) (s : TracedState)
+    → Going Line k o t s h → IsLegal n s h → Makes t (exchanges k h) → IsInRange s.system → HasBytes h
+    → LeavesTo Line k o t h → (pid : ℕ) → Line pid → BirthsFrom k o pid t s h
+history-births Line n k o [] t s g legal makes range bytes forks pid line =
     record { child = λ before later e x handle parent p is own stage given live. absurd (nothing before later e is) }
   where
     nothing : (before later : List Entry) (e : Entry) → [] ≡ before ++ e ∷ later → ⊥
     nothing [] later e is = cc
     nothing (b ∷ before) later e is = cc
-history-births Line Told n k o (e ∷ h) t s g legal makes range bytes forks pid line =
+history-births Line n k o (e ∷ h) t s g legal makes range bytes forks pid line =
     let first = makes-next k t e h makes in
     let w = g.common in
-    births-join k o pid t s e h (born-now Line Told n k o t s h e g first.0 pid line)
-    (history-births Line Told n k o h (told_of k t e) (after s e)
-    (going-on Line Told n k o t s h (λ of. reads-back of s w.lawful range) e g forks legal.0 first.0) legal.1 first.1
+    births-join k o pid t s e h (born-now Line n k o t s h e g forks first.0 pid line)
+    (history-births Line n k o h (told_of k t e) (after s e)
+    (going-on Line n k o t s h (λ of. reads-back of s w.lawful range) e g forks legal.0 first.0) legal.1 first.1
     (history-range n s (e ∷ []) w.lawful range
     (All-cons IsEntryOfBytes e [] (All-head IsEntryOfBytes e h bytes) (All-nil IsEntryOfBytes)) (legal.0, tt))
-    (All-tail IsEntryOfBytes e h bytes) (leaves-later Line Told k o s e h forks) pid line)
+    (All-tail IsEntryOfBytes e h bytes) (leaves-later Line k o t e h forks) pid line)
 
 -- ---- the first state
 
@@ -395,13 +400,12 @@ none-names o ts (OpeningControl pid) none = inr none
 none-names o ts _ none = tt
 
 -- truss that traces no process yet
-pub first-follows : (Line Told : ℕ → Type 0) (k : ℕ) (o : Options) (t : TrussState) (s : TracedState)
-    (h : List Entry) → t.traced ≡ [] → KeepsChildren Line Told k o t s h
-first-follows Line Told k o t s h none = record {
+pub first-follows : (Line : ℕ → Type 0) (k : ℕ) (o : Options) (t : TrussState) (s : TracedState)
+    (h : List Entry) → t.traced ≡ [] → KeepsChildren Line k o t s h
+first-follows Line k o t s h none = record {
   flags = λ follow place x line p live. nowhere place (set-there place x);
-  born = λ pid c line told claim. unclaimed pid c claim;
-  one = λ pid other c line its told x y. unclaimed pid c x;
-  parents = λ place c within is line. nowhere place within;
+  born = λ pid c line its claim. unclaimed pid c claim;
+  one = λ pid other c line both its x y. unclaimed pid c x;
   names = none-names o t.traced t.stage none;
 }
   where
@@ -417,9 +421,9 @@ first-follows Line Told k o t s h none = record {
     unclaimed pid c (stands place free same follow p live forked) = nowhere place free.within
 
 -- what holds before the first entry
-pub first-going : (Line Told : ℕ → Type 0) (n k : ℕ) (o : Options) (s : TracedState) (h : List Entry) → IsReached s
-    → IsTrussRun n k o s h → Going Line Told k o (first_truss o) s h
-first-going Line Told n k o s h reached run = record {
+pub first-going : (Line : ℕ → Type 0) (n k : ℕ) (o : Options) (s : TracedState) (h : List Entry) → IsReached s
+    → IsTrussRun n k o s h → Going Line k o (first_truss o) s h
+first-going Line n k o s h reached run = record {
   common =
       let first = first-holds (traces o) n k o 0 s h (picks-traced o) reached run in
       record {
@@ -435,36 +439,50 @@ first-going Line Told n k o s h reached run = record {
     tally = first_tally (traces o);
     holds = first-holds (traces o) n k o pid s h (picks-traced o) reached run;
   };
-  children = λ stays. first-follows Line Told k o (first_truss o) s h (first-traced o);
+  children = λ stays. first-follows Line k o (first_truss o) s h (first-traced o);
 }
 
 -- ---- the line of a process
 
--- of the line of a process, the children of which truss was told
-abbrev pub ToldOf : ℕ → ℕ → TracedState → List Entry → ℕ → Type 0
-ToldOf k pid s h c = Lineage k pid s h c × ((parent : ℕ) × WasToldOf k parent c s h)
+module _ (n k : ℕ) (o : Options) (pid : ℕ) (s : TracedState) (h : List Entry) (run : IsTrussRun n k o s h) where
+  -- truss opens a child of the process at the place that its open names
+  opens-from : (child : ℕ) (w : OpensAsChild k child (first_truss o) h)
+      → WasOpenedAsChild k o (traced_at (truss_at k o w.front) w.place).pid child s h
+  opens-from child w =
+      let told =
+      child-told n k o s w.front
+      (front-run n k o s w.front (granted k child 0 file.Ctl WriteExcl w.handle ∷ w.later)
+      (subst (IsTrussRun n k o s) w.is run)) w.place child w.at in
+      record {
+        before = w.front;
+        entry = granted k child 0 file.Ctl WriteExcl w.handle;
+        handle = w.handle;
+        later = w.later;
+        is = w.is;
+        opens = own-open k child w.handle;
+        told = told.0;
+        of = told.1;
+      }
 
-pub line-left : (k : ℕ) (o : Options) (pid : ℕ) (s : TracedState) (h : List Entry) → IsLeftToTruss k o pid s h
-    → LeavesTo (Lineage k pid s h) (ToldOf k pid s h) k o s h
-line-left k o pid s h left = record {
-  parents = λ before later e of child is tells line.
-      let was : WasToldOf k of child s h =
-      record { before = before; entry = e; later = later; is = is; tells = tells } in
-      (descends child of line was, (line, (of, was)));
-  line = λ child told. told.0;
-  left = λ follow child told taken. left.each follow child told.1.0 told.0 told.1.1 taken;
-}
+  pub line-left : IsLeftToTruss k o pid s h → LeavesTo (Lineage k o pid s h) k o (first_truss o) h
+  unfolding opens-from
+  line-left left = record {
+    parents =
+        λ child line w. descends child (traced_at (truss_at k o w.front) w.place).pid line (opens-from child w);
+    left =
+        λ follow child line w taken. left.each follow child (traced_at (truss_at k o w.front) w.place).pid line
+        (opens-from child w) taken;
+  }
 
 -- Where nobody got hold of a process before truss, nor of those that it descends from, truss opens it at its birth, if
 -- it opens it as the child of a fork.
 pub births : (n k : ℕ) (o : Options) (pid : ℕ) (s : TracedState) (h : List Entry) → IsReached s
     → IsTrussRun n k o s h → HasBytes h → IsLeftToTruss k o pid s h → OpensAtBirth k o pid s h
 births n k o pid s h reached run bytes left =
-    let Line : ℕ → Type 0 = Lineage k pid s h in
-    let Told : ℕ → Type 0 = ToldOf k pid s h in
+    let Line : ℕ → Type 0 = Lineage k o pid s h in
     let b =
-    history-births Line Told n k o h (first_truss o) s (first-going Line Told n k o s h reached run) run.legal run.makes
-    reached.in_range bytes (line-left k o pid s h left) pid itself in
+    history-births Line n k o h (first_truss o) s (first-going Line n k o s h reached run) run.legal run.makes
+    reached.in_range bytes (line-left n k o pid s h run left) pid itself in
     record {
       child = λ before later e x handle parent p is own stage given live. b.child before later e x handle
           parent p is own stage given live;
@@ -478,22 +496,45 @@ left-report n k o pid s h reached run bytes left =
 
 -- Where fork makes none of the processes that the options name, and no other controller opens a child of a fork for
 -- writing before truss does, each process is left to truss.
-pub all-left : (k : ℕ) (o : Options) (pid : ℕ) (s : TracedState) (h : List Entry) → NamesNoChild o h
-    → LeavesForks k o h → IsLeftToTruss k o pid s h
-all-left k o pid s h named forks = record {
-  each = λ follow child parent line told taken. by follow child taken taken.other;
-}
-  where
-    by : o.follow ≡ true → (child : ℕ) (x : IsTakenBefore k o child h) → (x.by ≢ k) ⊎ IsNamed o child → ⊥
-    by follow child x (inl other) =
-        other
-        (forks.each follow x.before x.between x.behind x.later x.parent x.id x.turned x.by child x.lwp x.handle 0
-        x.control x.file file.Ctl x.mode WriteExcl x.is x.forks x.writes refl)
-    by follow child x (inr its) =
+module _ (k : ℕ) (o : Options) (pid : ℕ) (s : TracedState) (h : List Entry) (named : NamesNoChild o h)
+    (forks : LeavesForks k o h) where
+  module _ (follow : o.follow ≡ true) (child parent : ℕ) (opened : WasOpenedAsChild k o parent child s h)
+      (x : WasTaken k o child opened.before) where
+    abbrev own_open : Entry
+    own_open = granted k child 0 file.Ctl WriteExcl opened.handle
+
+    -- the fork, the open of the other, and that of truss
+    whole : (w : WasHad k o child x.since) → h ≡ x.before ++ turn_entry x.parent x.id x.turned
+        ∷ (w.before ++ granted w.by child w.lwp w.file w.mode w.handle ∷ (w.later ++ own_open ∷ opened.later))
+    whole w =
+        let other : Entry = granted w.by child w.lwp w.file w.mode w.handle in
+        let fork : Entry = turn_entry x.parent x.id x.turned in
+        opened.is
+        ∙ ap (λ (y : Entry). opened.before ++ y ∷ opened.later)
+        (entry-of k opened.entry.actor opened.entry.act _ opened.opens)
+        ∙ ap (λ (es : List Entry). es ++ own_open ∷ opened.later) x.is
+        ∙ append_assoc x.before (fork ∷ x.since) (own_open ∷ opened.later)
+        ∙ ap (λ (es : List Entry). x.before ++ fork ∷ (es ++ own_open ∷ opened.later)) w.is
+        ∙ ap (λ (es : List Entry). x.before ++ fork ∷ es)
+        (append_assoc w.before (other ∷ w.later) (own_open ∷ opened.later))
+
+    taken-not : (w : WasHad k o child x.since)
+        → ((w.by ≢ k) × (is_writable w.mode ≡ true)) ⊎ ((w.by ≡ k) × ((w.file ≡ file.Mem) × IsNamed o child)) → ⊥
+    taken-not w (inl other) =
+        other.0
+        (forks.each follow x.before w.before w.later opened.later x.parent x.id x.turned w.by child w.lwp w.handle 0
+        opened.handle w.file file.Ctl w.mode WriteExcl (whole w) x.forks other.1 refl)
+    taken-not w (inr own) =
+        let its : IsNamed o child = own.1.1 in
         named.none follow x.before
-        (x.between ++ granted x.by child x.lwp x.file x.mode x.handle ∷
-        (x.behind ++ granted k child 0 file.Ctl WriteExcl x.control ∷ x.later)) x.parent x.id its.place child x.turned
-        x.is x.forks its.is
+        (w.before ++ granted w.by child w.lwp w.file w.mode w.handle ∷ (w.later ++ own_open ∷ opened.later)) x.parent
+        x.id its.place child x.turned (whole w) x.forks its.is
+
+  pub all-left : IsLeftToTruss k o pid s h
+  all-left = record {
+    each = λ follow child parent line opened taken. let w = taken.had in
+        taken-not follow child parent opened taken w w.who;
+  }
 
 pub births-report : (n k : ℕ) (o : Options) (pid : ℕ) (s : TracedState) (h : List Entry) → IsReached s
     → IsTrussRun n k o s h → HasBytes h → NamesNoChild o h → LeavesForks k o h → IsReported k o pid s h

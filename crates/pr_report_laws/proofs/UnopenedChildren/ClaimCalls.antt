@@ -1,14 +1,13 @@
 use Rattle.std.proofs.Common.{◌≡◌, ◌≢◌, ◌==◌, ◌<◌, ◌⊎◌, ℕ, suc, Bool, true, false, cond, None, Some, Option, List, [], ◌∷◌, length, refl, sym, subst, ap, ◌∙◌, arith, inl, inr}
-use Rattle.std.proofs.lemmas.Bool.{cases_Bool, eq-eqb, eqb-true, false≢true}
+use Rattle.std.proofs.lemmas.Bool.{cases_Bool, cases_eq, eq-eqb, eqb-true, false≢true}
 use Rattle.std.proofs.lemmas.Option.{none-some, same_Some}
 use Rattle.std.specs.List.{slice_get}
-use Rattle.std.specs.Option.{option_and_then}
 use Rattle.pr_line.specs.declared.options.Options.{Options}
 use Rattle.pr_model.specs.Calls.{Answer, answer_to}
 use Rattle.pr_model.specs.Handles.{handle_of, is_writable}
 use Rattle.pr_model.specs.Legal.{after}
 use Rattle.pr_model.specs.Messages.{with_control, with_modes}
-use Rattle.pr_model.specs.Replies.{bytes_in, number_of, opened_in}
+use Rattle.pr_model.specs.Replies.{number_of, opened_in}
 use Rattle.pr_model.specs.State.{TracedControl, TracedProcess, TracedState, live_process}
 use Rattle.pr_model.specs.Statuses.{lwpstatus_of, status_of}
 use Rattle.pr_model.specs.declared.calls.Call.{Call}
@@ -28,14 +27,13 @@ use Rattle.pr_num.specs.declared.messages.Message.TheVariants as message
 use Rattle.pr_truss.specs.Children.{with_child_control, with_child_control_answered}
 use Rattle.pr_truss.specs.Feeding.{fed, with_reply}
 use Rattle.pr_truss.specs.Messages.{message_call}
-use Rattle.pr_truss.specs.NextCalls.{call_of, child_call, freeing_call, next_call_of, opening_call, read_record}
+use Rattle.pr_truss.specs.NextCalls.{call_of, child_call, freeing_call, next_call_of, open_control, opening_call, read_record}
 use Rattle.pr_truss.specs.Processes.{newly_traced}
-use Rattle.pr_rec.specs.declared.lwps.LwpStatus.{LwpStatus}
-use Rattle.pr_truss.specs.Records.{child_of, status_lwp}
 use Rattle.pr_truss.specs.Replies.{answer_of}
 use Rattle.pr_truss.specs.Stops.{followed_child}
 use Rattle.pr_truss.specs.Trusses.{TrussState, traced_at}
 use Rattle.pr_truss.specs.declared.processes.Traced.{Traced}
+use Rattle.pr_truss.specs.declared.replies.Answer as answers
 use Rattle.pr_truss.specs.declared.replies.Answer.TheVariants.{Accepted, Gone}
 use Rattle.pr_truss.specs.declared.stages.ChildStep.{ChildStep}
 use Rattle.pr_truss.specs.declared.stages.ChildStep.TheVariants as child
@@ -46,20 +44,21 @@ use Rattle.pr_truss.specs.declared.stages.Stage.TheVariants.{OpeningControl, Ope
 use Rattle.pr_truss_laws.proofs.ForeignLemmas.{names}
 use Rattle.pr_truss_laws.proofs.HeldLemmas.{Fits, at_place}
 use Rattle.pr_truss_laws.proofs.OpensLemmas.{held_by}
-use Rattle.pr_truss_laws.specs.Exchanges.{Exchange}
+use Rattle.pr_truss_laws.proofs.OverLemmas.{stays-made}
 use Rattle.pr_report_laws.proofs.Invariant.Tallies.{Tally}
 use Rattle.pr_report_laws.proofs.UnopenedChildren.Claims.{Claims, Comes, KeepsChildren, IsDone, IsFree, IsSet, IsTold, Names, WasClaimed, WasFree, WasSet, claim_of, is_child, not_followed, opened, runs, set_now, sets, stands, was_claimed, was_free, was_run, was_set, was_told, watched}
 use Rattle.pr_report_laws.proofs.UnopenedChildren.Claims as claims
+use Rattle.pr_report_laws.proofs.UnopenedChildren.ClaimBegun.{begun-stands, control-begins, own-told}
 use Rattle.pr_report_laws.proofs.UnopenedChildren.ClaimFed.{fed-comes}
 use Rattle.pr_report_laws.proofs.UnopenedChildren.ClaimReach.{followed-forked}
 use Rattle.pr_report_laws.proofs.UnopenedChildren.ClaimRuns.{IsOwn, call_entry, call-is, call-same, control-held, lived, missed, misses, opened-set, ran-quiet, running-ran, start-ran, stood}
 use Rattle.pr_report_laws.proofs.Machine.ControlLaws.{follow-set, release-set}
-use Rattle.pr_report_laws.proofs.UnopenedChildren.LeftChildren.{LeavesTo}
+use Rattle.pr_report_laws.proofs.UnopenedChildren.LeftChildren.{LeavesTo, parent-now}
 use Rattle.pr_report_laws.proofs.Files.FileUses as uses
 use Rattle.pr_report_laws.proofs.Machine.ForkTurns.{HasForked, alone-forked, quiet-forked}
 use Rattle.pr_report_laws.proofs.Machine.FrameLaws.{alone-control}
 use Rattle.pr_report_laws.proofs.Replies.Leaving.{IsLeaving}
-use Rattle.pr_report_laws.proofs.Machine.NewBorn.{IsNewBorn, new-born-on, new-on, untouched-now}
+use Rattle.pr_report_laws.proofs.Machine.NewBorn.{IsNeverGranted, IsNewBorn, IsUntouched, Stands, is_begun, is_never, never-later, new-on, stands_new, untouched-now, untouched-on}
 use Rattle.pr_report_laws.proofs.Invariant.OwnCalls.{Misses}
 use Rattle.pr_report_laws.proofs.Replies.OwnLooks.{IsCall}
 use Rattle.pr_report_laws.proofs.Replies.OwnOpens.{granted-handle}
@@ -72,9 +71,9 @@ use Rattle.pr_report_laws.proofs.Machine.StoppedLaws.{event-first, live-rising, 
 use Rattle.pr_report_laws.proofs.Machine.TracedPoints.{fit-lwp, fit-process}
 use Rattle.pr_report_laws.proofs.Replies.TracedPlaces.{opened-before, opened-length}
 use Rattle.pr_report_laws.specs.Births.{granted}
-use Rattle.pr_report_laws.specs.Lineages.{IsNamed, TellsChild}
+use Rattle.pr_report_laws.specs.Lineages.{IsNamed}
 use Rattle.pr_report_laws.proofs.Invariant.Positions.{IsTracedBy}
-use Rattle.pr_report_laws.specs.Watching.{is_away, place_of}
+use Rattle.pr_report_laws.specs.Watching.{is_away, place_of, told_of}
 
 -- A call of truss leaves the children of forks that it is to open at their births.
 
@@ -127,16 +126,31 @@ child-reads x child.OpenMemory pid lwp f mode is writes = reads-only mode (cc) w
 child-reads x child.SetRelease pid lwp f mode is writes = cc
 child-reads x child.Start pid lwp f mode is writes = cc
 
-module _ (Line Told : ℕ → Type 0) (n k : ℕ) (o : Options) (t : TrussState) (s : TracedState) (c : Call) (a : Answer)
+-- whether a stage opens this process by its id
+opens-or-not : (of : ℕ) (stage : Stage) → (stage ≡ OpeningControl of) ⊎ (stage ≢ OpeningControl of)
+opens-or-not of (OpeningControl other) = elim (cases_eq other of) [
+  | inl same ↦ inl (ap (λ m. OpeningControl m) same)
+  | inr apart ↦ inr (λ same. apart (cc))
+]
+opens-or-not of _ = inr (λ same. cc)
+
+accepted-or-not : (x : answers.Answer) → (x ≡ Accepted) ⊎ (x ≢ Accepted)
+accepted-or-not Accepted = inl refl
+accepted-or-not _ = inr (λ same. cc)
+
+module _ (Line : ℕ → Type 0) (n k : ℕ) (o : Options) (t : TrussState) (s : TracedState) (c : Call) (a : Answer)
     (own : IsOwn Line n k o t s c a) (leaves : IsLeaving t) (h : List Entry)
-    (f : KeepsChildren Line Told k o t s (call_entry k c a ∷ h))
-    (forks : LeavesTo Line Told k o s (call_entry k c a ∷ h))
+    (f : KeepsChildren Line k o t s (call_entry k c a ∷ h))
+    (forks : LeavesTo Line k o t (call_entry k c a ∷ h))
     (on : (fed t a.reply).leaving ≡ false) where
   i : IsCall k o 0 t s c a
   i = own.call 0
 
   abbrev u : TrussState
   u = fed t a.reply
+
+  told-is : told_of k t (call_entry k c a) ≡ u
+  told-is = own-told k t c a
 
   comes : Comes t a.reply u
   comes =
@@ -224,56 +238,6 @@ module _ (Line Told : ℕ → Type 0) (n k : ℕ) (o : Options) (t : TrussState)
         let w = status-forked line p.0 p.1 in
         stands place status-free refl w.0 p.0 p.1 w.1
 
-    -- it tells the child
-    told-child : (bytes : Option (List ℕ)) → option_and_then status_lwp bytes ≡ Some told.lwp
-        → (b : List ℕ) × ((bytes ≡ Some b) × (status_lwp b ≡ Some told.lwp))
-    told-child None is = absurd (none-some told.lwp is)
-    told-child (Some b) is = (b, (refl, is))
-
-    reply-bytes : (r : Reply) (b : List ℕ) → bytes_in r ≡ Some b → r ≡ reply.Bytes b
-    unfolding bytes_in
-    reply-bytes (reply.Bytes bytes) b is = ap (λ x. reply.Bytes x) (same_Some bytes b is)
-    reply-bytes _ b is = absurd (none-some b is)
-
-    child-told : (o' : Options) (l : LwpStatus) → followed_child o' l ≡ Some child → child_of l ≡ Some child
-    unfolding followed_child
-    child-told o' l is = by o'.follow is
-      where
-        by : (b : Bool) → cond b (child_of l) None ≡ Some child → child_of l ≡ Some child
-        by true e = e
-        by false e = absurd (none-some child e)
-
-    exchanged : Call → Reply → Option Exchange
-    exchanged x r = Some (record { call = x; reply = r })
-
-    tells : TellsChild k (traced_at t place).pid child s (call_entry k c a)
-    unfolding call_of exchanged
-    tells =
-        let b = told-child (bytes_in a.reply) told.read in
-        let same =
-        call-same Line n k o t s c a own (ReadingStatus place) (read_record (traced_at t place).status) told.stage
-        refl in
-        record {
-          read = record {
-            handle = _;
-            from = _;
-            len = _;
-            bytes = b.0;
-            held = held_by k (traced_at t place).pid 0 file.Status Read;
-            is =
-                ap (λ m. cond {A = Option Exchange} m (Some (record { call = c; reply = a.reply })) None)
-                (eq-eqb k k refl)
-                ∙ ap (λ (x : Call). exchanged x a.reply) same
-                ∙ ap (exchanged (read_record (traced_at t place).status)) (reply-bytes a.reply b.0 b.1.0);
-            there = status-held;
-            of = refl;
-            file = refl;
-          };
-          lwp = told.lwp;
-          told = b.1.1;
-          made = child-told t.options told.lwp told.child;
-        }
-
   -- ---- what is to be opened was to be opened before
 
   free-rests : (place : ℕ) → IsFree t.traced t.stage place → t.stage ≡ Running place → ⊥
@@ -325,10 +289,26 @@ module _ (Line Told : ℕ → Type 0) (n k : ℕ) (o : Options) (t : TrussState)
       → Claims o t.traced t.stage s.system (traced_at t parent).pid pid
   parent-claims parent pid at = claims.reads parent (parent-within parent pid at) refl (claim-is parent pid at)
 
+  -- the entry in which it is opened
+  child-entry : (parent pid handle : ℕ) → t.stage ≡ OpeningChildControl parent pid → a.reply ≡ reply.Handle handle
+      → call_entry k c a ≡ granted k pid 0 file.Ctl WriteExcl handle
+  unfolding call_of
+  child-entry parent pid handle at given =
+      ap (λ x. record { actor = Controller k; act = act.Call x a.reply })
+      (call-same Line n k o t s c a own (OpeningChildControl parent pid)
+      (call.Open pid 0 file.Ctl WriteExcl) at refl)
+      ∙ ap (λ x. record {
+        actor = Controller k;
+        act = act.Call
+            (call.Open pid 0 file.Ctl WriteExcl) x;
+      }) given
+
   -- the process that made it, where the child is of the line
-  parent-line : (parent pid : ℕ) → t.stage ≡ OpeningChildControl parent pid → Line pid
-      → Line (traced_at t parent).pid × Told pid
-  parent-line parent pid at line = f.parents parent pid (parent-within parent pid at) (claim-is parent pid at) line
+  parent-line : (parent pid handle : ℕ) → t.stage ≡ OpeningChildControl parent pid → a.reply ≡ reply.Handle handle
+      → Line pid → Line (traced_at t parent).pid
+  parent-line parent pid handle at given line =
+      parent-now Line k o t (call_entry k c a) h forks pid parent handle (child-entry parent pid handle at given) at
+      line
 
   -- ---- PR_FORK
 
@@ -445,26 +425,17 @@ module _ (Line Told : ℕ → Type 0) (n k : ℕ) (o : Options) (t : TrussState)
         → (q : TracedProcess) → live_process a.state.system pid ≡ Some q → has_flags q.control.modes fork_mode ≡ true
     unfolding call_of
     born-flag parent pid line at accepted q now =
-        let its = parent-line parent pid at line in
-        let new = f.born (traced_at t parent).pid pid its.0 its.1 (parent-claims parent pid at) in
-        let same : c ≡ call.Open pid 0 file.Ctl WriteExcl =
-        call-same Line n k o t s c a own (OpeningChildControl parent pid)
-        (call.Open pid 0 file.Ctl WriteExcl) at refl in
         let given =
         granted-handle s k pid 0 file.Ctl WriteExcl a
         (call-is Line n k o t s c a own (OpeningChildControl parent pid)
         (call.Open pid 0 file.Ctl WriteExcl) at refl) accepted in
-        let entry : call_entry k c a ≡ granted k pid 0 file.Ctl WriteExcl given.0 =
-        ap (λ x. record { actor = Controller k; act = act.Call x a.reply }) same
-        ∙ ap (λ x. record {
-          actor = Controller k;
-          act = act.Call
-              (call.Open pid 0 file.Ctl WriteExcl) x;
-        }) given.1 in
-        let untouched = untouched-now k o s h pid given.0 (call_entry k c a) entry new in
+        let entry = child-entry parent pid given.0 at given.1 in
+        let above = parent-line parent pid given.0 at given.1 line in
+        let new = f.born (traced_at t parent).pid pid above line (parent-claims parent pid at) in
+        let untouched = untouched-now k o t s h pid parent given.0 (call_entry k c a) entry at new in
         let later : live_process (after s (call_entry k c a)).system pid ≡ Some q =
         ap (λ (x : TracedState). live_process x.system pid) own.later ∙ now in
-        let is = new-on n k o s h pid (call_entry k c a) i.lawful own.legal new.made untouched q later in
+        let is = new-on n k o t s h pid (call_entry k c a) i.lawful own.legal new.made untouched q later in
         is.follows
 
     flags-later : (place : ℕ) → IsSet u.traced u.stage place → Line (at_place u.traced place).pid → (q : TracedProcess)
@@ -524,81 +495,114 @@ module _ (Line Told : ℕ → Type 0) (n k : ℕ) (o : Options) (t : TrussState)
       absurd (omega (arith, free.within, ap (λ (ts : List Traced). length ts) none))
 
   -- truss opens no process for writing that it is still to open, but for one that its options name
-  module _ (pid of : ℕ) (line : Line pid) (told : Told of)
+  module _ (pid of : ℕ) (line : Line pid) (its : Line of)
       (claim : Claims o u.traced u.stage a.state.system pid of) where
     its_claim : Claims o t.traced t.stage s.system pid of
     its_claim = claims-before pid of line claim
 
-    named-it : (other : ℕ) → other ≡ of → ((place : ℕ) × (slice_get o.pids place ≡ Some other)) ⊎ (t.traced ≡ [])
-        → IsNamed o of
-    named-it other same (inl named) = record { place = named.0; is = named.1 ∙ ap (λ m. Some m) same }
-    named-it other same (inr none) = no-place pid of none its_claim
+    named-it : ((place : ℕ) × (slice_get o.pids place ≡ Some of)) ⊎ (t.traced ≡ []) → IsNamed o of
+    named-it (inl named) = record { place = named.0; is = named.1 }
+    named-it (inr none) = no-place pid of none its_claim
 
     module _ (lwp handle : ℕ) (opened_file : File) (mode : Mode) (writes : is_writable mode ≡ true)
         (given : a.reply ≡ reply.Handle handle) where
-      open-in : (stage : Stage) → t.stage ≡ stage → Leaves t.leaving stage
-          → call_of t stage ≡ Some (call.Open of lwp opened_file mode) → IsNamed o of
+      open-in : (stage : Stage) → t.stage ≡ stage → stage ≢ OpeningControl of → Leaves t.leaving stage
+          → call_of t stage ≡ Some (call.Open of lwp opened_file mode) → ⊥
       unfolding call_of freeing_call
-      open-in (OpeningControl other) at goes is = named-it other (cc) (subst (Names o t.traced) at f.names)
-      open-in (OpeningChildControl parent other) at goes is =
+      open-in (OpeningControl other) at apart goes is =
+          let same : other ≡ of = cc in apart (ap (λ m. OpeningControl m) same)
+      open-in (OpeningChildControl parent other) at apart goes is =
           let same : other ≡ of = cc in
           let here : t.stage ≡ OpeningChildControl parent of = at ∙ ap (OpeningChildControl parent) same in
-          let its = parent-line parent of here (forks.line of told) in
-          absurd (opened-apart parent of handle here given pid claim
-          (f.one pid (traced_at t parent).pid of line its.0 told its_claim (parent-claims parent of here)))
-      open-in (Opening place step) at goes is =
-          absurd (opening-reads t.options (traced_at t place) step of lwp opened_file mode (same_Some _ _ is) writes)
-      open-in (OpeningChild parent place step) at goes is =
-          absurd (child-reads (traced_at t place) step of lwp opened_file mode (same_Some _ _ is) writes)
-      open-in (FreeingChild other step) at goes is = absurd (false≢true (sym own.stays ∙ goes))
-      open-in _ at goes is = absurd (cc)
+          opened-apart parent of handle here given pid claim
+          (f.one pid (traced_at t parent).pid of line (parent-line parent of handle here given its) its its_claim
+          (parent-claims parent of here))
+      open-in (Opening place step) at apart goes is =
+          opening-reads t.options (traced_at t place) step of lwp opened_file mode (same_Some _ _ is) writes
+      open-in (OpeningChild parent place step) at apart goes is =
+          child-reads (traced_at t place) step of lwp opened_file mode (same_Some _ _ is) writes
+      open-in (FreeingChild other step) at apart goes is = false≢true (sym own.stays ∙ goes)
+      open-in _ at apart goes is = cc
 
-    opened-named : (lwp handle : ℕ) (opened_file : File) (mode : Mode)
-        → call_entry k c a ≡ granted k of lwp opened_file mode handle → is_writable mode ≡ true → IsNamed o of
+    opened-never : (t.stage ≢ OpeningControl of) → (lwp handle : ℕ) (opened_file : File) (mode : Mode)
+        → call_entry k c a ≡ granted k of lwp opened_file mode handle → is_writable mode ≡ true → ⊥
     unfolding next_call_of
-    opened-named lwp handle opened_file mode is writes =
+    opened-never apart lwp handle opened_file mode is writes =
         let acts : act.Call c a.reply ≡ act.Call (call.Open of lwp opened_file mode) (reply.Handle handle) =
         ap (λ (x : Entry). x.act) is in
         let same : c ≡ call.Open of lwp opened_file mode = cc in
         let given : a.reply ≡ reply.Handle handle = cc in
         let w = i.files in
         let st = w.stands in
-        open-in lwp handle opened_file mode writes given t.stage refl st.leaves (i.next ∙ ap (λ x. Some x) same)
+        open-in lwp handle opened_file mode writes given t.stage refl apart st.leaves
+        (i.next ∙ ap (λ x. Some x) same)
 
-    born-later : IsNewBorn k o a.state h of
+    -- ---- a child that stands at its birth
+
+    module _ (made : of < s.system.made) (new : IsUntouched k o t s (call_entry k c a ∷ h) of) where
+      -- a call that opens it for nobody
+      untouched-stands :
+          ((lwp handle : ℕ) (opened_file : File)
+          (mode : Mode) → call_entry k c a ≡ granted k of lwp opened_file mode handle → is_writable mode ≡ true → ⊥)
+          → Stands k o u a.state h of
+      untouched-stands never =
+          subst (λ (x : TrussState). Stands k o x a.state h of) told-is
+          (subst (λ (x : TracedState). Stands k o (told_of k t (call_entry k c a)) x h of) own.later
+          (untouched-on n k o t s h of (call_entry k c a) i.lawful own.legal made new never))
+
+      -- the open of it by its id
+      module _ (at : t.stage ≡ OpeningControl of) where
+        control-answer : answer_to s k (open_control of) ≡ Some a
+        unfolding call_of
+        control-answer = call-is Line n k o t s c a own (OpeningControl of) (open_control of) at refl
+
+        -- an open that was refused opens nothing
+        refused-never : (answer_of a.reply ≢ Accepted) → (lwp handle : ℕ) (opened_file : File) (mode : Mode)
+            → call_entry k c a ≡ granted k of lwp opened_file mode handle → is_writable mode ≡ true → ⊥
+        unfolding answer_of
+        refused-never refused lwp handle opened_file mode is writes =
+            let acts : act.Call c a.reply ≡ act.Call (call.Open of lwp opened_file mode) (reply.Handle handle) =
+            ap (λ (x : Entry). x.act) is in
+            let given : a.reply ≡ reply.Handle handle = cc in
+            refused (ap answer_of given)
+
+        control-stands : Stands k o u a.state h of
+        control-stands = elim (accepted-or-not (answer_of a.reply)) [
+          | inl accepted ↦ control-begins k o t s c a h of at control-answer
+              (named-it (subst (Names o t.traced) at f.names)) new accepted
+          | inr refused ↦ untouched-stands (refused-never refused)
+        ]
+
+      new-stands : Stands k o u a.state h of
+      new-stands = elim (opens-or-not of t.stage) [
+        | inl at ↦ control-stands at
+        | inr apart ↦ untouched-stands (opened-never apart)
+      ]
+
+    stands-later : of < s.system.made → Stands k o t s (call_entry k c a ∷ h) of → Stands k o u a.state h of
+    stands-later made (stands_new new) = new-stands made new
+    stands-later made (is_begun b) = begun-stands Line n k o t s c a own h on of b
+    stands-later made (is_never never) =
+        is_never
+        (subst (λ (x : TrussState). IsNeverGranted k of x h) told-is (never-later k of t (call_entry k c a) h never))
+
+    born-later : IsNewBorn k o u a.state h of
     born-later =
-        subst (λ (x : TracedState). IsNewBorn k o x h of) own.later
-        (new-born-on n k o s h of (call_entry k c a) i.lawful own.legal (f.born pid of line told its_claim)
-        opened-named)
-
-  -- ---- the processes of the line
-
-  told-parent : (place child : ℕ) → place < length t.traced → IsTold t a.reply place child → Line child
-      → Line (traced_at t place).pid × Told child
-  told-parent place child within told line =
-      forks.parents [] h (call_entry k c a) (traced_at t place).pid child refl (tells place within child told) line
-
-  parents-later : (place child : ℕ) → place < length u.traced → claim_of o u.stage place ≡ Some child → Line child
-      → Line (at_place u.traced place).pid × Told child
-  parents-later place child within is line =
-      by (comes.claims place child within (ap (λ (x : Options). claim_of x u.stage place) i.options ∙ is))
-    where
-      by : WasClaimed t a.reply (at_place u.traced place).pid child → Line (at_place u.traced place).pid × Told child
-      by (was_claimed before there its claim) =
-          let w =
-          f.parents before child there (ap (λ (x : Options). claim_of x t.stage before) (sym i.options) ∙ claim) line in
-          (subst Line its w.0, w.1)
-      by (was_told before there its told) =
-          let w = told-parent before child there told line in (subst Line its w.0, w.1)
+        let new = f.born pid of line its its_claim in
+        record {
+          made =
+              subst (λ (x : TracedState). of < x.system.made) own.later
+              (stays-made n s (call_entry k c a) of i.lawful own.legal new.made);
+          now = stands-later new.made new.now;
+        }
 
   -- ---- all
 
-  pub call-follows : KeepsChildren Line Told k o u a.state h
+  pub call-follows : KeepsChildren Line k o u a.state h
   call-follows = record {
     flags = flags-later;
-    born = λ pid of line told claim. born-later pid of line told claim;
-    one = λ pid other of line its told x y.
-        f.one pid other of line its told (claims-before pid of line x) (claims-before other of its y);
-    parents = parents-later;
+    born = λ pid of line its claim. born-later pid of line its claim;
+    one = λ pid other of line both its x y.
+        f.one pid other of line both its (claims-before pid of line x) (claims-before other of both y);
     names = subst (λ (x : Options). Names x u.traced u.stage) i.options comes.names;
   }

@@ -1,21 +1,19 @@
 use Rattle.pr_model.specs.declared.handles.Held.{Held}
-use Rattle.std.proofs.Common.{◌≡◌, ◌≢◌, ◌==◌, ◌<◌, ℕ, suc, true, false, Some, List, ◌∷◌, length, refl, sym, subst, ap, ◌∙◌, arith, inl, inr}
+use Rattle.std.proofs.Common.{◌≡◌, ◌≢◌, ◌==◌, ◌<◌, ℕ, suc, true, false, Some, List, [], ◌∷◌, length, refl, sym, subst, ap, ◌∙◌, arith, inl, inr}
 use Rattle.std.proofs.lemmas.Bool.{cases_Bool, cases_eq, eqb-false, eqb-true, false≢true}
-use Rattle.std.proofs.lemmas.Option.{same_Some}
+use Rattle.std.proofs.lemmas.Option.{none-some, same_Some}
 use Rattle.pr_lawful.proofs.HandleLemmas.{handle-at}
 use Rattle.pr_line.specs.declared.options.Options.{Options}
 use Rattle.pr_num.proofs.ByIdLaws.{under-change_under, under-change_under_other}
 use Rattle.pr_num.specs.ById.{under}
 use Rattle.pr_num.specs.Control.{fork_mode, has_flags}
 use Rattle.pr_model.proofs.TurnLemmas.{turn-taken}
-use Rattle.pr_model.specs.Handles.{handle_of, is_writable}
+use Rattle.pr_model.specs.Handles.{handle_of}
 use Rattle.pr_model.specs.Lawful.{IsLawful}
 use Rattle.pr_model.specs.Legal.{IsLegalEntry, after, after_turn}
 use Rattle.pr_model.specs.LwpTurns.{LwpTurn, turn_of, with_counted}
 use Rattle.pr_model.specs.State.{TracedControl, TracedLwp, TracedProcess, TracedState, live_process, lwp_of, with_lwp}
-use Rattle.pr_model.specs.declared.calls.File.{File}
 use Rattle.pr_model.specs.declared.calls.File.TheVariants as file
-use Rattle.pr_model.specs.declared.calls.Mode.{Mode}
 use Rattle.pr_model.specs.declared.calls.Mode.TheVariants.{WriteExcl}
 use Rattle.pr_model.specs.declared.events.Act.{Act}
 use Rattle.pr_model.specs.declared.events.Act.TheVariants as act
@@ -28,28 +26,27 @@ use Rattle.pr_model.specs.Machines.{stopped_as_directed}
 use Rattle.pr_truss.specs.Trusses.{TrussState, traced_at}
 use Rattle.pr_truss_laws.proofs.BridgeLemmas.{mapped-some}
 use Rattle.pr_truss_laws.proofs.OpensLemmas.{held_by}
-use Rattle.pr_truss_laws.proofs.StillLemmas.{halting-leaves}
+use Rattle.pr_truss_laws.proofs.StillLemmas.{frozen-turns, halting-leaves}
 use Rattle.pr_truss_laws.specs.Stills.{HasSameSettings, IsUndisturbed, stopped_lwp, with_lwp_stopped}
 use Rattle.pr_report_laws.proofs.Invariant.Tallies.{Tally}
 use Rattle.pr_report_laws.proofs.UnopenedChildren.Claims.{Claims, KeepsChildren, IsFree, IsSet, opened, stands, watched}
 use Rattle.pr_report_laws.proofs.UnopenedChildren.Claims as claims
 use Rattle.pr_report_laws.proofs.UnopenedChildren.ClaimStands.{IsStanding, stood-at}
-use Rattle.pr_report_laws.proofs.UnopenedChildren.LeftChildren.{LeavesTo}
+use Rattle.pr_report_laws.proofs.UnopenedChildren.LeftChildren.{LeavesTo, opens-on, other-told}
 use Rattle.pr_report_laws.proofs.Invariant.EntrySteps.{made-at}
 use Rattle.pr_report_laws.proofs.Files.FileLaws.{HasFiles}
-use Rattle.pr_report_laws.proofs.Machine.ForkTurns.{HasForked, alone-forked, forked-born, forked-next}
+use Rattle.pr_report_laws.proofs.Machine.ForkTurns.{HasForked, alone-forked, forked-born, forked-did, forked-next}
 use Rattle.pr_truss_laws.proofs.ForeignLemmas.{exclusive-sole}
 use Rattle.pr_truss_laws.proofs.OutlastLemmas.{others-entry}
 use Rattle.pr_report_laws.proofs.Machine.FrameLaws.{alone-control}
-use Rattle.pr_report_laws.proofs.Machine.NewBorn.{IsNewBorn, new-born-on}
+use Rattle.pr_report_laws.proofs.Machine.NewBorn.{IsBegun, IsLeftTo, IsNeverGranted, IsNew, IsNewBorn, Stands, is_begun, is_never, left-later, never-later, new-alone, stands_new, untouched-on}
 use Rattle.pr_report_laws.proofs.Invariant.OtherSteps.{lives-later}
-use Rattle.pr_truss_laws.proofs.OverLemmas.{stays-over}
+use Rattle.pr_truss_laws.proofs.OverLemmas.{stays-made, stays-over}
 use Rattle.pr_report_laws.proofs.Machine.OwnTurnLaws.{event-halts, state-after}
 use Rattle.pr_report_laws.proofs.Invariant.Standing as st
 use Rattle.pr_report_laws.proofs.Invariant.Standing.{Position}
 use Rattle.pr_report_laws.proofs.Machine.TurnSettings.{turn-settings}
-use Rattle.pr_report_laws.specs.Births.{granted}
-use Rattle.pr_report_laws.specs.Lineages.{IsNamed, IsTakenBefore}
+use Rattle.pr_report_laws.specs.Births.{child_made}
 use Rattle.pr_reached.specs.Fits.{IsFitSystem}
 use Rattle.pr_report_laws.proofs.Invariant.Positions.{IsTracedBy}
 
@@ -94,7 +91,7 @@ pub data Left (pid : ℕ) (s : TracedState) (e : Entry) (q : TracedProcess) : Ty
   turned : (id : ℕ) (d : LwpTurn) (p : TracedProcess) → e ≡ turn_entry pid id d → turn_of s.system pid id ≡ Some d
       → live_process s.system pid ≡ Some p → live_process d.system pid ≡ Some q → Left pid s e q
 
-module _ (Line Told : ℕ → Type 0) (n k : ℕ) (o : Options) (t : TrussState) (s : TracedState) (e : Entry)
+module _ (Line : ℕ → Type 0) (n k : ℕ) (o : Options) (t : TrussState) (s : TracedState) (e : Entry)
     (h : List Entry) (lawful : IsLawful s) (fit : IsFitSystem s.system) (files : HasFiles k t s)
     (stand : (pid : ℕ) → Line pid → IsStanding o pid t s)
     (stays : t.leaving ≡ false) (legal : IsLegalEntry n s e) (later : IsLawful (after s e))
@@ -161,24 +158,41 @@ module _ (Line Told : ℕ → Type 0) (n k : ℕ) (o : Options) (t : TrussState)
 
   -- ---- the children
 
-  module _ (forks : LeavesTo Line Told k o s (e ∷ h)) (f : KeepsChildren Line Told k o t s (e ∷ h)) where
+  module _ (forks : LeavesTo Line k o t (e ∷ h)) (f : KeepsChildren Line k o t s (e ∷ h)) where
     -- a child that is to be opened was to be opened before, or is made now
     pub data WasClaimed (pid c : ℕ) : Type 0 where
       claimed : Claims o t.traced t.stage s.system pid c → WasClaimed pid c
-      made : (id : ℕ) → e.actor ≡ Lwp pid id → c ≡ s.system.made → IsNewBorn k o (after s e) h c → WasClaimed pid c
+      made : (id : ℕ) → e.actor ≡ Lwp pid id → c ≡ s.system.made → IsNewBorn k o t (after s e) h c → WasClaimed pid c
+
+    -- the rest of the history leaves to truss a child that is made in the entry
+    left-to : (of id c : ℕ) (d : LwpTurn) → e ≡ turn_entry of id d → child_made d.turned.did ≡ Some c
+        → o.follow ≡ true → Line c → IsLeftTo k o c t h
+    left-to of id c d is forks_it follow its =
+        subst (λ (u : TrussState). IsLeftTo k o c u h) (other-told k t e others) (record {
+          each = λ w had. forks.left follow c its (opens-on k c t e h w) (record {
+            before = [];
+            parent = of;
+            id = id;
+            turned = d.turned;
+            since = w.front;
+            is = ap (λ x. x ∷ w.front) is;
+            forks = forks_it;
+            had = had;
+          });
+        })
 
     later-is : (pid id : ℕ) (d : LwpTurn) → e ≡ turn_entry pid id d → turn_of s.system pid id ≡ Some d
         → after s e ≡ record s { system = d.system }
     later-is pid id d is taken = ap (after s) is ∙ state-after s pid id d taken
 
     -- a turn of the process
-    turn-claims : (place c : ℕ) → Line (traced_at t place).pid → Told c → IsFree t.traced t.stage place
+    turn-claims : (place c : ℕ) → Line (traced_at t place).pid → Line c → IsFree t.traced t.stage place
         → o.follow ≡ true
         → (id : ℕ) (d : LwpTurn) (p q : TracedProcess) → e ≡ turn_entry (traced_at t place).pid id d
         → turn_of s.system (traced_at t place).pid id ≡ Some d
         → live_process s.system (traced_at t place).pid ≡ Some p
         → live_process d.system (traced_at t place).pid ≡ Some q → HasForked q c → WasClaimed (traced_at t place).pid c
-    turn-claims place c line told free follow id d p q is taken live there forked =
+    turn-claims place c line its free follow id d p q is taken live there forked =
         let w =
         stood-at k o t s files stays place free.within
         (stand (traced_at t place).pid line) free.attached free.here p live in
@@ -198,11 +212,13 @@ module _ (Line Told : ℕ → Type 0) (n k : ℕ) (o : Options) (t : TrussState)
             let flag = f.flags follow place (watched free.within free.attached free.here) line p live in
             made id (ap (λ (x : Entry). x.actor) is)
             (forked-next o s (traced_at t place).pid id p d lawful fit live traced quiet taken q there c forked)
-            (subst (λ (x : TracedState). IsNewBorn k o x h c) (sym after_it)
+            (subst (λ (x : TracedState). IsNewBorn k o t x h c) (sym after_it)
             (forked-born o s
-            (traced_at t place).pid id p d lawful fit live traced quiet taken q there c forked flag follow k h
+            (traced_at t place).pid id p d lawful fit live traced quiet taken q there c forked flag follow k t h
             (let w : IsLawful (record s { system = d.system }) = subst IsLawful after_it later in w.system)
-            (subst (λ x. IsTakenBefore k o c (x ∷ h) → ⊥) is (forks.left follow c told))))
+            (left-to (traced_at t place).pid id c d is
+            (forked-did o s (traced_at t place).pid id p d lawful fit live traced quiet taken q there c forked) follow
+            its)))
         by traced (st.has_event other event read none one waits whole) =
             let halting = event-halts p other event one in
             let now : live_process d.system (traced_at t place).pid ≡ Some (with_lwp_stopped id p) =
@@ -212,43 +228,74 @@ module _ (Line Told : ℕ → Type 0) (n k : ℕ) (o : Options) (t : TrussState)
             (subst (λ (x : TracedProcess). HasForked x c) (sym (same_Some (with_lwp_stopped id p) q (sym now
             ∙ there))) forked)))
 
-    pub claims-were : (pid c : ℕ) → Line pid → Told c → Claims o t.traced t.stage (after s e).system pid c
+    pub claims-were : (pid c : ℕ) → Line pid → Line c → Claims o t.traced t.stage (after s e).system pid c
         → WasClaimed pid c
-    claims-were of c line told (claims.reads place within same claim) = claimed (claims.reads place within same claim)
-    claims-were of c line told (stands place free same follow q now forked) =
+    claims-were of c line its (claims.reads place within same claim) = claimed (claims.reads place within same claim)
+    claims-were of c line its (stands place free same follow q now forked) =
         subst (λ m. WasClaimed m c) same (by (left place free.within q (ap (live_process (after s e).system) same
         ∙ now)))
       where
         by : Left (traced_at t place).pid s e q → WasClaimed (traced_at t place).pid c
         by (alone p live apart) = claimed (stands place free refl follow p live (alone-forked p q c apart forked))
         by (turned id d p is taken live there) =
-            turn-claims place c (subst Line (sym same) line) told free follow id d p q is taken live there forked
+            turn-claims place c (subst Line (sym same) line) its free follow id d p q is taken live there forked
 
-    not-own : (c lwp handle : ℕ) (opened_file : File) (mode : Mode) → e ≡ granted k c lwp opened_file mode handle
-        → is_writable mode ≡ true → IsNamed o c
-    not-own c lwp handle opened_file mode is writes = absurd (others (ap (λ (x : Entry). x.actor) is))
+    -- a child that truss has begun to open by its id
+    begun-later : (c : ℕ) → IsBegun k o t s (e ∷ h) c → IsBegun k o t (after s e) h c
+    begun-later c b = record {
+      place = b.place;
+      within = b.within;
+      at = b.at;
+      of = b.of;
+      named = b.named;
+      born = λ q now. from q (left b.place b.within q (ap (live_process (after s e).system) b.of ∙ now));
+      left =
+          subst (λ (u : TrussState). IsLeftTo k o c u h) (other-told k t e others) (left-later k o c t e h b.left);
+    }
+      where
+        from : (q : TracedProcess) → Left (traced_at t b.place).pid s e q → IsNew o q
+        from q (alone p live apart) =
+            new-alone o p q apart (b.born p (ap (live_process s.system) (sym b.of) ∙ live))
+        from q (turned id d p is taken live there) =
+            let new = b.born p (ap (live_process s.system) (sym b.of) ∙ live) in
+            let birth = new.birth in
+            let waits = birth.waits in
+            absurd (none-some d (sym (frozen-turns s.system (traced_at t b.place).pid p live waits.frozen id) ∙ taken))
 
-    claimed-born : (pid c : ℕ) → Line pid → Told c → Claims o t.traced t.stage s.system pid c
-        → IsNewBorn k o (after s e) h c
-    claimed-born pid c line told claim =
-        new-born-on n k o s h c e lawful legal (f.born pid c line told claim)
-        (λ lwp handle opened_file mode is writes. not-own c lwp handle opened_file mode is writes)
+    claimed-stands : (c : ℕ) → c < s.system.made → Stands k o t s (e ∷ h) c → Stands k o t (after s e) h c
+    claimed-stands c before (stands_new new) =
+        subst (λ (u : TrussState). Stands k o u (after s e) h c) (other-told k t e others)
+        (untouched-on n k o t s h c e lawful legal before new
+        (λ lwp handle opened_file mode is writes. others (ap (λ (x : Entry). x.actor) is)))
+    claimed-stands c before (is_begun b) = is_begun (begun-later c b)
+    claimed-stands c before (is_never never) =
+        is_never
+        (subst (λ (u : TrussState). IsNeverGranted k c u h) (other-told k t e others) (never-later k c t e h never))
 
-    born-later : (pid c : ℕ) → Line pid → Told c → WasClaimed pid c → IsNewBorn k o (after s e) h c
-    born-later of c line told (claimed claim) = claimed-born of c line told claim
-    born-later of c line told (made id actor next new) = new
+    claimed-born : (pid c : ℕ) → Line pid → Line c → Claims o t.traced t.stage s.system pid c
+        → IsNewBorn k o t (after s e) h c
+    claimed-born pid c line its claim =
+        let new = f.born pid c line its claim in
+        record {
+          made = stays-made n s e c lawful legal new.made;
+          now = claimed-stands c new.made new.now;
+        }
+
+    born-later : (pid c : ℕ) → Line pid → Line c → WasClaimed pid c → IsNewBorn k o t (after s e) h c
+    born-later of c line its (claimed claim) = claimed-born of c line its claim
+    born-later of c line its (made id actor next new) = new
 
     -- the child that is made now was not there before
-    not-before : {X : Type 0} (pid c : ℕ) → Line pid → Told c → Claims o t.traced t.stage s.system pid c
+    not-before : {X : Type 0} (pid c : ℕ) → Line pid → Line c → Claims o t.traced t.stage s.system pid c
         → c ≡ s.system.made → X
-    not-before pid c line told claim next =
-        let new = f.born pid c line told claim in absurd (omega (arith, new.made, next))
+    not-before pid c line its claim next =
+        let new = f.born pid c line its claim in absurd (omega (arith, new.made, next))
 
-    one-later : (pid other c : ℕ) → Line pid → Line other → Told c → WasClaimed pid c → WasClaimed other c → pid ≡ other
-    one-later pid other c line its told (claimed x) (claimed y) = f.one pid other c line its told x y
-    one-later pid other c line its told (claimed x) (made id actor next new) = not-before pid c line told x next
-    one-later pid other c line its told (made id actor next new) (claimed y) = not-before other c its told y next
-    one-later pid other c line its told (made id actor next new) (made j by also born) = of-lwp (sym actor ∙ by)
+    one-later : (pid other c : ℕ) → Line pid → Line other → Line c → WasClaimed pid c → WasClaimed other c → pid ≡ other
+    one-later pid other c line both its (claimed x) (claimed y) = f.one pid other c line both its x y
+    one-later pid other c line both its (claimed x) (made id actor next new) = not-before pid c line its x next
+    one-later pid other c line both its (made id actor next new) (claimed y) = not-before other c both its y next
+    one-later pid other c line both its (made id actor next new) (made j by also born) = of-lwp (sym actor ∙ by)
       where
         of-lwp : Lwp pid id ≡ Lwp other j → pid ≡ other
         of-lwp same = cc
@@ -273,12 +320,11 @@ module _ (Line Told : ℕ → Type 0) (n k : ℕ) (o : Options) (t : TrussState)
             turn-settings s.system (traced_at t place).pid p id d lawful.system live taken q there in
             ap (λ (y : TracedControl). has_flags y.modes fork_mode) same.control ∙ f.flags follow place x line p live
 
-    pub entry-follows : KeepsChildren Line Told k o t (after s e) h
+    pub entry-follows : KeepsChildren Line k o t (after s e) h
     entry-follows = record {
       flags = flags-later;
-      born = λ pid c line told claim. born-later pid c line told (claims-were pid c line told claim);
-      one = λ pid other c line its told x y. one-later pid other c line its told (claims-were pid c line told x)
-          (claims-were other c its told y);
-      parents = f.parents;
+      born = λ pid c line its claim. born-later pid c line its (claims-were pid c line its claim);
+      one = λ pid other c line both its x y. one-later pid other c line both its (claims-were pid c line its x)
+          (claims-were other c both its y);
       names = f.names;
     }

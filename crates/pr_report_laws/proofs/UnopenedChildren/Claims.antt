@@ -77,18 +77,16 @@ pub data Claims (o : Options) (ts : List Traced) (stage : Stage) (s : TracedSyst
   stands : (place : ℕ) → IsFree ts stage place → (at_place ts place).pid ≡ pid → o.follow ≡ true → (p : TracedProcess)
       → live_process s pid ≡ Some p → HasForked p c → Claims o ts stage s pid c
 
--- Of the processes of a line: each child of theirs of which truss is told stands at its birth, if it lives; or truss
--- never opens it. No two of them made the same child. What makes one of them is of the line too.
-pub record KeepsChildren (Line Told : ℕ → Type 0) (k : ℕ) (o : Options) (t : TrussState) (s : TracedState)
+-- Of the processes of a line: each child of theirs that is of the line too stands at its birth, if it lives; or truss
+-- never opens it as a child. No two of them made the same child.
+pub record KeepsChildren (Line : ℕ → Type 0) (k : ℕ) (o : Options) (t : TrussState) (s : TracedState)
     (h : List Entry) : Type 0 where
   pub flags : o.follow ≡ true → (place : ℕ) → IsSet t.traced t.stage place → Line (at_place t.traced place).pid
       → (p : TracedProcess) → live_process s.system (at_place t.traced place).pid ≡ Some p
       → has_flags p.control.modes fork_mode ≡ true
-  pub born : (pid c : ℕ) → Line pid → Told c → Claims o t.traced t.stage s.system pid c → IsNewBorn k o s h c
-  pub one : (pid other c : ℕ) → Line pid → Line other → Told c → Claims o t.traced t.stage s.system pid c
+  pub born : (pid c : ℕ) → Line pid → Line c → Claims o t.traced t.stage s.system pid c → IsNewBorn k o t s h c
+  pub one : (pid other c : ℕ) → Line pid → Line other → Line c → Claims o t.traced t.stage s.system pid c
       → Claims o t.traced t.stage s.system other c → pid ≡ other
-  pub parents : (place c : ℕ) → place < length t.traced → claim_of o t.stage place ≡ Some c → Line c
-      → Line (at_place t.traced place).pid × Told c
   pub names : Names o t.traced t.stage
 
 -- ---- what a reply leaves of that

@@ -33,8 +33,9 @@ use Rattle.pr_report_laws.proofs.Watching.OpeningWaits.{opening-waits}
 use Rattle.pr_report_laws.proofs.Watching.QuietOpenings.{own-logs, quiet-entry}
 use Rattle.pr_report_laws.specs.Attachments.{HasFollowed, HasOpened, IsLetGo, ended, left}
 use Rattle.pr_report_laws.specs.Lineages.{IsLeftToTruss}
-use Rattle.pr_report_laws.specs.Grips.{EndsThere, HasGrips, IsGrip, IsGripOfChild, IsKept, IsLeftIn, IsOfOther, IsOpenedFrom, left_in, with_history}
+use Rattle.pr_report_laws.specs.Grips.{EndsThere, IsGrip, IsGripOfChild, IsKept, IsLeftIn, IsOfOther, IsOpenedFrom, left_in, with_history}
 use Rattle.pr_report_laws.specs.Shown.{LwpEvent, event_picked, picked, selected}
+use Rattle.pr_report_laws.specs.WatchedGrips.{HasGrips}
 use Rattle.pr_report_laws.specs.Watching.{events_watched, told_of, watches}
 
 -- What is selected of a process in the grip of truss is what is selected of it while truss watches it.

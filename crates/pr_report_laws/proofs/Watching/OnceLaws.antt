@@ -36,7 +36,7 @@ use Rattle.pr_report_laws.proofs.Invariant.EntrySteps.{made-at}
 use Rattle.pr_report_laws.proofs.Invariant.OpeningRuns.{IsFollowing, IsOpening}
 use Rattle.pr_report_laws.proofs.Invariant.StandLemmas.{Stands}
 use Rattle.pr_report_laws.proofs.Machine.ControlLaws.{message-gone}
-use Rattle.pr_report_laws.proofs.NewbornChildren.NewbornLaws.{child-placed, push-same}
+use Rattle.pr_report_laws.proofs.Watching.ChildPlaces.{child-placed, push-same}
 use Rattle.pr_report_laws.proofs.Replies.Places.{unwatched-away}
 use Rattle.pr_report_laws.proofs.Watching.BeginLaws.{at-options, followed-watches, opened-watches, opening-begins}
 use Rattle.pr_report_laws.proofs.Watching.BeginsOnlyLaws.{StartsNow, stays-off, starts_child, starts_given, watched-starts}

@@ -11,7 +11,7 @@ use Rattle.pr_truss_laws.specs.Exchanges.{Exchange, calls_in, exchange_of, excha
 use Rattle.pr_truss_laws.specs.Given.{IsWholeOpening, calls_with, opening_calls, reply_at}
 use Rattle.pr_report_laws.proofs.Files.WatchHistories.{exchanges-push}
 use Rattle.pr_report_laws.proofs.FollowedChildren.FollowCalm.{tail-same}
-use Rattle.pr_report_laws.proofs.NewbornChildren.NewbornLaws.{push-same}
+use Rattle.pr_report_laws.proofs.Watching.ChildPlaces.{push-same}
 use Rattle.pr_report_laws.proofs.Watching.ExchangeEntries.{entry-of}
 use Rattle.pr_report_laws.proofs.Watching.OnceLaws.{has-last}
 use Rattle.pr_report_laws.proofs.Watching.WaitPlaces.{calls_before, calls_behind, stop_wait}

@@ -1,8 +1,6 @@
-use Rattle.std.proofs.Common.{rules, ◌≡◌, ◌<◌, ◌+◌, ◌-◌, ◌++◌, [], Some, None, drop, length, map, refl, sym, ap, ◌∙◌, arith, length-append}
-use Rattle.std.proofs.lemmas.List.{length-drop, nil_from_length}
+use Rattle.std.proofs.Common.{rules, ◌≡◌, ◌+◌, ◌-◌, ◌++◌, drop, length, map, refl, ap, ◌∙◌, arith, length-append}
 use Rattle.std.proofs.lemmas.Option.{slice_get_read}
 use Rattle.std.proofs.lemmas.Result.{err_from_is_err_and}
-use Rattle.std.specs.List.{slice_get}
 use Rattle.pr_core_text.proofs.TextLemmas.{bytes_of, damaged, no_line, past_lines, told, whole_told}
 use Rattle.pr_core_text.specs.CoreTexts.{bytes_after}
 use Rattle.pr_core_text.proofs.hex_lines.read_bytes.Goals as goal

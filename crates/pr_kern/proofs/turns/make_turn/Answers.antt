@@ -3,12 +3,18 @@ use Rattle.std.specs.Prelude.{OnOk}
 use Rattle.pr_model.specs.State.{TracedSystem}
 use Rattle.pr_proc.specs.Counts.{AllUsedAtMost}
 use Rattle.pr_ready.specs.Following.{around_lwp}
+use Rattle.pr_ready.proofs.RanLemmas.{ran-covers}
 use Rattle.pr_kern.proofs.ReadyLemmas.{instruction-reach, none-has, some-has, turn-follows}
 use Rattle.pr_kern.proofs.turns.make_turn.Goals as goal
 
-pub after_instruction-requires : goal.after_instruction-requires
-after_instruction-requires c =
+pub after_instruction-requires-clause-reach : goal.after_instruction-requires-clause-reach
+after_instruction-requires-clause-reach c =
     instruction-reach c.in-Some.turned.did (some-has _ _ _ _ c.in-Some.is c.in_ok-run_instruction.ensures.did)
+
+pub after_instruction-requires-clause-ran : goal.after_instruction-requires-clause-ran
+after_instruction-requires-clause-ran c only small =
+    ran-covers c.args.sys.now c.args.pid c.args.lwp _ (some-has _ _ _ _ c.in-Some.is c.in_ok-run_instruction.ensures.ok)
+    only c.args.ready.now c.requires.looks small
 
 pub returns-in-None-clause-used : goal.returns-in-None-clause-used
 returns-in-None-clause-used c =

@@ -1,17 +1,19 @@
 use Rattle.pr_hidden.proofs.FirstLemmas.{first-untouched}
 use Rattle.pr_model.specs.FirstState.{first_state}
-use Rattle.pr_probe_laws.proofs.HiddenLaw.{apfiles-hidden, apfiles-spares, apfiles-tidy}
+use Rattle.pr_probe_laws.proofs.HiddenLaw.{alone-hidden, alone-spares, alone-tidy}
 use Rattle.pr_probe_laws.proofs.hidden.apfiles_is_hidden.Goals as goal
 use Rattle.pr_reached.proofs.ReachedLemmas.{first-reached}
 
 pub returns : goal.returns
 returns c = record {
   tidy = λ n who controllers s h reached unstepped bytes legal follows are.
-      apfiles-tidy n who controllers s h reached bytes legal follows are.probes are.passive are.alone unstepped;
+      alone-tidy n who controllers s h reached bytes legal follows are unstepped;
   spares = λ n who controllers s h reached unstepped bytes legal follows are.
-      apfiles-spares n who controllers s h reached bytes legal follows are.probes are.passive are.alone unstepped;
-  later = apfiles-hidden;
+      alone-spares n who controllers s h reached bytes legal follows are unstepped;
+  later = λ n who controllers s h reached untouched bytes legal follows are.
+      alone-hidden n who controllers s h reached bytes legal follows are untouched;
   first = λ programs files spawns n who controllers h start ranged bytes legal follows are.
-      apfiles-hidden n who controllers (first_state programs files spawns) h
-      (first-reached programs files spawns start ranged) (first-untouched programs files spawns) bytes legal follows are;
+      alone-hidden n who controllers (first_state programs files spawns) h
+      (first-reached programs files spawns start ranged) bytes legal follows are
+      (first-untouched programs files spawns);
 }

@@ -1,10 +1,15 @@
 use Rattle.std.proofs.Common.{ℕ, Option, sym, ap, ◌∙◌}
-use Rattle.pr_model.specs.State.{TracedProcess}
+use Rattle.pr_model.specs.State.{TracedProcess, TracedSystem, live_process}
 use Rattle.pr_proc.specs.Orders.{asked_after}
 use Rattle.pr_ready.specs.Walks.{first_of}
 use Rattle.pr_ready.proofs.AskingLemmas.{next-end, next-here, next-on}
 use Rattle.pr_ready.proofs.WalkLemmas.{Found, behind, walk-begins}
 use Rattle.pr_ready.proofs.asking.next_ready.Goals as goal
+
+-- the question is one about this system
+pub first_of-requires : goal.first_of-requires
+first_of-requires g c =
+    c.live.ensures ∙ ap (λ (s : TracedSystem). live_process s c.in-Some.pid) (sym c.requires.asks)
 
 -- nothing stands before the process of the other lwp
 pub loop-pid-init : goal.loop-pid-init

@@ -3,7 +3,7 @@ use Rattle.pr_lawful.proofs.CallLemmas.{call-state}
 use Rattle.pr_model.specs.Lawful.{IsLawful}
 use Rattle.pr_kern.specs.Kernels.{Kernel}
 use Rattle.pr_kern.proofs.AnswerLemmas.{answer-sound}
-use Rattle.pr_kern.proofs.KeptLemmas.{kept-push}
+use Rattle.pr_kern.proofs.KeptLemmas.{kept-push, kept-ready}
 use Rattle.pr_kern.proofs.ReadyLemmas.{call-follows}
 use Rattle.pr_kern.proofs.SoundLemmas.{IsSound-more}
 use Rattle.pr_kern.proofs.kernels.Kern.call.Goals as goal
@@ -13,15 +13,12 @@ pub invariant_of-self-2 : goal.invariant_of-self-2
 invariant_of-self-2 c =
     let place = subst (λ (k : Kernel). length k.history < k.places) (sym c.self.view_is) c.requires.place in
     let was = c.self.invariant.kept in
-    record {
-      kept =
-          kept-push _ _ _ _ _ c.push.ensures.entries c.push.ensures.room place was.room
-          (IsSound-more _ _ _ (omega arith) (answer-sound _ _ _ _ _ c.in_ok-reply.ensures.ok was.sound))
-          (call-state _ was.lawful _ _ _ c.in_ok-reply.ensures.ok);
-      looks =
-          call-follows _ _ _ _ _ _ _ _ was.lawful c.in_ok-reply.ensures.ok c.around_call-around.ensures
-          c.call_changes_files-files.ensures c.after_call.ensures c.self.invariant.looks;
-    }
+    kept-ready _ _ _ _
+    (kept-push _ _ _ _ _ c.push.ensures.entries c.push.ensures.room place was.room
+    (IsSound-more _ _ _ (omega arith) (answer-sound _ _ _ _ _ c.in_ok-reply.ensures.ok was.sound))
+    (call-state _ was.lawful _ _ _ c.in_ok-reply.ensures.ok))
+    (call-follows _ _ _ _ _ _ _ _ was.lawful c.in_ok-reply.ensures.ok c.around_call-around.ensures
+    c.call_changes_files-files.ensures c.after_call.ensures c.self.invariant.looks)
 
 -- the state that it finds is lawful
 pub returns-clause-lawful : goal.returns-clause-lawful

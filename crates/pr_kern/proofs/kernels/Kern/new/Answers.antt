@@ -2,7 +2,7 @@ use Rattle.std.proofs.Common.{sym, subst, ◌∙◌}
 use Rattle.pr_model.specs.FirstState.{first_state}
 use Rattle.pr_model.specs.State.{TracedState}
 use Rattle.pr_kern.specs.Soundness.{IsSound}
-use Rattle.pr_kern.proofs.KeptLemmas.{kept-start}
+use Rattle.pr_kern.proofs.KeptLemmas.{kept-ready, kept-start}
 use Rattle.pr_kern.proofs.StartLemmas.{first-sound, started-lawful}
 use Rattle.pr_kern.proofs.kernels.Kern.new.Goals as goal
 
@@ -13,13 +13,11 @@ invariant_of-result c =
     started-lawful _ _ c.args.programs.items c.args.files.items c.args.spawns.now c.keep_limits.ensures
     c.deref.ensures.value c.requires.few c.requires.short c.requires.own_names c.requires.spawns c.requires.mapped
     c.in_ok-state.ensures in
-    record {
-      kept =
-          kept-start _ _ _ (c.reserve.ensures.entries ∙ c.new-history.ensures) c.in_ok-reserve.ensures.room
-          c.ranges.places.fits
-          (subst (λ (m : TracedState). IsSound 0 m.system) (sym c.in_ok-state.ensures) (first-sound _ _ _)) lawful;
-      looks = c.first_ready-ready.ensures;
-    }
+    kept-ready _ _ _ _
+    (kept-start _ _ _ (c.reserve.ensures.entries ∙ c.new-history.ensures) c.in_ok-reserve.ensures.room
+    c.ranges.places.fits
+    (subst (λ (m : TracedState). IsSound 0 m.system) (sym c.in_ok-state.ensures) (first-sound _ _ _)) lawful)
+    c.first_ready-ready.ensures
 
 pub first_ready-ready-requires : goal.first_ready-ready-requires
 first_ready-ready-requires c =

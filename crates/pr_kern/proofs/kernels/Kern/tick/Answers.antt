@@ -1,7 +1,7 @@
 use Rattle.std.proofs.Common.{◌<◌, length, sym, subst}
 use Rattle.pr_lawful.proofs.CallLemmas.{tick-state}
 use Rattle.pr_kern.specs.Kernels.{Kernel}
-use Rattle.pr_kern.proofs.KeptLemmas.{kept-push, ticked-sound}
+use Rattle.pr_kern.proofs.KeptLemmas.{kept-push, kept-ready, ticked-sound}
 use Rattle.pr_kern.proofs.kernels.Kern.tick.Goals as goal
 use Rattle.pr_ready.proofs.AroundLemmas.{tick-ready}
 
@@ -11,9 +11,7 @@ pub invariant_of-self : goal.invariant_of-self
 invariant_of-self c =
     let place = subst (λ (k : Kernel). length k.history < k.places) (sym c.self.view_is) c.requires.place in
     let lawful = tick-state _ c.self.invariant.kept.lawful in
-    record {
-      kept =
-          kept-push _ _ _ _ _ c.push.ensures.entries c.push.ensures.room place c.self.invariant.kept.room
-          (ticked-sound _ _ c.self.invariant.kept.sound) lawful;
-      looks = tick-ready _ _ _ lawful.system c.after_tick.ensures c.self.invariant.looks;
-    }
+    kept-ready _ _ _ _
+    (kept-push _ _ _ _ _ c.push.ensures.entries c.push.ensures.room place c.self.invariant.kept.room
+    (ticked-sound _ _ c.self.invariant.kept.sound) lawful)
+    (tick-ready _ _ _ lawful.system c.after_tick.ensures c.self.invariant.looks)

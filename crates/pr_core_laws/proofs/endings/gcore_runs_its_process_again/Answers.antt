@@ -1,0 +1,5 @@
+use Rattle.pr_core_laws.proofs.EndingLaw.{gcore-runs-again}
+use Rattle.pr_core_laws.proofs.endings.gcore_runs_its_process_again.Goals as goal
+
+pub returns : goal.returns
+returns c = gcore-runs-again

@@ -1,0 +1,5 @@
+use Rattle.pr_probe_laws.proofs.HiddenLaw.{alone-gone}
+use Rattle.pr_probe_laws.proofs.hidden.apfiles_waits_until_its_agent_has_ended.Goals as goal
+
+pub returns : goal.returns
+returns c = alone-gone
