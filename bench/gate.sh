@@ -2,8 +2,8 @@
 # What the gate costs from nothing: processor seconds of each crate for its proofs, its tests and its must-fail edits,
 # and their sums in minutes. The last commit is measured, in a copy that has no work of its own, by `rt ci`, which
 # takes nothing that earlier runs on this machine have kept. It ends with status 1 where the whole takes more than 225
-# processor minutes, or GATE_BOUND where that is given: processors differ, and one was met that takes twice the time of
-# the one for which 225 was set. Nothing else should run beside it, since then each part takes longer.
+# processor minutes, or GATE_BOUND where that is given: processors differ, and one was met that takes 2.2 times the time
+# of the one for which 225 was set. Nothing else should run beside it, since then each part takes longer.
 #
 # Words are a command that is measured in the copy instead, such as `.ci/run` or `sh -c "cd crates/pr_num && rt check"`;
 # it is held to no bound, and of what it takes from earlier runs nothing is seen.

@@ -3,9 +3,8 @@
 Nth on are refused, and one in which the Nth alone is, until a run asks for fewer. Where all are, the status is 7, and what
 was written is a prefix of the whole output; phist writes nothing. Where one alone is, the same, or the run is whole: what
 grows a table asks a second time, for no more than it needs. Runs on several threads ask for memory in an order of their
-own, and the system asks for their threads: there a run may be whole in both ways, and where the system has made no thread
-for a worker it may not end, which is counted. Where their text depends on the order, what was written is judged by
-`check`: it is the front of a legal history.
+own, and the system asks for their threads: there a run may be whole in both ways. Where their text depends on the order,
+what was written is judged by `check`: it is the front of a legal history.
 
 Of more than 1,500 requests some are refused, the first and the last ones among them; --most tells another number. With
 --sample one input alone is run, as in the gate. PROCLAB, PHIST and PDRIVE name other programs than the proved ones, and
@@ -13,12 +12,11 @@ WORKERS tells how many runs there are at once. It needs a C compiler. The last l
 """
 import argparse
 import collections
-import re
 import subprocess
 import tempfile
 
 from checks import PROVED, Checks, each, program_of, read
-from sweeps import LENDINGS, MANY_THINGS, Sweep, make_library, some
+from sweeps import LENDINGS, MANY_THINGS, Sweep, is_legal_front, make_library, some
 
 PHIST, PDRIVE = program_of("phist"), program_of("pdrive")
 
@@ -66,17 +64,6 @@ def inputs():
     yield SESSIONS[0], [PDRIVE, "-q"], read("cases/sessions", SESSIONS[0] + ".session"), ON_ONE
 
 
-def is_legal_front(scenario, out):
-    """Whether what was written is the front of the text of a legal history, as it may be told of some entries."""
-    head = re.match(rb"history \d+\n", out)
-    if not head:
-        return b"history 100000\n".startswith(out) or re.fullmatch(rb"history \d*", out) is not None
-    lines = re.match(rb"(\d+ .*\n)*", out[head.end():]).group(0)
-    entries = b"history %d\n" % lines.count(b"\n") + lines
-    judged = subprocess.run([PROVED, "check"], input=scenario + b"%history\n" + entries, capture_output=True)
-    return judged.stdout == b"legal %d\n" % lines.count(b"\n")
-
-
 def swept(checks, name, command, data, order, room, most):
     sweep = Sweep(command[0], command[1:], data, room)
     status, whole, asked = sweep.run(0, False)
@@ -94,14 +81,11 @@ def swept(checks, name, command, data, order, room, most):
         if refused:
             ends[onwards, is_cut] += 1
             prefixes += is_cut and len(out) > 0
-        if ended is None and order != ON_ONE and not onwards:
-            ends["no end"] += 1
-        elif not (is_cut and refused or is_whole and (order != ON_ONE or not refused or not onwards)):
+        if not (is_cut and refused or is_whole and (order != ON_ONE or not refused or not onwards)):
             wrong.append("request %d%s: status %s, %d bytes" % (number, " and all later" if onwards else "", ended, len(out)))
     figures = "%d requests, of which %d were refused; status 7 where all later ones are refused too %d times, where it alone is" \
               " %d times, and else whole %d times; %d runs wrote something"
     figures %= asked, sum(number <= asked for number in numbers), ends[True, True], ends[False, True], ends[False, False], prefixes
-    figures += "; %d did not end" % ends["no end"] if ends["no end"] else ""
     checks.check(" ".join([command[0].split("/")[-1]] + command[1:]) + ", " + name, "; ".join(wrong[:5]), figures)
     return asked, ends
 
@@ -118,8 +102,8 @@ def main():
         for name, command, data, order in chosen:
             asked, ends = swept(checks, name, command, data, order, room, asked_for.most)
             requests, total = requests + asked, total + ends
-    print("%d requests; all later ones refused too: status 7 %d times; one alone: status 7 %d times, and else whole %d times;"
-          " %d runs on threads did not end" % (requests, total[True, True], total[False, True], total[False, False], total["no end"]))
+    print("%d requests; all later ones refused too: status 7 %d times; one alone: status 7 %d times, and else whole %d times"
+          % (requests, total[True, True], total[False, True], total[False, False]))
     checks.end()
 
 

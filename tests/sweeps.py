@@ -1,10 +1,12 @@
-"""What the tests share that refuse memory: two scenarios, the library that refuses, and the runs under it."""
+"""What the tests share that refuse memory or threads: two scenarios, the library that refuses memory, the runs under it,
+and whether a text is one of a legal history."""
 import os
+import re
 import struct
 import subprocess
 import tempfile
 
-from checks import TOP
+from checks import PROVED, TOP
 
 # A script that sets all that a process can have, in a process of several lwps with a handler and queued signals, which
 # has forked before anybody else moves.
@@ -170,6 +172,21 @@ class Sweep:
             except subprocess.TimeoutExpired:
                 return None, b"", 0
             return ran.returncode, ran.stdout + ran.stderr, struct.unpack("q", open(counted.name, "rb").read())[0]
+
+
+def is_legal_front(scenario, out, whole=False):
+    """Whether what was written is the front of the text of a legal history, as it may be told of some entries; or all of
+    its entries, where it is to be whole."""
+    head = re.match(rb"history (\d+)\n", out)
+    if not head:
+        return not whole and (b"history 100000\n".startswith(out) or re.fullmatch(rb"history \d*", out) is not None)
+    lines = re.match(rb"(\d+ .*\n)*", out[head.end():]).group(0)
+    count = lines.count(b"\n")
+    if whole and count != int(head.group(1)):
+        return False
+    entries = b"history %d\n" % count + lines
+    judged = subprocess.run([PROVED, "check"], input=scenario + b"%history\n" + entries, capture_output=True)
+    return judged.stdout == b"legal %d\n" % count
 
 
 def some(count, most):

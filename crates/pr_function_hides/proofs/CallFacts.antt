@@ -1,4 +1,4 @@
-use Rattle.std.proofs.Common.{◌≡◌, ◌≢◌, ◌⊎◌, ◌&&◌, ◌==◌, ◌++◌, ℕ, Bool, true, false, cond, Option, Some, None, Result, Ok, List, [], ◌∷◌, refl, sym, subst, ap, ◌∙◌, inl, inr}
+use Rattle.std.proofs.Common.{◌≡◌, ◌≢◌, ◌⊎◌, ◌&&◌, ◌==◌, ◌++◌, ◌<◌, ℕ, Bool, true, false, cond, Option, Some, None, Result, Ok, List, [], ◌∷◌, refl, sym, subst, ap, ◌∙◌, inl, inr}
 use Rattle.std.proofs.lemmas.Bool.{cases_eq}
 use Rattle.std.proofs.lemmas.Option.{none-some, same_Some}
 use Rattle.pr_hidden.proofs.CoverLemmas.{cover-other, cover-own}
@@ -8,10 +8,11 @@ use Rattle.pr_model.specs.Changes.{with_space}
 use Rattle.pr_model.specs.Readers.{has_lent}
 use Rattle.pr_model.specs.Calls.{Answer, answer_to, close_answer, close_held, controlled}
 use Rattle.pr_model.specs.ControlMessages.{aim_of, decoded_answer, system_refusal, tail_of, targeted_answer}
-use Rattle.pr_model.specs.Handles.{handle_of, has_writer}
+use Rattle.pr_model.specs.Handles.{handle_of, has_writer, open_refusal}
+use Rattle.pr_model.specs.Lawful.{IsLawfulSystem}
 use Rattle.pr_model.specs.Legal.{IsLegal, IsLegalEntry, after, state_after}
 use Rattle.pr_model.specs.Messages.{message_answer, refused, with_process_changed, write_answer}
-use Rattle.pr_model.specs.State.{TracedProcess, TracedState, live_process}
+use Rattle.pr_model.specs.State.{TracedProcess, TracedState, live_process, process_of}
 use Rattle.pr_model.specs.declared.calls.Call.{Call}
 use Rattle.pr_model.specs.declared.calls.Call.TheVariants as call
 use Rattle.pr_model.specs.declared.calls.File.TheVariants as file
@@ -32,6 +33,7 @@ use Rattle.pr_report_laws.proofs.Releasing.ReleaseStays.{not-allowed}
 use Rattle.pr_truss.specs.Replies.{answer_of}
 use Rattle.pr_truss.specs.declared.replies.Answer.TheVariants.{Accepted, Interrupted}
 use Rattle.pr_truss_laws.proofs.AnswerLemmas.{IsAnswer, answer-is}
+use Rattle.pr_truss_laws.proofs.FrameLemmas.{was-made}
 use Rattle.pr_truss_laws.proofs.OpensLemmas.{close-closes, held_by, keeps_handles, open-opens, own-free, own-other, plain-leaves}
 use Rattle.pr_truss_laws.proofs.TakenLemmas.{ctl-is}
 use Rattle.pr_truss_laws.specs.Exchanges.{errno_in}
@@ -115,6 +117,32 @@ open-finds s k pid a given accepted writer =
     refused e is =
         let granted : IsAnswer a.reply Accepted = subst (IsAnswer a.reply) accepted (answer-is a.reply) in
         none-some e (sym granted ∙ ap errno_in is)
+
+-- what can be opened for writing was made
+has-file : (s : TracedState) (pid : ℕ) → open_refusal s pid 0 file.Ctl WriteExcl ≡ None
+    → process_of s.system pid ≡ None → ⊥
+unfolding open_refusal
+has-file s pid allowed none = cc_of (rw none at allowed)
+  where
+    cc_of : Some Noent ≡ None → ⊥
+    cc_of same = none-some Noent (sym same)
+
+pub open-made : (s : TracedState) (k pid : ℕ) → IsLawfulSystem s.system → (a : Answer)
+    → answer_to s k (call.Open pid 0 file.Ctl WriteExcl) ≡ Some a → answer_of a.reply ≡ Accepted → pid < s.system.made
+unfolding IsAnswer
+open-made s k pid lawful a given accepted =
+    elim (open-opens s k pid 0 file.Ctl WriteExcl a given) [
+      | inl ref ↦ refused ref.errno ref.reply
+      | inr new ↦ there (process_of s.system pid) refl new.allowed
+    ]
+  where
+    refused : (e : Errno) → a.reply ≡ reply.Fail e → pid < s.system.made
+    refused e is = absurd (not-accepted e (ap answer_of (sym is) ∙ accepted))
+
+    there : (o : Option TracedProcess) → process_of s.system pid ≡ o → open_refusal s pid 0 file.Ctl WriteExcl ≡ None
+        → pid < s.system.made
+    there None none allowed = absurd (has-file s pid allowed none)
+    there (Some p) found allowed = was-made pid s.system p lawful found
 
 -- own handles after a call
 pub keeps-there : (s : TracedState) (k : ℕ) (c : Call) (a : Answer) → answer_to s k c ≡ Some a → (number : ℕ) (h : Held)

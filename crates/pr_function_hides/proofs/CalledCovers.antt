@@ -180,6 +180,31 @@ module _ (who : Hiders) (none : (k : ℕ) → who.probes k ≡ false) where
                 (patched-self (covers pid))) (patched-self (covers pid))
     close-apart number _ apart = patched-self (covers pid)
 
+    -- a close leaves what is hidden of it, or no breakpoint
+    pub close-left : (number : ℕ) (r : Reply)
+        → ((covers_called who covers s k (call.Close number) r pid).patches ≡ (covers pid).patches)
+        ⊎ ((covers_called who covers s k (call.Close number) r pid).patches ≡ [])
+    unfolding covers_called
+    close-left number reply.Done = by (handle_of s.opens k number)
+      where
+        Left : Covers → Type 0
+        Left cs = ((cs pid).patches ≡ (covers pid).patches) ⊎ ((cs pid).patches ≡ [])
+
+        by : (o : Option Held) → Left (covers_closed who k o covers)
+        by None = inl refl
+        by (Some h) =
+            either Left (hides who k && is_ctl h.file) (with_cover h.pid (finished (covers h.pid)) covers) covers
+            (of (cases_eq pid h.pid)) (inl refl)
+          where
+            of : (pid ≡ h.pid) ⊎ (pid ≢ h.pid) → Left (with_cover h.pid (finished (covers h.pid)) covers)
+            of (inl same) =
+                inr (ap (λ n. (with_cover h.pid (finished (covers h.pid)) covers n).patches) same
+                ∙ ap (λ (c : Cover). c.patches) (cover-own h.pid (finished (covers h.pid)) covers))
+            of (inr other) =
+                inl (ap (λ (c : Cover). c.patches)
+                (cover-other h.pid (finished (covers h.pid)) covers pid other))
+    close-left number _ = inl refl
+
     -- who hides nothing
     pub close-other : (number : ℕ) (r : Reply) → hides who k ≡ false → Stays (call.Close number) r
     unfolding covers_called

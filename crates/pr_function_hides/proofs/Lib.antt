@@ -1,8 +1,14 @@
 pub mod CallFacts
 pub mod CalledCovers
+pub mod ClosingLaw
+pub mod ClosingWalk
 pub mod FilesCalls
 pub mod FilesWalk
 pub mod FunctionSets
+pub mod GoneCalls
+pub mod HiddenTruss
+pub mod KnownFiles
+pub mod MappedMemory
 pub mod MarkedPatches
 pub mod OwnCalls
 pub mod OwnFiles
@@ -10,6 +16,9 @@ pub mod OwnTidy
 pub mod OwnWrites
 pub mod PlantedReplies
 pub mod PlantedWalk
+pub mod RefusedCopies
 pub mod StillMessages
 pub mod TidyChanges
 pub mod TidyLaw
+pub mod Unborrowed
+pub mod WriteReplies

@@ -367,3 +367,46 @@ module _ (o : Options) (fit : ArePatchable o) where
       patch-named o.functions i f
       (λ j g its same.
       same_Some g f (sym its ∙ ap (slice_get o.functions) (one-place j i g f its named same) ∙ named)) named
+
+-- ---- what is so of each patch
+
+-- the patch that begins somewhere is one of them
+pub patch-there : (P : Patch → Type 0) (at : ℕ) (ps : List Patch) (g : Patch) → All P ps → patch_at at ps ≡ Some g
+    → P g × (g.at ≡ at)
+patch-there P at [] g all found = absurd (none-some g found)
+patch-there P at (p ∷ ps) g all found =
+    by (begins_at at p) refl found (λ later. patch-there P at ps g (All-tail P p ps all) later)
+  where
+    by : (b : Bool) → begins_at at p ≡ b → cond b (Some p) (patch_at at ps) ≡ Some g
+        → (patch_at at ps ≡ Some g → P g × (g.at ≡ at)) → P g × (g.at ≡ at)
+    by true here it rest =
+        let same = same_Some p g it in (
+          subst P same (All-head P p ps all),
+          ap (λ (x : Patch). x.at) (sym same) ∙ eqb-true p.at at here,
+        )
+    by false there it rest = rest it
+
+-- one less, and one more
+pub without-all : (P : Patch → Type 0) (at : ℕ) (ps : List Patch) → All P ps → All P (without_patch at ps)
+without-all P at [] all = all
+without-all P at (p ∷ ps) all =
+    elim (begins_at at p) as (λ b. All P (cond b ps (p ∷ without_patch at ps))) [
+      | true ↦ All-tail P p ps all
+      | false ↦ All-cons P p (without_patch at ps) (All-head P p ps all)
+          (without-all P at ps (All-tail P p ps all))
+    ]
+
+pub with-all : (P : Patch → Type 0) (f : Patch) (ps : List Patch) → P f → All P ps → All P (with_patch f ps)
+with-all P f ps one all =
+    elim (is_some (patch_at f.at ps)) as (λ b. All P (cond b ps (f ∷ ps))) [
+      | true ↦ all
+      | false ↦ All-cons P f ps one all
+    ]
+
+-- what is so of each, and makes something else so
+pub through-all : (P Q : Patch → Type 0) (ps : List Patch) → All (λ (f : Patch). P f → Q f) ps → All P ps → All Q ps
+through-all P Q [] makes all = All-nil Q
+through-all P Q (p ∷ ps) makes all =
+    All-cons Q p ps
+    (All-head (λ (f : Patch). P f → Q f) p ps makes (All-head P p ps all))
+    (through-all P Q ps (All-tail (λ (f : Patch). P f → Q f) p ps makes) (All-tail P p ps all))

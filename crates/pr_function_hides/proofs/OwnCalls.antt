@@ -9,7 +9,7 @@ use Rattle.pr_hidden.specs.Covers.{Cover, Covers, Patch}
 use Rattle.pr_hidden.specs.Hiders.{Hiders, cover_sent, covers_called, covers_controlled, function_written, is_ctl, patch_at, patches_written, probe_written, with_patch, without_patch}
 use Rattle.pr_line.specs.declared.functions.Function.{Function}
 use Rattle.pr_line.specs.declared.options.Options.{Options}
-use Rattle.pr_model.specs.ControlMessages.{target_of}
+use Rattle.pr_model.specs.ControlMessages.{tail_of, target_of}
 use Rattle.pr_model.specs.Handles.{handle_of}
 use Rattle.pr_model.specs.State.{TracedProcess, TracedState, live_process}
 use Rattle.pr_model.specs.declared.calls.Call.{Call}
@@ -246,6 +246,9 @@ module _ (who : Hiders) (none : (k : ℕ) → who.probes k ≡ false) (k : ℕ) 
       pub reads : first_message bytes ≡ Ok (message.Write f.at 16, length bytes)
       reads = write-read f.at code fits size are
 
+      pub tail-long : length (tail_of (message.Write f.at 16) bytes) ≡ 16
+      tail-long = ap (λ xs. length xs) (write-tail f.at code fits size are) ∙ size
+
       pub target : target_of s.system held ≡ live_process s.system v.pid
       target = target-live s k v.control held there refl
 
@@ -260,7 +263,7 @@ module _ (who : Hiders) (none : (k : ℕ) → who.probes k ≡ false) (k : ℕ) 
             (old j inside)
 
         -- it was taken
-        taken : (used : ℕ) → r ≡ reply.Used used → (p : TracedProcess) → live_process s.system v.pid ≡ Some p
+        pub taken : (used : ℕ) → r ≡ reply.Used used → (p : TracedProcess) → live_process s.system v.pid ≡ Some p
             → (later v.pid).patches ≡ function_written (Some (patch_of f)) code (covers v.pid).patches
         unfolding covers_called cover_sent
         taken used got p live =
@@ -279,7 +282,7 @@ module _ (who : Hiders) (none : (k : ℕ) → who.probes k ≡ false) (k : ℕ) 
             ∙ ap (λ x. function_written x code (covers v.pid).patches) (function-patch o fit i f named)
 
         -- or not
-        not-taken : ((used : ℕ) → r ≢ reply.Used used) → (pid : ℕ) → later pid ≡ covers pid
+        pub not-taken : ((used : ℕ) → r ≢ reply.Used used) → (pid : ℕ) → later pid ≡ covers pid
         unfolding covers_called
         not-taken other pid =
             ap (λ (x : Call). covers_called who covers s k x r pid) is ∙ by r other
@@ -356,7 +359,7 @@ module _ (who : Hiders) (none : (k : ℕ) → who.probes k ≡ false) (k : ℕ) 
         (replaced : (q : ℕ) → TellsReplaced t q r → (covers (traced_at t q).pid).patches ≡ [])
         (granted : (q : ℕ) (bytes : List ℕ) (at len : ℕ) (p : TracedProcess) (g : Patch) → q < length t.traced
         → c ≡ call.Ctl (traced_at t q).control bytes → first_message bytes ≡ Ok (message.Write at 16, len)
-        → live_process s.system (traced_at t q).pid ≡ Some p
+        → length (tail_of (message.Write at 16) bytes) ≡ 16 → live_process s.system (traced_at t q).pid ≡ Some p
         → patch_at at (covers (traced_at t q).pid).patches ≡ Some g → (used : ℕ) × (r ≡ reply.Used used)) where
       stage-after : (stage : Stage) → IsWithin (length t.traced) stage → t.stage ≡ stage
           → function_call_of t stage ≡ Some c → AfterStage NowStand t r stage
@@ -425,7 +428,8 @@ module _ (who : Hiders) (none : (k : ℕ) → who.probes k ≡ false) (k : ℕ) 
             lifted-now q within i f it.1 f.code p.size p.bytes its (same-code f.code)
                 (shape q _ f.at _ within its (reads q within i f it.1 f.code p.size p.bytes))
                 (λ process g live found.
-                granted q _ f.at _ process g within its (reads q within i f it.1 f.code p.size p.bytes) live found),
+                granted q _ f.at _ process g within its (reads q within i f it.1 f.code p.size p.bytes)
+                (tail-long q within i f it.1 f.code p.size p.bytes) live found),
           )
 
       aside-after : (aside : Aside) → IsBeside (length t.traced) aside → AsideIsBelow (length o.functions) aside

@@ -63,7 +63,7 @@ unfolding learnt
 learnt-marks t r opening.OpenStatus = refl
 learnt-marks t r _ = refl
 
-lost-marks : (t u : Traced) → without_last t ≡ Some u → u.marks ≡ t.marks
+pub lost-marks : (t u : Traced) → without_last t ≡ Some u → u.marks ≡ t.marks
 unfolding without_last
 lost-marks t u is = by t.memory t.lstatus t.status is
   where

@@ -1,2 +1,4 @@
 pub mod FunctionHiders
+pub mod TidyCloses
+pub mod TidyFaults
 pub mod TidyWrites

@@ -1,6 +1,6 @@
 -- The writes of a truss that shows calls of functions are tidy, and so is what each turn changes; the breakpoints that
 -- stand are those that it has marked; and what is asked of a history for that.
-use Rattle.std.specs.Prelude.{◌≡◌, ◌≢◌, ◌<◌, ◌++◌, ℕ, Bool, true, false, List, [], ◌∷◌, None, Some, Ok, length, option_and_then, slice_get}
+use Rattle.std.specs.Prelude.{◌≡◌, ◌≢◌, ◌<◌, ◌++◌, ℕ, Bool, true, false, All, List, [], ◌∷◌, None, Some, Ok, is_ok, length, option_and_then, slice_get}
 use Rattle.pr_api.specs.Entries.{call_entry}
 use Rattle.pr_function_hides.specs.FunctionHiders.{StandAsMarked}
 use Rattle.pr_function_laws.specs.Stretches.{BeginWithWrite}
@@ -12,22 +12,27 @@ use Rattle.pr_line.specs.declared.events.Event.{Event}
 use Rattle.pr_model.specs.Changes.{Ending}
 use Rattle.pr_model.specs.ControlMessages.{target_of}
 use Rattle.pr_model.specs.Handles.{handle_of}
-use Rattle.pr_model.specs.Legal.{state_after}
+use Rattle.pr_model.specs.Legal.{after, state_after}
 use Rattle.pr_model.specs.Replies.{bytes_in}
 use Rattle.pr_model.specs.Rows.{row_for}
 use Rattle.pr_model.specs.State.{TracedLwp, TracedProcess, TracedState, live_process, lwp_of}
 use Rattle.pr_model.specs.declared.calls.Call.{Call}
 use Rattle.pr_model.specs.declared.calls.Call.TheVariants as call
+use Rattle.pr_model.specs.declared.calls.File.TheVariants.{Ctl}
+use Rattle.pr_model.specs.declared.calls.Mode.TheVariants.{WriteExcl}
 use Rattle.pr_model.specs.declared.calls.Reply.{Reply}
 use Rattle.pr_model.specs.declared.calls.Reply.TheVariants.{Fail, Used}
 use Rattle.pr_model.specs.declared.events.Act.TheVariants.{Turn}
 use Rattle.pr_model.specs.declared.events.Actor.TheVariants.{Lwp}
 use Rattle.pr_model.specs.declared.events.Did.{Did}
-use Rattle.pr_model.specs.declared.events.Did.TheVariants.{Made, Slept, Woke}
+use Rattle.pr_model.specs.declared.events.Did.TheVariants.{Made, Woke}
 use Rattle.pr_model.specs.declared.events.Entry.{Entry}
+use Rattle.pr_model.specs.declared.events.Res.TheVariants.{Value}
 use Rattle.pr_model.specs.declared.events.Turned.{Turned}
 use Rattle.pr_model.specs.declared.handles.Held.{Held}
+use Rattle.pr_num.specs.Limits.{instruction_size}
 use Rattle.pr_num.specs.Messages.{first_message}
+use Rattle.pr_num.specs.Spaces.{Space, bytes_for}
 use Rattle.pr_num.specs.declared.errnos.Errno.TheVariants.{Intr}
 use Rattle.pr_num.specs.declared.messages.Message.TheVariants as message
 use Rattle.pr_parts.specs.AddressSpaces.{with_bytes}
@@ -43,12 +48,10 @@ use Rattle.pr_truss.specs.declared.stages.Stage.TheVariants.{ReadingStatus}
 use Rattle.pr_world.specs.ControllerStates.{ControllerState, FnTruss}
 use Rattle.pr_world.specs.Protocol.{controllers_at}
 
--- A turn makes a call that copies or replaces the memory, a fork(2), a vfork(2) or an exec(2), granted or not; or falls
--- asleep in it.
+-- A turn makes a call that copies or replaces the memory, a fork(2), a vfork(2) or an exec(2), and it is granted.
 abbrev pub makes_copy : Did → Bool
-makes_copy (Made call result) = copies_memory call
-makes_copy (Woke call result) = copies_memory call
-makes_copy (Slept call) = copies_memory call
+makes_copy (Made call (Value value)) = copies_memory call
+makes_copy (Woke call (Value value)) = copies_memory call
 makes_copy did = false
 
 -- A reply tells truss, which reads the status of the process at a place, that its memory was replaced by exec, or that
@@ -61,6 +64,10 @@ pub record TellsReplaced (t : TrussState) (place : ℕ) (r : Reply) : Type 0 whe
   pub event : Event
   pub fresh : fresh_event (traced_at t place) l ≡ Some event
   pub replaced : function_event t.options (marks_at t place) l.id event ≡ Replaced
+
+-- all bytes of the instruction of a breakpoint are mapped, whatever their protection
+pub record IsMappedIn (space : Space) (f : Patch) : Type 0 where
+  pub ok : is_ok (bytes_for 0 space f.at instruction_size) ≡ true
 
 module _ (who : Hiders) (controllers : List ControllerState) (first : TracedState) (h : List Entry) where
   -- what is hidden, the state, and truss, after some entries
@@ -90,26 +97,28 @@ module _ (who : Hiders) (controllers : List ControllerState) (first : TracedStat
     pub len : ℕ
     pub read : first_message bytes ≡ Ok (message.Write at size, len)
 
-  -- Where a breakpoint is planted, the code of its function stands. One that stands is lifted without refusal, as
-  -- long as the process lives. A fork, a vfork and an exec find no breakpoint, and neither does the read of the exit
-  -- of a vfork or an exec that was granted. None stands in a process that has borrowed its memory, nor in its lender.
-  -- And truss is not interrupted.
+  -- Where a breakpoint is planted, the code of its function stands. No turn of an lwp unmaps the bytes of a breakpoint
+  -- that stands in its process, as long as that lives. A process whose control file truss opens has borrowed its memory
+  -- from nobody. A fork, a vfork and an exec that is granted finds no breakpoint, and neither does the read of the exit
+  -- of a vfork or an exec that was. And truss is not interrupted.
   pub record AreUndisturbed : Type 0 where
     pub stands : (front : List Entry) (k used at pid : ℕ) (p : TracedProcess) (f : Patch)
         → WritesAt front k (Used used) at pid p → patch_at at (who.functions k) ≡ Some f
         → patch_at at (hidden_after front pid).patches ≡ None → with_bytes f.at f.bytes p.space ≡ p.space
-    pub lifts : (front : List Entry) (k : ℕ) (r : Reply) (at pid : ℕ) (p : TracedProcess) (f : Patch)
-        → WritesAt front k r at pid p → patch_at at (hidden_after front pid).patches ≡ Some f
-        → (used : ℕ) × (r ≡ Used used)
+    pub stays_mapped : (front back : List Entry) (pid id : ℕ) (t : Turned) (p q : TracedProcess)
+        → h ≡ front ++ record { actor = Lwp pid id; act = Turn t } ∷ back
+        → live_process (state_there front).system pid ≡ Some p
+        → live_process (after (state_there front) (record { actor = Lwp pid id; act = Turn t })).system pid ≡ Some q
+        → All (λ (f : Patch). IsMappedIn p.space f → IsMappedIn q.space f) (hidden_after front pid).patches
+    pub unlent : (front back : List Entry) (k pid : ℕ) (r : Reply) (p : TracedProcess)
+        → h ≡ front ++ call_entry k (call.Open pid 0 Ctl WriteExcl) r ∷ back → hides who k ≡ true
+        → answer_of r ≡ Accepted → live_process (state_there front).system pid ≡ Some p → p.lender ≡ None
     pub copies : (front back : List Entry) (pid id : ℕ) (t : Turned)
         → h ≡ front ++ record { actor = Lwp pid id; act = Turn t } ∷ back → makes_copy t.did ≡ true
         → (hidden_after front pid).patches ≡ []
     pub replaced : (front back : List Entry) (k : ℕ) (c : Call) (r : Reply) (t : TrussState) (place : ℕ)
         → h ≡ front ++ call_entry k c r ∷ back → hides who k ≡ true → IsTrussAfter front k t
         → TellsReplaced t place r → (hidden_after front (traced_at t place).pid).patches ≡ []
-    pub lenders : (front back : List Entry) (pid lender : ℕ) (p : TracedProcess) → h ≡ front ++ back
-        → live_process (state_there front).system pid ≡ Some p → p.lender ≡ Some lender
-        → ((hidden_after front pid).patches ≡ []) × ((hidden_after front lender).patches ≡ [])
     pub unbroken : (front back : List Entry) (k : ℕ) (c : Call) (r : Reply) → h ≡ front ++ call_entry k c r ∷ back
         → hides who k ≡ true → r ≢ Fail Intr
 

@@ -636,6 +636,7 @@ module _ (Q : ℕ → Type 0) (c ns : ℕ) (met : Traced) where
   -- it comes to read the status of the process that it met
   pub record ReadsOwn (t : TrussState) : Type 0 where
     pub place : ℕ
+    pub within : place < length t.traced
     pub reads : t.stage ≡ ReadingStatus place
     pub idle : t.aside ≡ Nothing
     pub own : Own (traced_at t place)
@@ -661,7 +662,7 @@ module _ (Q : ℕ → Type 0) (c ns : ℕ) (met : Traced) where
     stage-reads idle (ReadingStatus q) at here is = by (w.each q here)
       where
         by : Ours (at_place t.traced q) → ReadsOwn t
-        by (inl own) = record { place = q; reads = at; idle = idle; own = own }
+        by (inl own) = record { place = q; within = here; reads = at; idle = idle; own = own }
         by (inr apart) =
             absurd (not-other (traced_at t q).status (λ m. status-one (traced_at t q) m apart) (ap read_from is))
     stage-reads idle (ReadingText q l from len) at here is =

@@ -536,7 +536,7 @@ module _ (n k pid id c ns : ℕ) (met : Traced) (place : ℕ) where
           looked (goes_on more function code is) =
               looking (looks-weaker (Goes s) (Goes (after s e)) c ns met place _ (keeps-goes s (after s e) keeps) more)
               (let w = keeps in w.control) (stand-later function code is)
-          looked (is_away it) =
+          looked (is_away it ran) =
               away (away-weaker (Goes s) (Goes (after s e)) c ns met _ (keeps-goes s (after s e) keeps) it)
               (let w = keeps in w.control)
           looked (has_ended gone) = ended (gone-over gone)

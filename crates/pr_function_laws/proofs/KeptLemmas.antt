@@ -43,7 +43,7 @@ use Rattle.pr_truss.specs.declared.stages.Stage.{Stage}
 use Rattle.pr_truss.specs.declared.stages.Stage.TheVariants.{Spawning, OpeningControl, Opening, Polling, ReadingStatus, ReadingText, Running, Closing, Finished}
 use Rattle.pr_truss_laws.proofs.HeldLemmas.{at_place, set-at}
 use Rattle.pr_function_laws.proofs.TurnReads.{fresh-new}
-use Rattle.pr_function_laws.proofs.KeptPlaces.{AfterBeside, AfterStage, Apart, AtAside, AtPlace, AtStage, IsLasting, Kept, LeftHas, Position, Whole, apart-append, apart-remove, apart-set, closes, opens, planted_as, position_after, rests, runs, unflagged}
+use Rattle.pr_function_laws.proofs.KeptPlaces.{AfterBeside, AfterStage, Apart, AtAside, AtPlace, AtStage, IsLasting, Kept, LeftHas, Position, Whole, apart-append, apart-remove, apart-set, closes, looks, opens, planted_as, position_after, rests, runs, unflagged}
 
 -- One walk over all replies that are no interrupts, of a truss with functions that follows no children and does not
 -- leave its processes: what is so of each process, by where truss has come with it, stays so.
@@ -64,6 +64,7 @@ module _ (P : Position → Traced → Type 0) (lasting : IsLasting P) where
   record Base (q : ℕ) (u : TrussState) : Type 0 where
     full : Full u
     here : q < length u.traced
+    sees : P looks (at_place u.traced q)
 
   record KeptAt (q : ℕ) (u : TrussState) : Type 0 where
     kept : Kept P u
@@ -94,12 +95,13 @@ module _ (P : Position → Traced → Type 0) (lasting : IsLasting P) where
       record {
         full = record { follow = f.follow; off = f.off; all = f.all; idle = f.idle; apart = f.apart };
         here = b.here;
+        sees = b.sees;
       }
 
   -- the process there is another one with the same files
-  set-base : (q : ℕ) (u : TrussState) (t : Traced) → P rests t → t.pid ≡ (traced_at u q).pid → Base q u
+  set-base : (q : ℕ) (u : TrussState) (t : Traced) → P rests t → P looks t → t.pid ≡ (traced_at u q).pid → Base q u
       → Base q (with_traced u q t)
-  set-base q u t has same b =
+  set-base q u t has sees same b =
       let f = b.full in
       record {
         full = record {
@@ -111,13 +113,15 @@ module _ (P : Position → Traced → Type 0) (lasting : IsLasting P) where
           apart = apart-set u.traced q t b.here same f.apart;
         };
         here = omega (arith, b.here, length-set u.traced q t);
+        sees = subst (P looks) (sym (set-at u.traced q t b.here)) sees;
       }
 
   -- a new stop was looked at
   marked-base : (q : ℕ) (u : TrussState) (m : Marks) → (traced_at u q).old ≡ 0 → Base q u → Base q (with_marks u q m)
   marked-base q u m new b =
       set-base q u (record (traced_at u q) { marks = m })
-      (let f = b.full in lasting.meets (traced_at u q) m (f.all q b.here) new) refl b
+      (let f = b.full in lasting.meets (traced_at u q) m (f.all q b.here) new)
+      (lasting.sees (traced_at u q) m b.sees) refl b
 
   either : (q : ℕ) (b : Bool) (u v : TrussState) → KeptAt q u → KeptAt q v → KeptAt q (cond b u v)
   either q true u v x y = x
@@ -131,16 +135,16 @@ module _ (P : Position → Traced → Type 0) (lasting : IsLasting P) where
 
   -- ---- stops
 
-  run-place : (ts : List Traced) (q : ℕ) → Whole P ts → q < length ts
+  run-place : (ts : List Traced) (q : ℕ) → Whole P ts → q < length ts → P looks (at_place ts q)
       → (q < length ts) × (EachBut (P rests) ts q × P runs (at_place ts q))
-  run-place ts q all within =
-      (within, (each-but (P rests) ts q all, lasting.may_run (at_place ts q) (all q within)))
+  run-place ts q all within sees =
+      (within, (each-but (P rests) ts q all, lasting.may_run (at_place ts q) (all q within) sees))
 
   over-kept : (q : ℕ) (u : TrussState) → Base q u → KeptAt q (with_stop_over u q)
   unfolding with_stop_over
   over-kept q u b =
       stays q u _ _ (off-at q u b)
-      (at q u (Running q) b (run-place u.traced q (let f = b.full in f.all) b.here))
+      (at q u (Running q) b (run-place u.traced q (let f = b.full in f.all) b.here b.sees))
 
   -- a stop that stood before truss came
   counted-kept : (q : ℕ) (u : TrussState) → 0 < (traced_at u q).old → Base q u → KeptAt q (with_old_stop_over u q)
@@ -149,7 +153,7 @@ module _ (P : Position → Traced → Type 0) (lasting : IsLasting P) where
       let f = b.full in
       let v : Traced = record (traced_at u q) { old = (traced_at u q).old - 1 } in
       let later : List Traced = slice_set u.traced q v in
-      let has : P runs v = lasting.counts (traced_at u q) (f.all q b.here) some in
+      let has : P runs v = lasting.counts (traced_at u q) (f.all q b.here) b.sees some in
       let others : EachBut (P rests) later q = but-set (P rests) u.traced q v (each-but (P rests) u.traced q f.all) in
       let same : at_place later q ≡ v = set-at u.traced q v b.here in
       let inside : q < length later = omega (arith, b.here, length-set u.traced q v) in
@@ -175,7 +179,7 @@ module _ (P : Position → Traced → Type 0) (lasting : IsLasting P) where
   unfolding with_event_shown
   shown-kept q u l None b = event-over-kept q (with_event_shown u q l None) l (told q u _ b)
   shown-kept q u l (Some range) b =
-      at q u (ReadingText q l range.0 range.1) b (b.here, let f = b.full in f.all)
+      at q u (ReadingText q l range.0 range.1) b (b.here, (let f = b.full in f.all, b.sees))
 
   event-kept : (q : ℕ) (u : TrussState) (l : LwpStatus) (e : Option Event) → Base q u
       → KeptAt q (with_event u q l e)
@@ -287,8 +291,8 @@ module _ (P : Position → Traced → Type 0) (lasting : IsLasting P) where
       full : Whole P t.traced → Full t
       full all = record { follow = follow; off = off; all = all; idle = idle; apart = apart }
 
-      base : (q : ℕ) → (q < length t.traced) × Whole P t.traced → Base q t
-      base q here = record { full = full here.1; here = here.0 }
+      base : (q : ℕ) → (q < length t.traced) × (Whole P t.traced × P looks (at_place t.traced q)) → Base q t
+      base q here = record { full = full here.1.0; here = here.0; sees = here.1.1 }
 
       reported : (report : Report) → Whole P t.traced → Full (with_report t report)
       reported report all = record { follow = follow; off = off; all = all; idle = idle; apart = apart }
@@ -338,34 +342,43 @@ module _ (P : Position → Traced → Type 0) (lasting : IsLasting P) where
       control-kept pid Interrupted other all new = absurd (other refl)
 
       -- a poll
-      polled : (place : Option ℕ) → ((q : ℕ) → place ≡ Some q → q < length t.traced) → t.stage ≡ Polling
+      polled : (place : Option ℕ)
+          → ((q : ℕ) → place ≡ Some q → (q < length t.traced) × P looks (at_place t.traced q)) → t.stage ≡ Polling
           → Whole P t.traced → Kept P (with_polled t place)
-      polled None within is all = record {
+      polled None named is all = record {
         follow = follow;
         off = off;
         stage = subst (AtStage P t.traced) (sym is) all;
         beside = nothing;
         apart = apart;
       }
-      polled (Some q) within is all = to t (ReadingStatus q) (full all) (within q refl, all)
+      polled (Some q) named is all =
+          let it = named q refl in to t (ReadingStatus q) (full all) (it.0, (all, it.1))
 
-      poll-within : (handle : Option ℕ) (q : ℕ)
-          → option_and_then (λ h. position (has_control h) t.traced) handle ≡ Some q → q < length t.traced
-      poll-within None q is = absurd (none-some q is)
-      poll-within (Some h) q is = position-within (has_control h) t.traced q is
+      -- what a poll finds ready is seen
+      abbrev Finds : Type 0
+      Finds =
+          (handle q : ℕ) → ready_in r ≡ Some handle → position (has_control handle) t.traced ≡ Some q
+          → P looks (at_place t.traced q)
+
+      poll-named : Finds → (handle : Option ℕ) → ready_in r ≡ handle → (q : ℕ)
+          → option_and_then (λ h. position (has_control h) t.traced) handle ≡ Some q
+          → (q < length t.traced) × P looks (at_place t.traced q)
+      poll-named finds None ready q is = absurd (none-some q is)
+      poll-named finds (Some h) ready q is = (position-within (has_control h) t.traced q is, finds h q ready is)
 
       same-poll : t.stage ≡ Polling → Whole P t.traced → Kept P t
       same-poll is all = polled None (λ q it. absurd (none-some q it)) is all
 
-      poll-kept : (a : Answer) → a ≢ Interrupted → t.stage ≡ Polling → Whole P t.traced
+      poll-kept : (a : Answer) → a ≢ Interrupted → t.stage ≡ Polling → Whole P t.traced → (a ≡ Accepted → Finds)
           → Kept P (with_poll_answered t r a)
       unfolding with_poll_answered
-      poll-kept Accepted other is all =
-          polled (option_and_then (λ h. position (has_control h) t.traced) (ready_in r)) (poll-within (ready_in r)) is
-          all
-      poll-kept (Refused errno) other is all = same-poll is all
-      poll-kept Gone other is all = same-poll is all
-      poll-kept Interrupted other is all = absurd (other refl)
+      poll-kept Accepted other is all finds =
+          polled (option_and_then (λ h. position (has_control h) t.traced) (ready_in r))
+          (poll-named (finds refl) (ready_in r) refl) is all
+      poll-kept (Refused errno) other is all finds = same-poll is all
+      poll-kept Gone other is all finds = same-poll is all
+      poll-kept Interrupted other is all finds = absurd (other refl)
 
       -- a status, and memory
       status-kept : (q : ℕ) (a : Answer) → a ≢ Interrupted → Base q t → KeptAt q (with_function_status_answered t q r a)
@@ -612,7 +625,7 @@ module _ (P : Position → Traced → Type 0) (lasting : IsLasting P) where
     stage-kept idle (OpeningControl pid) is w = control-kept idle pid (answer_of r) calm w.0 w.1
     stage-kept idle (Opening q step) is w =
         step-kept idle q step (answer_of r) calm w.0 w.1.0 w.1.1.0 w.1.1.1
-    stage-kept idle Polling is all = poll-kept idle (answer_of r) calm is all
+    stage-kept idle Polling is w = poll-kept idle (answer_of r) calm is w.0 w.1
     stage-kept idle (ReadingStatus q) is w =
         let it = status-kept idle q (answer_of r) calm (base idle q w) in it.kept
     stage-kept idle (ReadingText q l from len) is w =
@@ -692,8 +705,14 @@ module _ (P : Position → Traced → Type 0) (lasting : IsLasting P) where
         ),
       )
       stage-marked Polling w = all-set ts q marked within (same rests) w
-      stage-marked (ReadingStatus b) w = (longer b w.0, all-set ts q marked within (same rests) w.1)
-      stage-marked (ReadingText b l from len) w = (longer b w.0, all-set ts q marked within (same rests) w.1)
+      stage-marked (ReadingStatus b) w = (
+        longer b w.0,
+        (all-set ts q marked within (same rests) w.1.0, one-set looks ts q b marked within (same looks) w.1.1),
+      )
+      stage-marked (ReadingText b l from len) w = (
+        longer b w.0,
+        (all-set ts q marked within (same rests) w.1.0, one-set looks ts q b marked within (same looks) w.1.1),
+      )
       stage-marked (Running b) w = (
         longer b w.0,
         (

@@ -1,4 +1,4 @@
-use Rattle.std.proofs.Common.{◌≡◌, ◌≢◌, ◌<◌, ◌++◌, ◌||◌, ℕ, zero, suc, Bool, true, false, is_some, Option, Some, None, List, [], ◌∷◌, length, refl, sym, subst, ap, ◌∙◌, arith, ◌-◌}
+use Rattle.std.proofs.Common.{◌≡◌, ◌≢◌, ◌<◌, ◌++◌, ◌||◌, ℕ, zero, suc, Bool, true, false, is_some, Option, Some, None, List, [], ◌∷◌, length, position, refl, sym, subst, ap, ◌∙◌, arith, ◌-◌}
 use Rattle.std.proofs.lemmas.List.{get_or_push}
 use Rattle.std.specs.List.{remove, slice_get, slice_set}
 use Rattle.pr_line.specs.declared.options.Options.{Options}
@@ -8,7 +8,8 @@ use Rattle.pr_report_laws.proofs.Invariant.StandLemmas.{Each, EachBut, each-appe
 use Rattle.pr_truss.specs.Marks.{first_function}
 use Rattle.pr_truss.specs.Openings.{learnt, step_after}
 use Rattle.pr_truss.specs.Processes.{newly_traced, without_last}
-use Rattle.pr_truss.specs.Replies.{answer_of}
+use Rattle.pr_truss.specs.Replies.{answer_of, ready_in}
+use Rattle.pr_truss.specs.Stops.{has_control}
 use Rattle.pr_truss.specs.Trusses.{TrussState, first_of_program, first_truss, idle as unbegun, nobody, opening_or}
 use Rattle.pr_truss.specs.declared.asides.Aside.{Aside}
 use Rattle.pr_truss.specs.declared.asides.Aside.TheVariants.{Nothing, Reading, Planting, Patching}
@@ -73,10 +74,12 @@ apart-at (u ∷ us) (suc i) (suc j) within inside other a =
 
 -- ---- where truss has come with a process
 
--- This step of its opening comes next, the process was opened whole, it is run next, or its files may be closed.
+-- This step of its opening comes next, the process was opened whole, truss looks at a stop of it that a poll named, it
+-- is run next, or its files may be closed.
 pub data Position : Type 0 where
   opens : OpeningStep → Position
   rests : Position
+  looks : Position
   runs : Position
   closes : Position
 
@@ -113,8 +116,8 @@ module _ (P : Position → Traced → Type 0) where
   AtStage ts (OpeningControl pid) = Whole ts
   AtStage ts (Opening q step) = (q < length ts) × (EachBut (P rests) ts q × P (opens step) (at_place ts q))
   AtStage ts Polling = Whole ts
-  AtStage ts (ReadingStatus q) = (q < length ts) × Whole ts
-  AtStage ts (ReadingText q l from len) = (q < length ts) × Whole ts
+  AtStage ts (ReadingStatus q) = (q < length ts) × (Whole ts × P looks (at_place ts q))
+  AtStage ts (ReadingText q l from len) = (q < length ts) × (Whole ts × P looks (at_place ts q))
   AtStage ts (Running q) = (q < length ts) × (EachBut (P rests) ts q × P runs (at_place ts q))
   AtStage ts (Closing q OpenNext) = AtPlace ts q
   AtStage ts (Closing q GoOn) = AtPlace ts q
@@ -139,8 +142,9 @@ module _ (P : Position → Traced → Type 0) where
   -- stop that stood before it came, at one that is new, and plants and lifts breakpoints.
   pub record IsLasting : Type 0 where
     pub may_close : (at : Position) (u : Traced) → P at u → P closes u
-    pub may_run : (u : Traced) → P rests u → P runs u
-    pub counts : (u : Traced) → P rests u → 0 < u.old → P runs (record u { old = u.old - 1 })
+    pub may_run : (u : Traced) → P rests u → P looks u → P runs u
+    pub counts : (u : Traced) → P rests u → P looks u → 0 < u.old → P runs (record u { old = u.old - 1 })
+    pub sees : (u : Traced) (m : Marks) → P looks u → P looks (record u { marks = m })
     pub meets : (u : Traced) (m : Marks) → P rests u → u.old ≡ 0 → P rests (record u { marks = m })
     pub plants : (at : Position) (u : Traced) (set : List Bool) → P at u → P at (planted_as u set)
     pub loosens : (u : Traced) (m : Marks) → P closes u → P closes (record u { marks = m })
@@ -197,6 +201,10 @@ module _ (P : Position → Traced → Type 0) where
       × (P closes (at_place t.traced q)
       × (answer_of r ≡ Accepted
       → P (position_after (step_after t.options r step)) (learnt (at_place t.traced q) r step))))
+  AfterStage t r Polling =
+      Whole t.traced
+      × (answer_of r ≡ Accepted → (handle q : ℕ) → ready_in r ≡ Some handle
+      → position (has_control handle) t.traced ≡ Some q → P looks (at_place t.traced q))
   AfterStage t r (Running q) =
       (q < length t.traced)
       × (EachBut (P rests) t.traced q

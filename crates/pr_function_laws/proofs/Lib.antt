@@ -10,6 +10,8 @@ pub mod KeptPlaces
 pub mod LiftLemmas
 pub mod MarkLemmas
 pub mod MetLemmas
+pub mod OneEventLemmas
+pub mod OneEventTurns
 pub mod OpenedCalls
 pub mod OpenedLaws
 pub mod OpenedLemmas

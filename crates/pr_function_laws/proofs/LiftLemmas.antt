@@ -197,11 +197,12 @@ module _ (Q : ℕ → Type 0) (c ns : ℕ) (met : Traced) (place : ℕ) where
 
   -- ---- the replies
 
-  -- After the reply truss looks at the process still, if it wrote an instruction, or is away; or the process has ended.
+  -- After the reply truss looks at the process still, if it wrote an instruction; or it is away, if it stepped the lwp;
+  -- or the process has ended.
   pub data AfterLook (opts : Options) (r : Reply) (d : Call) (u : TrussState) : Type 0 where
     goes_on : Looks u → (function : ℕ) (code : List ℕ) → d ≡ write_code_call opts c function code
         → AfterLook opts r d u
-    is_away : Away Q c ns met u → AfterLook opts r d u
+    is_away : Away Q c ns met u → d ≡ message_call c (message.Run step_flags) → AfterLook opts r d u
     has_ended : answer_of r ≡ Gone → AfterLook opts r d u
 
   module _ (t : TrussState) (l : Looks t) (has : has_functions t.options ≡ true) (r : Reply)
@@ -238,17 +239,19 @@ module _ (Q : ℕ → Type 0) (c ns : ℕ) (met : Traced) (place : ℕ) where
               (l.others q (omega (arith, inside, length-set t.traced place u)) apart))
         ]) idle
 
-    run-after : t.aside ≡ Nothing → (a : Answer) → answer_of r ≡ a → After (with_function_run_answered t place a)
+    run-after : t.aside ≡ Nothing → d ≡ message_call c (message.Run step_flags) → (a : Answer) → answer_of r ≡ a
+        → After (with_function_run_answered t place a)
     unfolding with_function_run_answered with_run_answered
-    run-after idle Accepted is = is_away (ran-away idle)
-    run-after idle (Refused errno) is = is_away (ran-away idle)
-    run-after idle Gone is = has_ended is
-    run-after idle Interrupted is = absurd (calm is)
+    run-after idle ran Accepted is = is_away (ran-away idle) ran
+    run-after idle ran (Refused errno) is = is_away (ran-away idle) ran
+    run-after idle ran Gone is = has_ended is
+    run-after idle ran Interrupted is = absurd (calm is)
 
-    idle-after : t.aside ≡ Nothing → After (with_function_reply t r t.stage)
+    idle-after : t.aside ≡ Nothing → function_call_of t t.stage ≡ Some d → After (with_function_reply t r t.stage)
     unfolding with_function_reply
-    idle-after idle =
-        subst After (sym (ap (with_function_reply t r) l.stage)) (run-after idle (answer_of r) refl)
+    idle-after idle is =
+        subst After (sym (ap (with_function_reply t r) l.stage))
+        (run-after idle (ran-looks t l has d is) (answer_of r) refl)
 
     -- a breakpoint is planted or lifted
     module _ (function : ℕ) (code : List ℕ) (is : d ≡ write_code_call t.options c function code) where
@@ -312,8 +315,8 @@ module _ (Q : ℕ → Type 0) (c ns : ℕ) (met : Traced) (place : ℕ) where
 
     aside-after : (aside : Aside) → t.aside ≡ aside → LooksAside aside → call_beside t t.stage aside ≡ Some d
         → After (with_aside_answered t r aside)
-    unfolding with_aside_answered
-    aside-after Nothing idle beside is = idle-after idle
+    unfolding with_aside_answered call_beside
+    aside-after Nothing idle beside is = idle-after idle is
     aside-after (Patching q plants lifts clear) at beside is =
         let it = aside-patches t l has q plants lifts clear beside d is in
         answered-after it.0 it.1.0 it.1.1 q plants lifts clear beside.0 beside.1.1

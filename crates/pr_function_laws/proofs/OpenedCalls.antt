@@ -3,18 +3,22 @@ use Rattle.std.proofs.lemmas.Bool.{cases_eq, false≢true}
 use Rattle.std.proofs.lemmas.Option.{none-some, same_Some}
 use Rattle.std.proofs.lemmas.Result.{IfOk-weaker}
 use Rattle.pr_lawful.proofs.HandleLemmas.{handle-at, handle-writer}
+use Rattle.pr_lawful.proofs.UseLemmas.{live-lawful}
 use Rattle.pr_line.specs.declared.options.Options.{Options}
 use Rattle.pr_model.specs.Calls.{Answer, answer_to}
 use Rattle.pr_model.specs.Handles.{handle_of, has_writer}
 use Rattle.pr_model.specs.Lawful.{IsLawful}
 use Rattle.pr_model.specs.Replies.{handle_in}
-use Rattle.pr_model.specs.State.{TracedState, live_process}
+use Rattle.pr_model.specs.State.{TracedProcess, TracedState, TracedSystem, live_process}
+use Rattle.pr_model.specs.Stops.{is_stopped}
 use Rattle.pr_model.specs.declared.calls.Call.{Call}
 use Rattle.pr_model.specs.declared.calls.Call.TheVariants as call
 use Rattle.pr_model.specs.declared.calls.File.{File}
 use Rattle.pr_model.specs.declared.calls.File.TheVariants as file
 use Rattle.pr_model.specs.declared.calls.Mode.{Mode}
 use Rattle.pr_model.specs.declared.calls.Mode.TheVariants.{WriteExcl}
+use Rattle.pr_model.specs.declared.calls.Reply.{Reply}
+use Rattle.pr_model.specs.declared.calls.Reply.TheVariants as reply
 use Rattle.pr_model.specs.declared.handles.Held.{Held}
 use Rattle.pr_num.specs.Limits.{instruction_size}
 use Rattle.pr_num.specs.Messages.{first_message, message_code, message_read, nth_word, operands, spelling, two_words, ◌>>=◌}
@@ -23,14 +27,17 @@ use Rattle.pr_num.specs.declared.messages.Message.{Message}
 use Rattle.pr_num.specs.declared.messages.Message.TheVariants as message
 use Rattle.pr_num.specs.declared.messages.MsgFault.{MsgFault}
 use Rattle.pr_reached.specs.Reached.{IsReached}
+use Rattle.pr_report_laws.proofs.Invariant.PollSteps.{Names, named-control, named-within}
 use Rattle.pr_report_laws.proofs.Invariant.StandLemmas.{Each, EachBut}
+use Rattle.pr_report_laws.proofs.Machine.PollLaws.{poll-ready, poll-stays}
+use Rattle.pr_report_laws.proofs.Machine.StoppedLaws.{stopped-frozen}
 use Rattle.pr_report_laws.proofs.Releasing.ReleaseStays.{not-allowed}
 use Rattle.pr_truss.specs.FunctionCalls.{call_beside, function_call_of, next_function_call_of, patch_call}
 use Rattle.pr_truss.specs.FunctionFeeding.{fed_functions}
 use Rattle.pr_truss.specs.Marks.{address_of, breakpoint, code_of, first_function, has_functions}
 use Rattle.pr_truss.specs.NextCalls.{call_of, next_call_of, opening_call}
 use Rattle.pr_truss.specs.Processes.{last_handle, newly_traced, without_last}
-use Rattle.pr_truss.specs.Replies.{answer_of}
+use Rattle.pr_truss.specs.Replies.{answer_of, ready_in}
 use Rattle.pr_truss.specs.Trusses.{TrussState, traced_at}
 use Rattle.pr_truss.specs.declared.asides.Aside.{Aside}
 use Rattle.pr_truss.specs.declared.asides.Aside.TheVariants.{Nothing, Reading, Planting, Patching}
@@ -45,6 +52,7 @@ use Rattle.pr_truss_laws.proofs.HeldLemmas.{at_place}
 use Rattle.pr_truss_laws.proofs.OpensLemmas.{held_by}
 use Rattle.pr_truss_laws.proofs.OutlastLemmas.{own-call-elsewhere}
 use Rattle.pr_truss_laws.proofs.TakenLemmas.{read-as}
+use Rattle.pr_truss_laws.specs.Stills.{IsFrozen}
 use Rattle.pr_function_laws.proofs.BreakpointLemmas.{write-reads}
 use Rattle.pr_function_laws.proofs.KeptLemmas.{fed-kept}
 use Rattle.pr_function_laws.proofs.OpenedLemmas.{BeginWithPlain, Holds, IsFile, control-made, control-sole, elsewhere-goes, holds-less, is_plain, last-own, left-holds, new-file, opened_call, opening-goes, plain-goes, run-plain, LeftFiles}
@@ -52,7 +60,7 @@ use Rattle.pr_function_laws.proofs.StretchLemmas as stretch
 use Rattle.pr_function_laws.specs.Lifted.{HasControl}
 use Rattle.pr_function_laws.specs.Stretches.{acts_by, is_write}
 use Rattle.pr_function_laws.proofs.StoodCalls.{BeginLeavingLwps, leaves-stands, leaves_lwps, opening-stands, run-stands}
-use Rattle.pr_function_laws.proofs.KeptPlaces.{AfterBeside, AfterStage, AtAside, AtPlace, AtStage, IsLasting, Kept, LeftHas, Whole, apart-at, Position, closes, opens, position_after, rests, runs}
+use Rattle.pr_function_laws.proofs.KeptPlaces.{AfterBeside, AfterStage, AtAside, AtPlace, AtStage, IsLasting, Kept, LeftHas, Whole, apart-at, Position, closes, looks, opens, position_after, rests, runs}
 use Rattle.pr_function_laws.proofs.StoodLemmas.{StandsSo, alone-at, prepared-plants, stood-counts, stood-meets, stood-plants, stood-runs}
 use Rattle.pr_report_laws.proofs.Invariant.OtherSteps.{lives-later}
 use Rattle.pr_truss.specs.Openings.{learnt, step_after}
@@ -137,6 +145,7 @@ read-mild at size = (read-as-is is_plain (λ at size. refl) at size, read-as-is 
 abbrev pub step_of : Position → Option OpeningStep
 step_of (opens step) = Some step
 step_of rests = None
+step_of looks = None
 step_of runs = None
 step_of closes = Some opening.OpenStatus
 
@@ -159,15 +168,23 @@ module _ (Reached : Type 0) (k : ℕ) (o : Options) (s : TracedState) where
   pub so-lasting : IsLasting (IsSo Reached k o s)
   so-lasting = record {
     may_close = so-closes;
-    may_run = λ u h. record {
+    may_run = λ u h g. record {
       holds = h.holds;
       stands = λ r.
-          let w = h.stands r in record { prepared = tt; stood = λ p live. stood-runs u p (w.stood p live) };
+          let w = h.stands r in
+          let v = g.stands r in
+          record { prepared = tt; stood = λ p live. stood-runs u p (w.stood p live) (v.stood p live) };
     };
-    counts = λ u h some. record {
+    counts = λ u h g some. record {
       holds = h.holds;
       stands = λ r.
-          let w = h.stands r in record { prepared = tt; stood = λ p live. stood-counts u p (w.stood p live) some };
+          let w = h.stands r in
+          let v = g.stands r in
+          record { prepared = tt; stood = λ p live. stood-counts u p (w.stood p live) (v.stood p live) some };
+    };
+    sees = λ u m g. record {
+      holds = g.holds;
+      stands = λ r. let v = g.stands r in record { prepared = tt; stood = v.stood };
     };
     meets = λ u m h new. record {
       holds = h.holds;
@@ -211,8 +228,8 @@ module _ (Reached : Type 0) (k : ℕ) (o : Options) where
     stage-stays (OpeningControl pid) w = whole-stays w
     stage-stays (Opening q step) w = (w.0, (but-stays q w.1.0, stays q w.0 (opens step) w.1.1))
     stage-stays Polling w = whole-stays w
-    stage-stays (ReadingStatus q) w = (w.0, whole-stays w.1)
-    stage-stays (ReadingText q l from len) w = (w.0, whole-stays w.1)
+    stage-stays (ReadingStatus q) w = (w.0, (whole-stays w.1.0, stays q w.0 looks w.1.1))
+    stage-stays (ReadingText q l from len) w = (w.0, (whole-stays w.1.0, stays q w.0 looks w.1.1))
     stage-stays (Running q) w = (w.0, (but-stays q w.1.0, stays q w.0 runs w.1.1))
     stage-stays (Closing q OpenNext) w = place-stays q w
     stage-stays (Closing q GoOn) w = place-stays q w
@@ -246,8 +263,8 @@ module _ (Reached : Type 0) (k : ℕ) (o : Options) where
       by (OpeningControl pid) w = less rests (w q within)
       by (Opening b step) w = beside b (opens step) w.1.0 w.1.1
       by Polling w = less rests (w q within)
-      by (ReadingStatus b) w = less rests (w.1 q within)
-      by (ReadingText b l from len) w = less rests (w.1 q within)
+      by (ReadingStatus b) w = less rests (w.1.0 q within)
+      by (ReadingText b l from len) w = less rests (w.1.0 q within)
       by (Running b) w = beside b runs w.1.0 w.1.1
       by (Closing b OpenNext) w = beside b closes w.1.0 w.1.1
       by (Closing b GoOn) w = beside b closes w.1.0 w.1.1
@@ -259,6 +276,12 @@ module _ (Reached : Type 0) (k : ℕ) (o : Options) where
 abbrev acts_if : Option Call → Option ℕ
 acts_if None = None
 acts_if (Some d) = acts_by d
+
+-- the handle that a reply finds ready
+ready-is : (r : Reply) (m : ℕ) → ready_in r ≡ Some m → r ≡ reply.Ready m
+unfolding ready_in
+ready-is (reply.Ready x) m ready = ap (λ i. reply.Ready i) (same_Some x m ready)
+ready-is _ m ready = absurd (none-some m ready)
 
 -- the handle by which the call of an opening acts, if it acts by one, is that of the control file
 opened-acts : (o : Options) (v : Traced) (step : OpeningStep)
@@ -503,6 +526,38 @@ module _ (Reached : Type 0) (n k : ℕ) (s : TracedState) (lawful : IsLawful s) 
         ),
       )
 
+  -- a poll: the process that it names stands still, if it lives
+  polled-still : (handles : List ℕ) → c ≡ call.Poll handles → (q : ℕ) (n : Names t a.reply q)
+      → Before rests (at_place ts q) → (p : TracedProcess)
+      → live_process a.state.system (at_place ts q).pid ≡ Some p → IsFrozen p
+  polled-still handles is q n h p later =
+      let v : Traced = at_place ts q in
+      let held = h.holds in
+      let sent : answer_to s k (call.Poll handles) ≡ Some a = ap (answer_to s k) (sym is) ∙ answer in
+      let live : live_process s.system v.pid ≡ Some p =
+      ap (λ (x : TracedSystem). live_process x v.pid) (sym (poll-stays s k handles a sent)) ∙ later in
+      let there : handle_of s.opens k n.handle ≡ Some (held_by k v.pid 0 file.Ctl WriteExcl) =
+      ap (handle_of s.opens k) (sym (named-control t a.reply q n)) ∙ held.its in
+      let own = live-lawful s.system v.pid p lawful.system live in
+      elim (poll-ready s k handles a n.handle (held_by k v.pid 0 file.Ctl WriteExcl) sent
+      (ready-is a.reply n.handle n.ready) there refl) [
+        | inl none ↦ absurd (none-some p (sym none ∙ live))
+        | inr st ↦
+            stopped-frozen p own.rising (held.set p live).1
+            (ap is_stopped (same_Some p st.process (sym live ∙ st.live)) ∙ st.stopped)
+      ]
+
+  polled-looks : (handles : List ℕ) → c ≡ call.Poll handles → (q : ℕ) (n : Names t a.reply q)
+      → Whole (IsSo Reached k t.options s) ts → Each Lasts ts → Later looks (at_place ts q)
+  polled-looks handles is q n w lasts =
+      let within = named-within t a.reply q n in
+      let h = w q within in
+      let later = lasts q within rests h in
+      record {
+        holds = later.holds;
+        stands = λ r. record { prepared = tt; stood = polled-still handles is q n h };
+      }
+
   -- a row a stage
   stage-after : (stage : Stage) → AtStage (IsSo Reached k t.options s) ts stage → function_call_of t stage ≡ Some c
       → After stage
@@ -515,10 +570,18 @@ module _ (Reached : Type 0) (n k : ℕ) (s : TracedState) (lawful : IsLawful s) 
         (lowest Reached k o s ts (OpeningControl pid) w),
   )
   stage-after (Opening q step) w is = opening-after q step (same_Some c _ (sym is ∙ call-is t q step)) w
-  stage-after Polling w is = whole-stays Reached k o s a.state ts (quiet (ap acts_if (sym is))) w
-  stage-after (ReadingStatus q) w is = (w.0, whole-stays Reached k o s a.state ts (quiet (ap acts_if (sym is))) w.1)
+  stage-after Polling w is =
+      let lasts : Each Lasts ts = quiet (ap acts_if (sym is)) in (
+        whole-stays Reached k o s a.state ts lasts w,
+        λ accepted handle q ready at.
+            polled-looks _ (sym (same_Some _ c is)) q (record { handle = handle; ready = ready; found = at }) w lasts,
+      )
+  stage-after (ReadingStatus q) w is =
+      let lasts : Each Lasts ts = quiet (ap acts_if (sym is)) in
+      (w.0, (whole-stays Reached k o s a.state ts lasts w.1.0, lasts q w.0 looks w.1.1))
   stage-after (ReadingText q l from len) w is =
-      (w.0, whole-stays Reached k o s a.state ts (quiet (ap acts_if (sym is))) w.1)
+      let lasts : Each Lasts ts = quiet (ap acts_if (sym is)) in
+      (w.0, (whole-stays Reached k o s a.state ts lasts w.1.0, lasts q w.0 looks w.1.1))
   stage-after (Running q) w is = running-after q (sym (same_Some _ c is)) w
   stage-after (Closing q OpenNext) w is = closing-after q (sym (same_Some _ c is)) w
   stage-after (Closing q GoOn) w is = closing-after q (sym (same_Some _ c is)) w

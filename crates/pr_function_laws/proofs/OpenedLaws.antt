@@ -45,6 +45,7 @@ use Rattle.pr_report_laws.proofs.Invariant.StandLemmas.{Each, EachBut}
 use Rattle.pr_report_laws.proofs.Machine.RecordLaws.{status-ended, status-read}
 use Rattle.pr_report_laws.proofs.Machine.StayingLwps.{turn-no-agent}
 use Rattle.pr_report_laws.proofs.Machine.TurnSettings.{turn-settings}
+use Rattle.pr_report_laws.specs.AtBirth.{is_met_if}
 use Rattle.pr_truss.specs.FunctionCalls.{next_function_call_of}
 use Rattle.pr_truss.specs.FunctionFeeding.{fed_functions}
 use Rattle.pr_truss.specs.Marks.{has_functions}
@@ -68,23 +69,25 @@ use Rattle.pr_truss_laws.proofs.OverLemmas.{stays-over}
 use Rattle.pr_truss_laws.specs.Exchanges.{Exchange, exchange_of, exchanges}
 use Rattle.pr_truss_laws.specs.Handles.{handles_of}
 use Rattle.pr_function_laws.proofs.BreakpointLemmas.{IsForeign, IsOwnEntry, breakpoint-stops, foreign-entry, own-entry, read-is}
+use Rattle.pr_function_laws.proofs.OneEventLemmas.{none-unmet, stands-alone}
 use Rattle.pr_function_laws.proofs.OpenedLemmas.{Holds, IsFile, KeepsSets, control-made, control-sole, holds-goes, outlasts-sets}
-use Rattle.pr_function_laws.proofs.TracedSets.{IsAsSet, settings-sets}
+use Rattle.pr_function_laws.proofs.TracedSets.{IsAsSet, IsSetBy, settings-sets}
 use Rattle.pr_function_laws.proofs.SoundLemmas.{first-sound}
 use Rattle.pr_function_laws.proofs.StretchLemmas.{no-agent}
 use Rattle.pr_function_laws.specs.Lifted.{GoesElsewhere, HasControl, IsAtStopAtBreakpoint, TellsOfFault, ReadsOnlyLast, StepsNoCall}
+use Rattle.pr_function_laws.specs.OneEvent.{HasOneEventAtMost, HasOneEventEach, is_looked_at, unmet}
 use Rattle.pr_function_laws.specs.Opened.{OwnsAndTraces, HoldsWhatItOpened, IsFunctionRun, WasNotInterrupted, LiftsForOneAlone, ReadsBreakpoint, TracesAll, functions_at, is_opened}
 use Rattle.pr_function_laws.specs.Runs.{MakesCalls, functions_after}
 use Rattle.pr_function_laws.specs.Stretches.{OthersOnlyStop}
-use Rattle.pr_function_laws.proofs.KeptPlaces.{AtStage, Kept, apart-at, first-kept, Position, rests, runs}
+use Rattle.pr_function_laws.proofs.KeptPlaces.{AtStage, Kept, apart-at, first-kept, looks, Position, rests, runs}
 use Rattle.pr_function_laws.proofs.OpenedCalls.{IsSo, Stays, aside-stays, call-kept, lowest, stage-stays, step_of}
-use Rattle.pr_function_laws.proofs.StoodLemmas.{StandsSo, Stood, StoodAt, alone-at, as_stopped, turn-at, unmet-stopped, waits}
+use Rattle.pr_function_laws.proofs.StoodLemmas.{DirectsAt, StandsSo, Stood, StoodAt, alone-at, as_stopped, turn-at, unmet-stopped, waits}
 use Rattle.pr_function_laws.proofs.StopTurns.{AreAsStopped}
 use Rattle.pr_function_laws.proofs.TurnReads.{fresh-new, shown-lwp, told-stop}
 use Rattle.pr_function_laws.proofs.MetLemmas.{event-breaks, fresh-stands}
 use Rattle.pr_line.specs.Events.{event_of}
 use Rattle.pr_truss.specs.Asides.{marks_at}
-use Rattle.pr_truss_laws.specs.Stills.{IsUndisturbed}
+use Rattle.pr_truss_laws.specs.Stills.{IsFrozen, IsUndisturbed}
 use Rattle.pr_report_laws.proofs.Invariant.OtherSteps.{lives-later}
 use Rattle.pr_num.specs.declared.faults.Flt.TheVariants.{Bpt}
 use Rattle.pr_model.specs.declared.lwps.Phase.TheVariants.{Faulted as AtFault}
@@ -185,8 +188,9 @@ module _ (at : Position) (v : Traced) (s : TracedState) (h : StandsSo s at v) wh
 
   turned-stands : IsLawful s → (own : ℕ) (t : LwpTurn) (u : TracedState) → u.system ≡ t.system
       → turn_of s.system v.pid own ≡ Some t
-      → (live_process s.system v.pid ≡ None → live_process u.system v.pid ≡ None) → StandsSo u at v
-  turned-stands lawful own t u same turn over = record {
+      → (live_process s.system v.pid ≡ None → live_process u.system v.pid ≡ None)
+      → ((p : TracedProcess) → live_process s.system v.pid ≡ Some p → DirectsAt at p) → StandsSo u at v
+  turned-stands lawful own t u same turn over directs = record {
     prepared = h.prepared;
     stood = λ q later. by q later (live_process s.system v.pid) refl;
   }
@@ -196,33 +200,34 @@ module _ (at : Position) (v : Traced) (s : TracedState) (h : StandsSo s at v) wh
       by q later None none = absurd (none-some q (sym (over none) ∙ later))
       by q later (Some p) was =
           turn-at s.system v.pid p own t lawful.system was turn q
-          (ap (λ (x : TracedSystem). live_process x v.pid) (sym same) ∙ later) at v (h.stood p was)
+          (ap (λ (x : TracedSystem). live_process x v.pid) (sym same) ∙ later) at v (directs p was) (h.stood p was)
 
 foreign-stands : (n k : ℕ) (o : Options) (t : TrussState) (s : TracedState) (lawful : IsLawful s) (actor : Actor)
     (it : Act) (legal : IsLegalEntry n s (record { actor = actor; act = it }))
     (foreign : IsForeign k s (record { actor = actor; act = it })) (at : Position) (v : Traced)
-    (its : HasControl k v.pid v.control s) → StandsSo s at v
+    (its : HasControl k v.pid v.control s)
+    → ((p : TracedProcess) → live_process s.system v.pid ≡ Some p → DirectsAt at p) → StandsSo s at v
     → StandsSo (after s (record { actor = actor; act = it })) at v
 unfolding IsLegalEntry
-foreign-stands n k o t s lawful (Controller j) (act.Call c r) legal foreign at v its h =
+foreign-stands n k o t s lawful (Controller j) (act.Call c r) legal foreign at v its directs h =
     let e : Entry = record { actor = Controller j; act = act.Call c r } in
     left-stands at v s h (after s e)
     (elsewhere-alone n k s lawful e legal foreign v.pid v.control its o t (λ own same. cc))
-foreign-stands n k o t s lawful (Lwp acting own) (act.Turn turned) legal foreign at v its h =
+foreign-stands n k o t s lawful (Lwp acting own) (act.Turn turned) legal foreign at v its directs h =
     let turn : LwpTurn = record { system = legal.0; turned = turned } in
     let e : Entry = record { actor = Lwp acting own; act = act.Turn turned } in
     elim (cases_eq acting v.pid) [
       | inl same ↦ turned-stands at v s h lawful own turn (after s e) (turn-later s acting own turned turn legal.1)
           (subst (λ i. turn_of s.system i own ≡ Some turn) same legal.1)
-          (over-now n k s lawful e legal foreign v.pid v.control its)
+          (over-now n k s lawful e legal foreign v.pid v.control its) directs
       | inr differs ↦ left-stands at v s h (after s e)
           (elsewhere-alone n k s lawful e legal foreign v.pid v.control its o t (λ i same. differs (cc)))
     ]
-foreign-stands n k o t s lawful Clock (act.Tick m) legal foreign at v its h =
+foreign-stands n k o t s lawful Clock (act.Tick m) legal foreign at v its directs h =
     let e : Entry = record { actor = Clock; act = act.Tick m } in
     left-stands at v s h (after s e)
     (elsewhere-alone n k s lawful e legal foreign v.pid v.control its o t (λ own same. cc))
-foreign-stands n k o t s lawful _ _ legal foreign at v its h = absurd legal
+foreign-stands n k o t s lawful _ _ legal foreign at v its directs h = absurd legal
 
 -- ---- a history
 
@@ -268,8 +273,16 @@ module _ (Reached : Type 0) (n k : ℕ) (o : Options) (t : TrussState) (s : Trac
                 (λ m held there own. foreign.handles m ∙ there)
                 (foreign-sets n k s g.lawful e.actor e.act legal foreign _ _ held.its) h.holds;
             stands = λ r.
-                foreign-stands n k o t s g.lawful e.actor e.act legal foreign at v held.its (h.stands r);
+                foreign-stands n k o t s g.lawful e.actor e.act legal foreign at v held.its
+                (λ p live. directs-at at p (held.set p live)) (h.stands r);
           }
+        where
+          -- PR_ASYNC is not set on a process that was opened whole
+          directs-at : (at : Position) (p : TracedProcess) → IsSetBy t.options (step_of at) p → DirectsAt at p
+          directs-at rests p set =
+              let traces : TracesAll t.options p.control = set.0 in
+              let all = traces.stops in all.directs
+          directs-at _ p set = tt
 
   own-goes : (x : Exchange) → has_functions o ≡ true → IsOwnEntry k s e x → next_function_call_of t ≡ Some x.call
       → WasNotInterrupted x → Goes Reached k o (fed_functions t x.reply) (after s e)
@@ -391,6 +404,9 @@ signal-shown : (p : TracedProcess) (id : ℕ) (l : TracedLwp) → l.current ≡ 
 unfolding lwpstatus_of signal_in
 signal-shown p id l none = ap signal_in none
 
+pub reading-running : (a b : ℕ) → ReadingStatus a ≡ Running b → ⊥
+reading-running a b is = cc
+
 -- ---- the laws
 
 -- the handles of a process that truss traces are of this process
@@ -418,9 +434,12 @@ module _ (Reached : Type 0) (k : ℕ) (o : Options) (s : TracedState) (ts : List
   abbrev Is : Position → Type 0
   Is at = IsSo Reached k o s at (at_place ts place)
 
-  -- a process that truss has opened
+  -- a process that truss has opened: it runs it next, or does not
+  abbrev WholeAt : Stage → Type 0
+  WholeAt stage = Is rests ⊎ (Is runs × (stage ≡ Running place))
+
   opened-whole : (stage : Stage) → is_opened stage place ≡ true → AtStage (IsSo Reached k o s) ts stage
-      → Is rests ⊎ Is runs
+      → WholeAt stage
   opened-whole stage opened w = by stage opened w
     where
       beside : (b : ℕ) → not (b == place) ≡ true → EachBut (IsSo Reached k o s rests) ts b → Is rests
@@ -431,30 +450,30 @@ module _ (Reached : Type 0) (k : ℕ) (o : Options) (s : TracedState) (ts : List
           negated false is = refl
 
       run : (b : ℕ) → EachBut (IsSo Reached k o s rests) ts b → IsSo Reached k o s runs (at_place ts b)
-          → Is rests ⊎ Is runs
+          → WholeAt (Running b)
       run b others here = elim (cases_eq place b) [
-        | inl same ↦ inr (subst (λ i. IsSo Reached k o s runs (at_place ts i)) (sym same) here)
+        | inl same ↦ inr
+            (subst (λ i. IsSo Reached k o s runs (at_place ts i)) (sym same) here, ap (λ i. Running i) (sym same))
         | inr other ↦ inl (others place within other)
       ]
 
-      by : (stage : Stage) → is_opened stage place ≡ true → AtStage (IsSo Reached k o s) ts stage
-          → Is rests ⊎ Is runs
+      by : (stage : Stage) → is_opened stage place ≡ true → AtStage (IsSo Reached k o s) ts stage → WholeAt stage
       by (Spawning program) is w = inl (w place within)
       by (OpeningControl pid) is w = inl (w place within)
       by (Opening b next) is w = inl (beside b is w.1.0)
       by Polling is w = inl (w place within)
-      by (ReadingStatus b) is w = inl (w.1 place within)
-      by (ReadingText b l from len) is w = inl (w.1 place within)
+      by (ReadingStatus b) is w = inl (w.1.0 place within)
+      by (ReadingText b l from len) is w = inl (w.1.0 place within)
       by (Running b) is w = run b w.1.0 w.1.1
       by (Closing b OpenNext) is w = inl (beside b is w.1.0)
       by (Closing b GoOn) is w = inl (beside b is w.1.0)
       by Finished is w = inl (w place within)
       by _ is w = absurd w
 
-  whole-files : Is rests ⊎ Is runs
+  whole-files : (stage : Stage) → WholeAt stage
       → (let v : Traced = at_place ts place in Holds k o s None v.pid v.control v.status v.lstatus v.memory)
-  whole-files (inl h) = h.holds
-  whole-files (inr h) = h.holds
+  whole-files stage (inl h) = h.holds
+  whole-files stage (inr h) = (h.0).holds
 
 module _ (Reached : Type 0) (k : ℕ) (o : Options) (t : TrussState) (s : TracedState) (g : Goes Reached k o t s)
     (place : ℕ) (within : place < length t.traced) where
@@ -463,7 +482,7 @@ module _ (Reached : Type 0) (k : ℕ) (o : Options) (t : TrussState) (s : Traced
       let w = g.kept in
       let pid : ℕ = (traced_at t place).pid in
       let h =
-      whole-files Reached k t.options s t.traced place within
+      whole-files Reached k t.options s t.traced place within t.stage
       (opened-whole Reached k t.options s t.traced place within t.stage opened w.stage) in
       let known = h.known in
       record {
@@ -482,19 +501,58 @@ module _ (Reached : Type 0) (k : ℕ) (o : Options) (t : TrussState) (s : Traced
         no_agent = λ p live. (h.set p live).1;
       }
 
+  -- where no stop is left that stood before truss came, one lwp at most stands on an event
+  goes-few : Reached → is_opened t.stage place ≡ true → t.stage ≢ Running place → (traced_at t place).old ≡ 0
+      → (p : TracedProcess) → live_process s.system (traced_at t place).pid ≡ Some p → HasOneEventAtMost p
+  goes-few r opened rests_so new p live =
+      let w = g.kept in
+      by (opened-whole Reached k t.options s t.traced place within t.stage opened w.stage)
+    where
+      by-stood : Stood (traced_at t place).marks.flags (traced_at t place).old p → HasOneEventAtMost p
+      by-stood (as_stopped all few) = few
+      by-stood (waits w none) = unmet (none-unmet p (omega (arith, w.few, new)))
+
+      by : WholeAt Reached k t.options s t.traced place within t.stage → HasOneEventAtMost p
+      by (inl h) = let stands = h.stands r in by-stood (stands.stood p live)
+      by (inr h) = absurd (rests_so h.1)
+
   -- where a new stop of it is read each of its lwps is as it stopped
   goes-stopped : Reached → t.stage ≡ ReadingStatus place → (traced_at t place).old ≡ 0 → (p : TracedProcess)
       → live_process s.system (traced_at t place).pid ≡ Some p → AreAsStopped p
   goes-stopped r reads new p live =
       let w = g.kept in
       let at = subst (AtStage (IsSo Reached k t.options s) t.traced) reads w.stage in
-      let h : IsSo Reached k t.options s rests (traced_at t place) = at.1 place within in
+      let h : IsSo Reached k t.options s rests (traced_at t place) = at.1.0 place within in
       let stands = h.stands r in
       by (stands.stood p live)
     where
       by : Stood (traced_at t place).marks.flags (traced_at t place).old p → AreAsStopped p
-      by (as_stopped all) = all
+      by (as_stopped all few) = all
       by (waits w none) = unmet-stopped p (omega (arith, w.few, new))
+
+-- what truss looks at stands still
+module _ (Reached : Type 0) (k : ℕ) (o : Options) (t : TrussState) (s : TracedState) (g : Goes Reached k o t s)
+    (r : Reached) (place : ℕ) (p : TracedProcess)
+    (live : live_process s.system (traced_at t place).pid ≡ Some p) where
+  live-at : (at : ℕ) → (at == place) ≡ true → live_process s.system (traced_at t at).pid ≡ Some p
+  live-at at looked =
+      subst (λ i. live_process s.system (traced_at t i).pid ≡ Some p) (sym (eqb-true at place looked)) live
+
+  looked-still : (stage : Stage) → is_looked_at stage place ≡ true
+      → AtStage (IsSo Reached k t.options s) t.traced stage → IsFrozen p
+  looked-still (ReadingStatus at) looked w =
+      let h : IsSo Reached k t.options s looks (traced_at t at) = w.1.1 in
+      let stands = h.stands r in stands.stood p (live-at at looked)
+  looked-still (ReadingText at l from len) looked w =
+      let h : IsSo Reached k t.options s looks (traced_at t at) = w.1.1 in
+      let stands = h.stands r in stands.stood p (live-at at looked)
+  looked-still (Running at) looked w =
+      let h : IsSo Reached k t.options s runs (traced_at t at) = w.1.1 in
+      let stands = h.stands r in (stands.stood p (live-at at looked)).1
+  looked-still _ looked w = absurd (false≢true looked)
+
+  goes-still : is_looked_at t.stage place ≡ true → IsFrozen p
+  goes-still looked = let w = g.kept in looked-still t.stage looked w.stage
 
 module _ (n k : ℕ) (o : Options) (s : TracedState) (h : List Entry) (run : IsFunctionRun n k o s h) where
   first-goes : (Reached : Type 0) → (Reached → IsReached s) → Goes Reached k o (first_truss o) s
@@ -522,6 +580,37 @@ module _ (n k : ℕ) (o : Options) (s : TracedState) (h : List Entry) (run : IsF
       before-goes Reached reached bytes =
           history-goes Reached n k o before (first_truss o) s run.has (first-goes Reached reached) legal-before bytes
           (calls-front (first_truss o) (exchanges k before) (exchanges k later) calls-both) calm
+
+  -- ---- the events of what is opened
+
+  module _ (reached : IsReached s) (bytes : HasBytes h) (before later : List Entry) (is : h ≡ before ++ later)
+      (calm : All WasNotInterrupted (exchanges k before)) (place : ℕ) (p : TracedProcess)
+      (live : live_process (state_after s before).system (traced_at (functions_at k o before) place).pid ≡ Some p)
+    where
+      goes-there : Goes (Unit {0}) k o (functions_at k o before) (state_after s before)
+      goes-there =
+          before-goes before later is calm (Unit {0}) (λ r. reached)
+          (λ r. bytes-front before later (subst HasBytes is bytes))
+
+      pub few-there : place < length (functions_at k o before).traced
+          → is_opened (functions_at k o before).stage place ≡ true
+          → (functions_at k o before).stage ≢ Running place → (traced_at (functions_at k o before) place).old ≡ 0
+          → HasOneEventAtMost p
+      few-there within opened rests_so new =
+          goes-few (Unit {0}) k o (functions_at k o before) (state_after s before) goes-there place within tt opened
+          rests_so new p live
+
+      pub still-there : is_looked_at (functions_at k o before).stage place ≡ true → IsFrozen p
+      still-there looked =
+          goes-still (Unit {0}) k o (functions_at k o before) (state_after s before) goes-there tt place p live looked
+
+  pub one-event-each : IsReached s → HasBytes h → HasOneEventEach k o s h
+  one-event-each reached bytes = record {
+    few = λ before later place p is calm within opened rests_so new live.
+        few-there reached bytes before later is calm place p live within opened rests_so new;
+    still = λ before later place p is calm looked live.
+        still-there reached bytes before later is calm place p live looked;
+  }
 
   pub holds-opened : HoldsWhatItOpened k o s h
   holds-opened = record {
@@ -649,6 +738,26 @@ module _ (n k : ℕ) (o : Options) (s : TracedState) (h : List Entry) (run : IsF
           no_signal = ap (λ (x : LwpStatus). x.signal) shown.is ∙ signal-shown p m.l.id shown.lwp at.no_current;
         }
 
+    -- it has lent its memory to nobody, since no lwp of a lender meets a fault
+    unlent : (p : TracedProcess) → live_process now.system (traced_at t place).pid ≡ Some p
+        → IsStatus (status_of now.system (traced_at t place).pid p) → p.borrower ≡ None
+    unlent p live ranged =
+        let m = w.meets in
+        let g = goes in
+        let lawful_process = live-lawful now.system (traced_at t place).pid p g.lawful.system live in
+        let on = fresh-stands (traced_at t place) m.l m.event m.fresh in
+        let shown = shown-lwp p m.l m.event lawful_process.rising (seen p live ranged) on in
+        let breaks = event-breaks t.options (marks_at t place) m.l.id m.event m.function m.at_breakpoint in
+        let stops =
+        told-stop p m.l.id shown.lwp Bpt breaks.pc (ap event_of (sym shown.is) ∙ on ∙ ap (λ x. Some x) breaks.is) in
+        let new = fresh-new (traced_at t place) m.l m.event m.fresh in
+        let few =
+        goes-few (Unit {0}) k o t now goes place m.within tt (ap (λ (x : Stage). is_opened x place) m.reads)
+        (λ runs. reading-running place place (sym m.reads ∙ runs)) (eqb-true (traced_at t place).old 0 new.new) p live in
+        let met = stands-alone p few m.l.id shown.lwp shown.there (ap is_met_if stops) in
+        met.not_lent Bpt
+        (ap (λ (x : TracedLwp). x.control.stop) (same_Some met.lwp shown.lwp (sym met.there ∙ shown.there)) ∙ stops)
+
     -- the status file that truss has of it
     pub status-handle : ℕ
     status-handle = let its = opened in its.status
@@ -687,7 +796,7 @@ module _ (n k : ℕ) (o : Options) (s : TracedState) (h : List Entry) (run : IsF
           live = it.1;
           ranged = ranged;
           told = tells it.0 it.1 ranged;
-          not_lent = w.not_lent it.0 it.1;
+          not_lent = unlent it.0 it.1 ranged;
           stops = let traces = its.traces it.0 it.1 in traces.stops;
           reads_last = quiet;
           no_call = calm_steps;
@@ -740,4 +849,4 @@ module _ (n k : ℕ) (o : Options) (s : TracedState) (h : List Entry) (run : IsF
         stop-code reached bytes before between later e place id is calm w;
   }
 
-pub ruleset opens = (holds-opened, lifts-alone)
+pub ruleset opens = (holds-opened, lifts-alone, one-event-each)

@@ -318,13 +318,13 @@ module _ (n k pid id c ns : ℕ) (met : Traced) (place function : ℕ) (o : Opti
         written-there control there at size code is q l later stands_there =
             let was = lived q later in
             let v : Traced = record nobody { pid = pid; control = c } in
-            let same =
+            let keeps =
             message-lwps n k o s lawful x.call own.answer own.is
             (λ i small none. ap (λ (u : TracedState). live_process u.system i) own.later
             ∙ stays-over n s e i lawful legal small none) v
             (spelling (message.Write at size) code) is control was.0 q was.1 (later-live q later)
             (write-as leaves_lwps (λ a b. refl) at size code) in
-            there was.0 l was.1 (ap (under id) (sym same) ∙ stands_there)
+            there was.0 l was.1 (ap (under id) (sym keeps.lwps) ∙ stands_there)
 
         -- ---- the breakpoint has still to be lifted
 
@@ -523,7 +523,7 @@ module _ (n k pid id c ns : ℕ) (met : Traced) (place function : ℕ) (o : Opti
                   lifting looking held_control stood now-there (plants-on more h first)
               by None first looking held_control stood =
                   lifted looking held_control stood now-there (lifts-off more first) (lift-codes first)
-          lifting-next (is_away it) =
+          lifting-next (is_away it ran) =
               let kept = keeps n k pid id c ns met place s lawful made e legal t has x own next quiet no-run looks
               control stands in
               away
@@ -560,7 +560,7 @@ module _ (n k pid id c ns : ℕ) (met : Traced) (place function : ℕ) (o : Opti
               → Comes (fed_functions t x.reply) (after s e)
           lifted-next (goes_on more g code same) =
               absurd (write-run (address_of t.options g) instruction_size code step_flags (sym same ∙ run-is))
-          lifted-next (is_away it) =
+          lifted-next (is_away it ran) =
               let kept = keeps n k pid id c ns met place s lawful made e legal t has x own next quiet run-calm looks
               control stands in
               away

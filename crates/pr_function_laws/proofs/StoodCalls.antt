@@ -57,6 +57,7 @@ use Rattle.pr_truss_laws.proofs.StillLemmas.{live-changed}
 use Rattle.pr_truss_laws.proofs.TakenLemmas.{ReadsAs, read-as}
 use Rattle.pr_truss_laws.specs.Stills.{IsFrozen, IsHalting, IsQuiet}
 use Rattle.pr_function_laws.proofs.KeptPlaces.{Position, opens, position_after, rests, runs, unflagged}
+use Rattle.pr_function_laws.proofs.OneEventLemmas.{none-unmet, quiet-unmet, run-met-nothing}
 use Rattle.pr_function_laws.proofs.OpenedLemmas.{by-process, does, made, opened_call, ran-alone, sole}
 use Rattle.pr_function_laws.proofs.StoodLemmas.{IsCounted, KnowsLwps, StandsSo, Stood, StoodAt, as_stopped, lwps-at, lwps-counted, unmet-stopped, waits}
 use Rattle.pr_function_laws.proofs.StopRuns.{run-stopped}
@@ -64,6 +65,7 @@ use Rattle.pr_function_laws.proofs.StopTurns.{AreAsStopped, stopless}
 use Rattle.pr_function_laws.proofs.StretchLemmas as stretch
 use Rattle.pr_function_laws.proofs.StretchLemmas.{Does}
 use Rattle.pr_function_laws.specs.Lifted.{HasControl}
+use Rattle.pr_function_laws.specs.OneEvent.{HasOneEventAtMost, unmet}
 use Rattle.pr_truss_laws.proofs.OpensLemmas.{looking-stays}
 
 -- How a process stands after a call of truss that opens it, runs it, or reads and writes its memory.
@@ -81,10 +83,13 @@ run-stood flags old p rises none frozen few unset = by (met_in p) refl
     quiet-stopped q quiet n l there = let no = quiet.each n l there in stopless l no.no_stop
 
     by : (m : ℕ) → met_in p ≡ m → Stood flags old (with_run 0 p)
-    by zero is = as_stopped (run-stopped 0 p (unmet-stopped p is))
+    by zero is =
+        as_stopped (run-stopped 0 p (unmet-stopped p is))
+        (unmet (run-met-nothing p rises none frozen 0 (unmet (none-unmet p is))))
     by (suc zero) is =
         let stopped = waits-stopped p rises none 0 (record { frozen = frozen; count = is }) in
-        as_stopped (quiet-stopped (with_run 0 p) (run-quiet p rises none stopped (omega (arith, is))))
+        let quiet = run-quiet p rises none stopped (omega (arith, is)) in
+        as_stopped (quiet-stopped (with_run 0 p) quiet) (unmet (quiet-unmet (with_run 0 p) quiet))
     by (suc (suc m)) is =
         let stopped = waits-stopped p rises none (suc m) (record { frozen = frozen; count = is }) in
         let later = run-waits p rises none stopped m is in
@@ -127,6 +132,11 @@ pub leaves-as : (m : Message) (r : Parsed) → leaves_lwps m ≡ true → ReadsA
 leaves-as m (Ok first) leaves same = ap leaves_lwps same ∙ leaves
 leaves-as m (Err fault) leaves same = tt
 
+-- a process whose lwps stay, and what it has lent
+pub record KeepsLwps (p q : TracedProcess) : Type 0 where
+  pub lwps : q.lwps ≡ p.lwps
+  pub loan : q.borrower ≡ p.borrower
+
 module _ (n k : ℕ) (o : Options) (s : TracedState) (lawful : IsLawful s) (c : Call) (a : Answer)
     (answer : answer_to s k c ≡ Some a)
     (over : (pid : ℕ) → pid < s.system.made → live_process s.system pid ≡ None
@@ -147,23 +157,26 @@ module _ (n k : ℕ) (o : Options) (s : TracedState) (lawful : IsLawful s) (c : 
         same-system same =
             same_Some p q (sym live ∙ ap (λ (x : TracedSystem). live_process x u.pid) (sym same) ∙ later)
 
-        same-lwps : a.state.system ≡ s.system → q.lwps ≡ p.lwps
-        same-lwps same = ap (λ (x : TracedProcess). x.lwps) (sym (same-system same))
+        same-lwps : a.state.system ≡ s.system → KeepsLwps p q
+        same-lwps same = record {
+          lwps = ap (λ (x : TracedProcess). x.lwps) (sym (same-system same));
+          loan = ap (λ (x : TracedProcess). x.borrower) (sym (same-system same));
+        }
 
         changed-lwps : (f : TracedProcess → TracedProcess) (len : ℕ)
             → a ≡ controlled s (with_process_changed s.system u.pid p len f) → (f p).ended ≡ p.ended
-            → (f p).lwps ≡ p.lwps → q.lwps ≡ p.lwps
-        changed-lwps f len it ended lwps =
+            → KeepsLwps p (f p) → KeepsLwps p q
+        changed-lwps f len it ended keeps =
             let now : live_process a.state.system u.pid ≡ Some (f p) =
             ap (λ (x : Answer). live_process x.state.system u.pid) it ∙ live-changed s.system u.pid f p live ended in
-            ap (λ (x : TracedProcess). x.lwps) (same_Some q (f p) (sym later ∙ now)) ∙ lwps
+            subst (KeepsLwps p) (same_Some (f p) q (sym now ∙ later)) keeps
 
         set-lwps : (change : TracedControl → TracedControl) (len : ℕ)
-            → a ≡ controlled s (with_set s.system u.pid p len change) → q.lwps ≡ p.lwps
+            → a ≡ controlled s (with_set s.system u.pid p len change) → KeepsLwps p q
         unfolding with_control
-        set-lwps change len it = changed-lwps (with_control change) len it refl refl
+        set-lwps change len it = changed-lwps (with_control change) len it refl (record { lwps = refl; loan = refl })
 
-        read-lwps : (r : Result (List ℕ) BadByte) → a ≡ controlled s (read_of s.system u.pid p r) → q.lwps ≡ p.lwps
+        read-lwps : (r : Result (List ℕ) BadByte) → a ≡ controlled s (read_of s.system u.pid p r) → KeepsLwps p q
         read-lwps (Ok read) it = same-lwps (ap (λ (x : Answer). x.state.system) it)
         read-lwps (Err bad) it = same-lwps (ap (λ (x : Answer). x.state.system) it)
 
@@ -171,15 +184,15 @@ module _ (n k : ℕ) (o : Options) (s : TracedState) (lawful : IsLawful s) (c : 
             → a ≡ controlled s
             (cond lent (refused s.system Busy)
             (cond fits (with_process_changed s.system u.pid p len (with_space (with_bytes at code p.space)))
-            (refused s.system Io))) → q.lwps ≡ p.lwps
+            (refused s.system Io))) → KeepsLwps p q
         unfolding with_space
         written-lwps at code len true fits it = same-lwps (ap (λ (x : Answer). x.state.system) it)
         written-lwps at code len false false it = same-lwps (ap (λ (x : Answer). x.state.system) it)
         written-lwps at code len false true it =
-            changed-lwps (with_space (with_bytes at code p.space)) len it refl refl
+            changed-lwps (with_space (with_bytes at code p.space)) len it refl (record { lwps = refl; loan = refl })
 
         by-message : (m : Message) (len : ℕ) → leaves_lwps m ≡ true
-            → a ≡ controlled s (message_answer s.system u.pid p at_process m (tail_of m bytes) len) → q.lwps ≡ p.lwps
+            → a ≡ controlled s (message_answer s.system u.pid p at_process m (tail_of m bytes) len) → KeepsLwps p q
         unfolding message_answer read_answer write_answer
         by-message (message.Read at size) len leaves it = read-lwps _ it
         by-message (message.Write at size) len leaves it =
@@ -193,47 +206,51 @@ module _ (n k : ℕ) (o : Options) (s : TracedState) (lawful : IsLawful s) (c : 
         by-message (message.Unset modes) len leaves it = set-lwps _ len it
         by-message _ len leaves it = absurd (false≢true leaves)
 
-        pub message-lwps : BeginLeavingLwps bytes → q.lwps ≡ p.lwps
+        pub message-lwps : BeginLeavingLwps bytes → KeepsLwps p q
         message-lwps begins = by (does n k o s lawful c a answer over u.pid u.control bytes is its p live)
           where
-            by : DoesTo p → q.lwps ≡ p.lwps
+            by : DoesTo p → KeepsLwps p q
             by (stretch.refuses errno replied other same) = same-lwps same
             by (stretch.does m len first it) =
                 by-message m len (subst (λ (r : Parsed). IfOk r (λ f. leaves_lwps f.0 ≡ true)) first begins) it
 
-        -- PCRUN with whatever flags
-        ran : (len flags : ℕ) (refuses : Bool)
+        -- PCRUN with whatever flags, or its refusal
+        ran : (E : TracedProcess → Type 0) (len flags : ℕ) (refuses : Bool)
             → a ≡ controlled s
             (cond refuses (refused s.system Busy) (with_process_changed s.system u.pid p len (with_run flags)))
-            → AreAsStopped p → AreAsStopped q
-        ran len flags true it all = subst AreAsStopped (same-system (ap (λ (x : Answer). x.state.system) it)) all
-        ran len flags false it all =
+            → E p → E (with_run flags p) → E q
+        ran E len flags true it stays runs_so =
+            subst E (same-system (ap (λ (x : Answer). x.state.system) it)) stays
+        ran E len flags false it stays runs_so =
             let now : live_process a.state.system u.pid ≡ Some (with_run flags p) =
             ap (λ (x : Answer). live_process x.state.system u.pid) it
             ∙ live-changed s.system u.pid (with_run flags) p live (run-ended flags p) in
-            subst AreAsStopped (same_Some (with_run flags p) q (sym now ∙ later)) (run-stopped flags p all)
+            subst E (same_Some (with_run flags p) q (sym now ∙ later)) runs_so
 
-        run-all : (flags : ℕ) → ReadsAs (message.Run flags) (first_message bytes) → AreAsStopped p → AreAsStopped q
+        run-all : (E : TracedProcess → Type 0) (flags : ℕ) → ReadsAs (message.Run flags) (first_message bytes) → E p
+            → E (with_run flags p) → E q
         unfolding message_answer run_answer
-        run-all flags reads all = by (does n k o s lawful c a answer over u.pid u.control bytes is its p live)
+        run-all E flags reads stays runs_so =
+            by (does n k o s lawful c a answer over u.pid u.control bytes is its p live)
           where
-            by : DoesTo p → AreAsStopped q
-            by (stretch.refuses errno replied other same) = subst AreAsStopped (same-system same) all
+            by : DoesTo p → E q
+            by (stretch.refuses errno replied other same) = subst E (same-system same) stays
             by (stretch.does m len first it) =
                 let same : m ≡ message.Run flags =
                 subst (λ (r : Parsed). IfOk r (λ f. f.0 ≡ message.Run flags)) first reads in
-                ran len flags (run_refused p)
+                ran E len flags (run_refused p)
                 (it ∙ ap (λ x. controlled s (message_answer s.system u.pid p at_process x (tail_of x bytes) len)) same)
-                all
+                stays runs_so
 
       pub leaves-stands : BeginLeavingLwps bytes → (at : Position) → StandsSo s at u → StandsSo a.state at u
       leaves-stands begins at h = record {
         prepared = h.prepared;
         stood = λ q later.
             let was =
-            by-process n k o s lawful c a answer over u.pid u.control bytes is its (λ p x. x.lwps ≡ p.lwps)
+            by-process n k o s lawful c a answer over u.pid u.control bytes is its KeepsLwps
             (λ p x live now. message-lwps p x live now begins) q later in
-            lwps-at was.0 q was.1.1 at u (h.stood was.0 was.1.0);
+            let keeps : KeepsLwps was.0 q = was.1.1 in
+            lwps-at was.0 q keeps.lwps keeps.loan at u (h.stood was.0 was.1.0);
       }
 
   -- ---- a step of an opening
@@ -258,9 +275,10 @@ module _ (n k : ℕ) (o : Options) (s : TracedState) (lawful : IsLawful s) (c : 
         let h_prepared = h.prepared in
         opens-next v next h_prepared.0 knows (λ q later.
         let was =
-        by-process n k o s lawful c a answer over v.pid v.control (spelling m []) is its (λ p x. x.lwps ≡ p.lwps)
+        by-process n k o s lawful c a answer over v.pid v.control (spelling m []) is its KeepsLwps
         (λ p x live now. message-lwps v (spelling m []) is its p x live now begins) q later in
-        on was.0 q was.1.1 (h.stood was.0 was.1.0))
+        let keeps : KeepsLwps was.0 q = was.1.1 in
+        on was.0 q keeps.lwps (h.stood was.0 was.1.0))
 
     -- the stop is asked for
     stop-next : c ≡ message_call v.control message.Stop → StandsSo s (opens opening.Stop) v
@@ -431,18 +449,27 @@ module _ (n k : ℕ) (o : Options) (s : TracedState) (lawful : IsLawful s) (c : 
     stood = λ q later.
         let was =
         by-process n k o s lawful c a answer over u.pid u.control (spelling (message.Run u.marks.flags) []) is its
-        (λ p x. Stood 0 u.old x) (λ p x live now. on p x live now (h.stood p live)) q later in
+        (λ p x. Stood 0 u.old x)
+        (λ p x live now. let stood = h.stood p live in on p x live now stood.0 stood.1) q later in
         was.1.1;
   }
     where
+      -- each lwp of it is as it stopped, and one at most has met an event
+      run-loose : (p q : TracedProcess) → live_process s.system u.pid ≡ Some p
+          → live_process a.state.system u.pid ≡ Some q → IsFrozen p → (flags : ℕ)
+          → c ≡ message_call u.control (message.Run flags) → AreAsStopped p → HasOneEventAtMost p → Stood 0 u.old q
+      run-loose p q live later frozen flags sent all few =
+          let reads = run-as flags in
+          run-all u (spelling (message.Run flags) []) sent its p q live later (Stood 0 u.old) reads.0 reads.1
+          (as_stopped all few)
+          (as_stopped (run-stopped reads.0 p all)
+          (unmet (run-met-nothing p (rises u.pid p live) (alone p live) frozen reads.0 few)))
+
       run-waiting : (p q : TracedProcess) → live_process s.system u.pid ≡ Some p
           → live_process a.state.system u.pid ≡ Some q → IsFrozen p → met_in p ≤ suc u.old
           → c ≡ message_call u.control (message.Run 0) → Stood 0 u.old q
       run-waiting p q live later frozen few now = by (met_in p) refl
         where
-          bytes : List ℕ
-          bytes = spelling (message.Run 0) []
-
           sent : answer_to s k (message_call u.control (message.Run 0)) ≡ Some a
           sent = ap (answer_to s k) (sym now) ∙ answer
 
@@ -450,7 +477,8 @@ module _ (n k : ℕ) (o : Options) (s : TracedState) (lawful : IsLawful s) (c : 
           held = record { controller = k; pid = u.pid; lwp = 0; file = file.Ctl; mode = WriteExcl }
 
           by : (m : ℕ) → met_in p ≡ m → Stood 0 u.old q
-          by zero counts = as_stopped (run-all u bytes now its p q live later 0 run-reads (unmet-stopped p counts))
+          by zero counts =
+              run-loose p q live later frozen 0 now (unmet-stopped p counts) (unmet (none-unmet p counts))
           by (suc m) counts =
               let none = alone p live in
               let stopped = waits-stopped p (rises u.pid p live) none m (record { frozen = frozen; count = counts }) in
@@ -460,10 +488,8 @@ module _ (n k : ℕ) (o : Options) (s : TracedState) (lawful : IsLawful s) (c : 
               (run-stood 0 u.old p (rises u.pid p live) none frozen few refl)
 
       on : (p q : TracedProcess) → live_process s.system u.pid ≡ Some p → live_process a.state.system u.pid ≡ Some q
-          → Stood u.marks.flags (suc u.old) p → Stood 0 u.old q
-      on p q live later (as_stopped all) =
-          let reads = run-as u.marks.flags in
-          as_stopped (run-all u (spelling (message.Run u.marks.flags) []) is its p q live later reads.0 reads.1 all)
-      on p q live later (waits w none) =
+          → Stood u.marks.flags (suc u.old) p → IsFrozen p → Stood 0 u.old q
+      on p q live later (as_stopped all few) frozen = run-loose p q live later frozen u.marks.flags is all few
+      on p q live later (waits w none) frozen =
           run-waiting p q live later w.frozen w.few
           (is ∙ ap (λ f. message_call u.control (message.Run f)) none)

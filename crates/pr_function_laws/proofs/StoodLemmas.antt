@@ -7,6 +7,7 @@ use Rattle.pr_model.specs.State.{TracedLwp, TracedProcess, TracedState, TracedSy
 use Rattle.pr_num.specs.Agents.{agent_id}
 use Rattle.std.specs.List.{count_by}
 use Rattle.pr_num.specs.ById.{under}
+use Rattle.pr_num.specs.Control.{async_mode, has_flags}
 use Rattle.pr_num.specs.declared.faults.Flt.{Flt}
 use Rattle.pr_model.specs.declared.stops.Stop.{Stop}
 use Rattle.pr_model.specs.declared.stops.Stop.TheVariants as stop
@@ -21,12 +22,15 @@ use Rattle.pr_truss.specs.declared.stages.OpeningStep.TheVariants as opening
 use Rattle.pr_truss_laws.proofs.AloneLemmas.{alone-frozen, alone-halting}
 use Rattle.pr_truss_laws.proofs.StillLemmas.{frozen-turns, halting-leaves, halting-stays}
 use Rattle.pr_truss_laws.specs.Stills.{IsFrozen, IsHalting, IsUndisturbed, with_lwp_stopped, stopped_lwp}
-use Rattle.pr_function_laws.proofs.KeptPlaces.{Position, closes, opens, planted_as, rests, runs}
+use Rattle.pr_function_laws.proofs.KeptPlaces.{Position, closes, looks, opens, planted_as, rests, runs}
+use Rattle.pr_function_laws.proofs.OneEventLemmas.{alone-few, lwps-few, none-unmet}
+use Rattle.pr_function_laws.proofs.OneEventTurns.{turn-few}
 use Rattle.pr_function_laws.proofs.OpenedLemmas.{one-agent}
 use Rattle.pr_function_laws.proofs.StopTurns.{AreAsStopped, alone-stopped, turn-stopped}
+use Rattle.pr_function_laws.specs.OneEvent.{HasOneEventAtMost, unmet}
 
--- How a process stands that truss opens or has opened: each of its lwps is as it stopped; or it stands still, with the
--- stops that stood there before truss came, which truss counts.
+-- How a process stands that truss opens or has opened: each of its lwps is as it stopped, and one at most stands on an
+-- event that it met; or it stands still, with the stops that stood there before truss came, which truss counts.
 
 -- ---- what is said
 
@@ -37,7 +41,7 @@ pub record WaitsAtMost (p : TracedProcess) (n : ℕ) : Type 0 where
 
 -- once it is opened: then it is run without run flags as long as it waits so
 pub data Stood (flags n : ℕ) (p : TracedProcess) : Type 0 where
-  as_stopped : AreAsStopped p → Stood flags n p
+  as_stopped : AreAsStopped p → HasOneEventAtMost p → Stood flags n p
   waits : WaitsAtMost p n → flags ≡ 0 → Stood flags n p
 
 -- it was directed to stop, and unless it has an agent it stands still
@@ -64,7 +68,8 @@ StoodOpening _ old p = Unit {0}
 abbrev pub StoodAt : Position → Traced → TracedProcess → Type 0
 StoodAt (opens step) u p = StoodOpening step u.old p
 StoodAt rests u p = Stood u.marks.flags u.old p
-StoodAt runs u p = Stood u.marks.flags (suc u.old) p
+StoodAt looks u p = IsFrozen p
+StoodAt runs u p = Stood u.marks.flags (suc u.old) p × IsFrozen p
 StoodAt closes u p = Unit {0}
 
 -- past the open of it the status file of the lwps is known
@@ -77,6 +82,11 @@ KnowsLwps step u = IsThere u.lstatus
 abbrev pub Prepared : Position → Traced → Type 0
 Prepared (opens step) u = (u.marks.flags ≡ 0) × KnowsLwps step u
 Prepared _ u = Unit {0}
+
+-- once it is opened it directs its other lwps where one stops
+abbrev pub DirectsAt : Position → TracedProcess → Type 0
+DirectsAt rests p = has_flags p.control.modes async_mode ≡ false
+DirectsAt _ p = Unit {0}
 
 -- all of it, of a process in a state
 pub record StandsSo (s : TracedState) (at : Position) (u : Traced) : Type 0 where
@@ -100,25 +110,31 @@ unmet-stopped p none n l there = record { at_fault = λ f is. absurd (met f is) 
         false≢true
         (sym (none-under (λ (e : ℕ × TracedLwp). has_met e.1) n l p.lwps there none) ∙ faulted l.control.stop f is)
 
-pub stood-runs : (u : Traced) (p : TracedProcess) → StoodAt rests u p → StoodAt runs u p
-stood-runs u p (as_stopped all) = as_stopped all
-stood-runs u p (waits w flags) = waits (record { frozen = w.frozen; few = omega (arith, w.few) }) flags
+-- one of which no lwp does
+pub none-stood : (flags n : ℕ) (p : TracedProcess) → met_in p ≡ 0 → Stood flags n p
+none-stood flags n p none = as_stopped (unmet-stopped p none) (unmet (none-unmet p none))
 
-pub stood-counts : (u : Traced) (p : TracedProcess) → StoodAt rests u p → 0 < u.old
+pub stood-runs : (u : Traced) (p : TracedProcess) → StoodAt rests u p → IsFrozen p → StoodAt runs u p
+stood-runs u p (as_stopped all few) frozen = (as_stopped all few, frozen)
+stood-runs u p (waits w flags) frozen =
+    (waits (record { frozen = w.frozen; few = omega (arith, w.few) }) flags, frozen)
+
+pub stood-counts : (u : Traced) (p : TracedProcess) → StoodAt rests u p → IsFrozen p → 0 < u.old
     → StoodAt runs (record u { old = u.old - 1 }) p
-stood-counts u p (as_stopped all) some = as_stopped all
-stood-counts u p (waits w flags) some =
-    waits (record { frozen = w.frozen; few = omega (arith, w.few, some) }) flags
+stood-counts u p (as_stopped all few) frozen some = (as_stopped all few, frozen)
+stood-counts u p (waits w flags) frozen some =
+    (waits (record { frozen = w.frozen; few = omega (arith, w.few, some) }) flags, frozen)
 
 pub stood-meets : (u : Traced) (m : Marks) (p : TracedProcess) → StoodAt rests u p → u.old ≡ 0
     → StoodAt rests (record u { marks = m }) p
-stood-meets u m p (as_stopped all) new = as_stopped all
-stood-meets u m p (waits w flags) new = as_stopped (unmet-stopped p (omega (arith, w.few, new)))
+stood-meets u m p (as_stopped all few) new = as_stopped all few
+stood-meets u m p (waits w flags) new = none-stood m.flags u.old p (omega (arith, w.few, new))
 
 pub stood-plants : (at : Position) (u : Traced) (set : List Bool) (p : TracedProcess) → StoodAt at u p
     → StoodAt at (planted_as u set) p
 stood-plants (opens step) u set p h = h
 stood-plants rests u set p h = h
+stood-plants looks u set p h = h
 stood-plants runs u set p h = h
 stood-plants closes u set p h = tt
 
@@ -130,34 +146,36 @@ prepared-plants (opens step) u set h = (h.0, by step h.1)
     by opening.OpenLstatus h = tt
     by _ h = h
 prepared-plants rests u set h = tt
+prepared-plants looks u set h = tt
 prepared-plants runs u set h = tt
 prepared-plants closes u set h = tt
 
--- what is so of a process is so of another one that halts, has stopped and waits as it does
+-- what is so of a process is so of another one that halts, has stopped, waits and stands still as it does
 module _ (p q : TracedProcess) (halting : IsHalting p → IsHalting q) (has : HasStopped p → HasStopped q)
-    (counted : (n : ℕ) → IsCounted n p → IsCounted n q) (stood : (flags n : ℕ) → Stood flags n p → Stood flags n q)
-  where
-    opening-kept : (step : OpeningStep) (old : ℕ) → StoodOpening step old p → StoodOpening step old q
-    opening-kept (opening.AwaitStop until) old h = (h.0, halting h.1)
-    opening-kept opening.ReadLwps old h = has h
-    opening-kept opening.TraceSignals old h = counted (suc old) h
-    opening-kept opening.TraceFaults old h = counted (suc old) h
-    opening-kept opening.TraceEntries old h = counted (suc old) h
-    opening-kept opening.TraceExits old h = counted (suc old) h
-    opening-kept opening.Follow old h = counted (suc old) h
-    opening-kept opening.Start old h = counted (suc old) h
-    opening-kept opening.OpenStatus old h = tt
-    opening-kept opening.OpenLstatus old h = tt
-    opening-kept opening.OpenMemory old h = tt
-    opening-kept opening.ClearModes old h = tt
-    opening-kept opening.SetRelease old h = tt
-    opening-kept opening.Stop old h = tt
+    (counted : (n : ℕ) → IsCounted n p → IsCounted n q) where
+  opening-kept : (step : OpeningStep) (old : ℕ) → StoodOpening step old p → StoodOpening step old q
+  opening-kept (opening.AwaitStop until) old h = (h.0, halting h.1)
+  opening-kept opening.ReadLwps old h = has h
+  opening-kept opening.TraceSignals old h = counted (suc old) h
+  opening-kept opening.TraceFaults old h = counted (suc old) h
+  opening-kept opening.TraceEntries old h = counted (suc old) h
+  opening-kept opening.TraceExits old h = counted (suc old) h
+  opening-kept opening.Follow old h = counted (suc old) h
+  opening-kept opening.Start old h = counted (suc old) h
+  opening-kept opening.OpenStatus old h = tt
+  opening-kept opening.OpenLstatus old h = tt
+  opening-kept opening.OpenMemory old h = tt
+  opening-kept opening.ClearModes old h = tt
+  opening-kept opening.SetRelease old h = tt
+  opening-kept opening.Stop old h = tt
 
-    at-kept : (at : Position) (u : Traced) → StoodAt at u p → StoodAt at u q
-    at-kept (opens step) u h = opening-kept step u.old h
-    at-kept rests u h = stood u.marks.flags u.old h
-    at-kept runs u h = stood u.marks.flags (suc u.old) h
-    at-kept closes u h = tt
+  at-kept : ((flags n : ℕ) → Stood flags n p → Stood flags n q) → (IsFrozen p → IsFrozen q) → (at : Position)
+      (u : Traced) → StoodAt at u p → StoodAt at u q
+  at-kept stood still (opens step) u h = opening-kept step u.old h
+  at-kept stood still rests u h = stood u.marks.flags u.old h
+  at-kept stood still looks u h = still h
+  at-kept stood still runs u h = (stood u.marks.flags (suc u.old) h.0, still h.1)
+  at-kept stood still closes u h = tt
 
 -- ---- a process whose lwps stay
 
@@ -192,12 +210,13 @@ module _ (p q : TracedProcess) (same : q.lwps ≡ p.lwps) where
     few = λ none. let some = h.few (sym lwps-agent ∙ none) in omega (arith, some, lwps-met);
   }
 
-  pub lwps-stood : (flags n : ℕ) → Stood flags n p → Stood flags n q
-  lwps-stood flags n (as_stopped all) = as_stopped (λ i l there. all i l (was i l there))
-  lwps-stood flags n (waits w none) = waits (lwps-waits n w) none
+  pub lwps-stood : q.borrower ≡ p.borrower → (flags n : ℕ) → Stood flags n p → Stood flags n q
+  lwps-stood loan flags n (as_stopped all few) =
+      as_stopped (λ i l there. all i l (was i l there)) (lwps-few p q same loan few)
+  lwps-stood loan flags n (waits w none) = waits (lwps-waits n w) none
 
-  pub lwps-at : (at : Position) (u : Traced) → StoodAt at u p → StoodAt at u q
-  lwps-at = at-kept p q lwps-halting lwps-has lwps-counted lwps-stood
+  pub lwps-at : q.borrower ≡ p.borrower → (at : Position) (u : Traced) → StoodAt at u p → StoodAt at u q
+  lwps-at loan = at-kept p q lwps-halting lwps-has lwps-counted (lwps-stood loan) lwps-frozen
 
 -- ---- a process that others left alone
 
@@ -216,7 +235,7 @@ module _ (p q : TracedProcess) (alone : IsUndisturbed p q) where
   }
 
   alone-stood : (flags n : ℕ) → Stood flags n p → Stood flags n q
-  alone-stood flags n (as_stopped all) = as_stopped (alone-stopped p q alone all)
+  alone-stood flags n (as_stopped all few) = as_stopped (alone-stopped p q alone all) (alone-few p q alone few)
   alone-stood flags n (waits w none) =
       waits (record {
         frozen = alone-frozen p q alone w.frozen;
@@ -224,7 +243,8 @@ module _ (p q : TracedProcess) (alone : IsUndisturbed p q) where
       }) none
 
   pub alone-at : (at : Position) (u : Traced) → StoodAt at u p → StoodAt at u q
-  alone-at = at-kept p q (alone-halting p q alone) alone-has alone-counted alone-stood
+  alone-at =
+      at-kept p q (alone-halting p q alone) alone-has alone-counted alone-stood (alone-frozen p q alone)
 
 -- ---- a turn of an lwp of the process
 
@@ -261,9 +281,16 @@ module _ (s : TracedSystem) (pid : ℕ) (p : TracedProcess) (own : ℕ) (t : Lwp
       let was = h.stopped in
       record { stopped = turn-has was; few = λ none. no-turn (was.frozen (turn-agent was.halting none)) }
 
-  turn-stood : (flags n : ℕ) → Stood flags n p → Stood flags n q
-  turn-stood flags n (as_stopped all) = as_stopped (turn-stopped s pid p own t lawful live turn q later all)
-  turn-stood flags n (waits w none) = no-turn w.frozen
+  turn-stood : has_flags p.control.modes async_mode ≡ false → (flags n : ℕ) → Stood flags n p → Stood flags n q
+  turn-stood directs flags n (as_stopped all few) =
+      as_stopped (turn-stopped s pid p own t lawful live turn q later all)
+      (turn-few s pid p own t lawful live turn directs q later few)
+  turn-stood directs flags n (waits w none) = no-turn w.frozen
 
-  pub turn-at : (at : Position) (u : Traced) → StoodAt at u p → StoodAt at u q
-  turn-at = at-kept p q turn-halting turn-has turn-counted turn-stood
+  pub turn-at : (at : Position) (u : Traced) → DirectsAt at p → StoodAt at u p → StoodAt at u q
+  turn-at (opens step) u directs h =
+      opening-kept p q turn-halting turn-has turn-counted step u.old h
+  turn-at rests u directs h = turn-stood directs u.marks.flags u.old h
+  turn-at looks u directs h = no-turn h
+  turn-at runs u directs h = no-turn h.1
+  turn-at closes u directs h = tt

@@ -369,7 +369,7 @@ module _ (pid : ℕ) where
 
 -- ---- the point that was met
 
-directed-leaves : Leaves directed
+pub directed-leaves : Leaves directed
 unfolding directed
 directed-leaves = record {
   stops = λ l. elim (has_event_stop l) as
@@ -422,12 +422,12 @@ meeting-stopped (Some pt) id x meets all =
 -- ---- rows
 
 -- what is changed before the move is the memory at most
-data StoresOnly (cs : List Change) : Type 0 where
+pub data StoresOnly (cs : List Change) : Type 0 where
   no_change : cs ≡ [] → StoresOnly cs
   one_store : (space : Space) → cs ≡ space_is space ∷ [] → StoresOnly cs
 
 -- A row meets no fault; or its lwp has no current signal, and is at that fault after its move.
-data FaultsSo (l : TracedLwp) (row : Row) : Type 0 where
+pub data FaultsSo (l : TracedLwp) (row : Row) : Type 0 where
   no_fault : ((f : Flt) → row.point ≢ Some (Fault f)) → FaultsSo l row
   faults : (g : Flt) → row.point ≡ Some (Fault g) → l.current ≡ None → row.transition.ending ≡ None
       → StoresOnly row.transition.changes → IsAtFault (moved traced row.transition.move l) g → FaultsSo l row
@@ -479,7 +479,7 @@ module _ (s : TracedSystem) (pid : ℕ) (p : TracedProcess) (id : ℕ) (l : Trac
       choice (FaultsSo l) l.control.step _ _
       (λ marked. trapped-so Trace _ p.space l.regs None _ refl refl none) (λ plain. quiet-so l _ refl)
 
-  kind-so : (row : Row) → RowKind s pid p id l row → FaultsSo l row
+  pub kind-so : (row : Row) → RowKind s pid p id l row → FaultsSo l row
   unfolding requested_row posted_row handler_row own_taken_row shared_taken_row interrupted_row
   kind-so row (kind.takes_own {g = g} none is) = taken-so (Signal g) _ refl (λ f same. cc)
   kind-so row (kind.takes_shared {g = g} none own is) = taken-so (Signal g) _ refl (λ f same. cc)
@@ -492,7 +492,7 @@ module _ (s : TracedSystem) (pid : ℕ) (p : TracedProcess) (id : ℕ) (l : Trac
 
 -- ---- a turn
 
-free-stopless : (p : TracedProcess) (id : ℕ) (l : TracedLwp) → is_held_back p id l ≡ false → l.control.stop ≡ None
+pub free-stopless : (p : TracedProcess) (id : ℕ) (l : TracedLwp) → is_held_back p id l ≡ false → l.control.stop ≡ None
 unfolding is_held_back
 free-stopless p id l free = by l.control.stop refl
   where
@@ -502,13 +502,13 @@ free-stopless p id l free = by l.control.stop refl
 
 module _ (s : TracedSystem) (pid : ℕ) (p : TracedProcess) (id : ℕ) (l : TracedLwp) (a : IsActing s pid p id l)
     (none : l.control.stop ≡ None) (row : Row) (suits : SuitsTransition s pid p id l row.transition) where
-  abbrev changes : TracedSystem
+  abbrev pub changes : TracedSystem
   changes = all_changed traced pid p id l row.transition.changes s
 
-  abbrev moves : TracedSystem
+  abbrev pub moves : TracedSystem
   moves = with_process pid (with_lwp id (moved traced row.transition.move)) changes
 
-  abbrev counts : TracedSystem
+  abbrev pub counts : TracedSystem
   counts =
       with_process pid (with_counted row.did row.begun) (ended_if traced pid p id l row.transition.ending moves)
 
@@ -561,11 +561,33 @@ module _ (s : TracedSystem) (pid : ℕ) (p : TracedProcess) (id : ℕ) (l : Trac
       subst (λ (y : TracedProcess). lwp_of y id ≡ Some l) m.1.1
       (subst (λ (y : TracedProcess). lwp_of y id ≡ Some l) same a.there)
 
-  counted-meets : FaultsSo l row → (x : TracedProcess) → process_of counts pid ≡ Some x → (k : TracedLwp)
-      → lwp_of x id ≡ Some k → MeetsFault row.point k
+  -- nothing was lent there
+  stored-loan : (cs : List Change) → StoresOnly cs → (x : TracedProcess)
+      → process_of (all_changed traced pid p id l cs s) pid ≡ Some x → x.borrower ≡ p.borrower
+  unfolding all_changed changed with_space with_process
+  stored-loan cs (no_change is) x found =
+      let same : process_of s pid ≡ Some x =
+      subst (λ ds. process_of (all_changed traced pid p id l ds s) pid ≡ Some x) is found in
+      ap (λ (y : TracedProcess). y.borrower) (sym (same_Some p x (sym a.found ∙ same)))
+  stored-loan cs (one_store space is) x found =
+      let stored : process_of (with_process pid (with_space space) s) pid ≡ Some x =
+      subst (λ ds. process_of (all_changed traced pid p id l ds s) pid ≡ Some x) is found in
+      let m =
+      mapped-some (with_space space) (process_of s pid) x
+      (sym (under-change_under pid (with_space space) s.processes) ∙ stored) in
+      ap (λ (y : TracedProcess). y.borrower) (sym m.1.1)
+      ∙ ap (λ (y : TracedProcess). y.borrower) (sym (same_Some p m.0 (sym a.found ∙ m.1.0)))
+
+  -- where it met a fault, the lwp is what its move made of it
+  pub record IsMoved (x : TracedProcess) : Type 0 where
+    pub own : lwp_of x id ≡ Some (moved traced row.transition.move l)
+    pub loan : x.borrower ≡ p.borrower
+
+  pub counted-moved : FaultsSo l row → (x : TracedProcess) → process_of counts pid ≡ Some x → (f : Flt)
+      → row.point ≡ Some (Fault f) → IsMoved x
   unfolding with_process with_lwp with_counted
-  counted-meets (no_fault other) x found k there f is = absurd (other f is)
-  counted-meets (faults g met current goes_on stores at) x found k there f is =
+  counted-moved (no_fault other) x found f is = absurd (other f is)
+  counted-moved (faults g met current goes_on stores at) x found f is =
       let kept : process_of (with_process pid (with_counted row.did row.begun) moves) pid ≡ Some x =
       subst (λ (o : Option Ending). process_of
       (with_process pid (with_counted row.did row.begun) (ended_if traced pid p id l o moves)) pid ≡ Some x) goes_on
@@ -577,13 +599,23 @@ module _ (s : TracedSystem) (pid : ℕ) (p : TracedProcess) (id : ℕ) (l : Trac
       mapped-some (with_lwp id (moved traced row.transition.move)) (process_of changes pid) one.0
       (sym (under-change_under pid (with_lwp id (moved traced row.transition.move)) changes.processes) ∙ one.1.0) in
       let own : lwp_of two.0 id ≡ Some l = stored-there row.transition.changes stores two.0 two.1.0 in
-      let mine : lwp_of one.0 id ≡ Some k = ap (λ (y : TracedProcess). lwp_of y id) one.1.1 ∙ there in
-      let now : lwp_of one.0 id ≡ Some (moved traced row.transition.move l) =
-      ap (λ (y : TracedProcess). lwp_of y id) (sym two.1.1)
-      ∙ under-change_under id (moved traced row.transition.move) two.0.lwps
-      ∙ ap (option_map (moved traced row.transition.move)) own in
+      record {
+        own = ap (λ (y : TracedProcess). lwp_of y id) (sym one.1.1)
+            ∙ ap (λ (y : TracedProcess). lwp_of y id) (sym two.1.1)
+            ∙ under-change_under id (moved traced row.transition.move) two.0.lwps
+            ∙ ap (option_map (moved traced row.transition.move)) own;
+        loan = ap (λ (y : TracedProcess). y.borrower) (sym one.1.1)
+            ∙ ap (λ (y : TracedProcess). y.borrower) (sym two.1.1)
+            ∙ stored-loan row.transition.changes stores two.0 two.1.0;
+      }
+
+  counted-meets : FaultsSo l row → (x : TracedProcess) → process_of counts pid ≡ Some x → (k : TracedLwp)
+      → lwp_of x id ≡ Some k → MeetsFault row.point k
+  counted-meets (no_fault other) x found k there f is = absurd (other f is)
+  counted-meets (faults g met current goes_on stores at) x found k there f is =
+      let it = counted-moved (faults g met current goes_on stores at) x found f is in
       let same : moved traced row.transition.move l ≡ k =
-      same_Some (moved traced row.transition.move l) k (sym now ∙ mine) in
+      same_Some (moved traced row.transition.move l) k (sym it.own ∙ there) in
       let which : g ≡ f = point-fault g f (same_Some (Fault g) (Fault f) (sym met ∙ is)) in
       subst (λ (y : TracedLwp). IsAtFault y f) same
       (subst (λ (h : Flt). IsAtFault (moved traced row.transition.move l) h) which at)

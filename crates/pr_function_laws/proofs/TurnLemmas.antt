@@ -1,4 +1,5 @@
-use Rattle.std.proofs.Common.{◌≡◌, ◌<◌, ◌==◌, ◌++◌, ℕ, true, Option, Some, List, [], ◌∷◌, append_assoc, refl, sym, subst, ap, ◌∙◌, arith, inl, inr}
+use Rattle.std.proofs.Common.{◌≡◌, ◌<◌, ◌==◌, ◌++◌, ℕ, true, false, Option, Some, None, List, [], ◌∷◌, length, append_assoc, refl, sym, subst, ap, ◌∙◌, arith, inl, inr}
+use Rattle.std.proofs.lemmas.Bool.{false≢true}
 use Rattle.std.proofs.lemmas.List.Elements.{All-head}
 use Rattle.std.proofs.lemmas.Option.{none-some, same_Some, slice_get_within}
 use Rattle.std.specs.List.{All, cons_option}
@@ -16,7 +17,7 @@ use Rattle.pr_model.specs.Legal.{after, state_after}
 use Rattle.pr_model.specs.Points.{stop_at}
 use Rattle.pr_model.specs.Registers.{pc_of}
 use Rattle.pr_model.specs.Replies.{bytes_in, no_handle}
-use Rattle.pr_model.specs.State.{TracedLwp, TracedProcess, TracedState, lwp_of}
+use Rattle.pr_model.specs.State.{TracedLwp, TracedProcess, TracedState, has_agent, lwp_of}
 use Rattle.pr_model.specs.Statuses.{lwpstatus_of, status_of, status_of_found}
 use Rattle.pr_model.specs.Stops.{representative}
 use Rattle.pr_model.specs.declared.calls.Call.{Call}
@@ -40,6 +41,7 @@ use Rattle.pr_report_laws.proofs.Files.WatchHistories.{exchanges-push}
 use Rattle.pr_report_laws.proofs.Machine.RecordLaws.{status-read}
 use Rattle.pr_report_laws.proofs.SeenChildren.Splits.{Compares, ahead, behind, compare, same}
 use Rattle.pr_report_laws.proofs.Watching.HistoryParts.{all-rest, legal-front, legal-rest}
+use Rattle.pr_report_laws.specs.AtBirth.{is_met_if}
 use Rattle.pr_truss.specs.Asides.{marks_at}
 use Rattle.pr_truss.specs.FunctionCalls.{next_function_call_of}
 use Rattle.pr_truss.specs.FunctionEvents.{step_of}
@@ -56,23 +58,28 @@ use Rattle.pr_truss_laws.proofs.FrameLemmas.{was-made}
 use Rattle.pr_truss_laws.proofs.FunctionOptionLemmas.{fed_functions-options}
 use Rattle.pr_truss_laws.proofs.OpensLemmas.{held_by}
 use Rattle.pr_truss_laws.proofs.OverLemmas.{stays-made}
+use Rattle.pr_truss.specs.declared.stages.Stage.TheVariants.{ReadingStatus}
 use Rattle.pr_truss_laws.specs.Exchanges.{Exchange, exchanges}
+use Rattle.pr_truss_laws.specs.Stills.{IsFrozen, stands_still}
 use Rattle.pr_reached.proofs.FitHistoryLemmas.{history-fits}
 use Rattle.pr_function_laws.proofs.AwayLemmas.{Away, IsKnownAs, Own, ReadsOwn, reads-own}
 use Rattle.pr_function_laws.proofs.BreakpointLemmas.{handles-same, lawful-now, live-now, looks-now, makes, own-entry, seen-then, stands}
 use Rattle.pr_function_laws.proofs.LiftLemmas.{LookCall, Looks, call-looks, met_at, patches, steps}
 use Rattle.pr_function_laws.proofs.MetLemmas.{event-breaks, found-function, fresh-stands}
+use Rattle.pr_function_laws.proofs.OneEventLemmas.{met-leads, stands-alone}
+use Rattle.pr_function_laws.proofs.OneEventTurns.{point-met}
 use Rattle.pr_function_laws.proofs.TurnPoints.{did_at}
-use Rattle.pr_function_laws.proofs.TurnReads.{ShownLwp, ShowsCall, fault-told, fresh-new, shown-lwp, shows-call, tells-call, told-stop}
-use Rattle.pr_function_laws.proofs.TurnStates.{IsBefore, Steps, Waits}
+use Rattle.pr_function_laws.proofs.TurnReads.{ShownLwp, ShowsCall, fault-told, fresh-new, shown-lwp, shows-call, step-told, tells-call, told-stop}
+use Rattle.pr_function_laws.proofs.TurnStates.{Steps, Waits}
 use Rattle.pr_function_laws.proofs.TurnWalks as walks
 use Rattle.pr_function_laws.proofs.TurnWalks.{After, AreNoReads, Before, Comes, Files, Going, Turns, after-on, functions_on, walk}
 use Rattle.pr_function_laws.specs.Calls.{call_told}
 use Rattle.pr_function_laws.specs.Lifted.{GoesElsewhere, IsAtStopAtBreakpoint, ReadsOnlyLast, StepsNoCall}
 use Rattle.pr_function_laws.specs.Met.{arguments_of}
+use Rattle.pr_function_laws.specs.OneEvent.{HasOneEventAtMost}
 use Rattle.pr_function_laws.specs.Runs.{MakesCalls, functions_after}
 use Rattle.pr_function_laws.specs.Stretches.{acts_by}
-use Rattle.pr_function_laws.specs.Turns.{CompletesOnce, HasOneTurn, HasTrap, IsNoTurnOf, ReadsAgain, TellsItsTurn, TellsOfLwp, call_of_stop, first_arguments, told_again}
+use Rattle.pr_function_laws.specs.Turns.{CompletesOnce, HasOneTurn, HasTrap, IsNoTurnOf, ReadsAgain, TellsItsTurn, TellsOfLwp, TurnsOnce, call_of_stop, first_arguments, told_again}
 
 -- A call that is told at the read after a breakpoint is the one turn that the lwp had since, and the other way round.
 
@@ -174,9 +181,6 @@ module _ (n k : ℕ) (t : TrussState) (place ns pid id : ℕ) (s : TracedState) 
   abbrev met : Traced
   met = met_at t place first_lwp function
 
-  abbrev regs : List ℕ
-  regs = first_lwp.regs
-
   abbrev now : TracedState
   now = after s e
 
@@ -199,6 +203,10 @@ module _ (n k : ℕ) (t : TrussState) (place ns pid id : ℕ) (s : TracedState) 
       (seen-then n k t place ns pid id s e (between ++ again ∷ []) here)
       (fresh-stands (traced_at t place) first_lwp m.event m.fresh)
 
+  -- the lwp as it stood at the breakpoint
+  abbrev stood : TracedLwp
+  stood = let x = lwp-then in x.lwp
+
   first-id : first_lwp.id ≡ id
   first-id = let told = here.told in told.its
 
@@ -212,7 +220,7 @@ module _ (n k : ℕ) (t : TrussState) (place ns pid id : ℕ) (s : TracedState) 
       fresh-stands (traced_at t place) first_lwp m.event m.fresh ∙ ap (λ x. Some x) b.is
       ∙ ap (λ pc. Some (event.Incurred Bpt pc)) (sym f.1.1 ∙ ap address_in (sym f.1.0))
 
-  lwp-stop : (let x = lwp-then in x.lwp.control.stop) ≡ Some (stop.Faulted Bpt)
+  lwp-stop : stood.control.stop ≡ Some (stop.Faulted Bpt)
   lwp-stop =
       let x = lwp-then in
       told-stop here.process first_lwp.id x.lwp Bpt (address_of t.options function)
@@ -222,7 +230,7 @@ module _ (n k : ℕ) (t : TrussState) (place ns pid id : ℕ) (s : TracedState) 
   unfolding lwpstatus_of
   status-regs p own l = refl
 
-  lwp-regs : (let x = lwp-then in x.lwp.regs) ≡ regs
+  lwp-regs : stood.regs ≡ first_lwp.regs
   lwp-regs =
       let x = lwp-then in
       sym (ap (λ (y : LwpStatus). y.regs) x.is ∙ status-regs here.process first_lwp.id x.lwp)
@@ -230,14 +238,13 @@ module _ (n k : ℕ) (t : TrussState) (place ns pid id : ℕ) (s : TracedState) 
   incurred-pc : (f : Flt) (a b : ℕ) → Some (event.Incurred f a) ≡ Some (event.Incurred f b) → a ≡ b
   incurred-pc f a b is = cc
 
-  stands-at : pc_of regs ≡ address_of t.options function
+  stands-at : pc_of stood.regs ≡ address_of t.options function
   stands-at =
       let x = lwp-then in
-      ap pc_of (sym lwp-regs)
-      ∙ incurred-pc Bpt (pc_of x.lwp.regs) (address_of t.options function)
+      incurred-pc Bpt (pc_of x.lwp.regs) (address_of t.options function)
       (sym (fault-told here.process first_lwp.id x.lwp Bpt lwp-stop) ∙ ap event_of (sym x.is) ∙ at-break)
 
-  waits-then : Waits id regs here.process
+  waits-then : Waits id stood here.process
   waits-then =
       let x = lwp-then in
       record {
@@ -246,21 +253,22 @@ module _ (n k : ℕ) (t : TrussState) (place ns pid id : ℕ) (s : TracedState) 
         own = λ l there.
             let one : x.lwp ≡ l = same_Some x.lwp l (sym x.there ∙ ap (lwp_of here.process) first-id ∙ there) in
             record {
-              holds = ap (λ (y : TracedLwp). y.regs) (sym one) ∙ lwp-regs;
+              holds = ap (λ (y : TracedLwp). y.regs) (sym one);
+              suspended = ap (λ (y : TracedLwp). y.suspended) (sym one);
               stop = ap (λ (y : TracedLwp). y.control.stop) (sym one) ∙ lwp-stop;
             };
       }
 
-  files-now : Files n k pid id c ns met place regs now
+  files-now : Files n k pid id c ns met place stood now
   files-now =
       let f = here.files in
       let same_handles = handles-same n k t place ns pid id s e (between ++ again ∷ []) here in
       record { control = same_handles c ∙ f.control; status = same_handles ns ∙ f.reads }
 
-  first-before : Before n k pid id c ns met place regs begun now
+  first-before : Before n k pid id c ns met place stood begun now
   first-before =
       walks.looks (looks-now n k t place ns pid id s e (between ++ again ∷ []) here) files-now
-      (λ p live. subst (Waits id regs)
+      (λ p live. subst (Waits id stood)
       (same_Some here.process p (sym (live-now n k t place ns pid id s e (between ++ again ∷ []) here) ∙ live))
       waits-then)
 
@@ -287,7 +295,7 @@ module _ (n k : ℕ) (t : TrussState) (place ns pid id : ℕ) (s : TracedState) 
             (ap (λ (es : List Entry). es ++ again ∷ []) is ∙ append_assoc before (f ∷ later) (again ∷ []));
       }
 
-  going : Going n k pid id c ns met place regs begun now between
+  going : Going n k pid id c ns met place stood begun now between
   going =
       let first = found-live s.system pid here.process here.live in
       let lawful : IsLawful s = here.lawful in
@@ -302,8 +310,8 @@ module _ (n k : ℕ) (t : TrussState) (place ns pid id : ℕ) (s : TracedState) 
         no_call = no-call-front;
       }
 
-  came : Comes n k pid id c ns met place regs begun now between
-  came = walk n k pid id c ns met place regs between begun now going first-before
+  came : Comes n k pid id c ns met place stood begun now between
+  came = walk n k pid id c ns met place stood between begun now going first-before
 
   -- ---- the second read
 
@@ -331,7 +339,7 @@ module _ (n k : ℕ) (t : TrussState) (place ns pid id : ℕ) (s : TracedState) 
       next-call)))
 
   -- what it is told
-  told-then : (f : Files n k pid id c ns met place regs last_state) → option_and_then status_lwp (bytes_in w.y.reply)
+  told-then : (f : Files n k pid id c ns met place stood last_state) → option_and_then status_lwp (bytes_in w.y.reply)
       ≡ Some (status_of_found w.process (representative w.process))
   unfolding status_of
   told-then f =
@@ -351,7 +359,7 @@ module _ (n k : ℕ) (t : TrussState) (place ns pid id : ℕ) (s : TracedState) 
   last_lwp = status_of_found w.process (representative w.process)
 
   module _ (it : Away (GoesElsewhere k pid last_state) c ns met met_later)
-      (f : Files n k pid id c ns met place regs last_state) where
+      (f : Files n k pid id c ns met place stood last_state) where
     reading : ReadsOwn (GoesElsewhere k pid last_state) c ns met met_later
     reading =
         reads-own (GoesElsewhere k pid last_state) c ns met met_later it
@@ -413,31 +421,23 @@ module _ (n k : ℕ) (t : TrussState) (place ns pid id : ℕ) (s : TracedState) 
 
   -- ---- a call that is told is its turn
 
-  some-stop : (a b : Stop) → Some a ≡ Some b → a ≡ b
-  some-stop a b is = same_Some a b is
-
-  bpt-not : stop.Faulted Bpt ≡ stop.Faulted Trace → ⊥
-  bpt-not is = cc
-
   -- one that has not had its turn stands at no trace trap
-  not-trapped : {A : Type 0} → IsBefore id regs w.process → (l : TracedLwp) → lwp_of w.process id ≡ Some l
+  not-trapped : {A : Type 0} → Steps id stood w.process → (l : TracedLwp) → lwp_of w.process id ≡ Some l
       → l.control.stop ≡ Some (stop.Faulted Trace) → A
-  not-trapped (inl waits) l there at =
-      let own = waits.own l there in absurd (bpt-not (same_Some _ _ (sym own.stop ∙ at)))
-  not-trapped (inr x) l there at =
+  not-trapped x l there at =
       let stepped = x.stepped in
       let one : x.lwp ≡ l = same_Some x.lwp l (sym stepped.there ∙ there) in
       absurd (none-some _ (sym x.no_stop ∙ ap (λ (y : TracedLwp). y.control.stop) one ∙ at))
 
-  regs-holds : (l : TracedLwp) → l.regs ≡ regs → pc_of l.regs ≡ address_of t.options function
+  regs-holds : (l : TracedLwp) → l.regs ≡ stood.regs → pc_of l.regs ≡ address_of t.options function
   regs-holds l is = ap pc_of is ∙ stands-at
 
   completes : (before later : List Entry) (did : Turned) (point : Point)
-      → HasOneTurn pid id before did later between → Turns pid id regs (state_after now before) did point
+      → HasOneTurn pid id before did later between → Turns pid id stood (state_after now before) did point
       → did_at point ≡ Faulted Trace
       → CompletesOnce pid id now between (address_of t.options function) (arguments_of first_lwp)
   completes before later did point one facts trap =
-      let x : Steps id regs facts.process = facts.steps in
+      let x : Steps id stood facts.process = facts.steps in
       let stepped = x.stepped in
       record {
         before = before;
@@ -451,7 +451,7 @@ module _ (n k : ℕ) (t : TrussState) (place ns pid id : ℕ) (s : TracedState) 
           there = stepped.there;
           in_program = stepped.in_program;
           stands = regs-holds x.lwp x.holds;
-          holds = ap first_arguments x.holds;
+          holds = ap first_arguments (x.holds ∙ lwp-regs);
           ran = facts.ran (facts.did ∙ trap);
           trapped = facts.did ∙ trap;
         };
@@ -460,20 +460,20 @@ module _ (n k : ℕ) (t : TrussState) (place ns pid id : ℕ) (s : TracedState) 
   told-same : told_again n k t place ns pid id s e between again w ≡ call_told met_later w.y.reply
   told-same =
       ap (λ u. call_told u w.y.reply)
-      (after-on n k pid id c ns met place regs t e between
+      (after-on n k pid id c ns met place stood t e between
       ∙ ap (λ o. functions_after (functions_on t o) (exchanges k between)) here.own)
 
   tells-turn : (rpt : Report) → call_told met_later w.y.reply ≡ rpt ∷ []
       → TellsItsTurn n k t place ns pid id s e between again w rpt
   tells-turn rpt is = by came
     where
-      by : Comes n k pid id c ns met place regs begun now between
+      by : Comes n k pid id c ns met place stood begun now between
           → TellsItsTurn n k t place ns pid id s e between again w rpt
       by (walks.no_turn none (walks.looks look f lives)) = not-looking look
       by (walks.no_turn none (walks.aways it f lives)) =
           let l = trapped it f rpt is in not-trapped (lives w.process w.live) l.lwp l.there l.stop
       by (walks.one_turn before later did point one facts a) =
-          let f : Files n k pid id c ns met place regs last_state = a.files in
+          let f : Files n k pid id c ns met place stood last_state = a.files in
           let l = trapped a.away f rpt is in
           let had = a.had w.process w.live in
           record {
@@ -490,11 +490,11 @@ module _ (n k : ℕ) (t : TrussState) (place ns pid id : ℕ) (s : TracedState) 
   -- ---- its turn is told
 
   module _ (trap : HasTrap pid id between) (x : TellsOfLwp w.y.reply id) where
-    last-is : Files n k pid id c ns met place regs last_state → last_lwp ≡ x.l
+    last-is : Files n k pid id c ns met place stood last_state → last_lwp ≡ x.l
     last-is f = same_Some _ _ (sym (told-then f) ∙ x.told)
 
     tells : (it : Away (GoesElsewhere k pid last_state) c ns met met_later)
-        → (f : Files n k pid id c ns met place regs last_state) → (pc : ℕ)
+        → (f : Files n k pid id c ns met place stood last_state) → (pc : ℕ)
         → event_of last_lwp ≡ Some (event.Incurred Trace pc)
         → call_told met_later w.y.reply ≡ call_of_stop n k t place ns pid id s e between again w ∷ []
     unfolding step_of
@@ -510,10 +510,10 @@ module _ (n k : ℕ) (t : TrussState) (place ns pid id : ℕ) (s : TracedState) 
         ∙ ap (λ own. Called (traced_at t place).pid own function (arguments_of first_lwp) ∷ []) first-id
 
     trap-told : (point : Point) → did_at point ≡ Faulted Trace
-        → (a : After n k pid id c ns met place regs point met_later last_state)
+        → (a : After n k pid id c ns met place stood point met_later last_state)
         → call_told met_later w.y.reply ≡ call_of_stop n k t place ns pid id s e between again w ∷ []
     trap-told point did a =
-        let f : Files n k pid id c ns met place regs last_state = a.files in
+        let f : Files n k pid id c ns met place stood last_state = a.files in
         let had = a.had w.process w.live in
         let same_lwp : last_lwp ≡ x.l = last-is f in
         let l = shown-lwp w.process last_lwp x.event rises-then refl (ap event_of same_lwp ∙ x.stands) in
@@ -527,7 +527,7 @@ module _ (n k : ℕ) (t : TrussState) (place ns pid id : ℕ) (s : TracedState) 
         ≡ call_of_stop n k t place ns pid id s e between again w ∷ []
     turn-is-told = told-same ∙ by came
       where
-        by : Comes n k pid id c ns met place regs begun now between
+        by : Comes n k pid id c ns met place stood begun now between
             → call_told met_later w.y.reply ≡ call_of_stop n k t place ns pid id s e between again w ∷ []
         by (walks.no_turn none b) =
             absurd (among-none pid id trap.turned trap.before trap.later (subst (All (IsNoTurnOf pid id)) trap.is none))
@@ -536,3 +536,126 @@ module _ (n k : ℕ) (t : TrussState) (place ns pid id : ℕ) (s : TracedState) 
             only-turn pid id before later trap.before trap.later between did trap.turned one trap.is in
             trap-told point (sym facts.did ∙ ap (λ (y : Turned). y.did) same_turn ∙ trap.trapped) a
         by (walks.ends gone) = absurd (none-some w.process (sym gone ∙ w.live))
+
+  -- ---- its turn has come by the second read, and that read tells of it
+
+  -- truss at the second read
+  abbrev pub reads_later : TrussState
+  reads_later = functions_after t (exchanges k (e ∷ between))
+
+  -- So stands the process then: nothing of it moves, one lwp at most has met an event, and it has no agent.
+  pub record StandsThen : Type 0 where
+    pub frozen : IsFrozen w.process
+    pub few : HasOneEventAtMost w.process
+    pub no_agent : has_agent w.process ≡ false
+
+  -- where truss reads the status of that process, of which it knows as many old stops as before
+  abbrev pub StandsWhereRead : Type 0
+  StandsWhereRead =
+      (at : ℕ) → at < length reads_later.traced → reads_later.stage ≡ ReadingStatus at
+      → (traced_at reads_later at).pid ≡ (traced_at t place).pid
+      → (traced_at reads_later at).old ≡ (traced_at t place).old → StandsThen
+
+  module _ (first : HasOneEventAtMost here.process) (stands_where : StandsWhereRead) where
+    there-first : lwp_of here.process id ≡ Some stood
+    there-first = let x = lwp-then in ap (lwp_of here.process) (sym first-id) ∙ x.there
+
+    awake-first : stood.suspended ≡ false
+    awake-first =
+        let m = stands-alone here.process first id stood there-first (ap is_met_if lwp-stop) in
+        let one : m.lwp ≡ stood = same_Some m.lwp stood (sym m.there ∙ there-first) in
+        ap (λ (x : TracedLwp). x.suspended) (sym one)
+        ∙ m.awake Bpt (ap (λ (x : TracedLwp). x.control.stop) one ∙ lwp-stop)
+
+    same-later : reads_later ≡ met_later
+    same-later =
+        after-on n k pid id c ns met place stood t e between
+        ∙ ap (λ o. functions_after (functions_on t o) (exchanges k between)) here.own
+
+    stands-then : Away (GoesElsewhere k pid last_state) c ns met met_later
+        → Files n k pid id c ns met place stood last_state → StandsThen
+    stands-then it f =
+        let r = reading it f in
+        let y = known it f in
+        stands_where r.place
+        (subst (λ (u : TrussState). r.place < length u.traced) (sym same-later) r.within)
+        (ap (λ (u : TrussState). u.stage) same-later ∙ r.reads)
+        (ap (λ (u : TrussState). (traced_at u r.place).pid) same-later ∙ y.pid)
+        (ap (λ (u : TrussState). (traced_at u r.place).old) same-later ∙ y.old)
+
+    not-still : (l : TracedLwp) → l.control.stop ≡ None → l.suspended ≡ false → stands_still l ≡ true → ⊥
+    not-still l none awake still = false≢true (rw (none, awake) at still)
+
+    -- what its turn leaves
+    record Came : Type 0 where
+      before : List Entry
+      later : List Entry
+      did : Turned
+      point : Point
+      one : HasOneTurn pid id before did later between
+      facts : Turns pid id stood (state_after now before) did point
+      left : After n k pid id c ns met place stood point met_later last_state
+
+    came-once : Came
+    came-once = by came
+      where
+        by : Comes n k pid id c ns met place stood begun now between → Came
+        by (walks.no_turn none (walks.looks look f lives)) = not-looking look
+        by (walks.no_turn none (walks.aways it f lives)) =
+            let st = stands-then it f in
+            let x : Steps id stood w.process = lives w.process w.live in
+            let stepped = x.stepped in
+            absurd (not-still x.lwp x.no_stop (x.suspended ∙ awake-first) (st.frozen.each id x.lwp stepped.there))
+        by (walks.one_turn before later did point one facts a) =
+            record { before = before; later = later; did = did; point = point; one = one; facts = facts; left = a }
+        by (walks.ends gone) = absurd (none-some w.process (sym gone ∙ w.live))
+
+    pub turns-once : TurnsOnce pid id between
+    turns-once = let c = came-once in record { before = c.before; turned = c.did; later = c.later; one = c.one }
+
+    -- the lwp is the representative
+    module _ (c : Came) where
+      abbrev f : Files n k pid id (traced_at t place).control ns met place stood last_state
+      f = let a = c.left in a.files
+
+      own-lwp : (l : TracedLwp) × (lwp_of w.process id ≡ Some l)
+      own-lwp = let a = c.left in let had = a.had w.process w.live in had.there
+
+      own-stop : (let o = own-lwp in o.0.control.stop) ≡ Some (stop_at c.point)
+      own-stop =
+          let a = c.left in
+          let had = a.had w.process w.live in
+          let o = own-lwp in had.own o.0 o.1
+
+      leads : representative w.process ≡ Some (id, let o = own-lwp in o.0)
+      leads =
+          let a = c.left in
+          let st = stands-then a.away f in
+          let o = own-lwp in
+          let m =
+          stands-alone w.process st.few id o.0 o.1 (ap is_met_if own-stop ∙ point-met c.point) in
+          met-leads w.process rises-then st.no_agent st.frozen id m
+          ∙ ap (λ (l : TracedLwp). Some (id, l)) (same_Some m.lwp o.0 (sym m.there ∙ o.1))
+
+      last-of : last_lwp ≡ lwpstatus_of w.process id (let o = own-lwp in o.0)
+      last-of = ap (status_of_found w.process) leads
+
+      status-id : (p : TracedProcess) (own : ℕ) (l : TracedLwp) → (lwpstatus_of p own l).id ≡ own
+      unfolding lwpstatus_of
+      status-id p own l = refl
+
+      tells-came : TellsOfLwp w.y.reply id
+      tells-came =
+          let o = own-lwp in
+          let facts = c.facts in
+          let told = step-told w.process id o.0 c.point facts.kind own-stop in
+          record {
+            l = last_lwp;
+            told = told-then f;
+            its = ap (λ (x : LwpStatus). x.id) last-of ∙ status-id w.process id o.0;
+            event = told.0;
+            stands = ap event_of last-of ∙ told.1;
+          }
+
+    pub tells-of-lwp : TellsOfLwp w.y.reply id
+    tells-of-lwp = tells-came came-once

@@ -1,14 +1,17 @@
-use Rattle.std.proofs.Common.{◌≡◌, ◌≢◌, ℕ, true, false, cond, Option, Some, None, List, refl, sym, subst, ap, ◌∙◌}
+use Rattle.std.proofs.Common.{◌≡◌, ◌≢◌, ℕ, true, false, cond, is_some, Option, Some, None, List, refl, sym, subst, ap, ◌∙◌}
+use Rattle.std.proofs.lemmas.Bool.{false≢true}
 use Rattle.std.proofs.lemmas.Option.{none-some, same_Some}
 use Rattle.std.specs.Option.{option_map}
+use Rattle.pr_lawful.proofs.EndLemmas.{found-live}
 use Rattle.pr_model.specs.InstructionEffects.{InstructionEffect, calls, faults, instruction_effect, runs, runs_into_watch}
 use Rattle.pr_model.specs.Lawful.{IsLawfulSystem}
 use Rattle.pr_model.specs.LwpTurns.{LwpTurn, settled, turn_of}
 use Rattle.pr_model.specs.Points.{after_meeting, is_traced, meets, stop_at, stopped_at, with_others_directed, with_stop_at}
 use Rattle.pr_model.specs.Rows.{Row, entered_row, executed_row, incurred_row, own_taken_row, ran_row, row_for, shared_taken_row, taken_or, watched_row}
 use Rattle.pr_model.specs.Signals.{own_takeable, shared_takeable}
-use Rattle.pr_model.specs.State.{TracedControl, TracedLwp, TracedProcess, TracedSystem, live_process, lwp_of, with_lwp}
+use Rattle.pr_model.specs.State.{TracedControl, TracedLwp, TracedProcess, TracedSystem, live_process, lwp_of, process_of, with_lwp}
 use Rattle.pr_model.specs.Stops.{directed, with_all_directed}
+use Rattle.pr_model.specs.Transitions.{incurred, own_taken, shared_taken, trapped}
 use Rattle.pr_model.specs.declared.events.Did.{Did}
 use Rattle.pr_model.specs.declared.events.Did.TheVariants as did
 use Rattle.pr_model.specs.declared.stops.Point.{Point}
@@ -21,6 +24,7 @@ use Rattle.pr_num.specs.declared.faults.Flt.TheVariants.{Trace, Watch}
 use Rattle.pr_num.specs.declared.signals.Sig.{Sig}
 use Rattle.pr_num.specs.declared.syscalls.Sysno.{Sysno}
 use Rattle.pr_reached.specs.Fits.{IsFitProcess}
+use Rattle.pr_report_laws.proofs.Machine.StayingLwps.{keeps-meeting, row-leaves, settled-to}
 use Rattle.pr_truss_laws.proofs.OwnTurnLemmas.{GoesOn, traced-same}
 use Rattle.pr_function_laws.proofs.HaltingSteps.{carried, row-is, row-met, turn-is}
 use Rattle.pr_function_laws.proofs.TrapLemmas.{IsTrapless, trapless}
@@ -36,10 +40,19 @@ did_at (Fault f) = did.Faulted f
 did_at (Entry call) = did.Entered call
 did_at (Exit call) = did.Returned call
 
+-- a signal or a fault: what a step meets
+abbrev pub IsOfStep : Point → Type 0
+IsOfStep (Signal g) = Unit {0}
+IsOfStep (Fault f) = Unit {0}
+IsOfStep _ = ⊥
+
+-- it met one, and ends neither its lwp nor its process
 pub record MeetsPoint (row : Row) : Type 0 where
   pub point : Point
+  pub kind : IsOfStep point
   pub is : row.point ≡ Some point
   pub did : row.did ≡ did_at point
+  pub goes_on : row.transition.ending ≡ None
 
 took-not : (g : Sig) → did.Took g ≡ did.Faulted Trace → ⊥
 took-not g is = cc
@@ -57,20 +70,20 @@ fault-same f g is = cc
 
 module _ (s : TracedSystem) (pid : ℕ) (p : TracedProcess) (id : ℕ) (l : TracedLwp) where
   taken-point : (a b : Option Sig) (row : Row) → MeetsPoint row → MeetsPoint (taken_or s pid p id l a b row)
-  unfolding own_taken_row shared_taken_row
-  taken-point (Some g) b row otherwise = record { point = Signal g; is = refl; did = refl }
-  taken-point None (Some g) row otherwise = record { point = Signal g; is = refl; did = refl }
+  unfolding own_taken_row shared_taken_row own_taken shared_taken
+  taken-point (Some g) b row otherwise = record { point = Signal g; kind = tt; is = refl; did = refl; goes_on = refl }
+  taken-point None (Some g) row otherwise = record { point = Signal g; kind = tt; is = refl; did = refl; goes_on = refl }
   taken-point None None row otherwise = otherwise
 
   executed-point : l.control.step ≡ true → (e : InstructionEffect)
       → ((call : Sysno) (regs : List ℕ) → e ≢ calls call regs) → MeetsPoint (executed_row p l e)
-  unfolding executed_row ran_row incurred_row watched_row
+  unfolding executed_row ran_row incurred_row watched_row trapped incurred
   executed-point marked (runs regs store) no_call =
-      rw marked (record { point = Fault Trace; is = refl; did = refl })
+      rw marked (record { point = Fault Trace; kind = tt; is = refl; did = refl; goes_on = refl })
   executed-point marked (calls call regs) no_call = absurd (no_call call regs refl)
-  executed-point marked (faults f address) no_call = record { point = Fault f; is = refl; did = refl }
+  executed-point marked (faults f address) no_call = record { point = Fault f; kind = tt; is = refl; did = refl; goes_on = refl }
   executed-point marked (runs_into_watch address regs store) no_call =
-      record { point = Fault Watch; is = refl; did = refl }
+      record { point = Fault Watch; kind = tt; is = refl; did = refl; goes_on = refl }
 
   pub row-point : IsStepped p id l → StopsAtAll p.control → RunsNoCall p l → IsFitProcess p
       → MeetsPoint (row_for s pid p id l)
@@ -167,3 +180,26 @@ module _ (s : TracedSystem) (pid : ℕ) (p : TracedProcess) (id : ℕ) (l : Trac
       subst (StandsAt at.point id) it.1.1
       (met-stands at.point row.point it.0 at.is it.1.0
       (row-met s pid p id l all stepped no_call fit))
+
+  -- the lwp is there still
+  pub step-there : IsLawfulSystem s → (q : TracedProcess) → live_process t.system pid ≡ Some q
+      → (k : TracedLwp) × (lwp_of q id ≡ Some k)
+  unfolding settled
+  step-there h q after =
+      let at = step-point in
+      let x = row-leaves s pid p id l h live stepped.there at.goes_on in
+      let kept = x.1.1 in
+      let meeting = keeps-meeting id row.point x.0 in
+      let now : process_of t.system pid ≡ Some (after_meeting row.point id x.0) =
+      ap (λ (v : LwpTurn). process_of v.system pid) (turn-is s pid p id l t live stepped all no_call fit turn)
+      ∙ settled-to s pid p id l h live stepped.there x.0 x.1.0 in
+      let same : after_meeting row.point id x.0 ≡ q =
+      same_Some (after_meeting row.point id x.0) q (sym now ∙ (found-live t.system pid q after).0) in
+      some-lwp (lwp_of q id) refl
+      (ap (λ (y : TracedProcess). is_some (lwp_of y id)) (sym same)
+      ∙ meeting.own (kept.own (ap (λ (o : Option TracedLwp). is_some o) stepped.there)))
+    where
+      some-lwp : (o : Option TracedLwp) → lwp_of q id ≡ o → is_some (lwp_of q id) ≡ true
+          → (k : TracedLwp) × (lwp_of q id ≡ Some k)
+      some-lwp None none is = absurd (false≢true (sym (ap (λ (x : Option TracedLwp). is_some x) none) ∙ is))
+      some-lwp (Some k) there is = (k, there)

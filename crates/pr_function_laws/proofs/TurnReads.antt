@@ -12,10 +12,14 @@ use Rattle.pr_model.specs.State.{TracedLwp, TracedProcess, lwp_of}
 use Rattle.pr_model.specs.Statuses.{lwpstatus_of, reason_shown, status_of_found, what_shown}
 use Rattle.pr_model.specs.Stops.{representative, shown}
 use Rattle.pr_model.specs.declared.calls.Reply.{Reply}
+use Rattle.pr_model.specs.Points.{stop_at}
+use Rattle.pr_model.specs.declared.stops.Point.{Point}
+use Rattle.pr_model.specs.declared.stops.Point.TheVariants.{Fault, Signal}
 use Rattle.pr_model.specs.declared.stops.Stop.{Stop}
 use Rattle.pr_model.specs.declared.stops.Stop.TheVariants as stop
-use Rattle.pr_num.proofs.EntryLemmas.{fault_of_number-number}
+use Rattle.pr_num.proofs.EntryLemmas.{fault_of_number-number, signal_of_number-number}
 use Rattle.pr_num.specs.ById.{IsRising}
+use Rattle.pr_num.specs.Signals.{signal_number, signal_of_number}
 use Rattle.pr_num.specs.declared.errnos.Errno.{Errno}
 use Rattle.pr_num.specs.declared.faults.Flt.{Flt}
 use Rattle.pr_num.specs.declared.faults.Flt.TheVariants.{Trace}
@@ -38,6 +42,7 @@ use Rattle.pr_truss.specs.declared.reports.Report.TheVariants.{Called}
 use Rattle.pr_truss.specs.declared.stages.Stage.TheVariants.{ReadingStatus}
 use Rattle.pr_function_laws.proofs.MetLemmas.{completes, event-completes, fresh-stands}
 use Rattle.pr_function_laws.proofs.ToldLemmas.{no-event, none-on}
+use Rattle.pr_function_laws.proofs.TurnPoints.{IsOfStep}
 use Rattle.pr_function_laws.specs.Calls.{call_beside, call_of_event, call_of_fresh, call_of_lwp, call_read, call_told}
 
 -- What truss makes of the status of an lwp that stands at a trace trap, and how that lwp stands.
@@ -64,6 +69,11 @@ received-none : (disposition : Disposition) (info : Info) (o : Option Sig)
 received-none disposition info None = refl
 received-none disposition info (Some signal) = refl
 
+signalled-some : (disposition : Disposition) (info : Info) (o : Option Sig) (g : Sig) → o ≡ Some g
+    → (e : Event) × (option_map (λ signal. event.Received signal disposition info) o ≡ Some e)
+signalled-some disposition info o g is =
+    (event.Received g disposition info, ap (option_map (λ signal. event.Received signal disposition info)) is)
+
 module _ (p : TracedProcess) (id : ℕ) (l : TracedLwp) where
   -- the lwp with this stop
   abbrev told_with : Option Stop → Option Event
@@ -78,6 +88,17 @@ module _ (p : TracedProcess) (id : ℕ) (l : TracedLwp) where
   pub fault-told : (f : Flt) → l.control.stop ≡ Some (stop.Faulted f)
       → event_of (lwpstatus_of p id l) ≡ Some (event.Incurred f (pc_of l.regs))
   fault-told f is = ap told_with is ∙ told-faulted f
+
+  told-signalled : (g : Sig) → (e : Event) × (told_with (Some (stop.Signalled g)) ≡ Some e)
+  unfolding event_of lwpstatus_of shown reason_shown what_shown
+  told-signalled g = signalled-some _ _ (signal_of_number (signal_number g)) g (signal_of_number-number g)
+
+  -- an lwp that stands on what a step met tells an event
+  pub step-told : (point : Point) → IsOfStep point → l.control.stop ≡ Some (stop_at point)
+      → (e : Event) × (event_of (lwpstatus_of p id l) ≡ Some e)
+  step-told (Signal g) kind is = let it = told-signalled g in (it.0, ap told_with is ∙ it.1)
+  step-told (Fault f) kind is = (event.Incurred f (pc_of l.regs), fault-told f is)
+  step-told _ kind is = absurd kind
 
   told-incurs : (o : Option Stop) (f : Flt) → incurs (told_with o) ≡ Some f → o ≡ Some (stop.Faulted f)
   unfolding event_of lwpstatus_of shown reason_shown what_shown

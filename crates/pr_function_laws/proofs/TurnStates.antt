@@ -1,4 +1,4 @@
-use Rattle.std.proofs.Common.{◌≡◌, ◌≢◌, ◌+◌, ◌<◌, ◌⊎◌, ◌||◌, ℕ, Bool, true, false, is_some, Option, Some, None, List, [], ◌∷◌, refl, sym, subst, ap, ◌∙◌, inl, inr}
+use Rattle.std.proofs.Common.{◌≡◌, ◌≢◌, ◌+◌, ◌<◌, ◌||◌, ℕ, Bool, true, false, is_some, Option, Some, None, [], ◌∷◌, refl, sym, subst, ap, ◌∙◌}
 use Rattle.std.proofs.lemmas.Bool.{false≢true}
 use Rattle.std.proofs.lemmas.Option.{none-some, same_Some}
 use Rattle.pr_laws.proofs.RunLemmas.{representative-stands}
@@ -21,6 +21,7 @@ use Rattle.pr_num.specs.ById.{IsRising}
 use Rattle.pr_num.specs.Control.{clear_fault, has_flags, single_step}
 use Rattle.pr_num.specs.Sets.{common_word}
 use Rattle.pr_num.specs.declared.faults.Flt.TheVariants.{Bpt}
+use Rattle.pr_report_laws.proofs.Machine.FrameLaws.{alone-lwp}
 use Rattle.pr_truss_laws.proofs.AloneLemmas.{alone-halting}
 use Rattle.pr_truss_laws.proofs.OutlastLemmas as outlast
 use Rattle.pr_truss_laws.proofs.OutlastLemmas.{Outlasts}
@@ -37,12 +38,13 @@ use Rattle.pr_function_laws.specs.Stretches.{IsReadyToStep}
 
 -- How a process stands whose lwp met a breakpoint: the lwp waits there; it is stepped alone; or it has had its turn.
 
-module _ (id : ℕ) (regs : List ℕ) where
+module _ (id : ℕ) (stood : TracedLwp) where
   -- ---- the states
 
-  -- an lwp that stands at a breakpoint, with these registers
+  -- an lwp that stands at a breakpoint, with the registers of this one, and suspended where it is
   pub record IsAtBreak (l : TracedLwp) : Type 0 where
-    pub holds : l.regs ≡ regs
+    pub holds : l.regs ≡ stood.regs
+    pub suspended : l.suspended ≡ stood.suspended
     pub stop : l.control.stop ≡ Some (stop.Faulted Bpt)
 
   pub record Waits (p : TracedProcess) : Type 0 where
@@ -56,16 +58,14 @@ module _ (id : ℕ) (regs : List ℕ) where
     pub all : StopsAtAll p.control
     pub not_lent : p.borrower ≡ None
     pub no_call : RunsNoCall p lwp
-    pub holds : lwp.regs ≡ regs
+    pub holds : lwp.regs ≡ stood.regs
+    pub suspended : lwp.suspended ≡ stood.suspended
     pub no_stop : lwp.control.stop ≡ None
-
-  -- it has not had its turn
-  abbrev pub IsBefore : TracedProcess → Type 0
-  IsBefore p = Waits p ⊎ Steps p
 
   -- it has met this point
   pub record Had (point : Point) (p : TracedProcess) : Type 0 where
     pub halting : IsHalting p
+    pub there : (l : TracedLwp) × (lwp_of p id ≡ Some l)
     pub own : StandsAt point id p
 
   -- ---- others leave the process alone
@@ -82,11 +82,12 @@ module _ (id : ℕ) (regs : List ℕ) where
         let m = w.own was.0 was.1.0 in
         record {
           holds = ap (λ (x : TracedLwp). x.regs) was.1.1 ∙ m.holds;
+          suspended = ap (λ (x : TracedLwp). x.suspended) was.1.1 ∙ m.suspended;
           stop = ap (λ (x : TracedLwp). x.control.stop) was.1.1 ∙ m.stop;
         };
   }
 
-  steps-kept : IsKept Steps
+  pub steps-kept : IsKept Steps
   steps-kept p q alone rises later w =
       let stepped = w.stepped in
       let m = stays-there p q id w.lwp alone stepped.there in
@@ -100,17 +101,16 @@ module _ (id : ℕ) (regs : List ℕ) where
         not_lent = rest.0;
         no_call = rest.1;
         holds = ap (λ (x : TracedLwp). x.regs) was.1.1 ∙ ap (λ (x : TracedLwp). x.regs) same ∙ w.holds;
+        suspended =
+            ap (λ (x : TracedLwp). x.suspended) was.1.1 ∙ ap (λ (x : TracedLwp). x.suspended) same ∙ w.suspended;
         no_stop =
             ap (λ (x : TracedLwp). x.control.stop) was.1.1 ∙ ap (λ (x : TracedLwp). x.control.stop) same ∙ w.no_stop;
       }
 
-  pub before-kept : IsKept IsBefore
-  before-kept p q alone rises later (inl w) = inl (waits-kept p q alone rises later w)
-  before-kept p q alone rises later (inr w) = inr (steps-kept p q alone rises later w)
-
   pub had-kept : (point : Point) → IsKept (Had point)
   had-kept point p q alone rises later w = record {
     halting = alone-halting p q alone w.halting;
+    there = let it = alone-lwp p q alone id w.there.0 w.there.1 in (it.0, it.1.0);
     own = λ l there.
         let was = alone.each id l there in
         ap (λ (x : TracedLwp). x.control.stop) was.1.1 ∙ w.own was.0 was.1.0;
@@ -130,6 +130,7 @@ module _ (id : ℕ) (regs : List ℕ) where
     not_lent = stopped-lent other p ∙ w.not_lent;
     no_call = stopped-no-call other p w.lwp w.no_call;
     holds = w.holds;
+    suspended = w.suspended;
     no_stop = w.no_stop;
   }
 
@@ -138,6 +139,7 @@ module _ (id : ℕ) (regs : List ℕ) where
       → Had point (with_lwp_stopped other p)
   had-beside point s pid p other t live turn differs w = record {
     halting = halting-stays s pid p live w.halting other t turn;
+    there = (w.there.0, stopped-same other p differs ∙ w.there.1);
     own = λ l there. w.own l (sym (stopped-same other p differs) ∙ there);
   }
 
@@ -168,6 +170,10 @@ module _ (id : ℕ) (regs : List ℕ) where
   ran-regs : (l : TracedLwp) → (run_lwp (clear_fault + single_step) l).regs ≡ l.regs
   unfolding run_lwp with_cleared with_aborted with_step without_fault let_go has_flags common_word
   ran-regs l = refl
+
+  ran-suspended : (l : TracedLwp) → (run_lwp (clear_fault + single_step) l).suspended ≡ l.suspended
+  unfolding run_lwp with_cleared with_aborted with_step without_fault let_go has_flags common_word
+  ran-suspended l = refl
 
   ran-stop : (l : TracedLwp) → (run_lwp (clear_fault + single_step) l).control.stop ≡ None
   unfolding run_lwp with_cleared with_aborted with_step without_fault let_go has_flags common_word
@@ -211,6 +217,7 @@ module _ (id : ℕ) (regs : List ℕ) where
           no_call = subst (λ (y : TracedProcess). RunsNoCall y (run_lwp (clear_fault + single_step) r.lwp))
               (sym ran-is) (ran-no-call p r.lwp r.no_call);
           holds = ran-regs r.lwp ∙ own.holds;
+          suspended = ran-suspended r.lwp ∙ own.suspended;
           no_stop = ran-stop r.lwp;
         }
 

@@ -52,15 +52,15 @@ use Rattle.pr_truss_laws.specs.Exchanges.{Exchange, exchange_in, exchange_of, ex
 use Rattle.pr_truss_laws.specs.Handles.{HasNoOtherWriter}
 use Rattle.pr_truss_laws.specs.Stills.{with_lwp_stopped}
 use Rattle.pr_function_laws.proofs.AwayLemmas.{Away, away-weaker}
-use Rattle.pr_function_laws.proofs.BreakpointLemmas.{IsForeign, IsOwnEntry, Keeps, acts-away, away-keeps, away-later, calm, foreign-entry, keeps-goes, own-entry, own-handles, same-keeps, step-begins, write-reads}
+use Rattle.pr_function_laws.proofs.BreakpointLemmas.{IsForeign, IsOwnEntry, Keeps, acts-away, away-keeps, away-later, calm, foreign-entry, keeps-goes, own-entry, own-handles, same-keeps, write-reads}
 use Rattle.pr_function_laws.proofs.FaultLemmas.{fault-frozen, fault-ready}
 use Rattle.pr_function_laws.proofs.HaltingSteps.{step-halts}
 use Rattle.pr_function_laws.proofs.LiftLemmas.{AfterLook, LookCall, Looks, call-looks, goes_on, has_ended, is_away, looks-weaker, patches, reply-after, step_flags, steps}
 use Rattle.pr_function_laws.proofs.StepLemmas.{other-leaves}
 use Rattle.pr_function_laws.proofs.StretchLemmas.{named-acts}
-use Rattle.pr_function_laws.proofs.TurnCalls.{Leaves, run-leaves, write-leaves}
-use Rattle.pr_function_laws.proofs.TurnPoints.{did_at, step-did, step-point, step-ran, step-stands}
-use Rattle.pr_function_laws.proofs.TurnStates.{Had, IsBefore, IsKept, Lives, Steps, Waits, alone-lives, before-kept, had-beside, had-kept, had-no-turn, over-lives, steps-beside, waits-kept}
+use Rattle.pr_function_laws.proofs.TurnCalls.{Leaves, first-step, run-leaves, write-leaves}
+use Rattle.pr_function_laws.proofs.TurnPoints.{IsOfStep, did_at, step-did, step-point, step-ran, step-stands, step-there}
+use Rattle.pr_function_laws.proofs.TurnStates.{Had, IsKept, Lives, Steps, Waits, alone-lives, had-beside, had-kept, had-no-turn, over-lives, steps-beside, steps-kept, waits-kept}
 use Rattle.pr_function_laws.specs.Lifted.{GoesElsewhere, HasControl, HasStatus, IsNoRead, StepsNoCall}
 use Rattle.pr_function_laws.specs.Runs.{MakesCalls, functions_after}
 use Rattle.pr_function_laws.specs.Steps.{RunsNoCall}
@@ -90,10 +90,11 @@ own-in k pid id (Lwp acting own) it x is same = none-some x is
 own-in k pid id Clock it x is same = cc
 
 -- The turn of an lwp in a state in which it is stepped alone, with these registers: it met this point.
-pub record Turns (pid id : ℕ) (regs : List ℕ) (s : TracedState) (turned : Turned) (point : Point) : Type 0 where
+pub record Turns (pid id : ℕ) (stood : TracedLwp) (s : TracedState) (turned : Turned) (point : Point) : Type 0 where
   pub process : TracedProcess
   pub live : live_process s.system pid ≡ Some process
-  pub steps : Steps id regs process
+  pub steps : Steps id stood process
+  pub kind : IsOfStep point
   pub did : turned.did ≡ did_at point
   pub ran : turned.did ≡ Faulted Trace → RunsInstruction process steps.lwp
 
@@ -103,7 +104,7 @@ turn_entry pid id t = record { actor = Lwp pid id; act = act.Turn t }
 
 -- ---- an entry of others
 
-module _ (n k pid id : ℕ) (regs : List ℕ) (s : TracedState) (lawful : IsLawful s) (made : pid < s.system.made)
+module _ (n k pid id : ℕ) (stood : TracedLwp) (s : TracedState) (lawful : IsLawful s) (made : pid < s.system.made)
     (sole : HasNoOtherWriter k pid s.opens) (fit : IsFitSystem s.system) (e : Entry) (legal : IsLegalEntry n s e)
     (other : e.actor ≢ Controller k) where
   -- it is of another process, of another controller or of the clock; or it is a turn of the process
@@ -133,14 +134,14 @@ module _ (n k pid id : ℕ) (regs : List ℕ) (s : TracedState) (lawful : IsLawf
   rises : (p : TracedProcess) → live_process s.system pid ≡ Some p → IsRising p.lwps
   rises p live = let it = live-lawful s.system pid p lawful.system live in it.rising
 
-  kept-lives : (P : TracedProcess → Type 0) → IsKept id regs P → Lives pid P s.system
+  kept-lives : (P : TracedProcess → Type 0) → IsKept id stood P → Lives pid P s.system
       → ((own : ℕ) → e.actor ≢ Lwp pid own) → Lives pid P (after s e).system
   kept-lives P kept lives elsewhere =
       alone-lives n pid s lawful made e legal P kept lives
       (λ p live. others-entry n s k pid e p lawful sole legal elsewhere other live)
 
   -- one that waits has no turn
-  waits-no-turn : {A : Type 0} (p : TracedProcess) → live_process s.system pid ≡ Some p → Waits id regs p
+  waits-no-turn : {A : Type 0} (p : TracedProcess) → live_process s.system pid ≡ Some p → Waits id stood p
       → (own : ℕ) (t : LwpTurn) → turn_of s.system pid own ≡ Some t → A
   waits-no-turn p live w own t took =
       absurd (none-some t (sym (frozen-turns s.system pid p live (fault-frozen p id w.stands (rises p live)) own)
@@ -150,13 +151,13 @@ module _ (n k pid id : ℕ) (regs : List ℕ) (s : TracedState) (lawful : IsLawf
     pub none : IsNoTurnOf pid id e
     pub lives : Lives pid P (after s e).system
 
-  pub others-wait : Lives pid (Waits id regs) s.system → StaysSo (Waits id regs)
+  pub others-wait : Lives pid (Waits id stood) s.system → StaysSo (Waits id stood)
   others-wait lives = by who
     where
-      by : Who e → StaysSo (Waits id regs)
+      by : Who e → StaysSo (Waits id stood)
       by (apart elsewhere) = record {
         none = record { other = elsewhere id };
-        lives = kept-lives (Waits id regs) (waits-kept id regs) lives elsewhere;
+        lives = kept-lives (Waits id stood) (waits-kept id stood) lives elsewhere;
       }
       by (turn own turned t is took did later) =
           let it = turn-taken s.system pid own t took in
@@ -170,13 +171,13 @@ module _ (n k pid id : ℕ) (regs : List ℕ) (s : TracedState) (lawful : IsLawf
   }
 
   pub data Passes : Type 0 where
-    stays : StaysSo (IsBefore id regs) → Passes
+    stays : StaysSo (Steps id stood) → Passes
     turns : (turned : Turned) (point : Point) → e ≡ record { actor = Lwp pid id; act = act.Turn turned }
-        → Turns pid id regs s turned point → Lives pid (Had id regs point) (after s e).system → Passes
+        → Turns pid id stood s turned point → Lives pid (Had id stood point) (after s e).system → Passes
 
   own-turn : (turned : Turned) (t : LwpTurn) → e ≡ record { actor = Lwp pid id; act = act.Turn turned }
       → turn_of s.system pid id ≡ Some t → t.turned ≡ turned → (after s e).system ≡ t.system → (p : TracedProcess)
-      → live_process s.system pid ≡ Some p → Steps id regs p → Passes
+      → live_process s.system pid ≡ Some p → Steps id stood p → Passes
   own-turn turned t is took did later p live w =
       let fits = fit-process s.system pid p fit live in
       let point = step-point s.system pid p id w.lwp t live w.stepped w.all w.no_call fits took in
@@ -185,6 +186,7 @@ module _ (n k pid id : ℕ) (regs : List ℕ) (s : TracedState) (lawful : IsLawf
         process = p;
         live = live;
         steps = w;
+        kind = point.kind;
         did = ap (λ (x : Turned). x.did) (sym did)
             ∙ step-did s.system pid p id w.lwp t live w.stepped w.all w.no_call fits took;
         ran = λ is.
@@ -196,33 +198,33 @@ module _ (n k pid id : ℕ) (regs : List ℕ) (s : TracedState) (lawful : IsLawf
       ap (λ (u : TracedSystem). live_process u pid) (sym later) ∙ there in
       record {
         halting = step-halts s.system pid p id w.lwp t live w.stepped w.all w.no_call fits took lawful.system q now;
+        there = step-there s.system pid p id w.lwp t live w.stepped w.all w.no_call fits took lawful.system q now;
         own = step-stands s.system pid p id w.lwp t live w.stepped w.all w.no_call fits took lawful.system q now;
       })
 
   beside-turn : (own : ℕ) (turned : Turned) (t : LwpTurn) → own ≢ id
       → e ≡ record { actor = Lwp pid own; act = act.Turn turned } → turn_of s.system pid own ≡ Some t
-      → (after s e).system ≡ t.system → (p : TracedProcess) → live_process s.system pid ≡ Some p → Steps id regs p
+      → (after s e).system ≡ t.system → (p : TracedProcess) → live_process s.system pid ≡ Some p → Steps id stood p
       → Passes
   beside-turn own turned t differs is took later p live w =
       stays (record {
         none = beside-none own turned differs is;
         lives = λ q there.
-            subst (IsBefore id regs)
+            subst (Steps id stood)
             (same_Some (with_lwp_stopped own p) q
             (sym (other-leaves s.system pid p id w.lwp own t live w.stepped differs took)
             ∙ ap (λ (u : TracedSystem). live_process u pid) (sym later) ∙ there))
-            (inr (steps-beside id regs own p differs w));
+            (steps-beside id stood own p differs w);
       })
 
-  pub others-pass : Lives pid (IsBefore id regs) s.system → Passes
+  pub others-pass : Lives pid (Steps id stood) s.system → Passes
   others-pass lives = by who
     where
       by-lwp : (own : ℕ) (turned : Turned) (t : LwpTurn)
           → e ≡ record { actor = Lwp pid own; act = act.Turn turned } → turn_of s.system pid own ≡ Some t
           → t.turned ≡ turned → (after s e).system ≡ t.system → (p : TracedProcess)
-          → live_process s.system pid ≡ Some p → IsBefore id regs p → Passes
-      by-lwp own turned t is took did later p live (inl w) = waits-no-turn p live w own t took
-      by-lwp own turned t is took did later p live (inr w) = elim (cases_eq own id) [
+          → live_process s.system pid ≡ Some p → Steps id stood p → Passes
+      by-lwp own turned t is took did later p live w = elim (cases_eq own id) [
         | inl same ↦ own-turn turned t
             (is ∙ ap (λ m. turn_entry pid m turned) same)
             (subst (λ m. turn_of s.system pid m ≡ Some t) same took) did later p live w
@@ -233,38 +235,38 @@ module _ (n k pid id : ℕ) (regs : List ℕ) (s : TracedState) (lawful : IsLawf
       by (apart elsewhere) =
           stays (record {
             none = record { other = elsewhere id };
-            lives = kept-lives (IsBefore id regs) (before-kept id regs) lives elsewhere;
+            lives = kept-lives (Steps id stood) (steps-kept id stood) lives elsewhere;
           })
       by (turn own turned t is took did later) =
           let it = turn-taken s.system pid own t took in
           by-lwp own turned t is took did later it.process it.live (lives it.process it.live)
 
-  pub others-had : (point : Point) → Lives pid (Had id regs point) s.system → StaysSo (Had id regs point)
+  pub others-had : (point : Point) → Lives pid (Had id stood point) s.system → StaysSo (Had id stood point)
   others-had point lives = by who
     where
       by-lwp : (own : ℕ) (turned : Turned) (t : LwpTurn)
           → e ≡ record { actor = Lwp pid own; act = act.Turn turned } → turn_of s.system pid own ≡ Some t
           → (after s e).system ≡ t.system → (p : TracedProcess) → live_process s.system pid ≡ Some p
-          → Had id regs point p → StaysSo (Had id regs point)
+          → Had id stood point p → StaysSo (Had id stood point)
       by-lwp own turned t is took later p live w = elim (cases_eq own id) [
         | inl same ↦ absurd
-            (had-no-turn id regs point s.system pid p t live
+            (had-no-turn id stood point s.system pid p t live
             (subst (λ m. turn_of s.system pid m ≡ Some t) same took) w)
         | inr differs ↦ record {
           none = beside-none own turned differs is;
           lives = λ q there.
-              subst (Had id regs point)
+              subst (Had id stood point)
               (same_Some (with_lwp_stopped own p) q
               (sym (halting-leaves s.system pid p live w.halting own t took)
               ∙ ap (λ (u : TracedSystem). live_process u pid) (sym later) ∙ there))
-              (had-beside id regs point s.system pid p own t live took differs w);
+              (had-beside id stood point s.system pid p own t live took differs w);
         }
       ]
 
-      by : Who e → StaysSo (Had id regs point)
+      by : Who e → StaysSo (Had id stood point)
       by (apart elsewhere) = record {
         none = record { other = elsewhere id };
-        lives = kept-lives (Had id regs point) (had-kept id regs point) lives elsewhere;
+        lives = kept-lives (Had id stood point) (had-kept id stood point) lives elsewhere;
       }
       by (turn own turned t is took did later) =
           let it = turn-taken s.system pid own t took in
@@ -272,7 +274,7 @@ module _ (n k pid id : ℕ) (regs : List ℕ) (s : TracedState) (lawful : IsLawf
 
 -- ---- truss and the process
 
-module _ (n k pid id c ns : ℕ) (met : Traced) (place : ℕ) (regs : List ℕ) where
+module _ (n k pid id c ns : ℕ) (met : Traced) (place : ℕ) (stood : TracedLwp) where
   abbrev Goes : TracedState → ℕ → Type 0
   Goes s m = GoesElsewhere k pid s m
 
@@ -281,16 +283,16 @@ module _ (n k pid id c ns : ℕ) (met : Traced) (place : ℕ) (regs : List ℕ) 
     pub control : HasControl k pid c s
     pub status : HasStatus k pid ns s
 
-  -- The lwp has not had its turn: truss looks at the process, where it waits; or truss is away.
+  -- The lwp has not had its turn: truss looks at the process, where it waits; or truss is away, and it is stepped alone.
   pub data Before (t : TrussState) (s : TracedState) : Type 0 where
-    looks : Looks (Goes s) c ns met place t → Files s → Lives pid (Waits id regs) s.system → Before t s
-    aways : Away (Goes s) c ns met t → Files s → Lives pid (IsBefore id regs) s.system → Before t s
+    looks : Looks (Goes s) c ns met place t → Files s → Lives pid (Waits id stood) s.system → Before t s
+    aways : Away (Goes s) c ns met t → Files s → Lives pid (Steps id stood) s.system → Before t s
 
   -- It has met this point.
   pub record After (point : Point) (t : TrussState) (s : TracedState) : Type 0 where
     pub away : Away (Goes s) c ns met t
     pub files : Files s
-    pub had : Lives pid (Had id regs point) s.system
+    pub had : Lives pid (Had id stood point) s.system
 
   kept-files : (s u : TracedState) → Keeps n k pid id c ns met place s u → Files s → Files u
   kept-files s u keeps f = record { control = keeps.control; status = keeps.status f.status }
@@ -316,7 +318,7 @@ module _ (n k pid id c ns : ℕ) (met : Traced) (place : ℕ) (regs : List ℕ) 
     pub data Next (u : TrussState) : Type 0 where
       goes_past : IsNoTurnOf pid id e → Before u (after s e) → Next u
       has_turn : (did : Turned) (point : Point) → e ≡ record { actor = Lwp pid id; act = act.Turn did }
-          → Turns pid id regs s did point → After point u (after s e) → Next u
+          → Turns pid id stood s did point → After point u (after s e) → Next u
       is_over : live_process (after s e).system pid ≡ None → Next u
 
     -- ---- of others
@@ -340,12 +342,12 @@ module _ (n k pid id c ns : ℕ) (met : Traced) (place : ℕ) (regs : List ℕ) 
 
       foreign-before : Before t s → Next t
       foreign-before (looks look f lives) =
-          let it = others-wait n k pid id regs s lawful made (sole-by s lawful f) fit e legal w.other lives in
+          let it = others-wait n k pid id stood s lawful made (sole-by s lawful f) fit e legal w.other lives in
           goes_past it.none (looks (later-looks f look) (later-files f) it.lives)
       foreign-before (aways it f lives) =
-          by (others-pass n k pid id regs s lawful made (sole-by s lawful f) fit e legal w.other lives)
+          by (others-pass n k pid id stood s lawful made (sole-by s lawful f) fit e legal w.other lives)
         where
-          by : Passes n k pid id regs s lawful made (sole-by s lawful f) fit e legal w.other → Next t
+          by : Passes n k pid id stood s lawful made (sole-by s lawful f) fit e legal w.other → Next t
           by (stays so) = goes_past so.none (aways (later-away f it) (later-files f) so.lives)
           by (turns did point is facts had) =
               has_turn did point is facts (record { away = later-away f it; files = later-files f; had = had })
@@ -354,7 +356,7 @@ module _ (n k pid id c ns : ℕ) (met : Traced) (place : ℕ) (regs : List ℕ) 
       foreign-after point a =
           let f : Files s = a.files in
           let it =
-          others-had n k pid id regs s lawful made (sole-by s lawful f) fit e legal w.other point a.had in
+          others-had n k pid id stood s lawful made (sole-by s lawful f) fit e legal w.other point a.had in
           (it.none, record { away = later-away f a.away; files = later-files f; had = it.lives })
 
     -- ---- of truss
@@ -376,7 +378,7 @@ module _ (n k pid id c ns : ℕ) (met : Traced) (place : ℕ) (regs : List ℕ) 
         away-on =
             away-later n k pid id c ns met place s lawful made e legal t has x own next quiet no_call it f.control
 
-        away-lives : (P : TracedProcess → Type 0) → IsKept id regs P → Lives pid P s.system
+        away-lives : (P : TracedProcess → Type 0) → IsKept id stood P → Lives pid P s.system
             → Lives pid P (after s e).system
         away-lives P kept lives =
             alone-lives n pid s lawful made e legal P kept lives
@@ -386,22 +388,22 @@ module _ (n k pid id c ns : ℕ) (met : Traced) (place : ℕ) (regs : List ℕ) 
             acts-away n k pid id c ns met place s lawful made e legal t has x own next quiet no_call it f.control m
             (named-acts n k pid id c s lawful (sole-by s lawful f) made x.call m named) held there) own.is live))
 
-        pub own-after : (point : Point) → Lives pid (Had id regs point) s.system
+        pub own-after : (point : Point) → Lives pid (Had id stood point) s.system
             → After point (fed_functions t x.reply) (after s e)
         own-after point lives = record {
           away = away-on;
           files = kept-files s (after s e) away-files f;
-          had = away-lives (Had id regs point) (had-kept id regs point) lives;
+          had = away-lives (Had id stood point) (had-kept id stood point) lives;
         }
 
-        own-away : Lives pid (IsBefore id regs) s.system → Next (fed_functions t x.reply)
+        own-away : Lives pid (Steps id stood) s.system → Next (fed_functions t x.reply)
         own-away lives =
             goes_past own-none
             (aways away-on (kept-files s (after s e) away-files f)
-            (away-lives (IsBefore id regs) (before-kept id regs) lives))
+            (away-lives (Steps id stood) (steps-kept id stood) lives))
 
       -- truss looks at the process
-      module _ (look : Looks (Goes s) c ns met place t) (f : Files s) (lives : Lives pid (Waits id regs) s.system) where
+      module _ (look : Looks (Goes s) c ns met place t) (f : Files s) (lives : Lives pid (Waits id stood) s.system) where
         data Sends : Type 0 where
           runs : x.call ≡ call.Ctl c (spelling (message.Run step_flags) []) → Sends
           writes : (bytes : List ℕ) → x.call ≡ call.Ctl c bytes → BeginWithWrite bytes → Sends
@@ -428,20 +430,20 @@ module _ (n k pid id c ns : ℕ) (met : Traced) (place : ℕ) (regs : List ℕ) 
         module _ (p : TracedProcess) (live : live_process s.system pid ≡ Some p) where
           abbrev LeavesSo : (TracedProcess → Type 0) → Type 0
           LeavesSo P =
-              Leaves n k pid id c regs s lawful (sole-by s lawful f) made p live (lives p live) (mine s f) own.answer P
+              Leaves n k pid id c stood s lawful (sole-by s lawful f) made p live (lives p live) (mine s f) own.answer P
 
-          wrote : (bytes : List ℕ) → x.call ≡ call.Ctl c bytes → BeginWithWrite bytes → LeavesSo (Waits id regs)
+          wrote : (bytes : List ℕ) → x.call ≡ call.Ctl c bytes → BeginWithWrite bytes → LeavesSo (Waits id stood)
           wrote bytes same begins =
-              write-leaves n k pid id c regs s lawful (sole-by s lawful f) made p live (lives p live) (mine s f)
+              write-leaves n k pid id c stood s lawful (sole-by s lawful f) made p live (lives p live) (mine s f)
               own.answer bytes begins (ap (answer_to s k) (sym same) ∙ own.is)
 
-          ran : x.call ≡ call.Ctl c (spelling (message.Run step_flags) []) → LeavesSo (IsBefore id regs)
+          ran : x.call ≡ call.Ctl c (spelling (message.Run step_flags) []) → LeavesSo (Steps id stood)
           ran same =
-              let w : Waits id regs p = lives p live in
+              let w : Waits id stood p = lives p live in
               let l = live-lawful s.system pid p lawful.system live in
-              run-leaves n k pid id c regs s lawful (sole-by s lawful f) made p live w (mine s f) own.answer l.rising
+              run-leaves n k pid id c stood s lawful (sole-by s lawful f) made p live w (mine s f) own.answer l.rising
               (fault-ready p id w.stands (λ lwp there. no_call p lwp same live there) l.rising)
-              (spelling (message.Run step_flags) []) step-begins (ap (answer_to s k) (sym same) ∙ own.is)
+              (spelling (message.Run step_flags) []) 16 first-step (ap (answer_to s k) (sym same) ∙ own.is)
 
           sent-not-gone : Sends → own.answer.reply ≢ reply.Fail Noent
           sent-not-gone (runs same) = let it = ran same in it.not_gone
@@ -458,16 +460,15 @@ module _ (n k pid id c ns : ℕ) (met : Traced) (place : ℕ) (regs : List ℕ) 
             by (Some p) live = lived p live
 
         wrote-lives : (bytes : List ℕ) → x.call ≡ call.Ctl c bytes → BeginWithWrite bytes
-            → Lives pid (Waits id regs) (after s e).system
+            → Lives pid (Waits id stood) (after s e).system
         wrote-lives bytes same begins =
-            by-life (Waits id regs)
-            (λ p live. later-own (Waits id regs) (let it = wrote p live bytes same begins in it.lives))
+            by-life (Waits id stood)
+            (λ p live. later-own (Waits id stood) (let it = wrote p live bytes same begins in it.lives))
 
-        sent-lives : Sends → Lives pid (IsBefore id regs) (after s e).system
-        sent-lives (runs same) =
-            by-life (IsBefore id regs)
-            (λ p live. later-own (IsBefore id regs) (let it = ran p live same in it.lives))
-        sent-lives (writes bytes same begins) = λ p live. inl (wrote-lives bytes same begins p live)
+        ran-lives : x.call ≡ call.Ctl c (spelling (message.Run step_flags) [])
+            → Lives pid (Steps id stood) (after s e).system
+        ran-lives same =
+            by-life (Steps id stood) (λ p live. later-own (Steps id stood) (let it = ran p live same in it.lives))
 
         gone-over : answer_of x.reply ≡ Gone → live_process (after s e).system pid ≡ None
         gone-over gone = by (live_process s.system pid) refl
@@ -488,12 +489,12 @@ module _ (n k pid id c ns : ℕ) (met : Traced) (place : ℕ) (regs : List ℕ) 
             (keeps-goes n k pid id c ns met place s (after s e) keeps) more)
             (kept-files s (after s e) keeps f)
             (wrote-lives (spelling (message.Write _ _) code) same (write-reads _ _ code)))
-        looked (is_away it) =
+        looked (is_away it stepped) =
             goes_past own-none
             (aways
             (away-weaker (Goes s) (Goes (after s e)) c ns met _
             (keeps-goes n k pid id c ns met place s (after s e) keeps) it)
-            (kept-files s (after s e) keeps f) (sent-lives sent))
+            (kept-files s (after s e) keeps f) (ran-lives stepped))
         looked (has_ended gone) = is_over (gone-over gone)
 
         own-looks : Next (fed_functions t x.reply)
@@ -626,7 +627,7 @@ module _ (n k pid id c ns : ℕ) (met : Traced) (place : ℕ) (regs : List ℕ) 
   pub data Comes (t : TrussState) (s : TracedState) (h : List Entry) : Type 0 where
     no_turn : All (IsNoTurnOf pid id) h → Before (End t h) (state_after s h) → Comes t s h
     one_turn : (before later : List Entry) (did : Turned) (point : Point) → HasOneTurn pid id before did later h
-        → Turns pid id regs (state_after s before) did point → After point (End t h) (state_after s h) → Comes t s h
+        → Turns pid id stood (state_after s before) did point → After point (End t h) (state_after s h) → Comes t s h
     ends : live_process (state_after s h).system pid ≡ None → Comes t s h
 
   over-all : (h : List Entry) (s : TracedState) → IsLawful s → pid < s.system.made → IsLegal n s h

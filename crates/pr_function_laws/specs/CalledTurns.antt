@@ -13,7 +13,7 @@ use Rattle.pr_truss_laws.specs.Exchanges.{Exchange, exchange_of, exchanges}
 use Rattle.pr_function_laws.specs.Calls.{call_told}
 use Rattle.pr_function_laws.specs.Met.{arguments_of}
 use Rattle.pr_function_laws.specs.Opened.{ReadsBreakpoint, WasNotInterrupted, functions_at}
-use Rattle.pr_function_laws.specs.Turns.{CompletesOnce, HasTrap, TellsOfLwp}
+use Rattle.pr_function_laws.specs.Turns.{CompletesOnce, HasTrap, TellsOfLwp, TurnsOnce}
 
 -- ---- the two reads of a stop at a breakpoint
 
@@ -55,10 +55,14 @@ module _ (k : ℕ) (o : Options) (first : TracedState) (h before : List Entry) (
 
 -- ---- all of them
 
--- A call that such a second read tells is the one at whose breakpoint the lwp stood, and the one turn that it had
--- between the reads. And a turn of it there that ends with a trace trap is told, where the second read tells of that
--- lwp.
+-- Between the reads the lwp had one turn alone, and the second read tells of that lwp. A call that it tells is the one at
+-- whose breakpoint the lwp stood, and that turn; and it tells that call where the turn ended with a trace trap.
 pub record CallsAreTurns (k : ℕ) (o : Options) (first : TracedState) (h : List Entry) : Type 0 where
+  pub once : (before between later : List Entry) (e again : Entry) (place id : ℕ)
+      → (r : ReadsTwice k o first h before e between again later place id)
+      → TurnsOnce (traced_at (functions_at k o before) place).pid id between
+  pub tells : (before between later : List Entry) (e again : Entry) (place id : ℕ)
+      → (r : ReadsTwice k o first h before e between again later place id) → TellsOfLwp r.y.reply id
   pub call : (before between later : List Entry) (e again : Entry) (place id : ℕ)
       → (r : ReadsTwice k o first h before e between again later place id) → (report : Report)
       → told_at_second k o first h before e between again later place id r ≡ report ∷ []
@@ -69,6 +73,6 @@ pub record CallsAreTurns (k : ℕ) (o : Options) (first : TracedState) (h : List
       → HasItsTurn k o first h before e between again later place id r
   pub told : (before between later : List Entry) (e again : Entry) (place id : ℕ)
       → (r : ReadsTwice k o first h before e between again later place id)
-      → HasTrap (traced_at (functions_at k o before) place).pid id between → TellsOfLwp r.y.reply id
+      → HasTrap (traced_at (functions_at k o before) place).pid id between
       → told_at_second k o first h before e between again later place id r
       ≡ call_met k o first h before e between again later place id r ∷ []

@@ -2,6 +2,7 @@ pub mod CalledTurns
 pub mod Calls
 pub mod Lifted
 pub mod Met
+pub mod OneEvent
 pub mod Opened
 pub mod Returns
 pub mod Runs

@@ -1,6 +1,6 @@
 -- What truss with calls of functions has of each process that it has opened: its own files of it, alone, and all signals
 -- and faults of it traced.
-use Rattle.std.specs.Prelude.{◌≡◌, ◌≢◌, ◌<◌, ◌==◌, ◌++◌, ℕ, Bool, true, false, not, All, List, ◌∷◌, None, Some, length, slice_get}
+use Rattle.std.specs.Prelude.{◌≡◌, ◌≢◌, ◌<◌, ◌==◌, ◌++◌, ℕ, Bool, true, false, not, All, List, ◌∷◌, Some, length, slice_get}
 use Rattle.pr_line.specs.Functions.{function_limit}
 use Rattle.pr_line.specs.declared.functions.Function.{Function}
 use Rattle.pr_line.specs.declared.options.Options.{Options}
@@ -81,9 +81,9 @@ pub record HoldsWhatItOpened (k : ℕ) (o : Options) (first : TracedState) (h : 
 -- ---- its stops at breakpoints
 
 -- In the first of these entries truss reads that the lwp of this id of the process at a place stands at a breakpoint.
--- The process has lent its memory to nobody. The function is one of the first 16 and begins with an instruction that is
--- no system call, as each does that truss was given. Truss is not interrupted in these entries, and makes no call any
--- more once it has read the status of the process again.
+-- The function is one of the first 16 and begins with an instruction that is no system call, as each does that truss was
+-- given. Truss is not interrupted in these entries, and makes no call any more once it has read the status of the process
+-- again.
 pub record ReadsBreakpoint (k : ℕ) (t : TrussState) (place id : ℕ) (s : TracedState) (e : Entry)
     (between : List Entry) : Type 0 where
   pub x : Exchange
@@ -94,7 +94,6 @@ pub record ReadsBreakpoint (k : ℕ) (t : TrussState) (place id : ℕ) (s : Trac
   pub named : slice_get t.options.functions meets.function ≡ Some f
   pub few : meets.function < function_limit
   pub steppable : IsSteppable f
-  pub not_lent : (p : TracedProcess) → live_process s.system (traced_at t place).pid ≡ Some p → p.borrower ≡ None
   pub reads_last : (status : ℕ) → (traced_at t place).status ≡ Some status → ReadsOnlyLast status (exchanges k between)
 
 -- From each of them on, as long as truss has not been interrupted, no other lwp of the process begins an instruction;

@@ -71,6 +71,13 @@ pub record HasOneTurn (pid id : ℕ) (before : List Entry) (turned : Turned) (la
   pub none_before : All (IsNoTurnOf pid id) before
   pub none_later : All (IsNoTurnOf pid id) later
 
+-- In these entries the lwp has one turn alone.
+pub record TurnsOnce (pid id : ℕ) (h : List Entry) : Type 0 where
+  pub before : List Entry
+  pub turned : Turned
+  pub later : List Entry
+  pub one : HasOneTurn pid id before turned later h
+
 -- In these entries, from a state on, the lwp has one turn alone, which completes the instruction at an address, with
 -- these in r1 to r3 before it.
 pub record CompletesOnce (pid id : ℕ) (s : TracedState) (h : List Entry) (address : ℕ) (arguments : List ℕ)

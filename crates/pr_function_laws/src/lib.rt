@@ -3,6 +3,7 @@
 #![tactic(auto)]
 
 mod called;
+mod events;
 mod lifted;
 mod lines;
 mod met;
@@ -14,6 +15,7 @@ mod stretches;
 mod turns;
 
 pub use called::in_each_history_calls_are_turns;
+pub use events::at_most_one_event_is_unread;
 pub use lifted::a_breakpoint_is_lifted_for_one_lwp_alone;
 pub use lines::{each_reply_tells_at_most_one_call, the_calls_reported_are_those_told};
 pub use met::{each_call_told_was_met_at_its_breakpoint, the_calls_reported_were_met};

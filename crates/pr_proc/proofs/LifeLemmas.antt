@@ -82,7 +82,7 @@ module _ (parent : ℕ) where
       apart_from apart found =
           elim (cases_lt other low) [
             | inl before ↦ idle other q found before
-            | inr behind ↦ orphaned-other parent q (none.each other q found behind (omega arith))
+            | inr behind ↦ orphaned-other parent q (none.each other q found refl behind (omega arith))
           ]
 
       by : (id ≡ other) ⊎ (id ≢ other) → (o : Option TracedProcess) → under id es ≡ o → orphaned parent q ≡ q
@@ -110,7 +110,7 @@ module _ (parent : ℕ) where
   orphans-all low es ds rises same idle none =
       sym (all-idle 0 es rises (λ id p there. elim (cases_lt id low) [
         | inl before ↦ idle id p there before
-        | inr behind ↦ orphaned-other parent p (none.each id p there behind)
+        | inr behind ↦ orphaned-other parent p (none.each id p there refl behind)
       ])) ∙ same
 
 -- what a process that ends leaves, before what it borrowed or lent is passed on

@@ -1,11 +1,13 @@
-//! In which blocks of 64 ids the children of each process may stand.
-ghost use Rattle.std.specs.Prelude.{◌≡◌, ◌≢◌, ◌≤◌, ◌<◌, ℕ, false, IfNone, IfSome, Some};
+//! In which blocks of 64 ids the children of each process may stand, and in which those that have ended.
+ghost use Rattle.std.specs.Prelude.{◌≡◌, ◌≢◌, ◌≤◌, ◌<◌, ℕ, Bool, true, false, IfNone, IfSome, IsSome, Some};
+ghost use Rattle.std.specs.Option.{ForSome};
 ghost use Rattle.pr_num.specs.ById.{under};
 ghost use Rattle.pr_num.specs.Limits.{process_limit};
 ghost use Rattle.pr_model.specs.State.{TracedProcess};
-ghost use Rattle.pr_proc.specs.Marks.{AreMarked, AreMarkedBut, HasNoChild, HasNoChildFrom, HasNoChildIn, IsBefore, IsMarked, block_of};
+ghost use Rattle.pr_proc.specs.Marks.{AreMarked, AreMarkedBut, HasNoChild, HasNoChildFrom, HasNoZombie, HasNoZombieFrom, HasNoneIn, IsBefore, IsMarked, any_process, block_of, has_ended, zombie_status};
+ghost use Rattle.pr_proc.specs.declared.families.Children.TheVariants.{Living, Nobody};
 
-use crate::Proc;
+use crate::{Children, Proc};
 use pr_num::limits::PROCESS_LIMIT;
 use pr_pids::BlockSets;
 use pr_slots::SlabById;
@@ -32,56 +34,104 @@ fn mark(children: &mut BlockSets, parent: u32, id: u32)
     }
 }
 
-/// Marks the block of the one process whose block may not be marked.
-pub fn settle(table: &SlabById<Proc>, children: &mut BlockSets, out: u32)
-    requires { AreMarkedBut out children.old table.now }
-    ensures { AreMarked children.new table.now }
+/// Marks the block of the one process whose block may not be marked: for a child, and where it has ended, for one that
+/// has.
+pub fn settle(table: &SlabById<Proc>, children: &mut BlockSets, zombies: &mut BlockSets, out: u32)
+    requires children { AreMarkedBut any_process out children.old table.now }
+    requires zombies { AreMarkedBut has_ended out zombies.old table.now }
+    ensures children { AreMarked any_process children.new table.now }
+    ensures zombies { AreMarked has_ended zombies.new table.now }
 {
     if let Some(process) = table.get(out) {
         mark(children, process.parent, out);
+        if process.ended.is_some() {
+            mark(zombies, process.parent, out);
+        }
     }
 }
 
-/// Whether a block may have a child of a process.
-fn has_child_in(table: &SlabById<Proc>, parent: u32, block: u32) -> bool
+/// The wait status of a process, if it is a child of another one and has ended.
+fn zombie_status(process: &Proc, parent: u32) -> Option<u64>
+    ensures { result ≡ zombie_status parent process.now }
+{
+    if process.parent == parent {
+        process.ended
+    } else {
+        None
+    }
+}
+
+/// What there is of children none of which has ended.
+fn living(any: bool) -> Children
+    ensures living { result ≡ Living → any ≡ true }
+    ensures nobody { result ≡ Nobody → any ≡ false }
+{
+    if any {
+        Children::Living
+    } else {
+        Children::Nobody
+    }
+}
+
+/// What there is of the children of a process in a block.
+fn children_in(table: &SlabById<Proc>, parent: u32, block: u32) -> Children
     requires { block < 64 }
-    ensures { result ≡ false → HasNoChildIn parent block table.now }
+    ensures living { result ≡ Living → HasNoneIn has_ended parent block table.now }
+    ensures nobody { result ≡ Nobody → HasNoneIn any_process parent block table.now }
 {
     table.ids_rise();
     let mut low = block as u64 * 64;
+    let mut any = false;
     while let Some((id, process)) = table.next_from(low) {
         if block_of(id as u64) != block {
-            return false;
+            return living(any);
         }
-        if process.parent == parent {
-            return true;
+        if let Some(status) = zombie_status(process, parent) {
+            return Children::Zombie(id, status);
         }
+        any |= process.parent == parent;
         low = id as u64 + 1;
     }
-    false
+    living(any)
 }
 
 /// After the process of an id has gone: its block is marked no longer for its parent, where that has no other child in
-/// it.
-pub fn clear(table: &SlabById<Proc>, children: &mut BlockSets, parent: u32, id: u32)
-    requires { AreMarked children.old table.now }
-    ensures { AreMarked children.new table.now }
+/// it, or none that has ended.
+pub fn clear(
+    table: &SlabById<Proc>,
+    children: &mut BlockSets,
+    zombies: &mut BlockSets,
+    parent: u32,
+    id: u32,
+)
+    requires children { AreMarked any_process children.old table.now }
+    requires zombies { AreMarked has_ended zombies.old table.now }
+    ensures children { AreMarked any_process children.new table.now }
+    ensures zombies { AreMarked has_ended zombies.new table.now }
 {
+    if parent as usize >= PROCESS_LIMIT {
+        return;
+    }
     let block = block_of(id as u64);
-    if (parent as usize) < PROCESS_LIMIT && !has_child_in(table, parent, block) {
-        children.remove(parent, block);
+    match children_in(table, parent, block) {
+        Children::Zombie(..) => {}
+        Children::Living => zombies.remove(parent, block),
+        Children::Nobody => {
+            zombies.remove(parent, block);
+            children.remove(parent, block);
+        }
     }
 }
 
 /// The least id at or behind one in a block that is marked for a process.
-fn next_marked(children: &BlockSets, parent: u32, low: u64) -> Option<u64>
+fn next_marked(marks: &BlockSets, parent: u32, low: u64) -> Option<u64>
     ensures behind { IfSome result (λ start. low ≤ start) }
-    ensures passed { (id : ℕ) → low ≤ id → IsBefore id result → IsMarked children.now parent id → ⊥ }
+    ensures passed { (id : ℕ) → low ≤ id → IsBefore id result → IsMarked marks.now parent id → ⊥ }
 {
     if parent as usize >= PROCESS_LIMIT {
         return Some(low);
     }
-    let block = children.next_from(parent, block_of(low))?;
+    let block = marks.next_from(parent, block_of(low))?;
     let start = block as u64 * 64;
     if start < low {
         return Some(low);
@@ -116,20 +166,19 @@ fn earlier(one: Option<u64>, other: Option<u64>) -> Option<u64>
     }
 }
 
-/// From which id on the next child of a process may stand, at or behind an id.
+/// From which id on the next child of a process may stand, at or behind an id, of a kind whose blocks are marked.
 fn next_place(
     table: &SlabById<Proc>,
-    children: &BlockSets,
+    marks: &BlockSets,
     out: u32,
     parent: u32,
     low: u64,
 ) -> Option<u64>
-    requires { AreMarkedBut out children.now table.now }
     ensures behind { IfSome result (λ start. low ≤ start) }
-    ensures passed { (id : ℕ) (p : TracedProcess) → under id table.now ≡ Some p → low ≤ id → IsBefore id result → p.parent ≢ parent }
+    ensures passed { (kind : TracedProcess → Bool) → AreMarkedBut kind out marks.now table.now → (id : ℕ) (p : TracedProcess) → under id table.now ≡ Some p → kind p ≡ true → low ≤ id → IsBefore id result → p.parent ≢ parent }
 {
     earlier(
-        next_marked(children, parent, low),
+        next_marked(marks, parent, low),
         out_from(table, out, parent, low),
     )
 }
@@ -142,7 +191,7 @@ pub fn next_child<'a>(
     parent: u32,
     low: u64,
 ) -> Option<(u32, &'a Proc)>
-    requires { AreMarkedBut out children.now table.now }
+    requires { AreMarkedBut any_process out children.now table.now }
     ensures found { IfSome result (λ next. under next.0 table.now ≡ Some next.1.now) }
     ensures child { IfSome result (λ next. next.1.now.parent ≡ parent) }
     ensures behind { IfSome result (λ next. low ≤ next.0) }
@@ -155,6 +204,34 @@ pub fn next_child<'a>(
         let (id, process) = table.next_from(start)?;
         if process.parent == parent {
             return Some((id, process));
+        }
+        at = id as u64 + 1;
+    }
+    None
+}
+
+/// The first child of a process at or behind an id that has ended, with its id and its wait status.
+pub fn next_zombie(
+    table: &SlabById<Proc>,
+    zombies: &BlockSets,
+    out: u32,
+    parent: u32,
+    low: u64,
+) -> Option<(u32, u64)>
+    requires { AreMarkedBut has_ended out zombies.now table.now }
+    ensures found { IfSome result (λ next. IsSome (under next.0 table.now)) }
+    ensures child { IfSome result (λ next. ForSome (under next.0 table.now) (λ p. p.parent ≡ parent)) }
+    ensures ended { IfSome result (λ next. ForSome (under next.0 table.now) (λ p. p.ended ≡ Some next.1)) }
+    ensures behind { IfSome result (λ next. low ≤ next.0) }
+    ensures least { IfSome result (λ next. HasNoZombie parent low next.0 table.now) }
+    ensures none { IfNone result (HasNoZombieFrom parent low table.now) }
+{
+    table.ids_rise();
+    let mut at = low;
+    while let Some(start) = next_place(table, zombies, out, parent, at) {
+        let (id, process) = table.next_from(start)?;
+        if let Some(status) = zombie_status(process, parent) {
+            return Some((id, status));
         }
         at = id as u64 + 1;
     }

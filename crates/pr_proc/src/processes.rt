@@ -1,16 +1,16 @@
 //! The processes of the system.
 ghost use Rattle.std.specs.Prelude.{◌≡◌, ◌+◌, ◌≤◌, [], ◌∷◌, is_some, IsSome, IsNone, IfOk, IfSome, IfNone, OnOk, OnErr, Some, None};
-ghost use Rattle.std.specs.Option.{option_copied, option_copied_mut};
+ghost use Rattle.std.specs.Option.{ForSome, option_copied, option_copied_mut};
 ghost use Rattle.std.specs.Borrow.{sem};
 ghost use Rattle.pr_num.specs.ById.{IsRising, under, inserted, without_id, first_from};
 ghost use Rattle.pr_num.specs.Limits.{mapping_limit};
 ghost use Rattle.pr_model.specs.Readers.{sizes_of};
 ghost use Rattle.pr_slots.specs.Walks.{rest_from};
 ghost use Rattle.pr_proc.specs.Keeping.{IsKept};
-ghost use Rattle.pr_proc.specs.Marks.{HasNoChild, HasNoChildFrom};
+ghost use Rattle.pr_proc.specs.Marks.{HasNoChild, HasNoChildFrom, HasNoZombie, HasNoZombieFrom};
 ghost use Rattle.pr_proc.specs.Totals.{AreSmall, IsTotal, size_under};
 
-use crate::marks::{clear, next_child, settle};
+use crate::marks::{clear, next_child, next_zombie, settle};
 use crate::{Proc, size_of};
 use pr_num::NoMemory;
 use pr_num::limits::PROCESS_LIMIT;
@@ -24,7 +24,7 @@ use std::marker::Model;
 ///
 /// A process stands where the slab put it until it is reaped. How many bytes all processes have mapped is known at any
 /// time: no call goes over them to add their sizes up. Nor does one go over them to find the children of a process: it is
-/// known in which blocks of 64 ids these may stand.
+/// known in which blocks of 64 ids these may stand, and in which those that have ended.
 #[derive(Drop)]
 pub struct Processes {
     table: SlabById<Proc>,
@@ -34,6 +34,8 @@ pub struct Processes {
     out: u32,
     /// For each process the blocks in which its children stand, but for that of the id `out`.
     children: BlockSets,
+    /// The same of its children that have ended.
+    zombies: BlockSets,
 }
 
 impl Model for Processes {
@@ -45,7 +47,7 @@ impl Model for Processes {
 
     ghost view = { λ all. all.table };
 
-    ghost invariant = { λ all. IsKept all.others all.out all.children all.table };
+    ghost invariant = { λ all. IsKept all.others all.out all.children all.zombies all.table };
 }
 
 /// How many bytes the process of an id has mapped; 0 where there is none.
@@ -87,15 +89,16 @@ fn leave_out(
     others: u64,
     out: u32,
     children: &mut BlockSets,
+    zombies: &mut BlockSets,
     id: u32,
 ) -> u64
-    requires { IsKept others out children.old table.now }
-    ensures { IsKept result id children.new table.now }
+    requires { IsKept others out children.old zombies.old table.now }
+    ensures { IsKept result id children.new zombies.new table.now }
 {
     if id == out {
         return others;
     }
-    settle(table, children, out);
+    settle(table, children, zombies, out);
     all_but(table, others, out, id)
 }
 
@@ -108,11 +111,13 @@ impl Processes {
     {
         let table = SlabById::new(alloc, PROCESS_LIMIT as u32)?;
         let children = BlockSets::empty(alloc)?;
+        let zombies = BlockSets::empty(alloc)?;
         Ok(Processes {
             table,
             others: 0,
             out: 0,
             children,
+            zombies,
         })
     }
 
@@ -168,6 +173,19 @@ impl Processes {
         next_child(&self.table, &self.children, self.out, parent, low)
     }
 
+    /// The first child of a process at or behind an id that has ended, with its id and its wait status. Looks at no
+    /// process but those of the blocks in which there may be such a child.
+    pub fn next_zombie(&self, parent: u32, low: u64) -> Option<(u32, u64)>
+        ensures found { IfSome result (λ next. IsSome (under next.0 self.now)) }
+        ensures child { IfSome result (λ next. ForSome (under next.0 self.now) (λ p. p.parent ≡ parent)) }
+        ensures ended { IfSome result (λ next. ForSome (under next.0 self.now) (λ p. p.ended ≡ Some next.1)) }
+        ensures behind { IfSome result (λ next. low ≤ next.0) }
+        ensures least { IfSome result (λ next. HasNoZombie parent low next.0 self.now) }
+        ensures none { IfNone result (HasNoZombieFrom parent low self.now) }
+    {
+        next_zombie(&self.table, &self.zombies, self.out, parent, low)
+    }
+
     /// How many bytes all processes have mapped. Takes as long however many there are.
     pub fn mapped(&self) -> u64
         ensures { result ≡ sizes_of self.now }
@@ -181,7 +199,14 @@ impl Processes {
         ensures* writes_back { sem 𝓛 (lends_under self.entry id result) }
         ensures value { under id self.old ≡ Some result.now }
     {
-        self.others = leave_out(&self.table, self.others, self.out, &mut self.children, id);
+        self.others = leave_out(
+            &self.table,
+            self.others,
+            self.out,
+            &mut self.children,
+            &mut self.zombies,
+            id,
+        );
         self.out = id;
         self.table.get_mut(id)
     }
@@ -204,7 +229,7 @@ impl Processes {
         ensures ok { OnOk result (self.new ≡ inserted id process self.old) }
         ensures err { OnErr result (self.new ≡ self.old) }
     {
-        settle(&self.table, &mut self.children, self.out);
+        settle(&self.table, &mut self.children, &mut self.zombies, self.out);
         let before = whole(&self.table, self.others, self.out);
         self.table.insert(id, process)?;
         self.others = before;
@@ -218,12 +243,18 @@ impl Processes {
         ensures value { under id self.old ≡ Some result }
         ensures rest { self.new ≡ without_id id self.old }
     {
-        settle(&self.table, &mut self.children, self.out);
+        settle(&self.table, &mut self.children, &mut self.zombies, self.out);
         self.others = all_but(&self.table, self.others, self.out, id);
         self.out = id;
         self.table.ids_rise();
         let process = self.table.remove(id);
-        clear(&self.table, &mut self.children, process.parent, id);
+        clear(
+            &self.table,
+            &mut self.children,
+            &mut self.zombies,
+            process.parent,
+            id,
+        );
         process
     }
 }

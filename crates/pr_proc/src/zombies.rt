@@ -10,24 +10,17 @@ fn children_among(parent: u32, processes: &Processes) -> Children
     ensures { children_told result ≡ children_among parent processes.now }
 {
     processes.ids_rise();
-    let mut low = 0;
-    let mut any = false;
-    while let Some((id, child)) = processes.next_child(parent, low) {
-        if let Some(status) = child.ended {
-            return Children::Zombie(id, status);
-        }
-        low = id as u64 + 1;
-        any = true;
+    if let Some((child, status)) = processes.next_zombie(parent, 0) {
+        return Children::Zombie(child, status);
     }
-    if any {
-        Children::Living
-    } else {
-        Children::Nobody
+    match processes.next_child(parent, 0) {
+        Some(_) => Children::Living,
+        None => Children::Nobody,
     }
 }
 
-/// What there is of the children of a process. Looks at none but those in the blocks of ids in which its children stand;
-/// takes no memory.
+/// What there is of the children of a process. Looks at none but those in the first block of ids in which one of its
+/// children has ended, or else in the first in which one stands; takes no memory.
 #[tactic(auto, unfolding(pr_model::specs::Readers::children_of))]
 pub fn children(sys: &Sys, pid: u32) -> Children
     ensures { children_told result ≡ children_of sys.now pid }

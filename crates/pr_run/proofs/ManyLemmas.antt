@@ -3,11 +3,12 @@ use borrow.Author.Tests.{ltb-true, ltb-false}
 use Rattle.std.proofs.Math.Bool.{or-false, or-true}
 use Rattle.std.proofs.lemmas.List.{length-map, take_all, take_at, drop_all, drop_at}
 use Rattle.std.proofs.lemmas.List.Elements.{All-append, All-cons, All-head, All-nil}
+use Rattle.std.proofs.lemmas.List.Sums.{AllPass-from_list_all}
 use Rattle.std.proofs.lemmas.Bool.{and_parts}
 use Rattle.std.proofs.lemmas.Bool.Decides.{nat_tests}
 use Rattle.std.proofs.lemmas.Option.{none-some, same_Some}
 use Rattle.std.specs.Cmp.Derive.{both_true}
-use Rattle.std.specs.List.{enumerate_from, list_any, slice_get, slice_index_or}
+use Rattle.std.specs.List.{enumerate_from, list_all, list_any, slice_get, slice_index_or}
 use Rattle.std.specs.Option.{ForSome, option_and_then}
 use Rattle.pr_api.specs.Views.{IsLawful, KernelView}
 use Rattle.pr_lock.specs.History.{AreAll, IsInOrder, StandIn, StartsWith, added}
@@ -30,8 +31,9 @@ use Rattle.pr_world.specs.Worlds.{WorldState, as_lwp, can_act, clock_if_awaited,
 use Rattle.pr_world.specs.declared.ends.End.{End}
 use Rattle.pr_run.proofs.OneLemmas.{full-ends}
 use Rattle.pr_run.proofs.LogLemmas.{all-entries, each-stands, entries-append, entries-of_each, order-entries, order-log, stands-apart, log-at, log-next}
-use Rattle.pr_run.specs.ManyRuns.{AsksMade, AtPlaces, GoesOn, HasLeft, HasMade, HasStopped, HasWorked, IsMadeBy, IsMovedBy, IsNextOf, IsReady, IsTurnOf, IsWorkOf, MakesTurn, MovesNext, Rests, is_done, is_finished, last_lwp, lwp_of, next_for, next_of_controller, next_on_processor, is_over}
+use Rattle.pr_run.specs.ManyRuns.{AsksMade, AtPlaces, GoesOn, HasLeft, HasMade, HasStopped, HasWorked, IsMadeBy, IsMovedBy, IsNew, IsNextOf, IsOffDuty, IsOnDuty, IsTurnOf, IsWorkOf, MakesTurn, MovesNext, Rests, is_done, is_finished, last_lwp, lwp_of, next_for, next_of_controller, next_on_processor, is_over}
 use Rattle.pr_run.specs.Logs.{behind, entries_of, log_of}
+use Rattle.pr_run.specs.declared.duties.Duty.{Duty}
 use Rattle.pr_run.specs.declared.shared_worlds.LoggedEntry.{LoggedEntry}
 use Rattle.pr_run.specs.declared.shared_worlds.SharedWorld.{SharedWorld}
 use Rattle.pr_run.specs.declared.workers.Progress.{Progress}
@@ -417,8 +419,31 @@ written-back xs items n same all =
     ap (take n) (ap (λ (l : List _). xs ++ l) (drop_all (length xs) items (omega (arith, same))) ∙ append-nil xs) ∙ take_all n xs (omega (arith, same, all))
 
 module _ {V : Type 0} (first : WorldState) (processors : ℕ) (lock : Shared V LoggedEntry) where
-  pub ready-worked : (worker : ℕ) (seat : Seat V LoggedEntry) → IsReady lock seat → HasWorked first processors lock worker seat
-  ready-worked worker seat ready = record { outside = ready.outside; share = ready.share; made = record { work = λ history stand. no-work first history processors worker (own_of seat) ready.none } }
+  -- a worker that has not made its last turn
+  pub still-on_duty : (worker : ℕ) (duty : Duty V LoggedEntry) → HasWorked first processors lock worker duty.seat → duty.last ≡ last_lwp None (entries_of (own_of duty.seat)) → duty.has_stopped ≡ false
+      → IsOnDuty first processors lock worker duty
+  still-on_duty worker duty worked last goes_on = record {
+    worked = worked;
+    last = last;
+    stops = λ stopped. let no : true ≡ false = sym stopped ∙ goes_on in cc;
+  }
+
+  new-on_duty : (worker : ℕ) (duty : Duty V LoggedEntry) → IsNew lock duty → IsOnDuty first processors lock worker duty
+  new-on_duty worker duty new =
+      let worked : HasWorked first processors lock worker duty.seat = record {
+        outside = new.ready.outside;
+        share = new.ready.share;
+        made = record { work = λ history stand. no-work first history processors worker (own_of duty.seat) new.ready.none };
+      } in
+      let last = new.none ∙ sym (ap (λ (l : List (ℕ × LoggedEntry)). last_lwp None (entries_of l)) new.ready.none) in
+      still-on_duty worker duty worked last new.goes_on
+
+  pub all-begin : (duties : List (Duty V LoggedEntry)) → All (IsNew lock) duties → AtPlaces (IsOnDuty first processors lock) duties
+  all-begin duties new = λ k d h. new-on_duty k (slice_index_or duties k d) (new k d h)
+
+  pub all-stopped : (duties : List (Duty V LoggedEntry)) → list_all (λ duty. duty.has_stopped) duties ≡ true
+      → AtPlaces (IsOnDuty first processors lock) duties → AtPlaces (IsOffDuty first processors lock) duties
+  all-stopped duties stopped on = λ k d h. (on k d h).stops (AllPass-from_list_all (λ (duty : Duty V LoggedEntry). duty.has_stopped) duties stopped k d h)
 
   -- where a worker of the processor has made its last turn, all is over
   stopped-over : (worker : ℕ) (seat : Seat V LoggedEntry) → worker < processors
@@ -430,35 +455,32 @@ module _ {V : Type 0} (first : WorldState) (processors : ℕ) (lock : Shared V L
       of (inr over) = over
 
   -- One of the workers is one of the processor.
-  pub all-over : (seats : List (Seat V LoggedEntry)) → AtPlaces (HasStopped first processors lock) seats
-      → 0 < processors → 0 < length seats → list_any (λ seat. saw_over seat) seats ≡ true
-  all-over [] stopped some many = absurd (omega arith)
-  all-over (seat ∷ seats) stopped some many =
-      ap (λ (b : Bool). b || list_any (λ (x : Seat V LoggedEntry). saw_over x) seats)
-      (stopped-over 0 seat some (stopped 0 seat many))
+  pub all-over : (duties : List (Duty V LoggedEntry)) → AtPlaces (IsOffDuty first processors lock) duties
+      → 0 < processors → 0 < length duties → list_any (λ duty. saw_over duty.seat) duties ≡ true
+  all-over [] done some many = absurd (omega arith)
+  all-over (duty ∷ duties) done some many =
+      ap (λ (b : Bool). b || list_any (λ (x : Duty V LoggedEntry). saw_over x.seat) duties)
+      (stopped-over 0 duty.seat some (done 0 duty many))
 
-  pub all-worked : (seats : List (Seat V LoggedEntry)) → AtPlaces (HasStopped first processors lock) seats
-      → AtPlaces (HasWorked first processors lock) seats
-  all-worked seats stopped = λ k d h. (stopped k d h).worked
-
-  pub all-out : (seats : List (Seat V LoggedEntry)) → AtPlaces (HasWorked first processors lock) seats → All (λ seat. IsOutside seat lock × (shares_of seat ≡ 1)) seats
-  all-out seats worked = λ k d h. let it = worked k d h in (it.outside, it.share)
+  pub all-out : (duties : List (Duty V LoggedEntry)) → AtPlaces (IsOffDuty first processors lock) duties
+      → All (λ duty. IsOutside duty.seat lock × (shares_of duty.seat ≡ 1)) duties
+  all-out duties done = λ k d h. let it = (done k d h).worked in (it.outside, it.share)
 
   -- a seat that added nothing, and took in these
-  pub taken-in : (before after : Seat V LoggedEntry) (back seats : List (Seat V LoggedEntry)) → own_of after ≡ own_of before ++ flat_map (λ seat. own_of seat) back → own_of before ≡ [] → back ≡ seats → own_of after ≡ flat_map (λ seat. own_of seat) seats
-  taken-in before after back seats is none same =
-      is ∙ (ap (λ (o : List (ℕ × LoggedEntry)). o ++ flat_map (λ (seat : Seat V LoggedEntry). own_of seat) back) none ∙ ap (λ (l : List (Seat V LoggedEntry)). flat_map (λ (seat : Seat V LoggedEntry). own_of seat) l) same)
+  pub taken-in : (before after : Seat V LoggedEntry) (back duties : List (Duty V LoggedEntry)) → own_of after ≡ own_of before ++ flat_map (λ duty. own_of duty.seat) back → own_of before ≡ [] → back ≡ duties → own_of after ≡ flat_map (λ duty. own_of duty.seat) duties
+  taken-in before after back duties is none same =
+      is ∙ (ap (λ (o : List (ℕ × LoggedEntry)). o ++ flat_map (λ (duty : Duty V LoggedEntry). own_of duty.seat) back) none ∙ ap (λ (l : List (Duty V LoggedEntry)). flat_map (λ (duty : Duty V LoggedEntry). own_of duty.seat) l) same)
 
   -- What the seats of all workers have is the history.
-  pub all-made : (seats : List (Seat V LoggedEntry)) (history : List Entry) (own : List (ℕ × LoggedEntry)) → AtPlaces (HasWorked first processors lock) seats → length seats ≡ processors + length first.controllers → own ≡ flat_map (λ seat. own_of seat) seats
+  pub all-made : (duties : List (Duty V LoggedEntry)) (history : List Entry) (own : List (ℕ × LoggedEntry)) → AtPlaces (IsOffDuty first processors lock) duties → length duties ≡ processors + length first.controllers → own ≡ flat_map (λ duty. own_of duty.seat) duties
       → AreAll (log_of history) own → IsMadeBy first processors history
-  all-made seats history own worked count is all =
-      let made : Seat V LoggedEntry → List (ℕ × Entry) = λ seat. entries_of (own_of seat) in
+  all-made duties history own done count is all =
+      let made : Duty V LoggedEntry → List (ℕ × Entry) = λ duty. entries_of (own_of duty.seat) in
       let those = subst (AreAll (log_of history)) is all in
-      let stand = each-stands (λ (seat : Seat V LoggedEntry). own_of seat) (log_of history) seats those.stand in
+      let stand = each-stands (λ (duty : Duty V LoggedEntry). own_of duty.seat) (log_of history) duties those.stand in
       record {
-        made = map made seats;
-        workers = length-map seats made ∙ count;
-        work = map-places made (IsWorkOf first history processors) seats (λ k d h. (worked k d h).made.work history (stand k d h));
-        all = subst (AreAll history) (entries-of_each (λ (seat : Seat V LoggedEntry). own_of seat) seats) (all-entries history (flat_map (λ (seat : Seat V LoggedEntry). own_of seat) seats) those);
+        made = map made duties;
+        workers = length-map duties made ∙ count;
+        work = map-places made (IsWorkOf first history processors) duties (λ k d h. (done k d h).worked.made.work history (stand k d h));
+        all = subst (AreAll history) (entries-of_each (λ (duty : Duty V LoggedEntry). own_of duty.seat) duties) (all-entries history (flat_map (λ (duty : Duty V LoggedEntry). own_of duty.seat) duties) those);
       }

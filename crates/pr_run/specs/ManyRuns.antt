@@ -9,6 +9,7 @@ use Rattle.pr_model.specs.declared.events.Actor.{Actor}
 use Rattle.pr_model.specs.declared.events.Actor.TheVariants.{Controller, Lwp, Clock}
 use Rattle.pr_model.specs.declared.events.Entry.{Entry}
 use Rattle.pr_run.specs.Logs.{entries_of, log_of}
+use Rattle.pr_run.specs.declared.duties.Duty.{Duty}
 use Rattle.pr_run.specs.declared.shared_worlds.SharedWorld.{SharedWorld}
 use Rattle.pr_run.specs.declared.shared_worlds.LoggedEntry.{LoggedEntry}
 use Rattle.pr_run.specs.declared.workers.Progress.{Progress}
@@ -170,6 +171,24 @@ pub record HasStopped {V : Type 0} (first : WorldState) (processors : ℕ) (lock
     (seat : Seat V LoggedEntry) : Type 0 where
   pub worked : HasWorked first processors lock worker seat
   pub stops : HasLeft first processors worker seat ⊎ (saw_over seat ≡ true)
+
+-- A worker that has not begun.
+pub record IsNew {V : Type 0} (lock : Shared V LoggedEntry) (duty : Duty V LoggedEntry) : Type 0 where
+  pub ready : IsReady lock duty.seat
+  pub none : duty.last ≡ None
+  pub goes_on : duty.has_stopped ≡ false
+
+-- A worker between two turns, at which it may leave off and go on later, or behind its last one, which it made nowhere
+-- but where it stops. It knows the lwp that it moved last.
+pub record IsOnDuty {V : Type 0} (first : WorldState) (processors : ℕ) (lock : Shared V LoggedEntry) (worker : ℕ)
+    (duty : Duty V LoggedEntry) : Type 0 where
+  pub worked : HasWorked first processors lock worker duty.seat
+  pub last : duty.last ≡ last_lwp None (entries_of (own_of duty.seat))
+  pub stops : duty.has_stopped ≡ true → HasStopped first processors lock worker duty.seat
+
+-- a worker that has made its last turn
+abbrev pub IsOffDuty : {V : Type 0} → WorldState → ℕ → Shared V LoggedEntry → ℕ → Duty V LoggedEntry → Type 0
+IsOffDuty first processors lock worker duty = HasStopped first processors lock worker duty.seat
 
 -- The entries of a history are those that these workers made in a run from the first world on, each once: so many that
 -- share the processor, and one for each controller.

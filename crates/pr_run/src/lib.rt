@@ -1,6 +1,8 @@
 //! Runs of a world: on one thread, and on several.
 #![tactic(auto)]
 
+mod attendance;
+mod duties;
 mod many;
 mod one;
 mod shared_worlds;

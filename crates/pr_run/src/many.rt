@@ -1,20 +1,22 @@
 //! Runs of a world on several threads.
-ghost use Rattle.std.specs.Prelude.{◌≡◌, ◌+◌, ◌≤◌, ◌<◌, ◌^◌, ◌++◌, ◌||◌, true, [], None, Some, All, length, flat_map, vec_len, IfOk, IsOk, OnErr, OnOk, IsOkUnless};
-ghost use Rattle.std.specs.List.{list_any};
+ghost use Rattle.std.specs.Prelude.{◌≡◌, ◌+◌, ◌≤◌, ◌<◌, ◌^◌, ◌++◌, ◌||◌, true, false, [], None, Some, All, length, flat_map, vec_len, IfOk, IsOk, OnErr, OnOk, IsOkUnless};
+ghost use Rattle.std.specs.List.{list_all, list_any};
 ghost use Rattle.pr_lock.specs.Seats.{IsOutside, first_of, own_of, saw_over, shares_of};
 ghost use Rattle.pr_num.specs.Limits.{worker_limit};
 ghost use Rattle.pr_run.specs.Logs.{entries_of};
-ghost use Rattle.pr_run.specs.ManyRuns.{AtPlaces, HasLeft, HasStopped, HasWorked, IsMadeBy, IsReady, first_world, is_over, last_lwp};
+ghost use Rattle.pr_run.specs.ManyRuns.{AtPlaces, HasLeft, HasWorked, IsMadeBy, IsNew, IsOffDuty, IsOnDuty, IsReady, first_world, is_over, last_lwp};
 ghost use Rattle.pr_run.specs.declared.workers.Progress.TheVariants.{Done};
 ghost use Rattle.pr_world.specs.Runs.{CameFrom};
 ghost use Rattle.pr_world.specs.Worlds.{ended_as, seen};
 
+use crate::attendance::Attendance;
+use crate::duties::Duty;
 use crate::one::end;
 use crate::shared_worlds::SharedWorld;
 use crate::workers::{Progress, Worker};
 use pr_api::Kernel;
 use pr_io::Gate;
-use pr_lock::{NewNo, Seat, Shared};
+use pr_lock::{Logged, NewNo, Seat, Shared};
 use pr_num::NoMemory;
 use pr_world::{End, World};
 use std::alloc::Global;
@@ -46,102 +48,164 @@ fn take_turn<R: Wait, Q: Kernel + Send>(
     progress
 }
 
-/// All turns of a worker, until it has nothing more to do, or memory was refused, to it or to another one, which left
-/// its mark beside the world. It passes the gate before each, outside the lock.
-fn take_turns<R: Wait, Q: Kernel + Send, G: Gate>(
+/// One turn of a worker that has not made its last one. It passes the gate before, outside the lock.
+fn take_next_turn<R: Wait, Q: Kernel + Send, G: Gate>(
     rt: &R,
     lock: &Shared<SharedWorld<Q>>,
-    seat: &mut Seat<SharedWorld<Q>>,
+    duty: &mut Duty<SharedWorld<Q>>,
     worker: Worker,
     gate: &G,
 )
-    requires seat { IsReady lock.now seat.old }
+    requires duty { IsOnDuty (first_world Q.view lock.now) worker.processors lock.now worker.number duty.old }
+    requires goes_on { duty.old.has_stopped ≡ false }
     requires number { worker.number < worker.processors + length (first_of lock.now).world.controllers }
-    ensures { HasStopped (first_world Q.view lock.now) worker.processors lock.now worker.number seat.new }
+    ensures { IsOnDuty (first_world Q.view lock.now) worker.processors lock.now worker.number duty.new }
 {
-    let mut last = None;
-    let mut turn = 0u64;
+    gate.pass(worker.number, duty.turn);
+    duty.turn = duty.turn.saturating_add(1);
+    match take_turn(rt, lock, &mut duty.seat, worker, &mut duty.last) {
+        Ok(Progress::Moved) => {}
+        Ok(Progress::Idle) => thread::yield_now(),
+        Ok(Progress::Done) | Err(_) => duty.has_stopped = true,
+    }
+}
+
+/// The turns of a worker. Where all have come, it makes them until it has nothing more to do, or memory was refused, to
+/// it or to another one, which left its mark beside the world. Else it makes one of them, and goes on later.
+fn take_turns<R: Wait, Q: Kernel + Send, G: Gate>(
+    rt: &R,
+    lock: &Shared<SharedWorld<Q>>,
+    duty: &mut Duty<SharedWorld<Q>>,
+    worker: Worker,
+    gate: &G,
+    attendance: &Attendance,
+)
+    requires duty { IsOnDuty (first_world Q.view lock.now) worker.processors lock.now worker.number duty.old }
+    requires number { worker.number < worker.processors + length (first_of lock.now).world.controllers }
+    ensures { IsOnDuty (first_world Q.view lock.now) worker.processors lock.now worker.number duty.new }
+{
+    let is_full = attendance.is_full();
     for _ in rt.forever() {
-        gate.pass(worker.number, turn);
-        turn = turn.saturating_add(1);
-        match take_turn(rt, lock, seat, worker, &mut last) {
-            Ok(Progress::Moved) => {}
-            Ok(Progress::Idle) => thread::yield_now(),
-            Ok(Progress::Done) => return,
-            Err(_) => return,
+        if duty.has_stopped {
+            return;
+        }
+        take_next_turn(rt, lock, duty, worker, gate);
+        if !is_full {
+            return;
         }
     }
     unreachable!()
 }
 
-/// A seat for each worker, of which there are so many.
-fn seats_of<Q: Kernel + Send>(
+/// A duty for each worker, of which there are so many.
+fn duties_of<Q: Kernel + Send>(
     alloc: Global,
     lock: &Shared<SharedWorld<Q>>,
     seat: &mut Seat<SharedWorld<Q>>,
     workers: u32,
-) -> Result<Vec<Seat<SharedWorld<Q>>>, NoMemory>
+) -> Result<Vec<Duty<SharedWorld<Q>>>, NoMemory>
     requires lock { IsOutside seat.old lock.now }
     requires shares { shares_of seat.old ≡ workers + 1 }
     requires own { own_of seat.old ≡ [] }
     ensures seat { OnOk result (IsReady lock.now seat.new) }
-    ensures workers { IfOk result (λ seats. All (IsReady lock.now) seats.items × (vec_len seats ≡ workers)) }
+    ensures duties { IfOk result (λ duties. All (IsNew lock.now) duties.items × (vec_len duties ≡ workers)) }
 {
-    let mut seats = Vec::with_capacity(alloc, workers as usize)?;
+    let mut duties = Vec::with_capacity(alloc, workers as usize)?;
     for _ in 0..workers {
-        seats.push(lock.split(seat))?;
+        duties.push(Duty {
+            seat: lock.split(seat),
+            last: None,
+            turn: 0,
+            has_stopped: false,
+        })?;
     }
-    Ok(seats)
+    Ok(duties)
 }
 
-/// All workers at once, each in a thread of its own.
-fn work<R: Threads + Wait + Sync, Q: Kernel + Send, G: Gate + Sync>(
+/// All workers take turns, in so many threads, or in as many of them as the system makes.
+fn go_on<R: Threads + Wait + Sync, Q: Kernel + Send, G: Gate + Sync>(
     rt: &R,
     lock: &Shared<SharedWorld<Q>>,
-    seats: &mut [Seat<SharedWorld<Q>>],
+    duties: &mut [Duty<SharedWorld<Q>>],
     processors: u32,
     gate: &G,
+    attendance: &Attendance,
+    threads: usize,
 )
-    requires few { length seats.old < 2 ^ 32 }
-    requires number { length seats.old ≤ processors + length (first_of lock.now).world.controllers }
-    requires seats { All (IsReady lock.now) seats.old }
-    ensures seats { AtPlaces (HasStopped (first_world Q.view lock.now) processors lock.now) seats.new }
+    requires threads { 0 < threads }
+    requires few { length duties.old < 2 ^ 32 }
+    requires number { length duties.old ≤ processors + length (first_of lock.now).world.controllers }
+    requires duties { AtPlaces (IsOnDuty (first_world Q.view lock.now) processors lock.now) duties.old }
+    ensures duties { AtPlaces (IsOnDuty (first_world Q.view lock.now) processors lock.now) duties.new }
 {
-    let threads = seats.len().max(1);
     thread::for_each_mut(
         rt,
-        seats,
+        duties,
         threads,
-        &|number: usize, seat: &mut Seat<SharedWorld<Q>>|
+        &|number: usize, duty: &mut Duty<SharedWorld<Q>>|
             requires few { number < 2 ^ 32 }
             requires number { number < processors + length (first_of lock.now).world.controllers }
-            requires seat { IsReady lock.now seat.old }
-            ensures { HasStopped (first_world Q.view lock.entry.now) processors lock.entry.now number seat.new }
+            requires duty { IsOnDuty (first_world Q.view lock.now) processors lock.now number duty.old }
+            ensures { IsOnDuty (first_world Q.view lock.entry.now) processors lock.entry.now number duty.new }
         {
             let worker = Worker {
                 processors,
                 number: number as u32,
             };
-            take_turns(rt, lock, seat, worker, gate);
+            take_turns(rt, lock, duty, worker, gate, attendance);
         },
     );
+}
+
+/// Whether all workers have made their last turns.
+fn have_stopped<V: Logged>(duties: &[Duty<V>]) -> bool
+    ensures { result ≡ list_all (λ duty. duty.has_stopped) duties.now }
+{
+    duties.iter().all(|duty| duty.has_stopped)
+}
+
+/// All workers at once, each in a thread of its own. Where the system makes fewer threads, a worker that has none begins
+/// only behind others, and these would wait for what it moves. So all wait until each has come, and where one does not,
+/// one thread makes the run in rounds, in which each worker has one turn.
+fn work<R: Threads + Wait + Sync, Q: Kernel + Send, G: Gate + Sync>(
+    rt: &R,
+    lock: &Shared<SharedWorld<Q>>,
+    duties: &mut [Duty<SharedWorld<Q>>],
+    processors: u32,
+    gate: &G,
+)
+    requires few { length duties.old < 2 ^ 32 }
+    requires number { length duties.old ≤ processors + length (first_of lock.now).world.controllers }
+    requires duties { All (IsNew lock.now) duties.old }
+    ensures duties { AtPlaces (IsOffDuty (first_world Q.view lock.now) processors lock.now) duties.new }
+{
+    let attendance = Attendance::new(duties.len() as u64);
+    let mut threads = duties.len().max(1);
+    for _ in rt.forever() {
+        go_on(rt, lock, duties, processors, gate, &attendance, threads);
+        if have_stopped(duties) {
+            return;
+        }
+        threads = 1;
+    }
+    unreachable!()
 }
 
 /// All seats in one, which has seen that all is over, if one of them has.
 fn gather<Q: Kernel + Send>(
     lock: &Shared<SharedWorld<Q>>,
     seat: &mut Seat<SharedWorld<Q>>,
-    seats: Vec<Seat<SharedWorld<Q>>>,
+    duties: Vec<Duty<SharedWorld<Q>>>,
 )
     requires lock { IsOutside seat.old lock.now }
-    requires seats { All (λ seat. IsOutside seat lock.now × (shares_of seat ≡ 1)) seats.items }
+    requires duties { All (λ duty. IsOutside duty.seat lock.now × (shares_of duty.seat ≡ 1)) duties.items }
     ensures lock { IsOutside seat.new lock.now }
-    ensures shares { shares_of seat.new ≡ shares_of seat.old + vec_len seats }
-    ensures own { own_of seat.new ≡ own_of seat.old ++ flat_map (λ seat. own_of seat) seats.items }
-    ensures over { saw_over seat.new ≡ saw_over seat.old || list_any (λ seat. saw_over seat) seats.items }
+    ensures shares { shares_of seat.new ≡ shares_of seat.old + vec_len duties }
+    ensures own { own_of seat.new ≡ own_of seat.old ++ flat_map (λ duty. own_of duty.seat) duties.items }
+    ensures over { saw_over seat.new ≡ saw_over seat.old || list_any (λ duty. saw_over duty.seat) duties.items }
 {
-    for other in seats {
-        lock.join(seat, other);
+    for duty in duties {
+        lock.join(seat, duty.seat);
     }
 }
 
@@ -209,8 +273,8 @@ pub fn run_many<R: Threads + Wait + Sync, Q: Kernel + Send, G: Gate + Sync>(
         refusal: None,
     };
     let (lock, mut seat) = Shared::new(alloc, shared, count + 1)?;
-    let mut seats = seats_of(alloc, &lock, &mut seat, count)?;
-    work(rt, &lock, &mut seats, workers, gate);
-    gather(&lock, &mut seat, seats);
+    let mut duties = duties_of(alloc, &lock, &mut seat, count)?;
+    work(rt, &lock, &mut duties, workers, gate);
+    gather(&lock, &mut seat, duties);
     Ok(ended(lock.close(seat)))
 }

@@ -37,7 +37,7 @@ use Rattle.pr_report_laws.proofs.Files.KeepLemmas.{can_wait}
 use Rattle.pr_report_laws.proofs.Files.WatchHistories.{answered-calm, exchange-answered}
 use Rattle.pr_function_laws.proofs.MetLemmas.{tells-calls}
 use Rattle.pr_function_laws.proofs.CalledLaws.{calls-are-turns}
-use Rattle.pr_function_laws.proofs.OpenedLaws.{holds-opened, lifts-alone}
+use Rattle.pr_function_laws.proofs.OpenedLaws.{holds-opened, lifts-alone, one-event-each}
 use Rattle.pr_function_laws.proofs.SoonLemmas.{soon-done}
 use Rattle.pr_function_laws.specs.Opened.{IsFunctionRun}
 use Rattle.pr_function_laws.specs.Runs.{MakesCalls, functions_after, replies_in}
@@ -165,6 +165,7 @@ function-kept controllers n s h k o reached bytes none at has legal own =
       calls = tells-calls o (replies_in (exchanges k h)) has;
       soon = soon-done o (exchanges k h) has stays.0 (all-calm h n s k legal);
       opens = λ follow. holds-opened n k o s h (run follow);
+      events = λ follow. one-event-each n k o s h (run follow) reached bytes;
       lifts = λ follow. lifts-alone n k o s h (run follow) reached bytes;
       turns = λ follow. calls-are-turns n k o s h (run follow) reached bytes;
     }

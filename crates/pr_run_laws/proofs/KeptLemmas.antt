@@ -324,7 +324,8 @@ pub writes-kept : (s : Scenario) (n : ℕ) (h : List Entry) → IsScenarioInRang
 writes-kept s n h range legal own = record {
   tidily = λ who are undisturbed.
       let reached = state-reached s range in
-      writes-tidily n who (controllers_of s) (first_state_of s) h reached.lawful legal own are undisturbed;
+      writes-tidily n who (controllers_of s) (first_state_of s) h reached.lawful reached.lending legal own are
+      undisturbed;
 }
 
 -- ---- runs

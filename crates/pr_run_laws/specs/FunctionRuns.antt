@@ -10,6 +10,7 @@ use Rattle.pr_function_hides.specs.FunctionHiders.{AreTrusses}
 use Rattle.pr_function_hides.specs.TidyWrites.{AreUndisturbed, WritesTidily}
 use Rattle.pr_function_laws.specs.CalledTurns.{CallsAreTurns}
 use Rattle.pr_function_laws.specs.Met.{TellsItsCalls}
+use Rattle.pr_function_laws.specs.OneEvent.{HasOneEventEach}
 use Rattle.pr_function_laws.specs.Opened.{HoldsWhatItOpened, LiftsForOneAlone}
 use Rattle.pr_function_laws.specs.Runs.{MakesCalls, functions_after, replies_in}
 use Rattle.pr_function_laws.specs.Soon.{IsSoonDone}
@@ -21,8 +22,9 @@ use Rattle.pr_world.specs.Protocol.{controllers_at}
 -- are those of which its replies told, each of an lwp that a reply before had told of at the breakpoint of the
 -- function. At most twelve of its calls, and two more for each function, come after a poll that named a process before
 -- it runs that process or closes a file of it. Where its options follow no children, as those that were read do: of each
--- process that it has opened it has its own files, alone, and traces all signals and faults; each breakpoint that it
--- meets is lifted for one lwp alone; and the calls that it tells are turns of the machine.
+-- process that it has opened it has its own files, alone, and traces all signals and faults; at most one event of such a
+-- process is unread; each breakpoint that it meets is lifted for one lwp alone; and the calls that it tells are turns of
+-- the machine.
 pub record IsFunctionTrussKept (controllers : List ControllerState) (first : TracedState) (h : List Entry) (k : ℕ)
     (o : Options) : Type 0 where
   pub makes : MakesCalls (first_truss o) (exchanges k h)
@@ -31,6 +33,7 @@ pub record IsFunctionTrussKept (controllers : List ControllerState) (first : Tra
   pub calls : TellsItsCalls o (replies_in (exchanges k h))
   pub soon : IsSoonDone o (exchanges k h)
   pub opens : o.follow ≡ false → HoldsWhatItOpened k o first h
+  pub events : o.follow ≡ false → HasOneEventEach k o first h
   pub lifts : o.follow ≡ false → LiftsForOneAlone k o first h
   pub turns : o.follow ≡ false → CallsAreTurns k o first h
 

@@ -1,10 +1,13 @@
-use Rattle.std.proofs.Common.{◌≡◌, ℕ, Bool, true, Some, List, refl, sym, subst}
+use Rattle.std.proofs.Common.{◌≡◌, ℕ, Bool, true, false, Some, List, refl, sym, subst, ◌∙◌}
+use Rattle.std.specs.Option.{ForSome}
+use Rattle.std.proofs.lemmas.Option.{same_Some}
 use Rattle.pr_lwp.specs.declared.steps.Effect.{Effect}
 use Rattle.pr_lwp.specs.declared.steps.Effect.TheVariants.{Ran, Sys, Fault}
 use Rattle.pr_model.specs.LwpTurns.{can_move, with_counted}
 use Rattle.pr_model.specs.Points.{after_meeting, meets}
-use Rattle.pr_model.specs.State.{TracedLwp, TracedProcess, TracedSystem, lwp_of}
+use Rattle.pr_model.specs.State.{TracedLwp, TracedProcess, TracedSystem, live_process, lwp_of}
 use Rattle.pr_model.specs.declared.events.Turned.{Turned}
+use Rattle.pr_model.proofs.StateLemmas.{live_process-found}
 use Rattle.pr_num.specs.ById.{put_under, under}
 use Rattle.pr_parts.specs.PendingSignals.{pending_set}
 use Rattle.pr_turn.proofs.NextLemmas.{runs-row}
@@ -25,6 +28,13 @@ of-instruction (Sys call) = refl
 of-instruction (Fault f address) = refl
 
 module _ (s : TracedSystem) (pid id : ℕ) (p : TracedProcess) (there : under pid s.processes ≡ Some p) where
+  -- what is so of the lwp in the process that stands is so of it in the live one
+  pub rests-live : ForSome (lwp_of p id) (λ l. runs_on (pending_set p.pending) l ≡ false)
+      → ForSome (live_process s pid) (λ q. ForSome (lwp_of q id) (λ l. runs_on (pending_set q.pending) l ≡ false))
+  rests-live rests q live =
+      let same : p ≡ q = same_Some p q (sym there ∙ live_process-found s pid q live) in
+      subst (λ (x : TracedProcess). ForSome (lwp_of x id) (λ l. runs_on (pending_set x.pending) l ≡ false)) same rests
+
   -- it is the next one of an lwp that has nothing else to do
   pub instruction-next : can_move s pid id ≡ true
       → ((l : TracedLwp) → lwp_of p id ≡ Some l → runs_on (pending_set p.pending) l ≡ true)

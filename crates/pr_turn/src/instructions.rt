@@ -5,7 +5,7 @@ ghost use Rattle.pr_lwp.specs.Plain.{space_after, stores_bytes};
 ghost use Rattle.pr_model.specs.InstructionEffects.{instruction_effect};
 ghost use Rattle.pr_model.specs.LwpTurns.{can_move, turn_of, with_counted};
 ghost use Rattle.pr_model.specs.Points.{after_meeting, meets};
-ghost use Rattle.pr_model.specs.State.{lwp_of};
+ghost use Rattle.pr_model.specs.State.{live_process, lwp_of};
 ghost use Rattle.pr_num.specs.ById.{change_under, under};
 ghost use Rattle.pr_parts.specs.PendingSignals.{pending_set};
 ghost use Rattle.pr_proc.specs.Counts.{AllUsedAtMost, UsedAtMost};
@@ -59,6 +59,7 @@ fn run_under(
     ensures effect { IfOk result (λ ran. IfSome ran (λ effect. ForSome (under id lwps.old) (λ l. effect ≡ effect_of l (instruction_effect space.old areas.now l.regs)))) }
     ensures other_lwps { IfOk result (λ ran. IfNone ran (lwps.new ≡ lwps.old)) }
     ensures other_space { IfOk result (λ ran. IfNone ran (space.new ≡ space.old)) }
+    ensures rests { IfOk result (λ ran. IfNone ran (ForSome (under id lwps.old) (λ l. runs_on shared l ≡ false))) }
     ensures ran { OnErr result (ForSome (under id lwps.old) (λ l. runs_on shared l ≡ true)) }
     ensures memory { OnErr result (ForSome (under id lwps.old) (λ l. stores_bytes (instruction_effect space.old areas.now l.regs) ≡ true)) }
     ensures kept_lwps { OnErr result (lwps.new ≡ lwps.old) }
@@ -80,6 +81,7 @@ fn run_in(process: &mut Proc, id: u32) -> Result<Option<Effect>, NoMemory>
     ensures process { IfOk result (λ ran. IfSome ran (λ effect. ForSome (lwp_of process.old id) (λ l. process.new ≡ process_after id (row_of process.old l Next.Executed).transition process.old))) }
     ensures made { IfOk result (λ ran. IfSome ran (λ effect. ForSome (lwp_of process.old id) (λ l. made_by effect ≡ of_row (row_of process.old l Next.Executed)))) }
     ensures other { IfOk result (λ ran. IfNone ran (process.new ≡ process.old)) }
+    ensures rests { IfOk result (λ ran. IfNone ran (ForSome (lwp_of process.old id) (λ l. runs_on (pending_set process.old.pending) l ≡ false))) }
     ensures ran { OnErr result (ForSome (lwp_of process.old id) (λ l. runs_on (pending_set process.old.pending) l ≡ true)) }
     ensures memory { OnErr result (ForSome (lwp_of process.old id) (λ l. row_takes (row_of process.old l Next.Executed) ≡ true)) }
     ensures err { OnErr result (process.new ≡ process.old) }
@@ -133,6 +135,7 @@ pub fn run_instruction(sys: &mut Sys, pid: u32, id: u32) -> Result<Option<Turned
     ensures used { IfOk result (λ ran. IfSome ran (λ turned. (n : ℕ) → AllUsedAtMost n sys.old → AllUsedAtMost (n + 1) sys.new)) }
     ensures clock { IfOk result (λ ran. IfSome ran (λ turned. sys.new.clock ≡ sys.old.clock)) }
     ensures other { IfOk result (λ ran. IfNone ran (sys.new ≡ sys.old)) }
+    ensures rests { IfOk result (λ ran. IfNone ran (ForSome (live_process sys.old pid) (λ p. ForSome (lwp_of p id) (λ l. runs_on (pending_set p.pending) l ≡ false)))) }
     ensures sure { may_take_memory sys.old pid id ≡ false → IsOk result }
     ensures err { OnErr result (sys.new ≡ sys.old) }
 {

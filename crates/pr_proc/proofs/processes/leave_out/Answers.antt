@@ -1,3 +1,4 @@
+use Rattle.pr_proc.specs.Marks.{any_process, has_ended}
 use Rattle.pr_proc.proofs.MarkLemmas.{marked-but}
 use Rattle.pr_proc.proofs.processes.leave_out.Goals as goal
 
@@ -9,5 +10,6 @@ returns-then-id-out c = rw c.if-id-out.true c.requires
 pub returns : goal.returns
 returns c = record {
   total = c.all_but.ensures;
-  marks = marked-but c.args.id _ c.args.table.now c.settle.ensures;
+  children = marked-but any_process c.args.id _ c.args.table.now c.settle.ensures.children;
+  zombies = marked-but has_ended c.args.id _ c.args.table.now c.settle.ensures.zombies;
 }

@@ -2,7 +2,7 @@ use Rattle.std.proofs.Common.{ap, refl, sym, ◌∙◌}
 use Rattle.std.proofs.lemmas.Bool.{false≢true}
 use Rattle.pr_call.proofs.FilingLemmas.{on_err}
 use Rattle.pr_model.specs.declared.events.Turned.{Turned}
-use Rattle.pr_turn.proofs.InstructionLemmas.{instruction-next, of-instruction, turned-as}
+use Rattle.pr_turn.proofs.InstructionLemmas.{instruction-next, of-instruction, rests-live, turned-as}
 use Rattle.pr_turn.proofs.SettleLemmas.{made-room, turned-made, turned-used}
 use Rattle.pr_turn.proofs.TakingLemmas.{row-takes}
 use Rattle.pr_turn.proofs.TurnLemmas.{can_move-found, can_move-there, put-same, told-none, told-some}
@@ -35,6 +35,11 @@ pub returns-in_default-clause-other : goal.returns-in_default-clause-other
 returns-in_default-clause-other c =
     put-same c.args.sys.now c.args.pid _ _ c.get_mut-process.ensures.value
     (told-none c.in_ok-effect.field-0 c.in_default.is c.in_ok-effect.ensures.other)
+
+pub returns-in_default-clause-rests : goal.returns-in_default-clause-rests
+returns-in_default-clause-rests c =
+    rests-live c.args.sys.now c.args.pid c.args.id c.get_mut-process.result.now c.get_mut-process.ensures.value
+    (told-none c.in_ok-effect.field-0 c.in_default.is c.in_ok-effect.ensures.rests)
 
 pub finish-turned-requires : goal.finish-turned-requires
 finish-turned-requires c =

@@ -1,5 +1,6 @@
 use Rattle.std.proofs.Common.{refl, sym, ap, ◌∙◌}
 use Rattle.pr_num.specs.ById.{put_under, under}
+use Rattle.pr_proc.specs.Marks.{any_process, has_ended}
 use Rattle.pr_proc.proofs.MarkLemmas.{marks-changed}
 use Rattle.pr_proc.proofs.TotalLemmas.{total-changed}
 use Rattle.pr_proc.proofs.processes.Processes.get_mut.Goals as goal
@@ -11,7 +12,8 @@ pub invariant_of-self-lent : goal.invariant_of-self-lent
 invariant_of-self-lent c =
     λ w. record {
       total = total-changed c.leave_out-self-inside.result c.args.id w c.self.inside.table c.leave_out-self-inside.ensures.total;
-      marks = marks-changed c.args.id w _ c.self.inside.table c.leave_out-self-inside.ensures.marks;
+      children = marks-changed any_process c.args.id w _ c.self.inside.table c.leave_out-self-inside.ensures.children;
+      zombies = marks-changed has_ended c.args.id w _ c.self.inside.table c.leave_out-self-inside.ensures.zombies;
     }
 
 pub returns : goal.returns

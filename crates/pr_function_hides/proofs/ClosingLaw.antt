@@ -1,0 +1,645 @@
+use Rattle.pr_lending.specs.Lending.{AreLending}
+use Rattle.pr_model.specs.Replies.{number_of}
+use Rattle.pr_function_hides.proofs.ClosingWalk.{CalledSo, ClosesSo, Lifts, StageSo, called_at, fed-closes, first-closes}
+use Rattle.pr_function_hides.proofs.GoneCalls.{ctl-gone, open-gone, wait-gone}
+use Rattle.pr_function_hides.proofs.KnownFiles.{Knows, KnowsAll, known-fed, known-first}
+use Rattle.pr_function_hides.proofs.FunctionSets.{IsNone}
+use Rattle.pr_function_hides.proofs.OwnFiles.{HoldsItsFiles, IsBeside, IsWithin}
+use Rattle.pr_function_hides.proofs.TidyLaw.{Kept as TidyKept, Truss as TidyTruss, kept-at}
+use Rattle.pr_function_hides.proofs.FilesCalls.{Files, holds-of}
+use Rattle.pr_function_hides.proofs.CallFacts.{calm-reply, controllers-push, legal-here, open-finds, own-here}
+use Rattle.pr_function_hides.specs.FunctionHiders.{AreTrusses, IsMarked}
+use Rattle.pr_function_hides.specs.TidyCloses.{LeavesNoBreakpoint}
+use Rattle.pr_function_hides.specs.TidyWrites.{AreUndisturbed, IsTrussAfter}
+use Rattle.pr_function_laws.proofs.BreakpointLemmas.{IsOwnEntry, own-entry}
+use Rattle.pr_function_laws.proofs.KeptPlaces.{AtStage, Kept, opens}
+use Rattle.pr_function_laws.proofs.OpenedLemmas.{control-made}
+use Rattle.pr_report_laws.proofs.Machine.GoneLaws.{is_read, read-gone}
+use Rattle.pr_report_laws.proofs.Invariant.StandLemmas.{Each}
+use Rattle.pr_api.specs.Entries.{call_entry}
+use Rattle.pr_hidden.specs.Covers.{Patch}
+use Rattle.pr_hidden.specs.Hiders.{Hiders, covers_at, hides}
+use Rattle.pr_lawful.proofs.HandleLemmas.{handle-at, handle-writer}
+use Rattle.pr_lawful.proofs.HistoryLemmas.{history-state}
+use Rattle.pr_line.specs.declared.options.Options.{Options}
+use Rattle.pr_model.proofs.HistoryLemmas.{state_after-push}
+use Rattle.pr_model.specs.Calls.{Answer, answer_to}
+use Rattle.pr_model.specs.Handles.{handle_of, has_writer}
+use Rattle.pr_model.specs.Lawful.{IsLawful}
+use Rattle.pr_model.specs.Legal.{IsLegal, IsLegalEntry, after, state_after}
+use Rattle.pr_model.specs.State.{TracedProcess, TracedState, live_process}
+use Rattle.pr_model.specs.declared.calls.Call.{Call}
+use Rattle.pr_model.specs.declared.calls.Call.TheVariants as call
+use Rattle.pr_model.specs.declared.calls.File.{File}
+use Rattle.pr_model.specs.declared.calls.File.TheVariants as file
+use Rattle.pr_model.specs.declared.calls.Mode.TheVariants.{Read}
+use Rattle.pr_model.specs.declared.calls.Reply.{Reply}
+use Rattle.pr_model.specs.declared.events.Act.{Act}
+use Rattle.pr_model.specs.declared.events.Act.TheVariants as act
+use Rattle.pr_model.specs.declared.events.Actor.{Actor}
+use Rattle.pr_model.specs.declared.events.Actor.TheVariants.{Controller, Lwp, Clock}
+use Rattle.pr_model.specs.declared.events.Entry.{Entry}
+use Rattle.pr_model.specs.declared.events.Turned.{Turned}
+use Rattle.pr_model.specs.declared.handles.Held.{Held}
+use Rattle.pr_num.specs.Limits.{read_limit}
+use Rattle.pr_tool_laws.proofs.ProtocolLemmas.{fed-other, fed-own}
+use Rattle.pr_tool_laws.proofs.WholeLemmas.{front-legal}
+use Rattle.pr_tool_laws.specs.OwnCalls.{AreOwnCalls, IsOwnCall}
+use Rattle.pr_truss.specs.Asides.{marks_at}
+use Rattle.pr_truss.specs.FunctionCalls.{call_beside, function_call_of, next_function_call_of, patch_call}
+use Rattle.pr_truss.specs.FunctionFeeding.{fed_functions}
+use Rattle.pr_truss.specs.Marks.{first_function, has_functions}
+use Rattle.pr_truss.specs.NextCalls.{call_of, next_call_of, open_control, open_file, opening_call, read_record}
+use Rattle.pr_truss.specs.Processes.{last_handle}
+use Rattle.pr_truss.specs.Replies.{answer_of}
+use Rattle.pr_truss.specs.Trusses.{TrussState, first_truss, traced_at}
+use Rattle.pr_truss.specs.declared.asides.Aside.{Aside}
+use Rattle.pr_truss.specs.declared.asides.Aside.TheVariants.{Nothing, Reading, Planting, Patching}
+use Rattle.pr_truss.specs.declared.processes.Traced.{Traced}
+use Rattle.pr_truss.specs.declared.replies.Answer.TheVariants.{Accepted, Gone, Interrupted}
+use Rattle.pr_truss.specs.declared.stages.AfterClosing.TheVariants.{OpenNext, GoOn}
+use Rattle.pr_truss.specs.declared.stages.OpeningStep.{OpeningStep}
+use Rattle.pr_truss.specs.declared.stages.OpeningStep.TheVariants as opening
+use Rattle.pr_truss.specs.declared.stages.Stage.{Stage}
+use Rattle.pr_truss.specs.declared.stages.Stage.TheVariants.{Spawning, OpeningControl, Opening, Polling, ReadingStatus, ReadingText, Running, Closing, Finished}
+use Rattle.pr_truss_laws.proofs.OpensLemmas.{held_by}
+use Rattle.pr_truss_laws.proofs.OverLemmas.{stays-over}
+use Rattle.pr_world.specs.ControllerStates.{ControllerState, FnTruss}
+use Rattle.pr_world.specs.Controllers.{after_reply, call_by, next_call, with_fed}
+use Rattle.pr_world.specs.Protocol.{controllers_after, controllers_at}
+use Rattle.std.proofs.Common.{◌≡◌, ◌≢◌, ◌<◌, ◌++◌, ℕ, Bool, true, cond, is_some, Option, Some, None, List, [], ◌∷◌, All, length, refl, sym, subst, ap, ◌∙◌, inl, inr}
+use Rattle.std.proofs.lemmas.Bool.{cases_eq, eq-eqb, false≢true}
+use Rattle.std.proofs.lemmas.List.{append-nil, append_assoc}
+use Rattle.std.proofs.lemmas.List.Elements.{All-head}
+use Rattle.std.proofs.lemmas.Option.{none-some, same_Some, slice_get_within}
+use Rattle.std.specs.List.{slice_get}
+use Rattle.std.specs.Option.{option_and_then}
+
+-- Where truss closes the control file of a process that lives, no breakpoint stands there.
+
+-- ---- what a call is told
+
+-- no more is said of a process that is opened
+abbrev no_opens : OpeningStep → ℕ → Type 0
+no_opens step pid = Unit {0}
+
+abbrev no_leaves : ℕ → Type 0
+no_leaves pid = Unit {0}
+
+-- what is so of processes that have ended stays so
+module _ (Over Later : ℕ → Type 0) (t : TrussState)
+    (stays : (q : ℕ) → q < length t.traced → Over (traced_at t q).pid → Later (traced_at t q).pid) where
+  stage-stays : (stage : Stage) → IsWithin (length t.traced) stage → StageSo Over no_opens no_leaves t stage
+      → StageSo Later no_opens no_leaves t stage
+  stage-stays (Spawning program) w it = tt
+  stage-stays (OpeningControl pid) w it = tt
+  stage-stays (Opening q step) w it = tt
+  stage-stays Polling w it = tt
+  stage-stays (ReadingStatus q) w it = tt
+  stage-stays (ReadingText q l from len) w it = tt
+  stage-stays (Running q) w it = tt
+  stage-stays (Closing q OpenNext) w (inl over) = inl (stays q w over)
+  stage-stays (Closing q OpenNext) w (inr it) = inr it
+  stage-stays (Closing q GoOn) w over = stays q w over
+  stage-stays Finished w it = tt
+  stage-stays _ w it = absurd w
+
+-- truss is told of the process that it acts on that it is gone, where it has ended
+module _ (k : ℕ) (s : TracedState) (c : Call) (a : Answer) (given : answer_to s k c ≡ Some a) (t : TrussState)
+    (files : (q : ℕ) → q < length t.traced → Files k s (traced_at t q)) (known : Kept Knows t)
+    (at_stage : IsWithin (length t.traced) t.stage) (at_aside : IsBeside (length t.traced) t.aside)
+    (gone : answer_of a.reply ≡ Gone) where
+  abbrev Ended : ℕ → Type 0
+  Ended q = live_process s.system (traced_at t q).pid ≡ None
+
+  by-message : (q : ℕ) → q < length t.traced → (bytes : List ℕ)
+      → Some (call.Ctl (traced_at t q).control bytes) ≡ Some c → Ended q
+  by-message q within bytes is =
+      let f = files q within in
+      ctl-gone s k (traced_at t q).control _ f.control refl a bytes
+      (ap (answer_to s k) (same_Some _ c is) ∙ given) gone
+
+  by-wait : (q : ℕ) → q < length t.traced → (until : ℕ) (bytes : List ℕ)
+      → Some (call.CtlWait (traced_at t q).control until bytes) ≡ Some c → Ended q
+  by-wait q within until bytes is =
+      let f = files q within in
+      wait-gone s k (traced_at t q).control _ f.control refl a until bytes
+      (ap (answer_to s k) (same_Some _ c is) ∙ given) gone
+
+  by-open : (q : ℕ) (f : File) → is_read f ≡ true → Some (open_file (traced_at t q).pid f) ≡ Some c → Ended q
+  by-open q f reads is =
+      open-gone s k (traced_at t q).pid f reads a (ap (answer_to s k) (same_Some _ c is) ∙ given) gone
+
+  by-read : (q : ℕ) (o : Option ℕ) (m : ℕ) (f : File) (from len : ℕ) → o ≡ Some m
+      → handle_of s.opens k m ≡ Some (held_by k (traced_at t q).pid 0 f Read) → is_read f ≡ true
+      → Some (call.Read (number_of o) from len) ≡ Some c → Ended q
+  by-read q o m f from len is there reads same =
+      read-gone s k m (held_by k (traced_at t q).pid 0 f Read) there a from len f refl reads
+      (ap (λ (x : Option ℕ). answer_to s k (call.Read (number_of x) from len)) (sym is)
+      ∙ ap (answer_to s k) (same_Some _ c same) ∙ given) gone
+
+  lwps-read : (q : ℕ) → q < length t.traced → KnowsAll (traced_at t q)
+      → Some (read_record (traced_at t q).lstatus) ≡ Some c → Ended q
+  lwps-read q within all is =
+      let f = files q within in
+      let l = all.lstatus in
+      by-read q (traced_at t q).lstatus l.number file.Lstatus 0 read_limit l.is (f.lstatus l.number l.is) refl is
+
+  by-step : (q : ℕ) (step : OpeningStep) → q < length t.traced → Knows (opens step) (traced_at t q)
+      → function_call_of t (Opening q step) ≡ Some c → Ended q
+  unfolding function_call_of call_of opening_call
+  by-step q opening.OpenStatus within w is = by-open q file.Status refl is
+  by-step q opening.OpenLstatus within w is = by-open q file.Lstatus refl is
+  by-step q opening.OpenMemory within w is = by-open q file.Mem refl is
+  by-step q opening.ClearModes within w is = by-message q within _ is
+  by-step q opening.SetRelease within w is = by-message q within _ is
+  by-step q opening.Stop within w is = by-message q within _ is
+  by-step q (opening.AwaitStop until) within w is = by-wait q within until _ is
+  by-step q opening.ReadLwps within w is = lwps-read q within w is
+  by-step q opening.TraceSignals within w is = by-message q within _ is
+  by-step q opening.TraceFaults within w is = by-message q within _ is
+  by-step q opening.TraceEntries within w is = by-message q within _ is
+  by-step q opening.TraceExits within w is = by-message q within _ is
+  by-step q opening.Follow within w is = by-message q within _ is
+  by-step q opening.Start within w is = by-message q within _ is
+
+  by-status : (q : ℕ) → q < length t.traced → KnowsAll (traced_at t q)
+      → Some (read_record (traced_at t q).status) ≡ Some c → Ended q
+  by-status q within all is =
+      let f = files q within in
+      let x = all.status in
+      by-read q (traced_at t q).status x.number file.Status 0 read_limit x.is (f.status x.number x.is) refl is
+
+  by-text : (q from len : ℕ) → q < length t.traced → KnowsAll (traced_at t q)
+      → Some (call.Read (number_of (traced_at t q).memory) from len) ≡ Some c → Ended q
+  by-text q from len within all is =
+      let f = files q within in
+      let x = all.memory in
+      by-read q (traced_at t q).memory x.number file.Mem from len x.is (f.memory x.number x.is) refl is
+
+  by-stage : (stage : Stage) → AtStage Knows t.traced stage → function_call_of t stage ≡ Some c → (q : ℕ)
+      → called_at stage Nothing ≡ Some q → Ended q
+  unfolding function_call_of call_of
+  by-stage (Opening b step) w is q here =
+      subst Ended (same_Some b q here) (by-step b step w.0 w.1.1 is)
+  by-stage (ReadingStatus b) w is q here =
+      subst Ended (same_Some b q here) (by-status b w.0 (w.1.0 b w.0) is)
+  by-stage (ReadingText b l from len) w is q here =
+      subst Ended (same_Some b q here) (by-text b from len w.0 (w.1.0 b w.0) is)
+  by-stage (Running b) w is q here =
+      subst Ended (same_Some b q here) (by-message b w.0 _ is)
+  by-stage _ w is q here = absurd (none-some q here)
+
+  by-patch : (q : ℕ) → q < length t.traced → (plant lift : Option ℕ)
+      → Some (patch_call t.options (traced_at t q).control plant lift) ≡ Some c → Ended q
+  by-patch q within (Some function) lift is = by-message q within _ is
+  by-patch q within None (Some function) is = by-message q within _ is
+  by-patch q within None None is = by-message q within _ is
+
+  by-aside : (aside : Aside) → IsBeside (length t.traced) aside → call_beside t t.stage aside ≡ Some c → (q : ℕ)
+      → called_at t.stage aside ≡ Some q → Ended q
+  unfolding call_beside
+  by-aside Nothing w is q here = by-stage t.stage known.stage is q here
+  by-aside (Reading b function) w is q here = subst Ended (same_Some b q here) (by-message b w _ is)
+  by-aside (Planting b function) w is q here = subst Ended (same_Some b q here) (by-message b w _ is)
+  by-aside (Patching b plants lifts clear) w is q here =
+      subst Ended (same_Some b q here) (by-patch b w (first_function plants) (first_function lifts) is)
+  by-aside _ w is q here = absurd w
+
+  pub told-gone : has_functions t.options ≡ true → next_function_call_of t ≡ Some c → (q : ℕ)
+      → called_at t.stage t.aside ≡ Some q → Ended q
+  unfolding next_function_call_of
+  told-gone has next q here =
+      by-aside t.aside at_aside
+      (sym (ap (λ b. cond b (call_beside t t.stage t.aside) (next_call_of t)) has) ∙ next) q here
+
+-- the handle that is closed next is of the process
+last-pid : (k : ℕ) (s : TracedState) (v : Traced) → Files k s v → (held : Held)
+    → handle_of s.opens k (last_handle v) ≡ Some held → v.pid ≡ held.pid
+unfolding last_handle
+last-pid k s v f held there = find v.memory v.lstatus v.status refl refl refl there
+  where
+    find : (a b c : Option ℕ) → v.memory ≡ a → v.lstatus ≡ b → v.status ≡ c
+        → handle_of s.opens k (cond (is_some a) (number_of a)
+        (cond (is_some b) (number_of b) (cond (is_some c) (number_of c) v.control))) ≡ Some held
+        → v.pid ≡ held.pid
+    find (Some m) b c is_a is_b is_c at =
+        ap (λ (x : Held). x.pid) (same_Some _ held (sym (f.memory m is_a) ∙ at))
+    find None (Some m) c is_a is_b is_c at =
+        ap (λ (x : Held). x.pid) (same_Some _ held (sym (f.lstatus m is_b) ∙ at))
+    find None None (Some m) is_a is_b is_c at =
+        ap (λ (x : Held). x.pid) (same_Some _ held (sym (f.status m is_c) ∙ at))
+    find None None None is_a is_b is_c at =
+        ap (λ (x : Held). x.pid) (same_Some _ held (sym f.control ∙ at))
+
+-- ---- along the history
+
+module _ (n : ℕ) (who : Hiders) (controllers : List ControllerState) (first : TracedState) (h : List Entry)
+    (lawful : IsLawful first) (lending : AreLending first.system) (legal : IsLegal n first h)
+    (own_calls : AreOwnCalls controllers h)
+    (are : AreTrusses who controllers) (und : AreUndisturbed who controllers first h) where
+  abbrev its_kept : (front back : List Entry) → h ≡ front ++ back
+      → TidyKept n who controllers first h lawful lending legal own_calls are und front
+  its_kept = kept-at n who controllers first h lawful lending legal own_calls are und
+
+  abbrev here : List Entry → TracedState
+  here front = state_after first front
+
+  abbrev Over : List Entry → ℕ → Type 0
+  Over front pid = live_process (here front).system pid ≡ None
+
+  -- what is so of a truss after some entries
+  record ClosesAt (front : List Entry) (t : TrussState) : Type 0 where
+    closes : ClosesSo (Over front) no_opens no_leaves t
+    known : Kept Knows t
+
+  abbrev Closed : List Entry → Type 0
+  Closed front =
+      (k : ℕ) → hides who k ≡ true → (t : TrussState) → IsTrussAfter who controllers first h front k t
+      → ClosesAt front t
+
+  same-truss : (a b : TrussState) (o : Option ControllerState) → o ≡ Some (FnTruss a) → o ≡ Some (FnTruss b) → a ≡ b
+  same-truss a b o one two = let both : Some (FnTruss a) ≡ Some (FnTruss b) = sym one ∙ two in cc
+
+  module _ (front : List Entry) (e : Entry) (back : List Entry) (place : h ≡ front ++ e ∷ back)
+      (closed : Closed front) where
+    abbrev s : TracedState
+    s = here front
+
+    now-is : here (front ++ e ∷ []) ≡ after s e
+    now-is = state_after-push first front e
+
+    its-lawful : IsLawful s
+    its-lawful =
+        history-state n first front lawful
+        (front-legal n first front (e ∷ back) (subst (λ (es : List Entry). IsLegal n first es) place legal))
+
+    its-legal : IsLegalEntry n s e
+    its-legal = legal-here n first front e back (subst (λ (es : List Entry). IsLegal n first es) place legal)
+
+    module _ (k : ℕ) (hider : hides who k ≡ true) where
+      abbrev truss : TidyTruss n who controllers first h lawful lending legal own_calls are und front k
+      truss = let w = its_kept front (e ∷ back) place in w.trusses k hider
+
+      abbrev t : TrussState
+      t = let w = truss in w.t
+
+      files : HoldsItsFiles k t s
+      files = let w = truss in holds-of k s w.t w.files
+
+      before : ClosesAt front t
+      before = let w = truss in closed k hider w.t w.is
+
+      stays : (q : ℕ) → q < length t.traced → Over front (traced_at t q).pid
+          → Over (front ++ e ∷ []) (traced_at t q).pid
+      stays q within over =
+          let f = files in
+          ap (λ (x : TracedState). live_process x.system (traced_at t q).pid) now-is
+          ∙ stays-over n s e (traced_at t q).pid its-lawful its-legal
+          (control-made k (traced_at t q).pid (traced_at t q).control s its-lawful (f.control q within)) over
+
+      foreign-closes : (later : TrussState)
+          → slice_get (controllers_at controllers (front ++ e ∷ [])) k ≡ slice_get (controllers_at controllers front) k
+          → IsTrussAfter who controllers first h (front ++ e ∷ []) k later → ClosesAt (front ++ e ∷ []) later
+      foreign-closes later same is =
+          let w = truss in
+          let f = files in
+          let was = before in
+          let so = was.closes in
+          subst (ClosesAt (front ++ e ∷ [])) (same-truss t later _ w.is (sym same ∙ is))
+          (record {
+            closes = record {
+              stage = stage-stays (Over front) (Over (front ++ e ∷ [])) t stays t.stage f.stage so.stage;
+              looks = so.looks;
+            };
+            known = was.known;
+          })
+
+  turn-closed : (front back : List Entry) (pid id : ℕ) (turned : Turned)
+      → h ≡ front ++ record { actor = Lwp pid id; act = act.Turn turned } ∷ back → Closed front
+      → Closed (front ++ record { actor = Lwp pid id; act = act.Turn turned } ∷ [])
+  unfolding controllers_after
+  turn-closed front back pid id turned place closed k hider later is =
+      let e : Entry = record { actor = Lwp pid id; act = act.Turn turned } in
+      foreign-closes front e back place closed k hider later
+      (ap (λ (cs : List ControllerState). slice_get cs k) (controllers-push controllers front e)) is
+
+  tick-closed : (front back : List Entry) (moment : ℕ)
+      → h ≡ front ++ record { actor = Clock; act = act.Tick moment } ∷ back → Closed front
+      → Closed (front ++ record { actor = Clock; act = act.Tick moment } ∷ [])
+  unfolding controllers_after
+  tick-closed front back moment place closed k hider later is =
+      let e : Entry = record { actor = Clock; act = act.Tick moment } in
+      foreign-closes front e back place closed k hider later
+      (ap (λ (cs : List ControllerState). slice_get cs k) (controllers-push controllers front e)) is
+
+  module _ (front back : List Entry) (j : ℕ) (c : Call) (r : Reply) (place : h ≡ front ++ call_entry j c r ∷ back)
+      (closed : Closed front) where
+    abbrev e : Entry
+    e = call_entry j c r
+
+    abbrev u : TracedState
+    u = here front
+
+    called-controllers : controllers_at controllers (front ++ e ∷ []) ≡ with_fed j r (controllers_at controllers front)
+    unfolding controllers_after
+    called-controllers = controllers-push controllers front e
+
+    module _ (hider : hides who j ≡ true) where
+      abbrev truss-now : TidyTruss n who controllers first h lawful lending legal own_calls are und front j
+      truss-now = let w = its_kept front (e ∷ back) place in w.trusses j hider
+
+      abbrev tr : TrussState
+      tr = let w = truss-now in w.t
+
+      holds-now : HoldsItsFiles j tr u
+      holds-now = files front e back place closed j hider
+
+      was-so : ClosesAt front tr
+      was-so = before front e back place closed j hider
+
+      stays-now : (q : ℕ) → q < length tr.traced → Over front (traced_at tr q).pid
+          → Over (front ++ e ∷ []) (traced_at tr q).pid
+      stays-now = stays front e back place closed j hider
+
+      has : has_functions tr.options ≡ true
+      has =
+          let w = truss-now in
+          let names = w.sound.names in
+          let i = w.it in
+          ap has_functions names.options ∙ i.has
+
+      next : next_function_call_of tr ≡ Some c
+      unfolding IsOwnCall call_by next_call
+      next =
+          let w = truss-now in
+          sym (ap (option_and_then next_call) w.is)
+          ∙ own-here controllers front e back (subst (λ (es : List Entry). AreOwnCalls controllers es) place own_calls)
+          (slice_get_within (controllers_at controllers front) j (FnTruss tr) w.is)
+
+      own : IsOwnEntry j u e (record { call = c; reply = r })
+      own =
+          own-entry n j u e (record { call = c; reply = r }) (its-legal front e back place closed)
+          (ap (λ b. cond b (Some (record { call = c; reply = r })) None) (eq-eqb j j refl))
+
+      calm : answer_of r ≢ Interrupted
+      calm = calm-reply r (und.unbroken front back j c r place hider)
+
+      its-files : (q : ℕ) → q < length tr.traced → Files j u (traced_at tr q)
+      its-files q within = let w = truss-now in let f = w.files in f.each q within
+
+      gone : (q : ℕ) → called_at tr.stage tr.aside ≡ Some q → answer_of r ≡ Gone
+          → (live_process u.system (traced_at tr q).pid ≡ None)
+      gone q here told =
+          let was = was-so in
+          told-gone j u c own.answer own.is tr its-files was.known holds-now.stage holds-now.beside
+          (ap answer_of own.replied ∙ told) has next q here
+
+      -- a process that truss is told of is one that it traces
+      called-within : (q : ℕ) → called_at tr.stage tr.aside ≡ Some q → q < length tr.traced
+      called-within q here = by-aside tr.aside holds-now.beside here
+        where
+          by-stage : (stage : Stage) → IsWithin (length tr.traced) stage → called_at stage Nothing ≡ Some q
+              → q < length tr.traced
+          by-stage (Opening b step) w it = subst (λ i. i < length tr.traced) (same_Some b q it) w
+          by-stage (ReadingStatus b) w it = subst (λ i. i < length tr.traced) (same_Some b q it) w
+          by-stage (ReadingText b l from len) w it = subst (λ i. i < length tr.traced) (same_Some b q it) w
+          by-stage (Running b) w it = subst (λ i. i < length tr.traced) (same_Some b q it) w
+          by-stage _ w it = absurd (none-some q it)
+
+          by-aside : (aside : Aside) → IsBeside (length tr.traced) aside → called_at tr.stage aside ≡ Some q
+              → q < length tr.traced
+          by-aside Nothing w it = by-stage tr.stage holds-now.stage it
+          by-aside (Reading b function) w it = subst (λ i. i < length tr.traced) (same_Some b q it) w
+          by-aside (Planting b function) w it = subst (λ i. i < length tr.traced) (same_Some b q it) w
+          by-aside (Patching b plants lifts clear) w it = subst (λ i. i < length tr.traced) (same_Some b q it) w
+          by-aside _ w it = absurd w
+
+      stage-now : StageSo (Over (front ++ e ∷ [])) no_opens no_leaves tr tr.stage
+      stage-now =
+          let was = was-so in
+          let so = was.closes in
+          stage-stays (Over front) (Over (front ++ e ∷ [])) tr stays-now tr.stage holds-now.stage so.stage
+
+      called-so : CalledSo (Over (front ++ e ∷ [])) no_opens no_leaves tr r
+      called-so = record {
+        stays = λ why. stage-now;
+        closes = λ q following v is left.
+            subst (StageSo (Over (front ++ e ∷ [])) no_opens no_leaves tr) is stage-now;
+        gone = λ q here told. stays-now q (called-within q here) (gone q here told);
+        begins = λ pid is idle accepted. tt;
+        steps = λ q step following is idle accepted after. tt;
+      }
+
+      fresh : (pid : ℕ) → tr.stage ≡ OpeningControl pid → tr.aside ≡ Nothing → answer_of r ≡ Accepted
+          → Each (λ (v : Traced). v.pid ≢ pid) tr.traced
+      unfolding next_function_call_of call_beside function_call_of call_of
+      fresh pid is idle accepted q within same =
+          let opening_is : c ≡ open_control pid =
+          same_Some c (open_control pid)
+          (sym next
+          ∙ ap (λ b. cond b (call_beside tr tr.stage tr.aside) (next_call_of tr)) has
+          ∙ ap (call_beside tr tr.stage) idle ∙ ap (function_call_of tr) is) in
+          open-finds u j pid own.answer (ap (answer_to u j) (sym opening_is) ∙ own.is)
+          (ap answer_of own.replied ∙ accepted)
+          (subst (λ i. has_writer i u.opens ≡ true) same
+          (handle-writer u.opens (traced_at tr q).control _ (let l = its-lawful front e back place closed in l.fitting)
+          (handle-at u.opens j (traced_at tr q).control _ (holds-now.control q within)) refl))
+
+      own-closes : ClosesAt (front ++ e ∷ []) (fed_functions tr r)
+      own-closes =
+          let was = was-so in
+          record {
+            closes = fed-closes (Over (front ++ e ∷ [])) no_opens no_leaves (λ step pid it. tt) tr r holds-now.off
+                holds-now.follow holds-now.stage holds-now.beside calm (let so = was.closes in so.looks) called-so has;
+            known = known-fed tr r calm was.known fresh has;
+          }
+
+      own-later : (later : TrussState) → IsTrussAfter who controllers first h (front ++ e ∷ []) j later
+          → ClosesAt (front ++ e ∷ []) later
+      unfolding after_reply
+      own-later later is =
+          let w = truss-now in
+          subst (ClosesAt (front ++ e ∷ []))
+          (same-truss (fed_functions tr r) later _
+          (ap (λ (cs : List ControllerState). slice_get cs j) called-controllers
+          ∙ fed-own (controllers_at controllers front) j r (FnTruss tr) w.is) is)
+          own-closes
+
+    called-closed : Closed (front ++ e ∷ [])
+    called-closed k hider later is = elim (cases_eq j k) [
+      | inl same ↦
+          subst (λ i. IsTrussAfter who controllers first h (front ++ e ∷ []) i later → ClosesAt (front ++ e ∷ []) later)
+          same (λ at. own-later (subst (λ i. hides who i ≡ true) (sym same) hider) later at) is
+      | inr apart ↦
+          foreign-closes front e back place closed k hider later
+          (ap (λ (cs : List ControllerState). slice_get cs k) called-controllers
+          ∙ fed-other (controllers_at controllers front) j k r apart) is
+    ]
+
+  entry-closed : (front : List Entry) (actor : Actor) (did : Act) (back : List Entry)
+      → h ≡ front ++ record { actor = actor; act = did } ∷ back
+      → IsLegalEntry n (here front) (record { actor = actor; act = did })
+      → Closed front → Closed (front ++ record { actor = actor; act = did } ∷ [])
+  unfolding IsLegalEntry
+  entry-closed front (Controller j) (act.Call c r) back place it closed = called-closed front back j c r place closed
+  entry-closed front (Lwp pid id) (act.Turn turned) back place it closed =
+      turn-closed front back pid id turned place closed
+  entry-closed front Clock (act.Tick moment) back place it closed = tick-closed front back moment place closed
+  entry-closed front _ _ back place it closed = absurd it
+
+  walk : (middle front back : List Entry) → h ≡ front ++ (middle ++ back) → Closed front → Closed (front ++ middle)
+  walk [] front back place closed = subst Closed (sym (append-nil front)) closed
+  walk (e ∷ middle) front back place closed =
+      subst Closed (append_assoc front (e ∷ []) middle)
+      (walk middle (front ++ e ∷ []) back (place ∙ sym (append_assoc front (e ∷ []) (middle ++ back)))
+      (entry-closed front e.actor e.act (middle ++ back) place
+      (legal-here n first front e (middle ++ back) (subst (λ (es : List Entry). IsLegal n first es) place legal))
+      closed))
+
+  at-first : Closed []
+  at-first k hider t is =
+      let i = are.trusses k hider in
+      subst (ClosesAt []) (same-truss (first_truss i.options) t _ i.starts is)
+      (record {
+        closes = first-closes (Over []) no_opens no_leaves i.options;
+        known = known-first i.options i.follows_none;
+      })
+
+  closed-at : (front back : List Entry) → h ≡ front ++ back → Closed front
+  closed-at front back place = walk front [] back place at-first
+
+  -- ---- a close
+
+  -- where no function is marked, no breakpoint stands
+  none-stand : (o : Options) (set : List Bool) (ps : List Patch) → IsNone set → All (IsMarked o set) ps → ps ≡ []
+  none-stand o set [] none all = refl
+  none-stand o set (p ∷ ps) none all =
+      let m = All-head (IsMarked o set) p ps all in
+      absurd (false≢true (sym (none m.function) ∙ m.marked))
+
+  module _ (front back : List Entry) (j number : ℕ) (r : Reply)
+      (place : h ≡ front ++ call_entry j (call.Close number) r ∷ back) (hider : hides who j ≡ true) (held : Held)
+      (there : handle_of (here front).opens j number ≡ Some held) (p : TracedProcess)
+      (live : live_process (here front).system held.pid ≡ Some p) where
+    closed-here : Closed front
+    closed-here = closed-at front (call_entry j (call.Close number) r ∷ back) place
+
+    abbrev its : TidyTruss n who controllers first h lawful lending legal own_calls are und front j
+    its = truss-now front back j (call.Close number) r place closed-here hider
+
+    abbrev tc : TrussState
+    tc = let w = its in w.t
+
+    abbrev patches : List Patch
+    patches = (covers_at who first front held.pid).patches
+
+    so-here : ClosesAt front tc
+    so-here = was-so front back j (call.Close number) r place closed-here hider
+
+    holds-here : HoldsItsFiles j tc (here front)
+    holds-here = holds-now front back j (call.Close number) r place closed-here hider
+
+    -- it closes a file of this process next, where no more is to be lifted
+    closes-own : (q : ℕ) → q < length tc.traced → last_handle (traced_at tc q) ≡ number
+        → StageSo (Over front) no_opens no_leaves tc (Closing q OpenNext) → tc.aside ≡ Nothing → patches ≡ []
+    closes-own q within last so idle = by so
+      where
+        same : (traced_at tc q).pid ≡ held.pid
+        same =
+            let w = its in
+            let f = w.files in
+            last-pid j (here front) (traced_at tc q) (f.each q within) held
+            (ap (handle_of (here front).opens j) last ∙ there)
+
+        by : StageSo (Over front) no_opens no_leaves tc (Closing q OpenNext) → patches ≡ []
+        by (inl over) =
+            absurd (none-some p (sym (ap (λ i. live_process (here front).system i) (sym same) ∙ over) ∙ live))
+        by (inr it) =
+            let none : IsNone (marks_at tc q).planted =
+            subst (λ (a : Aside). Lifts (Over front) no_opens no_leaves q a (marks_at tc q).planted) idle it.1 in
+            let w = its in
+            let stand = w.stand q within (p, ap (λ i. live_process (here front).system i) same ∙ live) in
+            ap (λ i. (covers_at who first front i).patches) (sym same)
+            ∙ none-stand tc.options (marks_at tc q).planted _ none stand.all
+
+    never : {A : Type 0} (d : Call) → ((m : ℕ) → d ≢ call.Close m) → Some d ≡ Some (call.Close number) → A
+    never d other is = absurd (other number (same_Some d (call.Close number) is))
+
+    closing : (q : ℕ) → Some (call.Close (last_handle (traced_at tc q))) ≡ Some (call.Close number)
+        → last_handle (traced_at tc q) ≡ number
+    closing q is = let same = same_Some _ _ is in close-number same
+      where
+        close-number : {a b : ℕ} → call.Close a ≡ call.Close b → a ≡ b
+        close-number e = cc
+
+    opening-never : (q : ℕ) (step : OpeningStep) → function_call_of tc (Opening q step) ≡ Some (call.Close number)
+        → patches ≡ []
+    unfolding function_call_of call_of opening_call
+    opening-never q opening.OpenStatus is = never _ (λ m e. cc) is
+    opening-never q opening.OpenLstatus is = never _ (λ m e. cc) is
+    opening-never q opening.OpenMemory is = never _ (λ m e. cc) is
+    opening-never q opening.ClearModes is = never _ (λ m e. cc) is
+    opening-never q opening.SetRelease is = never _ (λ m e. cc) is
+    opening-never q opening.Stop is = never _ (λ m e. cc) is
+    opening-never q (opening.AwaitStop until) is = never _ (λ m e. cc) is
+    opening-never q opening.ReadLwps is = never _ (λ m e. cc) is
+    opening-never q opening.TraceSignals is = never _ (λ m e. cc) is
+    opening-never q opening.TraceFaults is = never _ (λ m e. cc) is
+    opening-never q opening.TraceEntries is = never _ (λ m e. cc) is
+    opening-never q opening.TraceExits is = never _ (λ m e. cc) is
+    opening-never q opening.Follow is = never _ (λ m e. cc) is
+    opening-never q opening.Start is = never _ (λ m e. cc) is
+
+    closing-stage : tc.aside ≡ Nothing → (stage : Stage) → IsWithin (length tc.traced) stage
+        → StageSo (Over front) no_opens no_leaves tc stage → function_call_of tc stage ≡ Some (call.Close number)
+        → patches ≡ []
+    unfolding function_call_of call_of
+    closing-stage idle (Spawning program) w so is = never _ (λ m e. cc) is
+    closing-stage idle (OpeningControl pid) w so is = never _ (λ m e. cc) is
+    closing-stage idle (Opening q step) w so is = opening-never q step is
+    closing-stage idle Polling w so is = never _ (λ m e. cc) is
+    closing-stage idle (ReadingStatus q) w so is = never _ (λ m e. cc) is
+    closing-stage idle (ReadingText q l from len) w so is = never _ (λ m e. cc) is
+    closing-stage idle (Running q) w so is = never _ (λ m e. cc) is
+    closing-stage idle (Closing q OpenNext) w so is = closes-own q w (closing q is) so idle
+    closing-stage idle (Closing q GoOn) w so is = closes-own q w (closing q is) (inl so) idle
+    closing-stage idle Finished w so is = absurd (none-some _ is)
+    closing-stage idle _ w so is = absurd w
+
+    closing-patch : (q : ℕ) (plant lift : Option ℕ)
+        → Some (patch_call tc.options (traced_at tc q).control plant lift) ≡ Some (call.Close number) → patches ≡ []
+    closing-patch q (Some function) lift is = never _ (λ m e. cc) is
+    closing-patch q None (Some function) is = never _ (λ m e. cc) is
+    closing-patch q None None is = never _ (λ m e. cc) is
+
+    closing-aside : (aside : Aside) → tc.aside ≡ aside → IsBeside (length tc.traced) aside
+        → call_beside tc tc.stage aside ≡ Some (call.Close number) → patches ≡ []
+    unfolding call_beside
+    closing-aside Nothing idle w is =
+        let a = so-here in
+        let so = a.closes in
+        let f = holds-here in
+        closing-stage idle tc.stage f.stage so.stage is
+    closing-aside (Reading q function) at w is = never _ (λ m e. cc) is
+    closing-aside (Planting q function) at w is = never _ (λ m e. cc) is
+    closing-aside (Patching q plants lifts clear) at w is = closing-patch q (first_function plants) (first_function lifts) is
+    closing-aside _ at w is = absurd w
+
+    pub closes-bare : patches ≡ []
+    unfolding next_function_call_of
+    closes-bare =
+        let f = holds-here in
+        closing-aside tc.aside refl f.beside
+        (sym (ap (λ b. cond b (call_beside tc tc.stage tc.aside) (next_call_of tc))
+        (has front back j (call.Close number) r place closed-here hider))
+        ∙ next front back j (call.Close number) r place closed-here hider)
+
+  pub leaves-none : LeavesNoBreakpoint who first h
+  leaves-none = record {
+    bare = λ front back k number r held p place hider there live.
+        closes-bare front back k number r place hider held there p live;
+    no_agent = λ front back pid place. let w = its_kept front back place in w.no_agent pid;
+  }
+
+pub ruleset leaves = (leaves-none)

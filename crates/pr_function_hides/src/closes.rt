@@ -1,0 +1,23 @@
+ghost use Rattle.std.specs.Prelude.{ℕ, List};
+ghost use Rattle.pr_function_hides.specs.FunctionHiders.{AreTrusses};
+ghost use Rattle.pr_function_hides.specs.TidyCloses.{LeavesNoBreakpoint};
+ghost use Rattle.pr_function_hides.specs.TidyWrites.{AreUndisturbed};
+ghost use Rattle.pr_hidden.specs.Hiders.{Hiders};
+ghost use Rattle.pr_lending.specs.Lending.{AreLending};
+ghost use Rattle.pr_model.specs.Lawful.{IsLawful};
+ghost use Rattle.pr_model.specs.Legal.{IsLegal};
+ghost use Rattle.pr_model.specs.State.{TracedState};
+ghost use Rattle.pr_model.specs.declared.events.Entry.{Entry};
+ghost use Rattle.pr_tool_laws.specs.OwnCalls.{AreOwnCalls};
+ghost use Rattle.pr_world.specs.ControllerStates.{ControllerState};
+
+/// In a legal history from a lawful state, in which these controllers make their own calls, where those who hide are each
+/// a truss that shows calls of functions and that is undisturbed: wherever such a truss closes a file of a process that
+/// lives, no breakpoint stands there. It closes one that lives only where its opening was refused, and lifts first what
+/// it had planted; any other has ended.
+#[tactic(auto, using(crate::proofs::ClosingLaw::leaves))]
+pub fn truss_leaves_no_breakpoint()
+    ensures { (n : ℕ) (who : Hiders) (controllers : List ControllerState) (s : TracedState) (h : List Entry)
+        → IsLawful s → AreLending s.system → IsLegal n s h → AreOwnCalls controllers h → AreTrusses who controllers
+        → AreUndisturbed who controllers s h → LeavesNoBreakpoint who s h }
+{}
