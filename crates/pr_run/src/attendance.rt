@@ -2,10 +2,9 @@
 use std::sync::atomic::{AtomicU64, Ordering};
 use std::thread;
 
-/// How often a worker looks whether all have come: for a second or two, or longer where the processors have much to do. In
-/// that time a thread begins also on a machine that has much else to run: a run that went on one thread for nothing
-/// would not end at a gate at which its workers wait for one another.
-const LOOKS: u64 = 4_000_000;
+/// How often a worker looks whether all have come: for some hundredths of a second, or longer where the processors have
+/// much to do. In that time a thread begins.
+const LOOKS: u64 = 100_000;
 
 /// What stands in the place of a count where one has looked so often.
 const GIVEN_UP: u64 = 1 << 63;
