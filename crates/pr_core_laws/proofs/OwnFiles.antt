@@ -239,17 +239,23 @@ module _ (k : ℕ) (s : TracedState) (c : Call) (a : Answer) (given : answer_to 
   accepted-later stage.OpenCtl fresh same right =
       opened-later _ 0 _ _ _ same (omega arith) fresh (granted-at stage.OpenCtl a.reply refl right) refl (λ free. free)
   accepted-later stage.OpenStatus fresh same right =
-      opened-later _ 1 _ _ _ same (omega arith) fresh (granted-at stage.OpenStatus a.reply refl right) refl (λ free. free)
+      opened-later _ 1 _ _ _ same (omega arith) fresh (granted-at stage.OpenStatus a.reply refl right) refl
+      (λ free. free)
   accepted-later (stage.OpenPart part.Psinfo) fresh same right =
-      opened-later _ 2 _ _ _ same (omega arith) fresh (granted-at (stage.OpenPart part.Psinfo) a.reply refl right) refl (λ free. free)
+      opened-later _ 2 _ _ _ same (omega arith) fresh (granted-at (stage.OpenPart part.Psinfo) a.reply refl right) refl
+      (λ free. free)
   accepted-later (stage.OpenPart part.Lstatus) fresh same right =
-      opened-later _ 3 _ _ _ same (omega arith) fresh (granted-at (stage.OpenPart part.Lstatus) a.reply refl right) refl (λ free. free)
+      opened-later _ 3 _ _ _ same (omega arith) fresh (granted-at (stage.OpenPart part.Lstatus) a.reply refl right) refl
+      (λ free. free)
   accepted-later (stage.OpenPart part.Sigact) fresh same right =
-      opened-later _ 4 _ _ _ same (omega arith) fresh (granted-at (stage.OpenPart part.Sigact) a.reply refl right) refl (λ free. free)
+      opened-later _ 4 _ _ _ same (omega arith) fresh (granted-at (stage.OpenPart part.Sigact) a.reply refl right) refl
+      (λ free. free)
   accepted-later (stage.OpenPart part.Map) fresh same right =
-      opened-later _ 5 _ _ _ same (omega arith) fresh (granted-at (stage.OpenPart part.Map) a.reply refl right) refl (λ free. free)
+      opened-later _ 5 _ _ _ same (omega arith) fresh (granted-at (stage.OpenPart part.Map) a.reply refl right) refl
+      (λ free. free)
   accepted-later (stage.OpenPart part.Fds) fresh same right =
-      opened-later _ 6 _ _ _ same (omega arith) fresh (granted-at (stage.OpenPart part.Fds) a.reply refl right) refl (λ free. free)
+      opened-later _ 6 _ _ _ same (omega arith) fresh (granted-at (stage.OpenPart part.Fds) a.reply refl right) refl
+      (λ free. free)
   accepted-later stage.OpenMemory fresh same right =
       opened-later _ 7 _ _ _ same (omega arith) fresh (granted-at stage.OpenMemory a.reply refl right) refl (λ free. tt)
   accepted-later stage.ReadFirst fresh same right = still-later stage.ReadFirst refl (plain-known _ same refl)

@@ -28,8 +28,8 @@ pub record ShowsCore (pid : ℕ) (p : TracedProcess) (first : TracedState) (befo
 
 -- This text is that of the core of a process in a state of the history. gcore has waited for the process to stop, and
 -- reads its status, with which these entries begin, and later its descriptors: it is the state that this last read
--- finds. The process has lent its memory to nobody. The text is so where the process has no agent and is spared from the
--- one read to the other. Without that a core may still come, of which nothing is said.
+-- finds. The process has lent its memory to nobody. The text is so where the process has no agent and is spared from
+-- the one read to the other. Without that a core may still come, of which nothing is said.
 pub record ShowsOneCore (k pid : ℕ) (first : TracedState) (h : List Entry) (text : List ℕ) : Type 0 where
   pub before : List Entry
   pub look : Call

@@ -19,8 +19,8 @@ ghost use Rattle.pr_world.specs.ControllerStates.{ControllerState};
 ghost use Rattle.pr_world.specs.Protocol.{controllers_at};
 
 /// In a legal history where these controllers make their own calls, from a lawful state in range, and in which
-/// controllers write bytes, a gcore that has finished, and was not refused, has run its process again by PCRUN, and done
-/// nothing but close since then, unless every lwp of it stood when gcore came.
+/// controllers write bytes, a gcore that has finished, and was not refused, has run its process again by PCRUN, and
+/// done nothing but close since then, unless every lwp of it stood when gcore came.
 pub fn gcore_runs_its_process_again()
     ensures { (controllers : List ControllerState) (n k pid : ℕ) (s : TracedState) (h : List Entry) (g : GcoreState)
         → IsLawful s → IsInRange s.system → HasBytes h

@@ -19,9 +19,9 @@ ghost use Rattle.pr_tool_laws.specs.OwnCalls.{AreOwnCalls};
 
 /// In a legal history where these controllers make their own calls, from a lawful state in range or from a first state,
 /// and in which controllers write bytes, a gcore that has finished, and was not refused, prints the core of one state,
-/// although it reads file by file and piece by piece: of the one that it finds when it reads the descriptors. This is so
-/// where the process has no agent, and others spare it from gcore's read of its status on: its parent does not end, and
-/// no SIGCONT or stop signal is sent to it.
+/// although it reads file by file and piece by piece: of the one that it finds when it reads the descriptors. This is
+/// so where the process has no agent, and others spare it from gcore's read of its status on: its parent does not end,
+/// and no SIGCONT or stop signal is sent to it.
 pub fn gcore_shows_one_state()
     ensures later { (controllers : List ControllerState) (n k : ℕ) (pid : ℕ) (s : TracedState) (h : List Entry)
         (g : GcoreState)

@@ -32,7 +32,7 @@ use Rattle.pr_world.specs.Runs.{IsTold, after_moves, after_next}
 use Rattle.pr_world.specs.Worlds.{Pick, WorldState, can_act, first_lwp, first_scheduled, in_rounds, next_in_round}
 use Rattle.pr_world.specs.Worlds.{next_in_rounds, next_pick, with_pick}
 use Rattle.pr_drive.specs.Alone.{IsPartOfRun, OnlyLetOthers, lets_others}
-use Rattle.pr_drive.specs.Exchanges.{Answers, GoesFor, GoesUntil, MadeAll, MadeFewer, StopsReady}
+use Rattle.pr_drive.specs.Exchanges.{Answers, GoesFor, GoesUntil, MadeAll, MadeFewer, StopsAtRest, StopsReady}
 use Rattle.pr_tool_laws.specs.OwnCalls.{IsOwnCall}
 use Rattle.pr_drive.specs.Going.{IsMove, Moved, MovesIf, SeatsState, Stayed, after_entry, can_move}
 use Rattle.pr_drive.specs.Going.{has_place, outside_of, world_of}
@@ -376,9 +376,9 @@ ran-until s r q ran moves = of moves.over
     there : Ran s (after_steps moves.entries r)
     there = ran-on s moves.entries r ran moves.steps
 
-    of : StopsReady moves.entries r q ⊎ IsAtRest 0 (after_steps moves.entries r) q → Ran s q
+    of : StopsReady moves.entries r q ⊎ StopsAtRest moves.entries r q → Ran s q
     of (inl stops) = ran-same s (after_steps moves.entries r) q there stops.is
-    of (inr rest) = ran-rest s (after_steps moves.entries r) q there rest
+    of (inr stops) = ran-rest s (after_steps moves.entries r) q there stops.rests
 
 -- ---- lines
 

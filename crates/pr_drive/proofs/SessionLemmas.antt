@@ -425,17 +425,32 @@ until-ready polls ready a b all is holds far = record {
       (record { ready = has-ready a.seats b.seats (unready-open a b far) polls all (sym is ∙ holds); is = far.is });
 }
 
-pub until-rest : (a b c : RoundsState) → UnreadySoFar a b → IsAtRest 0 b c → GoesUntil a c
-until-rest a b c far rest = record {
+-- where nobody could move and none was ready; where there is no place
+stopped-at : (a b c : RoundsState) (far : UnreadySoFar a b) → IsAtRest 0 b c → (has_place b.seats ≡ false)
+    ⊎ HasNoneReady b.seats → GoesUntil a c
+stopped-at a b c far rest none = record {
   entries = far.entries;
   steps = far.steps;
   before = far.before;
-  over = inr (subst (λ (r : RoundsState). IsAtRest 0 r c) far.is rest);
+  over = inr
+      (record {
+        rests = subst (λ (r : RoundsState). IsAtRest 0 r c) far.is rest;
+        unready = subst (λ (s : SeatsState). (has_place s ≡ false) ⊎ HasNoneReady s) (sym rest.same) none;
+      });
 }
+
+pub until-rest : (polls : List Call) (ready : Bool) (a b c : RoundsState) → polls ≡ polls_of a.seats
+    → ready ≡ list_any (λ call. is_answered_now call b.seats) polls → ready ≡ false
+    → UnreadySoFar a b → IsAtRest 0 b c → GoesUntil a c
+until-rest polls ready a b c all is fails far rest = stopped-at a b c far rest (of (has_place b.seats) refl)
+  where
+    of : (place : Bool) → has_place b.seats ≡ place → (has_place b.seats ≡ false) ⊎ HasNoneReady b.seats
+    of true place = inr (none-ready a.seats b.seats (unready-open a b far) polls all (sym is ∙ fails) place)
+    of false full = inl full
 
 pub until-full : (a b : RoundsState) → UnreadySoFar a b → b.seats.kernel.places ≤ length b.seats.kernel.history
     → GoesUntil a b
-until-full a b far full = until-rest a b b far (full-rest 0 b full)
+until-full a b far full = stopped-at a b b far (full-rest 0 b full) (inl (le-ltb (length b.seats.kernel.history) b.seats.kernel.places full))
 
 pub unready-places : (a b : RoundsState) → UnreadySoFar a b → b.seats.kernel.places ≡ a.seats.kernel.places
 unready-places a b far =

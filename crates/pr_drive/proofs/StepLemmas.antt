@@ -9,9 +9,9 @@ use Rattle.pr_model.specs.declared.events.Entry.{Entry}
 use Rattle.pr_num.proofs.ListLemmas.{drop-at}
 use Rattle.pr_scen.specs.Scenarios.{Scenario}
 use Rattle.pr_world.specs.Controllers.{wait_end_of}
-use Rattle.pr_drive.specs.Exchanges.{GoesFor, GoesUntil, MadeAll, MadeFewer, StopsReady, WaitsFor}
+use Rattle.pr_drive.specs.Exchanges.{GoesFor, GoesUntil, MadeAll, MadeFewer, StopsAtRest, StopsReady, WaitsFor}
 use Rattle.pr_drive.specs.Going.{MovesIf, SeatsState, after_entries}
-use Rattle.pr_drive.specs.Rounds.{AreSteps, AreStepsOn, FinishesRound, FollowsSchedule, GoesRound, IsAtRest, IsStep}
+use Rattle.pr_drive.specs.Rounds.{AreSteps, AreStepsOn, FinishesRound, FollowsSchedule, GoesRound, IsStep}
 use Rattle.pr_drive.specs.Rounds.{IsStepOn, MovesOn, Rests, RoundsState, Steps, after_step, after_steps}
 use Rattle.pr_drive.specs.Rounds.{first_controllers}
 use Rattle.pr_drive.specs.Served.{Begins}
@@ -207,10 +207,9 @@ for-seats times a b moves = of moves.end
 pub until-seats : (a b : RoundsState) (moves : GoesUntil a b) → b.seats ≡ (after_steps moves.entries a).seats
 until-seats a b moves = of moves.over
   where
-    of : StopsReady moves.entries a b ⊎ IsAtRest 0 (after_steps moves.entries a) b
-        → b.seats ≡ (after_steps moves.entries a).seats
+    of : StopsReady moves.entries a b ⊎ StopsAtRest moves.entries a b → b.seats ≡ (after_steps moves.entries a).seats
     of (inl stops) = ap (λ (r : RoundsState). r.seats) stops.is
-    of (inr rests) = rests.same
+    of (inr stops) = stops.rests.same
 
 -- ---- a schedule
 

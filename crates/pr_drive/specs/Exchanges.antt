@@ -218,12 +218,18 @@ pub record StopsReady (entries : List Entry) (old new : RoundsState) : Type 0 wh
   pub ready : HasReady new.seats
   pub is : new ≡ after_steps entries old
 
--- The others moved until a file of the outside was ready, or nobody could move any more.
+-- nobody can move any more, and none is ready, or there is no place
+pub record StopsAtRest (entries : List Entry) (old new : RoundsState) : Type 0 where
+  pub rests : IsAtRest 0 (after_steps entries old) new
+  pub unready : (has_place new.seats ≡ false) ⊎ HasNoneReady new.seats
+
+-- The others moved until a file of the outside was ready, or else nobody could move any more. Where a file is ready the
+-- round stays where it is, also if nobody can move.
 pub record GoesUntil (old new : RoundsState) : Type 0 where
   pub entries : List Entry
   pub steps : AreStepsOn 0 old entries
   pub before : NoneReadyBefore old entries
-  pub over : StopsReady entries old new ⊎ IsAtRest 0 (after_steps entries old) new
+  pub over : StopsReady entries old new ⊎ StopsAtRest entries old new
 
 pub record RunsOthers (old new : RoundsState) (text : List ℕ) : Type 0 where
   pub moves : GoesUntil old new

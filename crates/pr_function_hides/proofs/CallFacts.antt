@@ -51,8 +51,9 @@ not-accepted _ same = cc
 
 -- a write to a process is answered by how much was used, or refused
 pub shape-of : (s : TracedState) (k number : ℕ) (h : Held) (there : handle_of s.opens k number ≡ Some h)
-    (control : h.file ≡ file.Ctl) (bytes : List ℕ) (at size len : ℕ) → first_message bytes ≡ Ok (message.Write at size, len)
-    → (a : Answer) → answer_to s k (call.Ctl number bytes) ≡ Some a
+    (control : h.file ≡ file.Ctl) (bytes : List ℕ) (at size len : ℕ)
+    → first_message bytes ≡ Ok (message.Write at size, len) → (a : Answer)
+    → answer_to s k (call.Ctl number bytes) ≡ Some a
     → ((used : ℕ) × (a.reply ≡ reply.Used used))
     ⊎ ((answer_of a.reply ≢ Accepted) × ((used : ℕ) → a.reply ≢ reply.Used used))
 unfolding message_answer write_answer
@@ -91,7 +92,8 @@ shape-of s k number h there control bytes at size len read a given =
     by-process : (o : Option TracedProcess) → Shape-of (controlled s (targeted_answer s.system h o bytes)).reply
     by-process None = fails Noent
     by-process (Some p) =
-        subst (λ (x : Result (Message × ℕ) MsgFault). Shape-of (controlled s (decoded_answer s.system h p bytes x)).reply)
+        subst
+        (λ (x : Result (Message × ℕ) MsgFault). Shape-of (controlled s (decoded_answer s.system h p bytes x)).reply)
         (sym read) (zeroth p (h.pid == 0))
 
 -- a close of what is open is done

@@ -1,11 +1,13 @@
 use Rattle.pr_lending.specs.Lending.{AreLending}
 use Rattle.pr_model.specs.Replies.{number_of}
+use Rattle.pr_function_hides.proofs.ClosingCalls.{IsClosing, is-closing, last-pid}
 use Rattle.pr_function_hides.proofs.ClosingWalk.{CalledSo, ClosesSo, Lifts, StageSo, called_at, fed-closes, first-closes}
 use Rattle.pr_function_hides.proofs.GoneCalls.{ctl-gone, open-gone, wait-gone}
 use Rattle.pr_function_hides.proofs.KnownFiles.{Knows, KnowsAll, known-fed, known-first}
-use Rattle.pr_function_hides.proofs.FunctionSets.{IsNone}
+use Rattle.pr_function_hides.specs.Copying.{IsEmpty}
 use Rattle.pr_function_hides.proofs.OwnFiles.{HoldsItsFiles, IsBeside, IsWithin}
-use Rattle.pr_function_hides.proofs.TidyLaw.{Kept as TidyKept, Truss as TidyTruss, kept-at}
+use Rattle.pr_function_hides.proofs.TidyKept.{Kept as TidyKept, Truss as TidyTruss}
+use Rattle.pr_function_hides.proofs.TidyLaw.{kept-at}
 use Rattle.pr_function_hides.proofs.FilesCalls.{Files, holds-of}
 use Rattle.pr_function_hides.proofs.CallFacts.{calm-reply, controllers-push, legal-here, open-finds, own-here}
 use Rattle.pr_function_hides.specs.FunctionHiders.{AreTrusses, IsMarked}
@@ -57,6 +59,7 @@ use Rattle.pr_truss.specs.declared.asides.Aside.{Aside}
 use Rattle.pr_truss.specs.declared.asides.Aside.TheVariants.{Nothing, Reading, Planting, Patching}
 use Rattle.pr_truss.specs.declared.processes.Traced.{Traced}
 use Rattle.pr_truss.specs.declared.replies.Answer.TheVariants.{Accepted, Gone, Interrupted}
+use Rattle.pr_truss.specs.declared.stages.AfterClosing.{AfterClosing}
 use Rattle.pr_truss.specs.declared.stages.AfterClosing.TheVariants.{OpenNext, GoOn}
 use Rattle.pr_truss.specs.declared.stages.OpeningStep.{OpeningStep}
 use Rattle.pr_truss.specs.declared.stages.OpeningStep.TheVariants as opening
@@ -67,7 +70,7 @@ use Rattle.pr_truss_laws.proofs.OverLemmas.{stays-over}
 use Rattle.pr_world.specs.ControllerStates.{ControllerState, FnTruss}
 use Rattle.pr_world.specs.Controllers.{after_reply, call_by, next_call, with_fed}
 use Rattle.pr_world.specs.Protocol.{controllers_after, controllers_at}
-use Rattle.std.proofs.Common.{◌≡◌, ◌≢◌, ◌<◌, ◌++◌, ℕ, Bool, true, cond, is_some, Option, Some, None, List, [], ◌∷◌, All, length, refl, sym, subst, ap, ◌∙◌, inl, inr}
+use Rattle.std.proofs.Common.{◌≡◌, ◌≢◌, ◌<◌, ◌++◌, ℕ, Bool, true, cond, Option, Some, None, List, [], ◌∷◌, All, length, refl, sym, subst, ap, ◌∙◌, inl, inr}
 use Rattle.std.proofs.lemmas.Bool.{cases_eq, eq-eqb, false≢true}
 use Rattle.std.proofs.lemmas.List.{append-nil, append_assoc}
 use Rattle.std.proofs.lemmas.List.Elements.{All-head}
@@ -80,10 +83,10 @@ use Rattle.std.specs.Option.{option_and_then}
 -- ---- what a call is told
 
 -- no more is said of a process that is opened
-abbrev no_opens : OpeningStep → ℕ → Type 0
+abbrev pub no_opens : OpeningStep → ℕ → Type 0
 no_opens step pid = Unit {0}
 
-abbrev no_leaves : ℕ → Type 0
+abbrev pub no_leaves : ℕ → Type 0
 no_leaves pid = Unit {0}
 
 -- what is so of processes that have ended stays so
@@ -213,25 +216,6 @@ module _ (k : ℕ) (s : TracedState) (c : Call) (a : Answer) (given : answer_to 
       by-aside t.aside at_aside
       (sym (ap (λ b. cond b (call_beside t t.stage t.aside) (next_call_of t)) has) ∙ next) q here
 
--- the handle that is closed next is of the process
-last-pid : (k : ℕ) (s : TracedState) (v : Traced) → Files k s v → (held : Held)
-    → handle_of s.opens k (last_handle v) ≡ Some held → v.pid ≡ held.pid
-unfolding last_handle
-last-pid k s v f held there = find v.memory v.lstatus v.status refl refl refl there
-  where
-    find : (a b c : Option ℕ) → v.memory ≡ a → v.lstatus ≡ b → v.status ≡ c
-        → handle_of s.opens k (cond (is_some a) (number_of a)
-        (cond (is_some b) (number_of b) (cond (is_some c) (number_of c) v.control))) ≡ Some held
-        → v.pid ≡ held.pid
-    find (Some m) b c is_a is_b is_c at =
-        ap (λ (x : Held). x.pid) (same_Some _ held (sym (f.memory m is_a) ∙ at))
-    find None (Some m) c is_a is_b is_c at =
-        ap (λ (x : Held). x.pid) (same_Some _ held (sym (f.lstatus m is_b) ∙ at))
-    find None None (Some m) is_a is_b is_c at =
-        ap (λ (x : Held). x.pid) (same_Some _ held (sym (f.status m is_c) ∙ at))
-    find None None None is_a is_b is_c at =
-        ap (λ (x : Held). x.pid) (same_Some _ held (sym f.control ∙ at))
-
 -- ---- along the history
 
 module _ (n : ℕ) (who : Hiders) (controllers : List ControllerState) (first : TracedState) (h : List Entry)
@@ -239,26 +223,26 @@ module _ (n : ℕ) (who : Hiders) (controllers : List ControllerState) (first : 
     (own_calls : AreOwnCalls controllers h)
     (are : AreTrusses who controllers) (und : AreUndisturbed who controllers first h) where
   abbrev its_kept : (front back : List Entry) → h ≡ front ++ back
-      → TidyKept n who controllers first h lawful lending legal own_calls are und front
+      → TidyKept who controllers first h front
   its_kept = kept-at n who controllers first h lawful lending legal own_calls are und
 
-  abbrev here : List Entry → TracedState
+  abbrev pub here : List Entry → TracedState
   here front = state_after first front
 
-  abbrev Over : List Entry → ℕ → Type 0
+  abbrev pub Over : List Entry → ℕ → Type 0
   Over front pid = live_process (here front).system pid ≡ None
 
   -- what is so of a truss after some entries
-  record ClosesAt (front : List Entry) (t : TrussState) : Type 0 where
-    closes : ClosesSo (Over front) no_opens no_leaves t
-    known : Kept Knows t
+  pub record ClosesAt (front : List Entry) (t : TrussState) : Type 0 where
+    pub closes : ClosesSo (Over front) no_opens no_leaves t
+    pub known : Kept Knows t
 
-  abbrev Closed : List Entry → Type 0
+  abbrev pub Closed : List Entry → Type 0
   Closed front =
       (k : ℕ) → hides who k ≡ true → (t : TrussState) → IsTrussAfter who controllers first h front k t
       → ClosesAt front t
 
-  same-truss : (a b : TrussState) (o : Option ControllerState) → o ≡ Some (FnTruss a) → o ≡ Some (FnTruss b) → a ≡ b
+  pub same-truss : (a b : TrussState) (o : Option ControllerState) → o ≡ Some (FnTruss a) → o ≡ Some (FnTruss b) → a ≡ b
   same-truss a b o one two = let both : Some (FnTruss a) ≡ Some (FnTruss b) = sym one ∙ two in cc
 
   module _ (front : List Entry) (e : Entry) (back : List Entry) (place : h ≡ front ++ e ∷ back)
@@ -278,7 +262,7 @@ module _ (n : ℕ) (who : Hiders) (controllers : List ControllerState) (first : 
     its-legal = legal-here n first front e back (subst (λ (es : List Entry). IsLegal n first es) place legal)
 
     module _ (k : ℕ) (hider : hides who k ≡ true) where
-      abbrev truss : TidyTruss n who controllers first h lawful lending legal own_calls are und front k
+      abbrev truss : TidyTruss who controllers first h front k
       truss = let w = its_kept front (e ∷ back) place in w.trusses k hider
 
       abbrev t : TrussState
@@ -346,7 +330,7 @@ module _ (n : ℕ) (who : Hiders) (controllers : List ControllerState) (first : 
     called-controllers = controllers-push controllers front e
 
     module _ (hider : hides who j ≡ true) where
-      abbrev truss-now : TidyTruss n who controllers first h lawful lending legal own_calls are und front j
+      abbrev truss-now : TidyTruss who controllers first h front j
       truss-now = let w = its_kept front (e ∷ back) place in w.trusses j hider
 
       abbrev tr : TrussState
@@ -388,7 +372,7 @@ module _ (n : ℕ) (who : Hiders) (controllers : List ControllerState) (first : 
       its-files : (q : ℕ) → q < length tr.traced → Files j u (traced_at tr q)
       its-files q within = let w = truss-now in let f = w.files in f.each q within
 
-      gone : (q : ℕ) → called_at tr.stage tr.aside ≡ Some q → answer_of r ≡ Gone
+      pub gone : (q : ℕ) → called_at tr.stage tr.aside ≡ Some q → answer_of r ≡ Gone
           → (live_process u.system (traced_at tr q).pid ≡ None)
       gone q here told =
           let was = was-so in
@@ -396,7 +380,7 @@ module _ (n : ℕ) (who : Hiders) (controllers : List ControllerState) (first : 
           (ap answer_of own.replied ∙ told) has next q here
 
       -- a process that truss is told of is one that it traces
-      called-within : (q : ℕ) → called_at tr.stage tr.aside ≡ Some q → q < length tr.traced
+      pub called-within : (q : ℕ) → called_at tr.stage tr.aside ≡ Some q → q < length tr.traced
       called-within q here = by-aside tr.aside holds-now.beside here
         where
           by-stage : (stage : Stage) → IsWithin (length tr.traced) stage → called_at stage Nothing ≡ Some q
@@ -506,13 +490,13 @@ module _ (n : ℕ) (who : Hiders) (controllers : List ControllerState) (first : 
         known = known-first i.options i.follows_none;
       })
 
-  closed-at : (front back : List Entry) → h ≡ front ++ back → Closed front
+  pub closed-at : (front back : List Entry) → h ≡ front ++ back → Closed front
   closed-at front back place = walk front [] back place at-first
 
   -- ---- a close
 
   -- where no function is marked, no breakpoint stands
-  none-stand : (o : Options) (set : List Bool) (ps : List Patch) → IsNone set → All (IsMarked o set) ps → ps ≡ []
+  none-stand : (o : Options) (set : List Bool) (ps : List Patch) → IsEmpty set → All (IsMarked o set) ps → ps ≡ []
   none-stand o set [] none all = refl
   none-stand o set (p ∷ ps) none all =
       let m = All-head (IsMarked o set) p ps all in
@@ -525,7 +509,7 @@ module _ (n : ℕ) (who : Hiders) (controllers : List ControllerState) (first : 
     closed-here : Closed front
     closed-here = closed-at front (call_entry j (call.Close number) r ∷ back) place
 
-    abbrev its : TidyTruss n who controllers first h lawful lending legal own_calls are und front j
+    abbrev its : TidyTruss who controllers first h front j
     its = truss-now front back j (call.Close number) r place closed-here hider
 
     abbrev tc : TrussState
@@ -556,84 +540,35 @@ module _ (n : ℕ) (who : Hiders) (controllers : List ControllerState) (first : 
         by (inl over) =
             absurd (none-some p (sym (ap (λ i. live_process (here front).system i) (sym same) ∙ over) ∙ live))
         by (inr it) =
-            let none : IsNone (marks_at tc q).planted =
+            let none : IsEmpty (marks_at tc q).planted =
             subst (λ (a : Aside). Lifts (Over front) no_opens no_leaves q a (marks_at tc q).planted) idle it.1 in
             let w = its in
             let stand = w.stand q within (p, ap (λ i. live_process (here front).system i) same ∙ live) in
             ap (λ i. (covers_at who first front i).patches) (sym same)
             ∙ none-stand tc.options (marks_at tc q).planted _ none stand.all
 
-    never : {A : Type 0} (d : Call) → ((m : ℕ) → d ≢ call.Close m) → Some d ≡ Some (call.Close number) → A
-    never d other is = absurd (other number (same_Some d (call.Close number) is))
-
-    closing : (q : ℕ) → Some (call.Close (last_handle (traced_at tc q))) ≡ Some (call.Close number)
-        → last_handle (traced_at tc q) ≡ number
-    closing q is = let same = same_Some _ _ is in close-number same
+    closes-at : IsClosing tc number → patches ≡ []
+    closes-at w = of w.following w.stage w.inside
       where
-        close-number : {a b : ℕ} → call.Close a ≡ call.Close b → a ≡ b
-        close-number e = cc
+        so-at : (following : AfterClosing) → tc.stage ≡ Closing w.place following
+            → StageSo (Over front) no_opens no_leaves tc (Closing w.place following)
+        so-at following at =
+            let a = so-here in
+            let so = a.closes in
+            subst (StageSo (Over front) no_opens no_leaves tc) at so.stage
 
-    opening-never : (q : ℕ) (step : OpeningStep) → function_call_of tc (Opening q step) ≡ Some (call.Close number)
-        → patches ≡ []
-    unfolding function_call_of call_of opening_call
-    opening-never q opening.OpenStatus is = never _ (λ m e. cc) is
-    opening-never q opening.OpenLstatus is = never _ (λ m e. cc) is
-    opening-never q opening.OpenMemory is = never _ (λ m e. cc) is
-    opening-never q opening.ClearModes is = never _ (λ m e. cc) is
-    opening-never q opening.SetRelease is = never _ (λ m e. cc) is
-    opening-never q opening.Stop is = never _ (λ m e. cc) is
-    opening-never q (opening.AwaitStop until) is = never _ (λ m e. cc) is
-    opening-never q opening.ReadLwps is = never _ (λ m e. cc) is
-    opening-never q opening.TraceSignals is = never _ (λ m e. cc) is
-    opening-never q opening.TraceFaults is = never _ (λ m e. cc) is
-    opening-never q opening.TraceEntries is = never _ (λ m e. cc) is
-    opening-never q opening.TraceExits is = never _ (λ m e. cc) is
-    opening-never q opening.Follow is = never _ (λ m e. cc) is
-    opening-never q opening.Start is = never _ (λ m e. cc) is
-
-    closing-stage : tc.aside ≡ Nothing → (stage : Stage) → IsWithin (length tc.traced) stage
-        → StageSo (Over front) no_opens no_leaves tc stage → function_call_of tc stage ≡ Some (call.Close number)
-        → patches ≡ []
-    unfolding function_call_of call_of
-    closing-stage idle (Spawning program) w so is = never _ (λ m e. cc) is
-    closing-stage idle (OpeningControl pid) w so is = never _ (λ m e. cc) is
-    closing-stage idle (Opening q step) w so is = opening-never q step is
-    closing-stage idle Polling w so is = never _ (λ m e. cc) is
-    closing-stage idle (ReadingStatus q) w so is = never _ (λ m e. cc) is
-    closing-stage idle (ReadingText q l from len) w so is = never _ (λ m e. cc) is
-    closing-stage idle (Running q) w so is = never _ (λ m e. cc) is
-    closing-stage idle (Closing q OpenNext) w so is = closes-own q w (closing q is) so idle
-    closing-stage idle (Closing q GoOn) w so is = closes-own q w (closing q is) (inl so) idle
-    closing-stage idle Finished w so is = absurd (none-some _ is)
-    closing-stage idle _ w so is = absurd w
-
-    closing-patch : (q : ℕ) (plant lift : Option ℕ)
-        → Some (patch_call tc.options (traced_at tc q).control plant lift) ≡ Some (call.Close number) → patches ≡ []
-    closing-patch q (Some function) lift is = never _ (λ m e. cc) is
-    closing-patch q None (Some function) is = never _ (λ m e. cc) is
-    closing-patch q None None is = never _ (λ m e. cc) is
-
-    closing-aside : (aside : Aside) → tc.aside ≡ aside → IsBeside (length tc.traced) aside
-        → call_beside tc tc.stage aside ≡ Some (call.Close number) → patches ≡ []
-    unfolding call_beside
-    closing-aside Nothing idle w is =
-        let a = so-here in
-        let so = a.closes in
-        let f = holds-here in
-        closing-stage idle tc.stage f.stage so.stage is
-    closing-aside (Reading q function) at w is = never _ (λ m e. cc) is
-    closing-aside (Planting q function) at w is = never _ (λ m e. cc) is
-    closing-aside (Patching q plants lifts clear) at w is = closing-patch q (first_function plants) (first_function lifts) is
-    closing-aside _ at w is = absurd w
+        of : (following : AfterClosing) → tc.stage ≡ Closing w.place following
+            → IsWithin (length tc.traced) (Closing w.place following) → patches ≡ []
+        of OpenNext at inside = closes-own w.place w.within w.last (so-at OpenNext at) w.idle
+        of GoOn at inside = closes-own w.place w.within w.last (inl (so-at GoOn at)) w.idle
+        of _ at inside = absurd inside
 
     pub closes-bare : patches ≡ []
-    unfolding next_function_call_of
     closes-bare =
         let f = holds-here in
-        closing-aside tc.aside refl f.beside
-        (sym (ap (λ b. cond b (call_beside tc tc.stage tc.aside) (next_call_of tc))
-        (has front back j (call.Close number) r place closed-here hider))
-        ∙ next front back j (call.Close number) r place closed-here hider)
+        closes-at
+        (is-closing tc number f.stage f.beside (has front back j (call.Close number) r place closed-here hider)
+        (next front back j (call.Close number) r place closed-here hider))
 
   pub leaves-none : LeavesNoBreakpoint who first h
   leaves-none = record {

@@ -2,7 +2,8 @@ use Rattle.std.proofs.Common.{◌≡◌, ◌≢◌, ◌⊎◌, ◌<◌, ◌+◌,
 use Rattle.std.proofs.lemmas.Bool.{cases_Bool, cases_eq, false≢true}
 use Rattle.std.proofs.lemmas.List.{get_or-set_other, get_or_push}
 use Rattle.std.specs.List.{slice_get, slice_set}
-use Rattle.pr_function_hides.proofs.FunctionSets.{IsNone, first-none, has-without, without-keeps}
+use Rattle.pr_function_hides.proofs.FunctionSets.{first-none, has-without, without-keeps}
+use Rattle.pr_function_hides.specs.Copying.{IsEmpty}
 use Rattle.pr_function_hides.proofs.OwnFiles.{IsBeside, IsWithin}
 use Rattle.pr_function_hides.proofs.PlantedReplies.{learnt-pid, lost-marks}
 use Rattle.pr_line.specs.Events.{event_of}
@@ -50,7 +51,7 @@ use Rattle.std.proofs.lemmas.Option.{none-some}
 -- files are closed. Other processes are closed only once they have ended.
 
 -- whether nothing is opened or closed next
-abbrev is_quiet : Stage → Bool
+abbrev pub is_quiet : Stage → Bool
 is_quiet (Opening q step) = false
 is_quiet (Closing q next) = false
 is_quiet _ = true
@@ -77,7 +78,7 @@ called_at stage aside = None
 module _ (Over : ℕ → Type 0) (Opens : OpeningStep → ℕ → Type 0) (Leaves : ℕ → Type 0) where
   -- no breakpoint is planted, or all that are will be lifted before anything else
   abbrev pub Lifts : ℕ → Aside → List Bool → Type 0
-  Lifts q Nothing planted = IsNone planted
+  Lifts q Nothing planted = IsEmpty planted
   Lifts q (Patching b plants lifts clear) planted =
       (b ≡ q)
       × ((first_function plants ≡ None)
@@ -674,7 +675,7 @@ module _ (Over : ℕ → Type 0) (Opens : OpeningStep → ℕ → Type 0) (Leave
                 ]
 
         cleared-on : first_function lifts ≡ None → Lifts q (Patching q plants lifts clear) (marks_at t q).planted
-            → IsNone (marks_at t q).planted
+            → IsEmpty (marks_at t q).planted
         cleared-on none w i =
             elim (cases_Bool (has_function (marks_at t q).planted i)) [
               | inl has ↦ absurd (false≢true (sym (first-none lifts none i) ∙ w.1.1 i has))

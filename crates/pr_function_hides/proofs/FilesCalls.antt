@@ -123,8 +123,8 @@ module _ (k : ℕ) where
 
   -- ---- its own calls
 
-  module _ (s : TracedState) (c : Call) (a : Answer) (given : answer_to s k c ≡ Some a) (fitting : All IsFitting s.opens)
-      (t : TrussState) (w : Under (Files s) (files-alike s) t) where
+  module _ (s : TracedState) (c : Call) (a : Answer) (given : answer_to s k c ≡ Some a)
+      (fitting : All IsFitting s.opens) (t : TrussState) (w : Under (Files s) (files-alike s) t) where
     abbrev Later : Traced → Type 0
     Later v = Files a.state v
 
@@ -191,8 +191,8 @@ module _ (k : ℕ) where
           let h = w.each i within in
           open-finds s k pid a (ap (answer_to s k) (sym is) ∙ given) accepted
           (subst (λ n. has_writer n s.opens ≡ true) same
-          (handle-writer s.opens (traced_at t i).control _ fitting (handle-at s.opens k (traced_at t i).control _ h.control)
-          refl)),
+          (handle-writer s.opens (traced_at t i).control _ fitting
+          (handle-at s.opens k (traced_at t i).control _ h.control) refl)),
     )
 
     learnt-files : (q : ℕ) (step : OpeningStep) → function_call_of t (Opening q step) ≡ Some c

@@ -52,8 +52,8 @@ use Rattle.pr_truss.specs.declared.reports.Report.TheVariants.{CannotTrace}
 use Rattle.pr_function_hides.proofs.PlantedReplies.{learnt-pid}
 use Rattle.pr_function_hides.proofs.OwnFiles.{IsBeside, IsWithin}
 
--- One walk over the replies of a truss with functions that follows no children and was not interrupted: it does not leave
--- its processes, what it does next it does for one that it traces, and what is so of the files of each stays so.
+-- One walk over the replies of a truss with functions that follows no children and was not interrupted: it does not
+-- leave its processes, what it does next it does for one that it traces, and what is so of the files of each stays so.
 
 -- ---- the same files
 
@@ -521,7 +521,8 @@ module _ (S : Traced → Type 0) (alike : (u v : Traced) → SameFiles u v → S
         run-under Gone other all =
             to t _ (base all) (join t _ _ (marked t q _ within)
             (staged _ (Closing q GoOn)
-            (let n = marked t q (record (marks_at t q) { flags = 0 }) within in subst (λ k. q < k) (sym n.many) within)))
+            (let n = marked t q (record (marks_at t q) { flags = 0 }) within in
+            subst (λ k. q < k) (sym n.many) within)))
         run-under Interrupted other all = absurd (other refl)
 
         function-run-under : (a : Answer) → a ≢ Interrupted → Each S t.traced
@@ -544,7 +545,8 @@ module _ (S : Traced → Type 0) (alike : (u v : Traced) → SameFiles u v → S
             (ap (λ (u : Traced). u.pid) (sym x.1.1.0) ∙ same ∙ ap (λ (u : Traced). u.pid) y.1.1.0)
           where
             place-of : (i : ℕ) → i < length (remove t.traced q)
-                → (k : ℕ) × ((k < length t.traced) × ((at_place (remove t.traced q) i ≡ at_place t.traced k) × Shift i k))
+                → (k : ℕ)
+                × ((k < length t.traced) × ((at_place (remove t.traced q) i ≡ at_place t.traced k) × Shift i k))
             place-of i inside = elim (cases_lt i q) [
               | inl below ↦ (
                 i,
@@ -618,7 +620,8 @@ module _ (S : Traced → Type 0) (alike : (u v : Traced) → SameFiles u v → S
         step-under : (step : OpeningStep) (a : Answer) → answer_of r ≡ a → a ≢ Interrupted → EachBut S t.traced q
             → S (traced_at t q) → (answer_of r ≡ Accepted → S (learnt (traced_at t q) r step))
             → Under (with_function_step_answered t q step r a)
-        unfolding with_function_step_answered with_step_done with_refused_step with_refused_opening with_lifts step_after
+        unfolding with_function_step_answered with_step_done with_refused_step with_refused_opening with_lifts
+            step_after
         step-under step Accepted is other others here learns = begun step refl
           where
             now : Traced
@@ -663,7 +666,8 @@ module _ (S : Traced → Type 0) (alike : (u v : Traced) → SameFiles u v → S
             begun at same = done (step_after t.options r at)
         step-under step Gone is other others here learns = closing-under
           where
-            closing-under : Under (with_stage (with_report t (CannotTrace (traced_at t q).pid Noent)) (Closing q OpenNext))
+            closing-under :
+                Under (with_stage (with_report t (CannotTrace (traced_at t q).pid Noent)) (Closing q OpenNext))
             closing-under =
                 to t _ (base (each-join S t.traced q others here))
                 (join t _ _ (told t _) (staged _ (Closing q OpenNext) within))
@@ -713,7 +717,8 @@ module _ (S : Traced → Type 0) (alike : (u v : Traced) → SameFiles u v → S
       refused-under : (errno : Errno) → Under (with_refused_opening idle_now q errno)
       unfolding with_refused_step with_refused_opening with_lifts
       refused-under errno =
-          with-beside idle_now _ _ idle-base (join idle_now _ _ (told idle_now _) (staged _ (Closing q OpenNext) within))
+          with-beside idle_now _ _ idle-base
+          (join idle_now _ _ (told idle_now _) (staged _ (Closing q OpenNext) within))
           (patching-beside (length t.traced) q no_functions (marks_at t q).planted false within)
 
       gone-under : Under (with_refused_step idle_now q Noent)

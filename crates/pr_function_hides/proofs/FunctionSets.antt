@@ -7,6 +7,7 @@ use Rattle.std.proofs.lemmas.Option.{none-some, unwrap_or-slice_get}
 use Rattle.std.specs.List.{position_or_len}
 use Rattle.pr_line.specs.Functions.{function_limit}
 use Rattle.pr_truss.specs.Marks.{first_function, has_function, is_in, no_functions, with_function, without_function}
+use Rattle.pr_function_hides.specs.Copying.{IsEmpty}
 
 -- Sets of functions: which functions are in a set that has one more, and one less.
 
@@ -54,15 +55,12 @@ without-keeps (b ∷ bs) (suc i) zero apart is = is
 without-keeps (b ∷ bs) (suc i) (suc j) apart is = without-keeps bs i j (λ same. apart (ap suc same)) is
 
 -- none
-abbrev pub IsNone : List Bool → Type 0
-IsNone set = (j : ℕ) → has_function set j ≡ false
-
 none-in : (n j : ℕ) → has_function (replicate n false) j ≡ false
 none-in zero j = refl
 none-in (suc n) zero = refl
 none-in (suc n) (suc j) = none-in n j
 
-pub has-none : IsNone no_functions
+pub has-none : IsEmpty no_functions
 has-none j = none-in function_limit j
 
 pub not-in-none : (j : ℕ) → has_function no_functions j ≡ true → ⊥
@@ -72,7 +70,7 @@ not-in-none j is = false≢true (sym (has-none j) ∙ is)
 pub first-has : (set : List Bool) (i : ℕ) → first_function set ≡ Some i → has_function set i ≡ true
 first-has set i is = unwrap_or-slice_get set i false ∙ (position-Some is_in set i false is).1
 
-pub first-none : (set : List Bool) → first_function set ≡ None → IsNone set
+pub first-none : (set : List Bool) → first_function set ≡ None → IsEmpty set
 first-none set none j = elim (cases_Bool (has_function set j)) [
   | inl is ↦ absurd (false≢true (sym (fails (in-list is)) ∙ at-place is))
   | inr not ↦ not

@@ -1,5 +1,5 @@
 use Rattle.pr_lending.specs.Lending.{AreLending}
-use Rattle.std.proofs.Common.{◌≡◌, ◌&&◌, ◌||◌, ◌==◌, ◌++◌, ℕ, Bool, true, false, not, IfOk, Option, Some, None, Result, Ok, Err, List, [], ◌∷◌, All, refl, sym, subst, ap, ◌∙◌, inl, inr}
+use Rattle.std.proofs.Common.{◌≡◌, ◌≢◌, ◌&&◌, ◌||◌, ◌==◌, ◌++◌, ℕ, Bool, true, false, not, IfOk, Option, Some, None, Result, Ok, Err, List, [], ◌∷◌, All, refl, sym, subst, ap, ◌∙◌, inl, inr}
 use Rattle.std.proofs.lemmas.Bool.{and_parts, cases_Bool, eqb-true, false≢true}
 use Rattle.std.proofs.lemmas.List.{append_assoc}
 use Rattle.std.proofs.lemmas.List.Elements.{All-head, All-tail}
@@ -8,10 +8,14 @@ use Rattle.pr_api.specs.Entries.{call_entry}
 use Rattle.pr_erasure.specs.Untouched.{IsUntouched}
 use Rattle.pr_function_hides.proofs.CalledCovers.{covers-push}
 use Rattle.pr_function_hides.specs.FunctionHiders.{AreTrusses}
+use Rattle.pr_function_hides.specs.ClearedFaults.{ClearByRunning}
+use Rattle.pr_function_hides.specs.OwnSteps.{AreStepsOwn}
 use Rattle.pr_function_hides.specs.TidyCloses.{LeavesNoBreakpoint}
 use Rattle.pr_function_hides.specs.TidyFaults.{AreFaultsTidy, is_clearing}
 use Rattle.pr_function_hides.specs.TidyWrites.{AreUndisturbed, WritesTidily}
+use Rattle.pr_function_hides.proofs.ClearingLaw.{clears-running}
 use Rattle.pr_function_hides.proofs.ClosingLaw.{leaves-none}
+use Rattle.pr_function_hides.proofs.StepLaw.{own-steps}
 use Rattle.pr_function_hides.proofs.TidyLaw.{writes-tidily}
 use Rattle.pr_hidden.proofs.HistoryFollows.{hidden-later}
 use Rattle.pr_hidden.specs.Covers.{Covers}
@@ -43,6 +47,8 @@ use Rattle.pr_num.specs.Messages.{first_message}
 use Rattle.pr_num.specs.declared.messages.Message.{Message}
 use Rattle.pr_num.specs.declared.messages.Message.TheVariants as message
 use Rattle.pr_num.specs.declared.messages.MsgFault.{MsgFault}
+use Rattle.pr_probe_laws.proofs.StepCalls.{untouched-unstepped}
+use Rattle.pr_probe_laws.specs.StepMarks.{IsUnstepped}
 use Rattle.pr_tool_laws.specs.OwnCalls.{AreOwnCalls}
 use Rattle.pr_world.specs.ControllerStates.{ControllerState}
 
@@ -71,17 +77,16 @@ asks-nothing who k covers s pid p held _ tail is = tt
 
 -- nor is one that a truss sends beside PCWRITE and those that clear a fault
 asks-no-more : (who : Hiders) (k : ℕ) (covers : Covers) (s : TracedSystem) (pid : ℕ) (p : TracedProcess) (held : Held)
-    (m : Message) (tail : List ℕ) → who.probes k ≡ false → is_write m ≡ false → is_clearing m ≡ false
-    → IsTrue (is_passive_message m || is_hider_message who k m)
+    (m : Message) (tail : List ℕ) → who.probes k ≡ false → is_write m ≡ false → m ≢ message.Cfault
+    → is_clearing m ≡ false → IsTrue (is_passive_message m || is_hider_message who k m)
     → IsTidyMessage who k covers s pid p (aim_of held) m tail
 unfolding is_passive_message
-asks-no-more who k covers s pid p held (message.Write at size) tail no_probe write clears allowed =
+asks-no-more who k covers s pid p held (message.Write at size) tail no_probe write unclear clears allowed =
     absurd (false≢true (sym write))
-asks-no-more who k covers s pid p held message.Cfault tail no_probe write clears allowed =
-    absurd (false≢true (sym clears))
-asks-no-more who k covers s pid p held (message.Run flags) tail no_probe write clears allowed =
+asks-no-more who k covers s pid p held message.Cfault tail no_probe write unclear clears allowed = absurd (unclear refl)
+asks-no-more who k covers s pid p held (message.Run flags) tail no_probe write unclear clears allowed =
     λ steps. absurd (false≢true (sym clears ∙ steps))
-asks-no-more who k covers s pid p held (message.Sreg regs) tail no_probe write clears allowed =
+asks-no-more who k covers s pid p held (message.Sreg regs) tail no_probe write unclear clears allowed =
     absurd (by (are_some (who.functions k)) (who.probes k) no_probe allowed)
   where
     by : (a b : Bool) → b ≡ false → IsTrue (false || ((a && false) || (b && true))) → ⊥
@@ -89,7 +94,7 @@ asks-no-more who k covers s pid p held (message.Sreg regs) tail no_probe write c
     by true false none it = false≢true it
     by false true none it = false≢true (sym none)
     by false false none it = false≢true it
-asks-no-more who k covers s pid p held _ tail no_probe write clears allowed = tt
+asks-no-more who k covers s pid p held _ tail no_probe write unclear clears allowed = tt
 
 -- of one that a message may be asked of, whatever the process
 whole-control : (who : Hiders) (k : ℕ) (covers : Covers) (s : TracedSystem) (bytes : List ℕ) (x : Parsed)
@@ -105,7 +110,7 @@ whole-control who k covers s bytes x read so (Some held) = by (target_of s held)
 module _ (who : Hiders) (controllers : List ControllerState) (no_probes : (k : ℕ) → who.probes k ≡ false)
     (first : TracedState) (h : List Entry) (passive : IsPassiveBut who h)
     (writes : WritesTidily who controllers first h) (leaves : LeavesNoBreakpoint who first h)
-    (faults : AreFaultsTidy who first h) where
+    (steps : AreStepsOwn who first h) (unclears : ClearByRunning who h) (faults : AreFaultsTidy who first h) where
   abbrev at : List Entry → Covers
   at front = covers_at who first front
 
@@ -143,8 +148,11 @@ module _ (who : Hiders) (controllers : List ControllerState) (no_probes : (k : �
             (subst (λ (x : Parsed). IfOk x (λ f. is_clearing f.0 ≡ true)) (sym read) clears)
         by false plain false other =
             whole-control who k (at front) (now front).system bytes (Ok (m, len)) read
-            (λ held p. asks-no-more who k (at front) (now front).system held.pid p held m (tail_of m bytes) (no_probes k)
-            plain other allowed) _
+            (λ held p.
+            asks-no-more who k (at front) (now front).system held.pid p held m (tail_of m bytes) (no_probes k) plain
+            (λ same.
+            unclears.none front back k handle bytes (reply.Used used) len place hider
+            (subst (λ (x : Message). first_message bytes ≡ Ok (x, len)) same read)) other allowed) _
 
     of-other : hides who k ≡ false → (m : Message) (len : ℕ) → first_message bytes ≡ Ok (m, len)
         → IsTrue (is_passive_message m || is_hider_message who k m) → Control
@@ -209,7 +217,7 @@ module _ (who : Hiders) (controllers : List ControllerState) (no_probes : (k : �
           beside_agent = λ agent. absurd (false≢true (sym none ∙ agent));
           never_posted = λ own f address phase.
               faults.never_posted front back pid id t p l f address place live there own phase;
-          own_steps = λ did. faults.own_steps front back pid id t place did;
+          own_steps = λ did. steps.own front back pid id t place did;
           changes = w.changes;
           returns = w.returns;
         };
@@ -244,13 +252,17 @@ module _ (n : ℕ) (who : Hiders) (controllers : List ControllerState) (s : Trac
     (lawful : IsLawful s) (lending : AreLending s.system) (legal : IsLegal n s h) (own_calls : AreOwnCalls controllers h)
     (are : AreTrusses who controllers) (und : AreUndisturbed who controllers s h) (passive : IsPassiveBut who h)
     (faults : AreFaultsTidy who s h) where
-  pub truss-tidy : IsTidy who s h
-  truss-tidy =
+  pub truss-tidy : IsUnstepped s.system → IsTidy who s h
+  truss-tidy unstepped =
       walk who controllers are.no_probes s h passive
       (writes-tidily n who controllers s h lawful lending legal own_calls are und)
-      (leaves-none n who controllers s h lawful lending legal own_calls are und) faults [] h refl
+      (leaves-none n who controllers s h lawful lending legal own_calls are und)
+      (own-steps n who controllers s h lawful lending legal own_calls are und passive unstepped)
+      (clears-running n who controllers s h lawful lending legal own_calls are und) faults [] h refl
 
   pub truss-hidden : IsUntouched s.system → IsSparing who s h → IsHidden who s h
-  truss-hidden untouched spares = hidden-later n who s h lawful untouched legal passive spares truss-tidy
+  truss-hidden untouched spares =
+      hidden-later n who s h lawful untouched legal passive spares
+      (truss-tidy (untouched-unstepped s.system untouched))
 
 pub ruleset truss_hides = (truss-tidy, truss-hidden)

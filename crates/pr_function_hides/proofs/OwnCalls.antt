@@ -56,6 +56,11 @@ use Rattle.pr_function_hides.proofs.StillMessages.{BeginStill, cfault-still, rea
 use Rattle.pr_function_hides.specs.FunctionHiders.{ArePatchable, IsPatchable, StandAsMarked, patch_of}
 use Rattle.pr_function_hides.proofs.OwnFiles.{HoldsItsFiles, IsBeside, IsOfOtherFile, IsWithin, other_handles}
 use Rattle.pr_function_hides.specs.TidyWrites.{TellsReplaced}
+use Rattle.pr_rec.specs.declared.lwps.LwpStatus.{LwpStatus}
+use Rattle.pr_truss.specs.declared.function_events.FunctionEvent.{FunctionEvent}
+use Rattle.pr_truss.specs.declared.function_events.FunctionEvent.TheVariants.{Replaced}
+use Rattle.pr_truss.specs.FunctionEvents.{function_event}
+use Rattle.pr_function_hides.proofs.PlantedWalk.{marks_then}
 
 -- What a call of truss leaves planted, and hidden, of each process that it traces.
 
@@ -132,6 +137,10 @@ module _ (who : Hiders) (none : (k : ℕ) → who.probes k ≡ false) (k : ℕ) 
     abbrev pub NowStand : ℕ → List Bool → Type 0
     NowStand pid planted = L pid → StandAsMarked o planted (later pid).patches
 
+    -- so it is by the marks of a process
+    abbrev pub MarksStand : ℕ → Marks → Type 0
+    MarksStand pid m = NowStand pid m.planted
+
     -- the reply to a message
     abbrev pub Shape : Type 0
     Shape = ((used : ℕ) × (r ≡ reply.Used used)) ⊎ ((answer_of r ≢ Accepted) × ((used : ℕ) → r ≢ reply.Used used))
@@ -140,10 +149,10 @@ module _ (who : Hiders) (none : (k : ℕ) → who.probes k ≡ false) (k : ℕ) 
     Stays pid = IsAsPatched (covers pid) (later pid)
 
     stays-so : (v : Traced) → Stays v.pid
-        → (L v.pid → StandAsMarked o v.marks.planted (covers v.pid).patches) → So NowStand v
+        → (L v.pid → StandAsMarked o v.marks.planted (covers v.pid).patches) → So MarksStand v
     stays-so v a w = λ lives. subst (StandAsMarked o v.marks.planted) (sym a.patches) (w lives)
 
-    all-stay : ((pid : ℕ) → Stays pid) → Each (So NowStand) t.traced
+    all-stay : ((pid : ℕ) → Stays pid) → Each (So MarksStand) t.traced
     all-stay stays i within = stays-so (traced_at t i) (stays (traced_at t i).pid) (old i within)
 
     -- ---- calls that leave all
@@ -194,7 +203,7 @@ module _ (who : Hiders) (none : (k : ℕ) → who.probes k ≡ false) (k : ℕ) 
             → Stays pid
         closes-apart pid apart = is-call _ is pid (close-apart who none covers s k pid (last_handle u) r apart)
 
-        others-stay : EachBut (So NowStand) t.traced q
+        others-stay : EachBut (So MarksStand) t.traced q
         others-stay i inside apart =
             stays-so (traced_at t i) (closes-apart (traced_at t i).pid (λ h there same. file-is last h there same))
             (old i inside)
@@ -210,15 +219,15 @@ module _ (who : Hiders) (none : (k : ℕ) → who.probes k ≡ false) (k : ℕ) 
                     ap (λ (x : Held). x.pid)
                     (sym (same_Some _ h (sym held-there ∙ ap (handle_of s.opens k) (sym control.0) ∙ there)))
 
-        left-so : LeftSo NowStand (without_last u) u
+        left-so : LeftSo MarksStand (without_last u) u
         left-so = by last
           where
-            kept : (v : Option Traced) → Stays u.pid → LeftSo NowStand v u
+            kept : (v : Option Traced) → Stays u.pid → LeftSo MarksStand v u
             kept None stays = tt
             kept (Some v) stays = stays-so u stays (old q within)
 
-            by : IsLast k s u → LeftSo NowStand (without_last u) u
-            by (inl control) = subst (λ v. LeftSo NowStand v u) (sym control.1) tt
+            by : IsLast k s u → LeftSo MarksStand (without_last u) u
+            by (inl control) = subst (λ v. LeftSo MarksStand v u) (sym control.1) tt
             by (inr other) = kept (without_last u) (closes-apart u.pid (λ h there same. other.other h there))
 
     -- ---- a breakpoint is planted or lifted
@@ -253,7 +262,7 @@ module _ (who : Hiders) (none : (k : ℕ) → who.probes k ≡ false) (k : ℕ) 
       target = target-live s k v.control held there refl
 
       module _ (is : c ≡ call.Ctl v.control bytes) where
-        others-kept : EachBut (So NowStand) t.traced q
+        others-kept : EachBut (So MarksStand) t.traced q
         others-kept j inside apart =
             stays-so (traced_at t j)
             (is-call (call.Ctl v.control bytes) (ap (λ (x : Call). Some x) (sym is)) (traced_at t j).pid
@@ -361,8 +370,15 @@ module _ (who : Hiders) (none : (k : ℕ) → who.probes k ≡ false) (k : ℕ) 
         → c ≡ call.Ctl (traced_at t q).control bytes → first_message bytes ≡ Ok (message.Write at 16, len)
         → length (tail_of (message.Write at 16) bytes) ≡ 16 → live_process s.system (traced_at t q).pid ≡ Some p
         → patch_at at (covers (traced_at t q).pid).patches ≡ Some g → (used : ℕ) × (r ≡ reply.Used used)) where
+      -- with an event the same breakpoints are planted, or the memory was replaced, and none is
+      event-stands : (q : ℕ) (l : LwpStatus) (e : FunctionEvent)
+          → (e ≡ Replaced → NowStand (traced_at t q).pid no_functions) → MarksStand (traced_at t q).pid (marks_at t q)
+          → MarksStand (traced_at t q).pid (marks_then (marks_at t q) l e)
+      event-stands q l Replaced none_stand stand = none_stand refl
+      event-stands q l _ none_stand stand = stand
+
       stage-after : (stage : Stage) → IsWithin (length t.traced) stage → t.stage ≡ stage
-          → function_call_of t stage ≡ Some c → AfterStage NowStand t r stage
+          → function_call_of t stage ≡ Some c → AfterStage MarksStand t r stage
       unfolding function_call_of call_of
       stage-after (Spawning program) w at is =
           all-stay (λ pid. is-call _ is pid (call-still who none covers s k pid _ r refl))
@@ -378,9 +394,11 @@ module _ (who : Hiders) (none : (k : ℕ) → who.probes k ≡ false) (k : ℕ) 
           all-stay (λ pid. is-call _ is pid (call-still who none covers s k pid _ r refl))
       stage-after (ReadingStatus q) w at is = (
         all-stay (λ pid. is-call _ is pid (call-still who none covers s k pid _ r refl)),
-        λ l e accepted told new is_replaced lives.
+        λ l e accepted told new.
             let stays : Stays (traced_at t q).pid =
             is-call _ is (traced_at t q).pid (call-still who none covers s k (traced_at t q).pid _ r refl) in
+            event-stands q l (function_event t.options (marks_at t q) l.id e)
+            (λ is_replaced lives.
             subst (StandAsMarked o no_functions)
             (sym (stays.patches ∙ replaced q (record {
               reads = at;
@@ -391,11 +409,15 @@ module _ (who : Hiders) (none : (k : ℕ) → who.probes k ≡ false) (k : ℕ) 
               fresh = new;
               replaced = is_replaced;
             })))
-            (none-stand o fit),
+            (none-stand o fit))
+            (all-stay (λ pid. is-call _ is pid (call-still who none covers s k pid _ r refl)) q w),
       )
       stage-after (ReadingText q l from len) w at is =
           all-stay (λ pid. is-call _ is pid (call-still who none covers s k pid _ r refl))
-      stage-after (Running q) w at is = all-stay (λ pid. still-call _ _ is (run-still _) pid)
+      stage-after (Running q) w at is = (
+        each-but (So MarksStand) t.traced q (all-stay (λ pid. still-call _ _ is (run-still _) pid)),
+        all-stay (λ pid. still-call _ _ is (run-still _) pid) q w,
+      )
       stage-after (Closing q OpenNext) w at is = (others-stay q w is, left-so q w is)
       stage-after (Closing q GoOn) w at is = (others-stay q w is, left-so q w is)
       stage-after Finished w at is = absurd (none-some c is)
@@ -404,7 +426,7 @@ module _ (who : Hiders) (none : (k : ℕ) → who.probes k ≡ false) (k : ℕ) 
       -- a breakpoint is planted
       plant-after : (q i : ℕ) (lift : Option ℕ) → q < length t.traced → i < length o.functions
           → Some (plant_call o (traced_at t q).control i) ≡ Some c
-          → EachBut (So NowStand) t.traced q × NowSo NowStand t r q (Some i) lift
+          → EachBut (So MarksStand) t.traced q × NowSo MarksStand t r q (Some i) lift
       plant-after q i lift within inside is =
           let it = named-at o i inside in
           let p = function-is i it.0 it.1 in
@@ -418,7 +440,7 @@ module _ (who : Hiders) (none : (k : ℕ) → who.probes k ≡ false) (k : ℕ) 
       -- or lifted
       lift-after-all : (q i : ℕ) → q < length t.traced → i < length o.functions
           → Some (lift_call o (traced_at t q).control i) ≡ Some c
-          → EachBut (So NowStand) t.traced q × NowSo NowStand t r q None (Some i)
+          → EachBut (So MarksStand) t.traced q × NowSo MarksStand t r q None (Some i)
       lift-after-all q i within inside is =
           let it = named-at o i inside in
           let f : Function = it.0 in
@@ -433,7 +455,7 @@ module _ (who : Hiders) (none : (k : ℕ) → who.probes k ≡ false) (k : ℕ) 
           )
 
       aside-after : (aside : Aside) → IsBeside (length t.traced) aside → AsideIsBelow (length o.functions) aside
-          → call_beside t t.stage aside ≡ Some c → AfterAside NowStand t r aside
+          → call_beside t t.stage aside ≡ Some c → AfterAside MarksStand t r aside
       unfolding call_beside
       aside-after Nothing w small is = stage-after t.stage holds.stage refl is
       aside-after (Reading q i) w small is = all-stay (λ pid. still-call _ _ is (read-still _ _) pid)
@@ -443,20 +465,20 @@ module _ (who : Hiders) (none : (k : ℕ) → who.probes k ≡ false) (k : ℕ) 
         where
           by : (plant lift : Option ℕ) → first_function plants ≡ plant → first_function lifts ≡ lift
               → Some (patch_call o (traced_at t q).control plant lift) ≡ Some c
-              → EachBut (So NowStand) t.traced q × NowSo NowStand t r q plant lift
+              → EachBut (So MarksStand) t.traced q × NowSo MarksStand t r q plant lift
           by (Some i) lift first second its = plant-after q i lift w (first-below _ plants i small.0 first) its
           by None (Some i) first second its = lift-after-all q i w (first-below _ lifts i small.1 second) its
           by None None first second its = (
-            each-but (So NowStand) t.traced q (all-stay (λ pid. still-call _ _ its cfault-still pid)),
+            each-but (So MarksStand) t.traced q (all-stay (λ pid. still-call _ _ its cfault-still pid)),
             subst (NowStand (traced_at t q).pid) (sym (none-after (marks_at t q).planted (answer_of r)))
                 (all-stay (λ pid. still-call _ _ its cfault-still pid) q w),
           )
       aside-after _ w small is = absurd w
 
       pub own-planted : next_function_call_of t ≡ Some c → has_functions o ≡ true → answer_of r ≢ Interrupted
-          → Each (So NowStand) (fed_functions t r).traced
+          → Each (So MarksStand) (fed_functions t r).traced
       unfolding next_function_call_of
       own-planted next has calm =
-          fed-so NowStand t r holds.off holds.follow holds.stage holds.beside calm has
+          fed-so MarksStand t r holds.off holds.follow holds.stage holds.beside calm has
           (aside-after t.aside holds.beside below
           (sym (ap (λ b. cond b (call_beside t t.stage t.aside) (next_call_of t)) has) ∙ next))

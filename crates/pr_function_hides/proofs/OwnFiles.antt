@@ -45,8 +45,8 @@ other_handles t = cons_option t.memory (cons_option t.lstatus (cons_option t.sta
 pub record IsOfOtherFile (k : ℕ) (s : TracedState) (number : ℕ) : Type 0 where
   pub other : (held : Held) → handle_of s.opens k number ≡ Some held → is_ctl held.file ≡ false
 
--- Truss has the control file of each process that it traces open, for itself alone; its other handles are of other files;
--- and it traces no process twice.
+-- Truss has the control file of each process that it traces open, for itself alone; its other handles are of other
+-- files; and it traces no process twice.
 pub record HoldsItsFiles (k : ℕ) (t : TrussState) (s : TracedState) : Type 0 where
   pub off : t.leaving ≡ false
   pub follow : t.options.follow ≡ false

@@ -40,7 +40,7 @@ use Rattle.std.proofs.lemmas.Option.{none-some, same_Some}
 use Rattle.std.specs.List.{slice_get}
 use Rattle.std.specs.Option.{option_and_then}
 use Rattle.pr_function_hides.proofs.OwnFiles.{IsBeside, IsWithin}
-use Rattle.pr_function_hides.proofs.PlantedWalk.{Events, IsAlike, alike-join, event-kept, event-over-alike, going-alike, keeps, marked-alike, opening-alike, over-alike, replaces, same_alike, set-alike, stop-alike}
+use Rattle.pr_function_hides.proofs.PlantedWalk.{IsAlike, alike-join, event-kept, event-over-alike, going-alike, marks_then, opening-alike, over-alike, same_alike, set-alike, stop-alike}
 
 -- What a reply makes of the breakpoints that are planted.
 
@@ -106,33 +106,35 @@ after-same u rest q stage (Refused errno) other = refl
 after-same u rest q stage Gone other = refl
 after-same u rest q stage Interrupted other = absurd (other refl)
 
--- ---- what is so of the breakpoints of each process
+-- ---- what is so of the marks of each process
 
-module _ (Q : ℕ → List Bool → Type 0) where
+module _ (Q : ℕ → Marks → Type 0) where
   abbrev pub So : Traced → Type 0
-  So v = Q v.pid v.marks.planted
+  So v = Q v.pid v.marks
 
   each-alike : (u v : TrussState) → IsAlike u v → Each So u.traced → Each So v.traced
   each-alike u v a all i within =
-      subst (λ n. Q n (marks_at v i).planted) (sym (a.pids i))
-      (subst (Q (traced_at u i).pid) (sym (a.planted i)) (all i (subst (λ k. i < k) a.many within)))
+      subst (λ n. Q n (marks_at v i)) (sym (a.pids i))
+      (subst (Q (traced_at u i).pid) (sym (a.marks i)) (all i (subst (λ k. i < k) a.many within)))
 
   -- ---- what the call has made so, before truss takes its reply
 
   abbrev pub LeftSo : Option Traced → Traced → Type 0
   LeftSo None u = Unit {0}
-  LeftSo (Some v) u = Q u.pid u.marks.planted
+  LeftSo (Some v) u = Q u.pid u.marks
 
-  -- what the status of the process at a place tells: where its memory was replaced, none is planted
+  -- what the status of the process at a place tells: it is so of the marks with that event
   abbrev pub TellsFit : TrussState → Reply → ℕ → Type 0
   TellsFit t r q =
       (l : LwpStatus) (e : Event) → answer_of r ≡ Accepted → option_and_then status_lwp (bytes_in r) ≡ Some l
-      → fresh_event (traced_at t q) l ≡ Some e → function_event t.options (marks_at t q) l.id e ≡ Replaced
-      → Q (traced_at t q).pid no_functions
+      → fresh_event (traced_at t q) l ≡ Some e
+      → Q (traced_at t q).pid (marks_then (marks_at t q) l (function_event t.options (marks_at t q) l.id e))
 
   abbrev pub AfterStage : TrussState → Reply → Stage → Type 0
-  AfterStage t r (OpeningControl pid) = Each So t.traced × (answer_of r ≡ Accepted → Q pid no_functions)
+  AfterStage t r (OpeningControl pid) = Each So t.traced × (answer_of r ≡ Accepted → Q pid no_marks)
   AfterStage t r (ReadingStatus q) = Each So t.traced × TellsFit t r q
+  AfterStage t r (Running q) =
+      EachBut So t.traced q × Q (traced_at t q).pid (record (marks_at t q) { flags = 0 })
   AfterStage t r (Closing q next) =
       EachBut So t.traced q × LeftSo (without_last (traced_at t q)) (traced_at t q)
   AfterStage t r stage = Each So t.traced
@@ -140,7 +142,8 @@ module _ (Q : ℕ → List Bool → Type 0) where
   -- what the reply leaves planted in the process at this place
   abbrev pub NowSo : TrussState → Reply → ℕ → Option ℕ → Option ℕ → Type 0
   NowSo t r q plant lift =
-      Q (traced_at t q).pid (planted_after (marks_at t q).planted (answer_of r) plant lift)
+      Q (traced_at t q).pid
+      (record (marks_at t q) { planted = planted_after (marks_at t q).planted (answer_of r) plant lift })
 
   abbrev pub AfterAside : TrussState → Reply → Aside → Type 0
   AfterAside t r Nothing = AfterStage t r t.stage
@@ -170,7 +173,7 @@ module _ (Q : ℕ → List Bool → Type 0) where
     start-so program Interrupted other all = absurd (other refl)
 
     -- a control file
-    opened-so : (pid : ℕ) → AllSo → Q pid no_functions → Each So (with_control t pid (handle_in r)).traced
+    opened-so : (pid : ℕ) → AllSo → Q pid no_marks → Each So (with_control t pid (handle_in r)).traced
     unfolding with_control newly_traced
     opened-so pid all so =
         let u : Traced = newly_traced pid (handle_in r) in
@@ -178,7 +181,7 @@ module _ (Q : ℕ → List Bool → Type 0) where
         get_or_push t.traced u nobody (length t.traced) refl in
         each-append So t.traced u all (subst So (sym last) so)
 
-    control-so : (pid : ℕ) (a : Answer) → a ≢ Interrupted → AllSo → (a ≡ Accepted → Q pid no_functions)
+    control-so : (pid : ℕ) (a : Answer) → a ≢ Interrupted → AllSo → (a ≡ Accepted → Q pid no_marks)
         → Each So (with_control_answered t pid r a).traced
     unfolding with_control_answered with_refused_control
     control-so pid Accepted other all so = opened-so pid all (so refl)
@@ -205,48 +208,46 @@ module _ (Q : ℕ → List Bool → Type 0) where
       with_marks_of n = record (traced_at t q) { marks = n }
 
       -- a status
-      event-so : (l : LwpStatus) (e : FunctionEvent) → AllSo → (e ≡ Replaced → Q (traced_at t q).pid no_functions)
-          → Each So (with_function_event t q l e).traced
-      event-so l e all replaced = by e (event-kept t off follow q l within e) replaced
-        where
-          by : (f : FunctionEvent) {v : TrussState} → Events t off follow q l within v f
-              → (f ≡ Replaced → Q (traced_at t q).pid no_functions) → Each So v.traced
-          by f (keeps a) fit = each-alike t _ a all
-          by Replaced (replaces a) fit =
-              each-alike (with_marks t q no_marks) _ a
-              (each-set So t.traced q (with_marks_of no_marks) within (each-but So t.traced q all) (fit refl))
+      event-so : (l : LwpStatus) (e : FunctionEvent) → AllSo
+          → Q (traced_at t q).pid (marks_then (marks_at t q) l e) → Each So (with_function_event t q l e).traced
+      event-so l e all fit =
+          each-alike (with_marks t q (marks_then (marks_at t q) l e)) _ (event-kept t off follow q l within e)
+          (each-set So t.traced q (with_marks_of (marks_then (marks_at t q) l e)) within (each-but So t.traced q all)
+          fit)
 
       fresh-so : (l : LwpStatus) (e : Option Event) → AllSo
-          → ((f : Event) → e ≡ Some f → function_event t.options (marks_at t q) l.id f ≡ Replaced
-          → Q (traced_at t q).pid no_functions)
+          → ((f : Event) → e ≡ Some f
+          → Q (traced_at t q).pid (marks_then (marks_at t q) l (function_event t.options (marks_at t q) l.id f)))
           → Each So (with_fresh_event t q l e).traced
       fresh-so l None all fit =
-          subst (λ (v : TrussState). Each So v.traced) (sym (ap (λ b. cond b (with_last_stop t q l) (with_stop t q l)) off))
+          subst (λ (v : TrussState). Each So v.traced)
+          (sym (ap (λ b. cond b (with_last_stop t q l) (with_stop t q l)) off))
           (goes _ (stop-alike t off follow q l within) all)
       fresh-so l (Some e) all fit =
           subst (λ (v : TrussState). Each So v.traced)
           (sym (ap (λ b. cond b
           (with_last_event t q l (function_event t.options (marks_at t q) l.id e))
           (with_function_event t q l (function_event t.options (marks_at t q) l.id e))) off))
-          (event-so l (function_event t.options (marks_at t q) l.id e) all (λ is. fit e refl is))
+          (event-so l (function_event t.options (marks_at t q) l.id e) all (fit e refl))
 
       read-so : (l : Option LwpStatus) → AllSo
           → ((st : LwpStatus) (f : Event) → l ≡ Some st → fresh_event (traced_at t q) st ≡ Some f
-          → function_event t.options (marks_at t q) st.id f ≡ Replaced → Q (traced_at t q).pid no_functions)
+          → Q (traced_at t q).pid (marks_then (marks_at t q) st (function_event t.options (marks_at t q) st.id f)))
           → Each So (with_function_stop_read t q l).traced
       unfolding with_function_stop
       read-so None all fit =
-          subst (λ (v : TrussState). Each So v.traced) (sym (ap (λ b. cond b (with_lifts (with_stop_over t q) q false) (with_stop_over t q)) off))
+          subst (λ (v : TrussState). Each So v.traced)
+          (sym (ap (λ b. cond b (with_lifts (with_stop_over t q) q false) (with_stop_over t q)) off))
           (goes _ (over-alike t off follow q) all)
       read-so (Some l) all fit =
-          fresh-so l (fresh_event (traced_at t q) l) all (λ f fresh is. fit l f refl fresh is)
+          fresh-so l (fresh_event (traced_at t q) l) all (λ f fresh. fit l f refl fresh)
 
       status-so : (a : Answer) → answer_of r ≡ a → a ≢ Interrupted → AllSo → TellsFit t r q
           → Each So (with_function_status_answered t q r a).traced
       unfolding with_function_status_answered with_status_answered
       status-so Accepted is other all fit =
           read-so (option_and_then status_lwp (bytes_in r)) all
-          (λ l e told fresh replaced. fit l e is told fresh replaced)
+          (λ l e told fresh. fit l e is told fresh)
       status-so (Refused errno) is other all fit = goes _ (over-alike t off follow q) all
       status-so Gone is other all fit = all
       status-so Interrupted is other all fit = absurd (other refl)
@@ -274,22 +275,31 @@ module _ (Q : ℕ → List Bool → Type 0) where
           subst (λ (v : TrussState). Each So v.traced) (sym (ap (λ b. cond b (with_lifts u q false) u) off)) it
 
       -- PCRUN
-      run-so : (a : Answer) → a ≢ Interrupted → AllSo
-          → Each So (with_run_answered (with_marks t q (record (marks_at t q) { flags = 0 })) q a).traced
-      unfolding with_run_answered
-      run-so Accepted other all =
-          goes _ (alike-join t _ _ (marked-alike t q _ within refl) (going-alike _ off follow)) all
-      run-so (Refused errno) other all =
-          goes _ (alike-join t _ _ (marked-alike t q _ within refl) (going-alike _ off follow)) all
-      run-so Gone other all = goes _ (marked-alike t q _ within refl) all
-      run-so Interrupted other all = absurd (other refl)
+      abbrev run_marks : Marks
+      run_marks = record (marks_at t q) { flags = 0 }
 
-      function-run-so : (a : Answer) → a ≢ Interrupted → AllSo → Each So (with_function_run_answered t q a).traced
+      run-all-so : EachBut So t.traced q → Q (traced_at t q).pid run_marks → Each So (with_marks t q run_marks).traced
+      run-all-so others so = each-set So t.traced q (with_marks_of run_marks) within others so
+
+      run-so : (a : Answer) → a ≢ Interrupted → EachBut So t.traced q → Q (traced_at t q).pid run_marks
+          → Each So (with_run_answered (with_marks t q run_marks) q a).traced
+      unfolding with_run_answered
+      run-so Accepted other others so =
+          each-alike (with_marks t q run_marks) _ (going-alike (with_marks t q run_marks) off follow)
+          (run-all-so others so)
+      run-so (Refused errno) other others so =
+          each-alike (with_marks t q run_marks) _ (going-alike (with_marks t q run_marks) off follow)
+          (run-all-so others so)
+      run-so Gone other others so = run-all-so others so
+      run-so Interrupted other others so = absurd (other refl)
+
+      function-run-so : (a : Answer) → a ≢ Interrupted → EachBut So t.traced q → Q (traced_at t q).pid run_marks
+          → Each So (with_function_run_answered t q a).traced
       unfolding with_function_run_answered
-      function-run-so Accepted other all = run-so Accepted other all
-      function-run-so (Refused errno) other all = run-so (Refused errno) other all
-      function-run-so Gone other all = run-so Gone other all
-      function-run-so Interrupted other all = absurd (other refl)
+      function-run-so Accepted other others so = run-so Accepted other others so
+      function-run-so (Refused errno) other others so = run-so (Refused errno) other others so
+      function-run-so Gone other others so = run-so Gone other others so
+      function-run-so Interrupted other others so = absurd (other refl)
 
       -- a file is closed
       removed-so : EachBut So t.traced q → (next : AfterClosing)
@@ -308,8 +318,8 @@ module _ (Q : ℕ → List Bool → Type 0) where
       closed-so next None is others left = removed-so others next
       closed-so next (Some v) is others left =
           each-set So t.traced q v within others
-          (subst (λ k. Q k v.marks.planted) (sym (let same = lost-same (traced_at t q) v is in same.pid))
-          (subst (λ (m : Marks). Q (traced_at t q).pid m.planted) (sym (lost-marks (traced_at t q) v is)) left))
+          (subst (λ k. Q k v.marks) (sym (let same = lost-same (traced_at t q) v is in same.pid))
+          (subst (Q (traced_at t q).pid) (sym (lost-marks (traced_at t q) v is)) left))
 
       -- the opening of a process
       step-so : (step : OpeningStep) (a : Answer) → a ≢ Interrupted → AllSo
@@ -324,7 +334,7 @@ module _ (Q : ℕ → List Bool → Type 0) where
           a : IsAlike t u
           a =
               set-alike t q (learnt (traced_at t q) r step) within (learnt-pid (traced_at t q) r step)
-              (ap (λ (m : Marks). m.planted) (learnt-marks (traced_at t q) r step))
+              (learnt-marks (traced_at t q) r step)
 
           done : (next : Option OpeningStep) → Each So (at_step u q next).traced
           done None = goes _ (alike-join t u _ a (opening-alike u off follow)) all
@@ -352,16 +362,18 @@ module _ (Q : ℕ → List Bool → Type 0) where
       code-so function Gone other all = all
       code-so function Interrupted other all = absurd (other refl)
 
-      set-so : (planted : List Bool) → EachBut So t.traced q → Q (traced_at t q).pid planted
+      set-so : (planted : List Bool) → EachBut So t.traced q
+          → Q (traced_at t q).pid (record (marks_at t q) { planted = planted })
           → Each So (with_marks idle_now q (record (marks_at t q) { planted = planted })).traced
       set-so planted others so =
           each-set So t.traced q (with_marks_of (record (marks_at t q) { planted = planted })) within others so
 
-      joined : EachBut So t.traced q → Q (traced_at t q).pid (marks_at t q).planted → AllSo
+      joined : EachBut So t.traced q → Q (traced_at t q).pid (marks_at t q) → AllSo
       joined others so = each-join So t.traced q others so
 
       plant-so : (function : ℕ) (a : Answer) → a ≢ Interrupted → EachBut So t.traced q
-          → Q (traced_at t q).pid (planted_after (marks_at t q).planted a (Some function) None)
+          → Q (traced_at t q).pid
+          (record (marks_at t q) { planted = planted_after (marks_at t q).planted a (Some function) None })
           → Each So (with_plant_answered idle_now q function a).traced
       unfolding with_plant_answered with_refused_step
       plant-so function Accepted other others so =
@@ -374,7 +386,7 @@ module _ (Q : ℕ → List Bool → Type 0) where
 
       first-so : (plants lifts : List Bool) (clear : Bool) (a : Answer) → a ≢ Interrupted → EachBut So t.traced q
           → (plant lift : Option ℕ)
-          → Q (traced_at t q).pid (planted_after (marks_at t q).planted a plant lift)
+          → Q (traced_at t q).pid (record (marks_at t q) { planted = planted_after (marks_at t q).planted a plant lift })
           → Each So (after_first idle_now q plants lifts clear a plant lift).traced
       first-so plants lifts clear Accepted other others (Some i) lift so =
           subst (Each So) (sym (after-same _ _ q t.stage Accepted other))
@@ -402,7 +414,7 @@ module _ (Q : ℕ → List Bool → Type 0) where
     stage-so (ReadingStatus q) is at w = status-so q at (answer_of r) refl calm w.0 w.1
     stage-so (ReadingText q l from len) is at w =
         function-text-so q at _ (answer_of r) (shown-so q at l len (answer_of r) calm w)
-    stage-so (Running q) is at w = function-run-so q at (answer_of r) calm w
+    stage-so (Running q) is at w = function-run-so q at (answer_of r) calm w.0 w.1
     stage-so (Closing q OpenNext) is at w =
         closed-so q at OpenNext (without_last (traced_at t q)) refl w.0 w.1
     stage-so (Closing q GoOn) is at w = closed-so q at GoOn (without_last (traced_at t q)) refl w.0 w.1
@@ -425,19 +437,23 @@ module _ (Q : ℕ → List Bool → Type 0) where
         subst (λ (v : TrussState). Each So v.traced)
         (sym (ap (λ b. cond b (with_aside_answered t r t.aside) (fed t r)) has)) (aside-so t.aside at_aside w)
 
-  -- ---- before the first call nothing is traced
+-- ---- before the first call nothing is traced
 
-  none-each : Each So []
+module _ (Q : ℕ → List Bool → Type 0) where
+  abbrev Each_so : List Traced → Type 0
+  Each_so ts = Each (λ (v : Traced). Q v.pid v.marks.planted) ts
+
+  none-each : Each_so []
   none-each q within = absurd (omega (arith, within))
 
-  first-pid : (o : Options) (pid : Option ℕ) → Each So (opening_or (idle o) (idle o) pid).traced
+  first-pid : (o : Options) (pid : Option ℕ) → Each_so (opening_or (idle o) (idle o) pid).traced
   first-pid o None = none-each
   first-pid o (Some pid) = none-each
 
-  first-program : (o : Options) (program : Option (List ℕ)) → Each So (first_of_program o program).traced
+  first-program : (o : Options) (program : Option (List ℕ)) → Each_so (first_of_program o program).traced
   first-program o None = first-pid o (slice_get o.pids 0)
   first-program o (Some program) = none-each
 
-  pub first-so-truss : (o : Options) → Each So (first_truss o).traced
+  pub first-so-truss : (o : Options) → Each_so (first_truss o).traced
   unfolding first_truss
   first-so-truss o = first-program o o.program

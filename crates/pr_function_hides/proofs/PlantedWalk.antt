@@ -6,7 +6,10 @@ use Rattle.pr_truss.specs.Asides.{marks_at, with_aside, with_marks, with_patches
 use Rattle.pr_truss.specs.Records.{child_of}
 use Rattle.pr_truss.specs.Closings.{polls_or_finished, with_going_on, with_next_left, with_next_opening}
 use Rattle.pr_truss.specs.FunctionStops.{with_call_shown, with_copy_begun, with_copy_ended, with_function_event, with_memory_replaced, with_other_event, with_step_begun, with_step_completed, with_trap_over}
-use Rattle.pr_truss.specs.Marks.{no_marks}
+use Rattle.pr_num.specs.Control.{clear_fault, single_step}
+use Rattle.pr_num.specs.Sets.{union_word}
+use Rattle.pr_truss.specs.FunctionEvents.{step_of}
+use Rattle.pr_truss.specs.Marks.{no_functions, no_marks, standing}
 use Rattle.pr_truss.specs.Stops.{asked_range, followed_child, with_child_or, with_event, with_event_over, with_event_shown, with_old_stop_over, with_stop, with_stop_over, with_text_or_shown}
 use Rattle.pr_truss.specs.Trusses.{TrussState, nobody, opening_or, traced_at, with_traced}
 use Rattle.pr_truss.specs.declared.asides.Aside.{Aside}
@@ -21,34 +24,34 @@ use Rattle.std.proofs.lemmas.List.{get_or-set_other, length-set}
 use Rattle.std.specs.List.{slice_get, slice_set}
 
 -- One walk over the replies of a truss with functions that follows no children and was not interrupted: what is so of
--- the breakpoints that are planted in each process stays so, but where one is planted or lifted.
+-- the marks of each process stays so, but where a breakpoint is planted or lifted, an event is read, or it is run.
 
--- ---- the same processes, with the same breakpoints planted
+-- ---- the same processes, with the same marks
 
 pub record IsAlike (u v : TrussState) : Type 0 where
   pub many : length v.traced ≡ length u.traced
   pub pids : (i : ℕ) → (traced_at v i).pid ≡ (traced_at u i).pid
-  pub planted : (i : ℕ) → (marks_at v i).planted ≡ (marks_at u i).planted
+  pub marks : (i : ℕ) → marks_at v i ≡ marks_at u i
 
 -- the same list
 abbrev pub same_alike : (u v : TrussState) → v.traced ≡ u.traced → IsAlike u v
 same_alike u v same = record {
   many = ap length same;
   pids = λ i. ap (λ (ts : List Traced). (at_place ts i).pid) same;
-  planted = λ i. ap (λ (ts : List Traced). (at_place ts i).marks.planted) same;
+  marks = λ i. ap (λ (ts : List Traced). (at_place ts i).marks) same;
 }
 
 pub alike-join : (u v w : TrussState) → IsAlike u v → IsAlike v w → IsAlike u w
 alike-join u v w a b = record {
   many = b.many ∙ a.many;
   pids = λ i. b.pids i ∙ a.pids i;
-  planted = λ i. b.planted i ∙ a.planted i;
+  marks = λ i. b.marks i ∙ a.marks i;
 }
 
--- the process at a place becomes another with the same id, and the same breakpoints
+-- the process at a place becomes another with the same id, and the same marks
 pub set-alike : (u : TrussState) (q : ℕ) (t : Traced) → q < length u.traced → t.pid ≡ (traced_at u q).pid
-    → t.marks.planted ≡ (marks_at u q).planted → IsAlike u (with_traced u q t)
-set-alike u q t within pid planted = record {
+    → t.marks ≡ marks_at u q → IsAlike u (with_traced u q t)
+set-alike u q t within pid marks = record {
   many = length-set u.traced q t;
   pids = λ i. elim (cases_eq i q) [
     | inl same ↦
@@ -56,18 +59,13 @@ set-alike u q t within pid planted = record {
         ∙ pid ∙ ap (λ n. (at_place u.traced n).pid) (sym same)
     | inr apart ↦ ap (λ (x : Traced). x.pid) (get_or-set_other u.traced q i t nobody apart)
   ];
-  planted = λ i. elim (cases_eq i q) [
+  marks = λ i. elim (cases_eq i q) [
     | inl same ↦
-        ap (λ (x : Traced). x.marks.planted)
-        (ap (at_place (slice_set u.traced q t)) same ∙ set-at u.traced q t within)
-        ∙ planted ∙ ap (λ n. (at_place u.traced n).marks.planted) (sym same)
-    | inr apart ↦ ap (λ (x : Traced). x.marks.planted) (get_or-set_other u.traced q i t nobody apart)
+        ap (λ (x : Traced). x.marks) (ap (at_place (slice_set u.traced q t)) same ∙ set-at u.traced q t within)
+        ∙ marks ∙ ap (λ n. (at_place u.traced n).marks) (sym same)
+    | inr apart ↦ ap (λ (x : Traced). x.marks) (get_or-set_other u.traced q i t nobody apart)
   ];
 }
-
-pub marked-alike : (u : TrussState) (q : ℕ) (m : Marks) → q < length u.traced → m.planted ≡ (marks_at u q).planted
-    → IsAlike u (with_marks u q m)
-marked-alike u q m within planted = set-alike u q (record (traced_at u q) { marks = m }) within refl planted
 
 either : (u : TrussState) (b : Bool) (v w : TrussState) → IsAlike u v → IsAlike u w → IsAlike u (cond b v w)
 either u true v w x y = x
@@ -131,7 +129,19 @@ module _ (u : TrussState) (off : u.leaving ≡ false) (follow : u.options.follow
       either u _ _ _ (over-alike u off follow q)
       (either u _ _ _ old-alike (either u _ _ _ (over-alike u off follow q) (event-alike (event_of l))))
 
--- with other marks of the process
+-- ---- with other marks of the process
+
+-- the marks of a process with an event of an lwp, before anything is planted or lifted
+abbrev pub marks_then : Marks → LwpStatus → FunctionEvent → Marks
+marks_then m l (AtBreakpoint function) =
+    record m { stepped = Some (step_of l function); flags = union_word clear_fault single_step }
+marks_then m l (Completed step) = record m { stepped = None; flags = clear_fault }
+marks_then m l TraceTrap = record m { flags = clear_fault }
+marks_then m l BeforeCopy = record m { lifted = standing m; stepped = None; flags = single_step }
+marks_then m l AfterCopy = record m { lifted = no_functions; stepped = None }
+marks_then m l Replaced = no_marks
+marks_then m l Other = record m { stepped = None }
+
 module _ (u : TrussState) (off : u.leaving ≡ false) (follow : u.options.follow ≡ false) (q : ℕ) (l : LwpStatus)
     (within : q < length u.traced) where
   abbrev m : Marks
@@ -140,34 +150,27 @@ module _ (u : TrussState) (off : u.leaving ≡ false) (follow : u.options.follow
   set-within : (n : Marks) → q < length (with_marks u q n).traced
   set-within n = subst (λ k. q < k) (sym (length-set u.traced q (record (traced_at u q) { marks = n }))) within
 
-  over-marked : (n : Marks) → n.planted ≡ m.planted → IsAlike u (with_stop_over (with_marks u q n) q)
-  over-marked n same =
-      alike-join u (with_marks u q n) _ (marked-alike u q n within same) (over-alike (with_marks u q n) off follow q)
+  over-marked : (n : Marks) → IsAlike (with_marks u q n) (with_stop_over (with_marks u q n) q)
+  over-marked n = over-alike (with_marks u q n) off follow q
 
-  stop-marked : (n : Marks) → n.planted ≡ m.planted → IsAlike u (with_stop (with_marks u q n) q l)
-  stop-marked n same =
-      alike-join u (with_marks u q n) _ (marked-alike u q n within same)
-      (stop-alike (with_marks u q n) off follow q l (set-within n))
+  stop-marked : (n : Marks) → IsAlike (with_marks u q n) (with_stop (with_marks u q n) q l)
+  stop-marked n = stop-alike (with_marks u q n) off follow q l (set-within n)
 
   -- another aside
-  beside : (v : TrussState) (a : Aside) → IsAlike u v → IsAlike u (with_aside v a)
-  beside v a it = record { many = it.many; pids = it.pids; planted = it.planted }
+  beside : (w v : TrussState) (a : Aside) → IsAlike w v → IsAlike w (with_aside v a)
+  beside w v a it = record { many = it.many; pids = it.pids; marks = it.marks }
 
-  -- What an event makes: the same breakpoints are planted; or the memory was replaced, and none is.
-  pub data Events (v : TrussState) : FunctionEvent → Type 0 where
-    keeps : {e : FunctionEvent} → IsAlike u v → Events v e
-    replaces : IsAlike (with_marks u q no_marks) v → Events v Replaced
-
-  pub event-kept : (e : FunctionEvent) → Events (with_function_event u q l e) e
+  -- an event makes these of its marks, and nothing of others
+  pub event-kept : (e : FunctionEvent) → IsAlike (with_marks u q (marks_then m l e)) (with_function_event u q l e)
   unfolding with_function_event with_step_begun with_step_completed with_trap_over with_copy_begun with_copy_ended
       with_other_event with_memory_replaced with_call_shown with_patches
-  event-kept (AtBreakpoint function) = keeps (beside _ _ (over-marked _ refl))
+  event-kept (AtBreakpoint function) = beside _ _ _ (over-marked _)
   event-kept (Completed step) =
-      keeps (beside _ _
-      (alike-join u (with_marks u q (record m { stepped = None; flags = _ })) _ (marked-alike u q _ within refl)
-      (alike-join _ _ _ (same_alike _ _ refl) (over-alike _ off follow q))))
-  event-kept TraceTrap = keeps (over-marked _ refl)
-  event-kept BeforeCopy = keeps (beside _ _ (stop-marked _ refl))
-  event-kept AfterCopy = keeps (beside _ _ (stop-marked _ refl))
-  event-kept Replaced = replaces (stop-alike (with_marks u q no_marks) off follow q l (set-within no_marks))
-  event-kept Other = keeps (beside _ _ (stop-marked _ refl))
+      beside _ _ _
+      (alike-join (with_marks u q (record m { stepped = None; flags = _ })) _ _ (same_alike _ _ refl)
+      (over-alike _ off follow q))
+  event-kept TraceTrap = over-marked _
+  event-kept BeforeCopy = beside _ _ _ (stop-marked _)
+  event-kept AfterCopy = beside _ _ _ (stop-marked _)
+  event-kept Replaced = stop-marked no_marks
+  event-kept Other = beside _ _ _ (stop-marked _)

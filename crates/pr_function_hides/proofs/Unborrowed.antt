@@ -70,7 +70,8 @@ no-more-self x = no-more x x refl refl
 no-more-next : (x y z : TracedProcess) → BorrowsNoMore x y → BorrowsNoMore y z → BorrowsNoMore x z
 no-more-next x y z one two = record { none = λ was live. two.none (λ alive. one.none was alive) live }
 
-told-less : (target : Option ℕ) (g : Sig) (info : Info) (x : TracedProcess) → BorrowsNoMore x (signalled target g info x)
+told-less : (target : Option ℕ) (g : Sig) (info : Info) (x : TracedProcess)
+    → BorrowsNoMore x (signalled target g info x)
 told-less target g info x = let same = signalled-same target g info x in no-more x _ same.ended same.lender
 
 loan_back-less : (gone : ℕ) (p x : TracedProcess) → BorrowsNoMore x (with_loan_back gone p x)
@@ -100,7 +101,8 @@ program-less : (id : ℕ) (l : TracedLwp) (program : Program) (x : TracedProcess
 unfolding with_program
 program-less id l program x = record { none = λ was live. refl }
 
-new_lwp-less : (new held : ℕ) (regs : List ℕ) (x : TracedProcess) → BorrowsNoMore x (with_new_lwp traced new regs held x)
+new_lwp-less : (new held : ℕ) (regs : List ℕ) (x : TracedProcess)
+    → BorrowsNoMore x (with_new_lwp traced new regs held x)
 unfolding with_new_lwp
 new_lwp-less new held regs x =
     choice (BorrowsNoMore x) (is_some (lwp_of x new)) _ _ (λ there. no-more-self x) (λ free. no-more x _ refl refl)

@@ -75,8 +75,10 @@ module _ (s : TracedState) (k number : ℕ) (h : Held) (there : handle_of s.open
       by false false false is = absurd (let wrong = is in cc)
 
   pub write-granted : h.pid ≢ 0 → p.borrower ≡ None → fits ≡ true → (used : ℕ) × (a.reply ≡ reply.Used used)
-  write-granted user own ok =
-      (len, reply-is ∙ by (h.pid == 0) (has_lent p) fits (ne_eqb h.pid 0 user) (ap (λ (o : Option ℕ). is_some o) own) ok)
+  write-granted user own ok = (
+    len,
+    reply-is ∙ by (h.pid == 0) (has_lent p) fits (ne_eqb h.pid 0 user) (ap (λ (o : Option ℕ). is_some o) own) ok,
+  )
     where
       by : (x y z : Bool) → x ≡ false → y ≡ false → z ≡ true
           → (controlled s (answered_by x y z)).reply ≡ reply.Used len

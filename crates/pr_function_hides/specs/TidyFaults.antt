@@ -1,7 +1,7 @@
 -- What is asked of the faults that a truss with calls of functions brings about, so that programs see nothing of it.
 use Rattle.std.specs.Prelude.{◌≡◌, ◌++◌, ℕ, Bool, true, false, All, List, ◌∷◌, Some, IfOk}
 use Rattle.pr_api.specs.Entries.{call_entry}
-use Rattle.pr_hidden.specs.Hiders.{Hiders, covers_at, has_hold, hides, is_ctl}
+use Rattle.pr_hidden.specs.Hiders.{Hiders, covers_at, hides, is_ctl}
 use Rattle.pr_hidden.specs.Tidiness.{IsClearLwp, IsTidyCall, is_step_flags}
 use Rattle.pr_model.specs.Handles.{handle_of}
 use Rattle.pr_model.specs.Legal.{state_after}
@@ -11,20 +11,17 @@ use Rattle.pr_model.specs.declared.calls.Reply.{Reply}
 use Rattle.pr_model.specs.declared.calls.Reply.TheVariants as reply
 use Rattle.pr_model.specs.declared.events.Act.TheVariants.{Turn}
 use Rattle.pr_model.specs.declared.events.Actor.TheVariants.{Lwp}
-use Rattle.pr_model.specs.declared.events.Did.TheVariants.{Faulted as DidFault}
 use Rattle.pr_model.specs.declared.events.Entry.{Entry}
 use Rattle.pr_model.specs.declared.events.Turned.{Turned}
 use Rattle.pr_model.specs.declared.handles.Held.{Held}
 use Rattle.pr_model.specs.declared.lwps.Phase.TheVariants.{Faulted}
 use Rattle.pr_num.specs.Messages.{first_message}
 use Rattle.pr_num.specs.declared.faults.Flt.{Flt}
-use Rattle.pr_num.specs.declared.faults.Flt.TheVariants.{Trace}
 use Rattle.pr_num.specs.declared.messages.Message.{Message}
 use Rattle.pr_num.specs.declared.messages.Message.TheVariants as message
 
--- PCCFAULT, and PCRUN with PRCFAULT, PRSTEP or both
+-- PCRUN with PRCFAULT, PRSTEP or both
 abbrev pub is_clearing : Message → Bool
-is_clearing message.Cfault = true
 is_clearing (message.Run flags) = is_step_flags flags
 is_clearing m = false
 
@@ -32,9 +29,9 @@ is_clearing m = false
 abbrev pub BeginWithClearing : List ℕ → Type 0
 BeginWithClearing bytes = IfOk (first_message bytes) (λ f. is_clearing f.0 ≡ true)
 
--- An own fault is cleared, and never posted: those messages of one who hides find no other fault, and an lwp at an own
--- fault only stops as it is directed to. FLTTRACE comes only where a controller with functions has "ctl" open. And where
--- one closes it in a process that lives, no lwp stands at an own fault.
+-- An own fault is cleared, and never posted: that PCRUN of one who hides finds no other fault, and an lwp at an own
+-- fault only stops as it is directed to. And where one closes "ctl" in a process that lives, no lwp stands at an own
+-- fault.
 pub record AreFaultsTidy (who : Hiders) (first : TracedState) (h : List Entry) : Type 0 where
   pub messages : (front back : List Entry) (k handle : ℕ) (bytes : List ℕ) (r : Reply)
       → h ≡ front ++ call_entry k (call.Ctl handle bytes) r ∷ back → hides who k ≡ true → BeginWithClearing bytes
@@ -43,9 +40,6 @@ pub record AreFaultsTidy (who : Hiders) (first : TracedState) (h : List Entry) :
       (address : ℕ) → h ≡ front ++ record { actor = Lwp pid id; act = Turn t } ∷ back
       → live_process (state_after first front).system pid ≡ Some p → lwp_of p id ≡ Some l
       → (covers_at who first front pid).faulted id ≡ true → l.phase ≡ Faulted f address → l.control.directed ≡ true
-  pub own_steps : (front back : List Entry) (pid id : ℕ) (t : Turned)
-      → h ≡ front ++ record { actor = Lwp pid id; act = Turn t } ∷ back → t.did ≡ DidFault Trace
-      → has_hold who (state_after first front).opens pid ≡ true
   pub closes : (front back : List Entry) (k number : ℕ) (held : Held) (p : TracedProcess)
       → h ≡ front ++ call_entry k (call.Close number) reply.Done ∷ back → hides who k ≡ true
       → handle_of (state_after first front).opens k number ≡ Some held → is_ctl held.file ≡ true

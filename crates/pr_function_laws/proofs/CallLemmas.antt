@@ -263,7 +263,8 @@ none : {cs ds : List Report} → ds ≡ cs → ds ≡ cs ++ []
 none {cs} is = is ∙ sym (append-nil cs)
 
 -- a process has the same id, whatever its marks are
-marks-pid : (s : TrussState) (place : ℕ) (m : Marks) → (traced_at (with_marks s place m) place).pid ≡ (traced_at s place).pid
+marks-pid : (s : TrussState) (place : ℕ) (m : Marks)
+    → (traced_at (with_marks s place m) place).pid ≡ (traced_at s place).pid
 marks-pid s place m = set-pid s.traced place
   where
     set-pid : (ts : List Traced) (i : ℕ)
@@ -282,7 +283,8 @@ function_event-calls s place l (Completed step) =
     let m = marks_at s place in
     let u = with_marks s place (record m { stepped = None; flags = clear_fault }) in
     stop_over-calls (with_call_shown u place step) place ∙ call_shown-calls u place step
-    ∙ ap (λ pid. calls s ++ call_of_event pid (Completed step)) (marks-pid s place (record m { stepped = None; flags = clear_fault }))
+    ∙ ap (λ pid. calls s ++ call_of_event pid (Completed step))
+    (marks-pid s place (record m { stepped = None; flags = clear_fault }))
 function_event-calls s place l TraceTrap = none (stop_over-calls _ place)
 function_event-calls s place l BeforeCopy = none (stop-calls _ place l)
 function_event-calls s place l AfterCopy = none (stop-calls _ place l)

@@ -1,4 +1,4 @@
-use Rattle.std.proofs.Common.{◌≡◌, ◌<◌, ◌++◌, ℕ, true, Option, Some, List, [], ◌∷◌, length, append_assoc, refl, sym, subst, ap, ◌∙◌}
+use Rattle.std.proofs.Common.{◌≡◌, ◌<◌, ◌==◌, ◌++◌, ℕ, true, false, Option, Some, List, [], ◌∷◌, length, append_assoc, refl, sym, subst, ap, ◌∙◌}
 use Rattle.std.proofs.lemmas.Bool.{eq-eqb, eqb-true}
 use Rattle.std.proofs.lemmas.List.Elements.{All-append, All-cons, All-nil}
 use Rattle.std.specs.List.{All, cons_option}
@@ -17,18 +17,21 @@ use Rattle.pr_report_laws.proofs.Files.WatchHistories.{cons-exchanges, exchanges
 use Rattle.pr_report_laws.proofs.SeenChildren.Splits.{state_after-both}
 use Rattle.pr_report_laws.proofs.Watching.HistoryParts.{legal-front}
 use Rattle.pr_rec.specs.declared.lwps.LwpStatus.{LwpStatus}
+use Rattle.pr_truss.specs.Asides.{marks_at}
+use Rattle.pr_truss.specs.FunctionEvents.{step_of}
 use Rattle.pr_truss.specs.FunctionFeeding.{fed_functions}
 use Rattle.pr_truss.specs.Marks.{address_of}
 use Rattle.pr_truss.specs.NextCalls.{read_record}
 use Rattle.pr_truss.specs.Replies.{answer_of}
 use Rattle.pr_truss.specs.Trusses.{TrussState, first_truss, traced_at}
+use Rattle.pr_truss.specs.declared.asides.Aside.TheVariants.{Nothing}
 use Rattle.pr_truss.specs.declared.reports.Report.{Report}
 use Rattle.pr_truss.specs.declared.reports.Report.TheVariants.{Called}
 use Rattle.pr_truss.specs.declared.stages.Stage.{Stage}
-use Rattle.pr_truss.specs.declared.stages.Stage.TheVariants.{ReadingStatus, Running}
+use Rattle.pr_truss.specs.declared.stages.Stage.TheVariants.{ReadingStatus}
 use Rattle.pr_truss_laws.specs.Exchanges.{Exchange, exchanges}
 use Rattle.pr_function_laws.proofs.OpenedLaws.{bytes-front, few-there, handle-is, holds-opened, reading-running, status-handle, stop-function, still-there, stop-lwp, stop-there}
-use Rattle.pr_function_laws.proofs.TurnLemmas.{StandsWhereRead, reads-none, tells-of-lwp, told-is-turn, turn-is-told, turns-once}
+use Rattle.pr_function_laws.proofs.TurnLemmas.{StandsWhereRead, reads-as-met, reads-none, tells-of-lwp, told-is-turn, turn-is-told, turns-once}
 use Rattle.pr_function_laws.proofs.TurnReads.{fresh-new}
 use Rattle.pr_function_laws.proofs.TurnWalks.{AreNoReads}
 use Rattle.pr_function_laws.specs.Calls.{call_told}
@@ -42,7 +45,7 @@ use Rattle.pr_function_laws.specs.Turns.{CompletesOnce, HasTrap, ReadsAgain, Tel
 
 -- In each history of truss with functions its calls are turns.
 
-functions-both : (t : TrussState) (xs ys : List Exchange)
+pub functions-both : (t : TrussState) (xs ys : List Exchange)
     → functions_after t (xs ++ ys) ≡ functions_after (functions_after t xs) ys
 functions-both t [] ys = refl
 functions-both t (x ∷ xs) ys = functions-both (fed_functions t x.reply) xs ys
@@ -241,6 +244,41 @@ module _ (n k : ℕ) (o : Options) (s : TracedState) (h : List Entry) (run : IsF
   pub once-there : TurnsOnce (traced_at t place).pid id between
   once-there =
       turns-once n k t place ns (traced_at t place).pid id now e between again again-is first-few stands-where
+
+  -- ---- truss at the second
+
+  -- It reads the status of the process at that place, where the step over the function is under way.
+  pub record ReadsItsStep : Type 0 where
+    pub at : ℕ
+    pub reads : (functions_at k o (before ++ e ∷ between)).stage ≡ ReadingStatus at
+    pub idle : (functions_at k o (before ++ e ∷ between)).aside ≡ Nothing
+    pub pid : (traced_at (functions_at k o (before ++ e ∷ between)) at).pid ≡ (traced_at t place).pid
+    pub new : ((traced_at (functions_at k o (before ++ e ∷ between)) at).old == 0) ≡ true
+    pub unseen : (traced_at (functions_at k o (before ++ e ∷ between)) at).seen ≡ false
+    pub under_way : (marks_at (functions_at k o (before ++ e ∷ between)) at).stepped
+        ≡ Some (step_of met_lwp met_function)
+
+  pub step-there : ReadsItsStep
+  unfolding again-is
+  step-there =
+      let c =
+      reads-as-met n k t place ns (traced_at t place).pid id now e between again again-is first-few stands-where in
+      let y = c.known in
+      let b = r.breakpoint in
+      let m = b.meets in
+      let new = fresh-new (traced_at t place) m.l m.event m.fresh in
+      record {
+        at = c.at;
+        reads = ap (λ (x : TrussState). x.stage) later-is ∙ c.reads;
+        idle = ap (λ (x : TrussState). x.aside) later-is ∙ c.idle;
+        pid = ap (λ (x : TrussState). (traced_at x c.at).pid) later-is ∙ y.pid;
+        new = ap (λ (x : TrussState). (traced_at x c.at).old == 0) later-is ∙ ap (λ i. i == 0) y.old ∙ new.new;
+        unseen = ap (λ (x : TrussState). (traced_at x c.at).seen) later-is ∙ y.seen ∙ new.unseen;
+        under_way = ap (λ (x : TrussState). (marks_at x c.at).stepped) later-is ∙ y.stepped
+            ∙ ap (λ l. Some (step_of l (let w = again-is in let it = w.stop in let a = it.meets in a.function)))
+            same-lwp
+            ∙ ap (λ f. Some (step_of met_lwp f)) same-function;
+      }
 
   pub tells-there : TellsOfLwp r.y.reply id
   unfolding again-is

@@ -43,7 +43,7 @@ use Rattle.pr_truss.specs.declared.stages.Stage.{Stage}
 use Rattle.pr_truss.specs.declared.stages.Stage.TheVariants.{Spawning, OpeningControl, Opening, Polling, ReadingStatus, ReadingText, Running, Closing, Finished}
 use Rattle.pr_truss_laws.proofs.HeldLemmas.{at_place, set-at}
 use Rattle.pr_function_laws.proofs.TurnReads.{fresh-new}
-use Rattle.pr_function_laws.proofs.KeptPlaces.{AfterBeside, AfterStage, Apart, AtAside, AtPlace, AtStage, IsLasting, Kept, LeftHas, Position, Whole, apart-append, apart-remove, apart-set, closes, looks, opens, planted_as, position_after, rests, runs, unflagged}
+use Rattle.pr_function_laws.proofs.KeptPlaces.{AfterBeside, AfterStage, Apart, AtAside, AtPlace, AtStage, IsLasting, IsLastingWhere, Kept, LeftHas, Position, Whole, apart-append, apart-remove, apart-set, closes, lasting-where, looks, opens, planted_as, position_after, rests, runs, unflagged}
 
 -- One walk over all replies that are no interrupts, of a truss with functions that follows no children and does not
 -- leave its processes: what is so of each process, by where truss has come with it, stays so.
@@ -52,7 +52,7 @@ use Rattle.pr_function_laws.proofs.KeptPlaces.{AfterBeside, AfterStage, Apart, A
 none-old : (t : Traced) (l : LwpStatus) (e : Event) → fresh_event t l ≡ Some e → t.old ≡ 0
 none-old t l e is = let new = fresh-new t l e is in eqb-true t.old 0 new.new
 
-module _ (P : Position → Traced → Type 0) (lasting : IsLasting P) where
+module _ (P : Position → Traced → Type 0) (Seen : Traced → Type 0) (lasting : IsLastingWhere P Seen) where
   -- all processes were opened whole, and nothing comes before the next call
   record Full (u : TrussState) : Type 0 where
     follow : u.options.follow ≡ false
@@ -117,10 +117,11 @@ module _ (P : Position → Traced → Type 0) (lasting : IsLasting P) where
       }
 
   -- a new stop was looked at
-  marked-base : (q : ℕ) (u : TrussState) (m : Marks) → (traced_at u q).old ≡ 0 → Base q u → Base q (with_marks u q m)
-  marked-base q u m new b =
+  marked-base : (q : ℕ) (u : TrussState) (m : Marks) → Seen (traced_at u q) → (traced_at u q).old ≡ 0 → Base q u
+      → Base q (with_marks u q m)
+  marked-base q u m seen new b =
       set-base q u (record (traced_at u q) { marks = m })
-      (let f = b.full in lasting.meets (traced_at u q) m (f.all q b.here) new)
+      (let f = b.full in lasting.meets (traced_at u q) m seen (f.all q b.here) new)
       (lasting.sees (traced_at u q) m b.sees) refl b
 
   either : (q : ℕ) (b : Bool) (u v : TrussState) → KeptAt q u → KeptAt q v → KeptAt q (cond b u v)
@@ -231,28 +232,31 @@ module _ (P : Position → Traced → Type 0) (lasting : IsLasting P) where
 
   -- ---- stops with breakpoints
 
-  function-kept : (q : ℕ) (u : TrussState) (l : LwpStatus) (e : FunctionEvent) → (traced_at u q).old ≡ 0
-      → Base q u → KeptAt q (with_function_event u q l e)
+  function-kept : (q : ℕ) (u : TrussState) (l : LwpStatus) (e : FunctionEvent) → Seen (traced_at u q)
+      → (traced_at u q).old ≡ 0 → Base q u → KeptAt q (with_function_event u q l e)
   unfolding with_function_event with_step_begun with_step_completed with_trap_over with_copy_begun with_copy_ended
       with_other_event with_memory_replaced with_call_shown
-  function-kept q u l (AtBreakpoint function) new b = patched q _ _ _ (over-kept q _ (marked-base q u _ new b))
-  function-kept q u l (Completed step) new b = patched q _ _ _ (over-kept q _ (told q _ _ (marked-base q u _ new b)))
-  function-kept q u l TraceTrap new b = over-kept q _ (marked-base q u _ new b)
-  function-kept q u l BeforeCopy new b = patched q _ _ _ (stop-kept q _ l (marked-base q u _ new b))
-  function-kept q u l AfterCopy new b = patched q _ _ _ (stop-kept q _ l (marked-base q u _ new b))
-  function-kept q u l Replaced new b = stop-kept q _ l (marked-base q u _ new b)
-  function-kept q u l Other new b = patched q _ _ _ (stop-kept q _ l (marked-base q u _ new b))
+  function-kept q u l (AtBreakpoint function) seen new b =
+      patched q _ _ _ (over-kept q _ (marked-base q u _ seen new b))
+  function-kept q u l (Completed step) seen new b =
+      patched q _ _ _ (over-kept q _ (told q _ _ (marked-base q u _ seen new b)))
+  function-kept q u l TraceTrap seen new b = over-kept q _ (marked-base q u _ seen new b)
+  function-kept q u l BeforeCopy seen new b = patched q _ _ _ (stop-kept q _ l (marked-base q u _ seen new b))
+  function-kept q u l AfterCopy seen new b = patched q _ _ _ (stop-kept q _ l (marked-base q u _ seen new b))
+  function-kept q u l Replaced seen new b = stop-kept q _ l (marked-base q u _ seen new b)
+  function-kept q u l Other seen new b = patched q _ _ _ (stop-kept q _ l (marked-base q u _ seen new b))
 
   fresh-kept : (q : ℕ) (u : TrussState) (l : LwpStatus) (e : Option Event) → fresh_event (traced_at u q) l ≡ e
-      → Base q u → KeptAt q (with_fresh_event u q l e)
-  fresh-kept q u l None is b = stays q u _ _ (off-at q u b) (stop-kept q u l b)
-  fresh-kept q u l (Some e) is b =
-      stays q u _ _ (off-at q u b) (function-kept q u l _ (none-old (traced_at u q) l e is) b)
+      → Seen (traced_at u q) → Base q u → KeptAt q (with_fresh_event u q l e)
+  fresh-kept q u l None is seen b = stays q u _ _ (off-at q u b) (stop-kept q u l b)
+  fresh-kept q u l (Some e) is seen b =
+      stays q u _ _ (off-at q u b) (function-kept q u l _ seen (none-old (traced_at u q) l e is) b)
 
-  read-kept : (q : ℕ) (u : TrussState) (l : Option LwpStatus) → Base q u → KeptAt q (with_function_stop_read u q l)
+  read-kept : (q : ℕ) (u : TrussState) (l : Option LwpStatus) → Seen (traced_at u q) → Base q u
+      → KeptAt q (with_function_stop_read u q l)
   unfolding with_function_stop
-  read-kept q u None b = stays q u _ _ (off-at q u b) (over-kept q u b)
-  read-kept q u (Some l) b = fresh-kept q u l (fresh_event (traced_at u q) l) refl b
+  read-kept q u None seen b = stays q u _ _ (off-at q u b) (over-kept q u b)
+  read-kept q u (Some l) seen b = fresh-kept q u l (fresh_event (traced_at u q) l) refl seen b
 
   -- ---- closing, and when nothing is to be done for a process
 
@@ -286,7 +290,8 @@ module _ (P : Position → Traced → Type 0) (lasting : IsLasting P) where
   -- ---- the replies
 
   module _ (t : TrussState) (r : Reply) (follow : t.options.follow ≡ false) (off : t.leaving ≡ false)
-      (apart : Apart t.traced) (calm : answer_of r ≢ Interrupted) where
+      (apart : Apart t.traced) (calm : answer_of r ≢ Interrupted)
+      (seen : (q : ℕ) → t.aside ≡ Nothing → t.stage ≡ ReadingStatus q → Seen (traced_at t q)) where
     module _ (idle : t.aside ≡ Nothing) where
       full : Whole P t.traced → Full t
       full all = record { follow = follow; off = off; all = all; idle = idle; apart = apart }
@@ -381,12 +386,13 @@ module _ (P : Position → Traced → Type 0) (lasting : IsLasting P) where
       poll-kept Interrupted other is all finds = absurd (other refl)
 
       -- a status, and memory
-      status-kept : (q : ℕ) (a : Answer) → a ≢ Interrupted → Base q t → KeptAt q (with_function_status_answered t q r a)
+      status-kept : (q : ℕ) (a : Answer) → a ≢ Interrupted → Seen (traced_at t q) → Base q t
+          → KeptAt q (with_function_status_answered t q r a)
       unfolding with_function_status_answered with_status_answered
-      status-kept q Accepted other b = read-kept q t (option_and_then status_lwp (bytes_in r)) b
-      status-kept q (Refused errno) other b = over-kept q t b
-      status-kept q Gone other b = closing-kept q t b
-      status-kept q Interrupted other b = absurd (other refl)
+      status-kept q Accepted other seen b = read-kept q t (option_and_then status_lwp (bytes_in r)) seen b
+      status-kept q (Refused errno) other seen b = over-kept q t b
+      status-kept q Gone other seen b = closing-kept q t b
+      status-kept q Interrupted other seen b = absurd (other refl)
 
       after-text-kept : (q : ℕ) (l : LwpStatus) (u : TrussState) (a : Answer) → a ≢ Interrupted → Base q u
           → KeptAt q (after_text u q l a)
@@ -627,7 +633,7 @@ module _ (P : Position → Traced → Type 0) (lasting : IsLasting P) where
         step-kept idle q step (answer_of r) calm w.0 w.1.0 w.1.1.0 w.1.1.1
     stage-kept idle Polling is w = poll-kept idle (answer_of r) calm is w.0 w.1
     stage-kept idle (ReadingStatus q) is w =
-        let it = status-kept idle q (answer_of r) calm (base idle q w) in it.kept
+        let it = status-kept idle q (answer_of r) calm (seen q idle is) (base idle q w) in it.kept
     stage-kept idle (ReadingText q l from len) is w =
         let it = text-kept idle q l len (answer_of r) calm (base idle q w) in
         function-text-kept idle q _ (answer_of r) it.kept
@@ -868,8 +874,16 @@ module _ (P : Position → Traced → Type 0) (lasting : IsLasting P) where
     aside-kept (Patching q plants lifts clear) is w = patch-kept q w.0 w.1.0 plants lifts clear w.1.1.1
     aside-kept _ is w = absurd w.1
 
-    pub fed-kept : has_functions t.options ≡ true → AfterBeside P t r t.aside → Kept P (fed_functions t r)
+    pub fed-kept-where : has_functions t.options ≡ true → AfterBeside P t r t.aside → Kept P (fed_functions t r)
     unfolding fed_functions
-    fed-kept has w =
+    fed-kept-where has w =
         subst (Kept P) (sym (ap (λ b. cond b (with_aside_answered t r t.aside) (fed t r)) has))
         (aside-kept t.aside refl w)
+
+-- the same, whatever process truss looks at
+pub fed-kept : (P : Position → Traced → Type 0) → IsLasting P → (t : TrussState) (r : Reply)
+    → t.options.follow ≡ false → t.leaving ≡ false → Apart t.traced → answer_of r ≢ Interrupted
+    → has_functions t.options ≡ true → AfterBeside P t r t.aside → Kept P (fed_functions t r)
+fed-kept P lasting t r follow off apart calm has w =
+    fed-kept-where P (λ (u : Traced). Unit {0}) (lasting-where P lasting) t r follow off apart calm (λ q idle is. tt)
+    has w

@@ -139,7 +139,18 @@ module _ (P : Position → Traced → Type 0) where
     pub apart : Apart t.traced
 
   -- What truss makes of its record of a process, where that is no call of its own, leaves what is so: it looks at a
-  -- stop that stood before it came, at one that is new, and plants and lifts breakpoints.
+  -- stop that stood before it came, at one that is new, and plants and lifts breakpoints. It looks only at processes of
+  -- which the other thing is so.
+  pub record IsLastingWhere (Seen : Traced → Type 0) : Type 0 where
+    pub may_close : (at : Position) (u : Traced) → P at u → P closes u
+    pub may_run : (u : Traced) → P rests u → P looks u → P runs u
+    pub counts : (u : Traced) → P rests u → P looks u → 0 < u.old → P runs (record u { old = u.old - 1 })
+    pub sees : (u : Traced) (m : Marks) → P looks u → P looks (record u { marks = m })
+    pub meets : (u : Traced) (m : Marks) → Seen u → P rests u → u.old ≡ 0 → P rests (record u { marks = m })
+    pub plants : (at : Position) (u : Traced) (set : List Bool) → P at u → P at (planted_as u set)
+    pub loosens : (u : Traced) (m : Marks) → P closes u → P closes (record u { marks = m })
+
+  -- the same, whatever process it looks at
   pub record IsLasting : Type 0 where
     pub may_close : (at : Position) (u : Traced) → P at u → P closes u
     pub may_run : (u : Traced) → P rests u → P looks u → P runs u
@@ -148,6 +159,17 @@ module _ (P : Position → Traced → Type 0) where
     pub meets : (u : Traced) (m : Marks) → P rests u → u.old ≡ 0 → P rests (record u { marks = m })
     pub plants : (at : Position) (u : Traced) (set : List Bool) → P at u → P at (planted_as u set)
     pub loosens : (u : Traced) (m : Marks) → P closes u → P closes (record u { marks = m })
+
+  pub lasting-where : IsLasting → IsLastingWhere (λ (u : Traced). Unit {0})
+  lasting-where w = record {
+    may_close = w.may_close;
+    may_run = w.may_run;
+    counts = w.counts;
+    sees = w.sees;
+    meets = λ u m seen. w.meets u m;
+    plants = w.plants;
+    loosens = w.loosens;
+  }
 
   -- ---- before its first call
 
@@ -222,3 +244,48 @@ module _ (P : Position → Traced → Type 0) where
   abbrev pub AfterBeside : TrussState → Reply → Aside → Type 0
   AfterBeside t r Nothing = AfterStage t r t.stage
   AfterBeside t r aside = AtStage t.traced t.stage × AtAside t.traced aside
+
+-- ---- what follows from it
+
+-- What is so of each process is another thing too, where it follows of each.
+module _ (P Q : Position → Traced → Type 0) (ts : List Traced)
+    (each : (j : ℕ) → j < length ts → (at : Position) → P at (at_place ts j) → Q at (at_place ts j)) where
+  whole-weaker : Whole P ts → Whole Q ts
+  whole-weaker all j inside = each j inside rests (all j inside)
+
+  but-weaker : (q : ℕ) → EachBut (P rests) ts q → EachBut (Q rests) ts q
+  but-weaker q others j inside other = each j inside rests (others j inside other)
+
+  place-weaker : (q : ℕ) → AtPlace P ts q → AtPlace Q ts q
+  place-weaker q w = (w.0, (but-weaker q w.1.0, each q w.0 closes w.1.1))
+
+  stage-weaker : (stage : Stage) → AtStage P ts stage → AtStage Q ts stage
+  stage-weaker (Spawning program) w = whole-weaker w
+  stage-weaker (OpeningControl pid) w = whole-weaker w
+  stage-weaker (Opening q step) w = (w.0, (but-weaker q w.1.0, each q w.0 (opens step) w.1.1))
+  stage-weaker Polling w = whole-weaker w
+  stage-weaker (ReadingStatus q) w = (w.0, (whole-weaker w.1.0, each q w.0 looks w.1.1))
+  stage-weaker (ReadingText q l from len) w = (w.0, (whole-weaker w.1.0, each q w.0 looks w.1.1))
+  stage-weaker (Running q) w = (w.0, (but-weaker q w.1.0, each q w.0 runs w.1.1))
+  stage-weaker (Closing q OpenNext) w = place-weaker q w
+  stage-weaker (Closing q GoOn) w = place-weaker q w
+  stage-weaker Finished w = whole-weaker w
+  stage-weaker _ w = absurd w
+
+  aside-weaker : (aside : Aside) → AtAside P ts aside → AtAside Q ts aside
+  aside-weaker Nothing w = tt
+  aside-weaker (Reading q function) w = place-weaker q w
+  aside-weaker (Planting q function) w = place-weaker q w
+  aside-weaker (Patching q plants lifts clear) w = (place-weaker q w.0, w.1)
+  aside-weaker _ w = absurd w
+
+pub kept-weaker : (P Q : Position → Traced → Type 0) (t : TrussState)
+    → ((j : ℕ) → j < length t.traced → (at : Position) → P at (at_place t.traced j) → Q at (at_place t.traced j))
+    → Kept P t → Kept Q t
+kept-weaker P Q t each w = record {
+  follow = w.follow;
+  off = w.off;
+  stage = stage-weaker P Q t.traced each t.stage w.stage;
+  beside = aside-weaker P Q t.traced each t.aside w.beside;
+  apart = w.apart;
+}

@@ -240,7 +240,8 @@ free-lent : (p : TracedProcess) (id : ℕ) (l : TracedLwp) → is_held_back p id
     → p.borrower ≡ None
 unfolding is_held_back
 free-lent p id l free moves_on =
-    no-thing p.borrower (by (has_event_stop l) l.suspended _ (has_lent p) (not l.control.directed) free (ap not moves_on))
+    no-thing p.borrower
+    (by (has_event_stop l) l.suspended _ (has_lent p) (not l.control.directed) free (ap not moves_on))
   where
     by : (a b c d e : Bool) → (a || (b || (c || (d && e)))) ≡ false → e ≡ true → d ≡ false
     by false false false false e is goes = refl

@@ -635,6 +635,17 @@ module _ (Reached : Type 0) (n k : ℕ) (s : TracedState) (lawful : IsLawful s) 
       (mild-each q beside.0.0 (place-control q beside.0) its.0 its.1.0 its.1.1) w beside
   aside-after _ w beside is = absurd beside
 
+  -- a control file is opened of no process that truss traces
+  pub control-fresh : (pid : ℕ) → t.stage ≡ OpeningControl pid → t.aside ≡ Nothing → has_functions t.options ≡ true
+      → next_function_call_of t ≡ Some c → answer_of a.reply ≡ Accepted → Each (λ (u : Traced). u.pid ≢ pid) ts
+  unfolding next_function_call_of call_beside function_call_of call_of
+  control-fresh pid at idle has next accepted =
+      let w = kept in
+      let is : function_call_of t (OpeningControl pid) ≡ Some c =
+      ap (function_call_of t) (sym at) ∙ ap (call_beside t t.stage) (sym idle)
+      ∙ sym (ap (λ b. cond b (call_beside t t.stage t.aside) (next_call_of t)) has) ∙ next in
+      let new = new-control pid (sym (same_Some _ c is)) accepted (lowest Reached k o s ts t.stage w.stage) in new.1
+
   -- every call, and its reply
   pub call-kept : has_functions t.options ≡ true → next_function_call_of t ≡ Some c → answer_of a.reply ≢ Interrupted
       → Kept (IsSo Reached k t.options a.state) (fed_functions t a.reply)

@@ -357,11 +357,11 @@ legal-rest : (n : ℕ) (s : TracedState) (before later : List Entry) → IsLegal
 legal-rest n s [] later legal = legal
 legal-rest n s (e ∷ before) later legal = legal-rest n (after s e) before later legal.1
 
-calls-front : (t : TrussState) (xs ys : List Exchange) → MakesCalls t (xs ++ ys) → MakesCalls t xs
+pub calls-front : (t : TrussState) (xs ys : List Exchange) → MakesCalls t (xs ++ ys) → MakesCalls t xs
 calls-front t [] ys makes = tt
 calls-front t (x ∷ xs) ys makes = (makes.0, calls-front (fed_functions t x.reply) xs ys makes.1)
 
-calls-rest : (t : TrussState) (xs ys : List Exchange) → MakesCalls t (xs ++ ys)
+pub calls-rest : (t : TrussState) (xs ys : List Exchange) → MakesCalls t (xs ++ ys)
     → MakesCalls (functions_after t xs) ys
 calls-rest t [] ys makes = makes
 calls-rest t (x ∷ xs) ys makes = calls-rest (fed_functions t x.reply) xs ys makes.1
@@ -575,7 +575,7 @@ module _ (n k : ℕ) (o : Options) (s : TracedState) (h : List Entry) (run : IsF
       calls-both =
           subst (MakesCalls (first_truss o)) (ap (exchanges k) is ∙ exchanges-both k before later) run.makes
 
-      before-goes : (Reached : Type 0) → (Reached → IsReached s) → (Reached → HasBytes before)
+      pub before-goes : (Reached : Type 0) → (Reached → IsReached s) → (Reached → HasBytes before)
           → Goes Reached k o (functions_at k o before) (state_after s before)
       before-goes Reached reached bytes =
           history-goes Reached n k o before (first_truss o) s run.has (first-goes Reached reached) legal-before bytes
@@ -753,7 +753,8 @@ module _ (n k : ℕ) (o : Options) (s : TracedState) (h : List Entry) (run : IsF
         let new = fresh-new (traced_at t place) m.l m.event m.fresh in
         let few =
         goes-few (Unit {0}) k o t now goes place m.within tt (ap (λ (x : Stage). is_opened x place) m.reads)
-        (λ runs. reading-running place place (sym m.reads ∙ runs)) (eqb-true (traced_at t place).old 0 new.new) p live in
+        (λ runs. reading-running place place (sym m.reads ∙ runs)) (eqb-true (traced_at t place).old 0 new.new) p
+        live in
         let met = stands-alone p few m.l.id shown.lwp shown.there (ap is_met_if stops) in
         met.not_lent Bpt
         (ap (λ (x : TracedLwp). x.control.stop) (same_Some met.lwp shown.lwp (sym met.there ∙ shown.there)) ∙ stops)

@@ -120,7 +120,8 @@ module _ (s : TracedSystem) (pid : ℕ) (p : TracedProcess) (id : ℕ) (l : Trac
       let moving : stands_still it.lwp ≡ false =
       moves-not-still (has_event_stop it.lwp) it.lwp.suspended _ it.free in
       let directed : it.lwp.control.directed ≡ true =
-      must-be-directed (stands_still it.lwp) it.lwp.control.directed (stepped.others other it.lwp differs there) moving in
+      must-be-directed (stands_still it.lwp) it.lwp.control.directed (stepped.others other it.lwp differs there)
+      moving in
       it.is ∙ ap (λ (y : TracedProcess). settled s pid y other it.lwp (row_for s pid y other it.lwp)) same
       ∙ ap (settled s pid p other it.lwp) (row-directed s pid p other it.lwp directed)
 

@@ -351,7 +351,7 @@ module _ (pid : ℕ) where
         goes-if (length p.lwps == 1) s _ _ (goes-spared s _ (end-spares pid pid p 0 s))
         (own-goes (without_lwp id) s (λ x at. (refl, gone-stopped id x (rises x ends_lwp refl at))))
 
-    end-rises : (t : Transition) (s : TracedSystem) → IsLawfulSystem s → SuitsTransition s pid p id l t
+    pub end-rises : (t : Transition) (s : TracedSystem) → IsLawfulSystem s → SuitsTransition s pid p id l t
         → (x : TracedProcess) (e : Ending) → t.ending ≡ Some e
         → process_of
         (with_lwp_of pid id (moved traced t.move) (all_changed traced pid p id l t.changes s)) pid ≡ Some x

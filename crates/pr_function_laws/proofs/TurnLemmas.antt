@@ -1,10 +1,8 @@
-use Rattle.std.proofs.Common.{◌≡◌, ◌<◌, ◌==◌, ◌++◌, ℕ, true, false, Option, Some, None, List, [], ◌∷◌, length, append_assoc, refl, sym, subst, ap, ◌∙◌, arith, inl, inr}
+use Rattle.std.proofs.Common.{◌≡◌, ◌<◌, ◌==◌, ◌++◌, ℕ, true, false, Option, Some, None, List, [], ◌∷◌, length, refl, sym, subst, ap, ◌∙◌, arith, inl, inr}
 use Rattle.std.proofs.lemmas.Bool.{false≢true}
-use Rattle.std.proofs.lemmas.List.Elements.{All-head}
 use Rattle.std.proofs.lemmas.Option.{none-some, same_Some, slice_get_within}
 use Rattle.std.specs.List.{All, cons_option}
 use Rattle.std.specs.Option.{option_and_then}
-use Rattle.pr_lawful.proofs.EndLemmas.{found-live}
 use Rattle.pr_lawful.proofs.HandleLemmas.{handle-at}
 use Rattle.pr_lawful.proofs.HistoryLemmas.{history-state}
 use Rattle.pr_lawful.proofs.UseLemmas.{live-lawful}
@@ -31,63 +29,56 @@ use Rattle.pr_model.specs.declared.events.Turned.{Turned}
 use Rattle.pr_model.specs.declared.handles.Held.{Held}
 use Rattle.pr_model.specs.declared.stops.Point.{Point}
 use Rattle.pr_model.specs.declared.stops.Point.TheVariants.{Signal, Fault, Entry as AtEntry, Exit as AtExit}
-use Rattle.pr_model.specs.declared.stops.Stop.{Stop}
 use Rattle.pr_model.specs.declared.stops.Stop.TheVariants as stop
 use Rattle.pr_num.specs.ById.{IsRising}
-use Rattle.pr_num.specs.declared.faults.Flt.{Flt}
 use Rattle.pr_num.specs.declared.faults.Flt.TheVariants.{Bpt, Trace}
 use Rattle.pr_rec.specs.declared.lwps.LwpStatus.{LwpStatus}
 use Rattle.pr_report_laws.proofs.Files.WatchHistories.{exchanges-push}
 use Rattle.pr_report_laws.proofs.Machine.RecordLaws.{status-read}
 use Rattle.pr_report_laws.proofs.SeenChildren.Splits.{Compares, ahead, behind, compare, same}
-use Rattle.pr_report_laws.proofs.Watching.HistoryParts.{all-rest, legal-front, legal-rest}
+use Rattle.pr_report_laws.proofs.Watching.HistoryParts.{legal-rest}
 use Rattle.pr_report_laws.specs.AtBirth.{is_met_if}
 use Rattle.pr_truss.specs.Asides.{marks_at}
 use Rattle.pr_truss.specs.FunctionCalls.{next_function_call_of}
 use Rattle.pr_truss.specs.FunctionEvents.{step_of}
 use Rattle.pr_truss.specs.FunctionFeeding.{fed_functions}
-use Rattle.pr_truss.specs.Marks.{address_in, address_of, has_functions}
+use Rattle.pr_truss.specs.Marks.{address_of, has_functions}
 use Rattle.pr_truss.specs.NextCalls.{read_record}
 use Rattle.pr_truss.specs.Records.{status_lwp}
 use Rattle.pr_truss.specs.Trusses.{TrussState, traced_at}
+use Rattle.pr_truss.specs.declared.asides.Aside.TheVariants.{Nothing}
 use Rattle.pr_truss.specs.declared.marks.Stepped.{Stepped}
 use Rattle.pr_truss.specs.declared.processes.Traced.{Traced}
 use Rattle.pr_truss.specs.declared.reports.Report.{Report}
 use Rattle.pr_truss.specs.declared.reports.Report.TheVariants.{Called}
-use Rattle.pr_truss_laws.proofs.FrameLemmas.{was-made}
 use Rattle.pr_truss_laws.proofs.FunctionOptionLemmas.{fed_functions-options}
 use Rattle.pr_truss_laws.proofs.OpensLemmas.{held_by}
-use Rattle.pr_truss_laws.proofs.OverLemmas.{stays-made}
 use Rattle.pr_truss.specs.declared.stages.Stage.TheVariants.{ReadingStatus}
 use Rattle.pr_truss_laws.specs.Exchanges.{Exchange, exchanges}
 use Rattle.pr_truss_laws.specs.Stills.{IsFrozen, stands_still}
-use Rattle.pr_reached.proofs.FitHistoryLemmas.{history-fits}
 use Rattle.pr_function_laws.proofs.AwayLemmas.{Away, IsKnownAs, Own, ReadsOwn, reads-own}
-use Rattle.pr_function_laws.proofs.BreakpointLemmas.{handles-same, lawful-now, live-now, looks-now, makes, own-entry, seen-then, stands}
+use Rattle.pr_function_laws.proofs.BreakpointLemmas.{makes, own-entry, stands}
 use Rattle.pr_function_laws.proofs.LiftLemmas.{LookCall, Looks, call-looks, met_at, patches, steps}
-use Rattle.pr_function_laws.proofs.MetLemmas.{event-breaks, found-function, fresh-stands}
 use Rattle.pr_function_laws.proofs.OneEventLemmas.{met-leads, stands-alone}
 use Rattle.pr_function_laws.proofs.OneEventTurns.{point-met}
 use Rattle.pr_function_laws.proofs.TurnPoints.{did_at}
 use Rattle.pr_function_laws.proofs.TurnReads.{ShownLwp, ShowsCall, fault-told, fresh-new, shown-lwp, shows-call, step-told, tells-call, told-stop}
-use Rattle.pr_function_laws.proofs.TurnStates.{Steps, Waits}
+use Rattle.pr_function_laws.proofs.TurnStarts as starts
+use Rattle.pr_function_laws.proofs.TurnStarts.{among-none}
+use Rattle.pr_function_laws.proofs.TurnStates.{Steps}
 use Rattle.pr_function_laws.proofs.TurnWalks as walks
-use Rattle.pr_function_laws.proofs.TurnWalks.{After, AreNoReads, Before, Comes, Files, Going, Turns, after-on, functions_on, walk}
+use Rattle.pr_function_laws.proofs.TurnWalks.{After, AreNoReads, Comes, Files, Going, Turns, after-on}
 use Rattle.pr_function_laws.specs.Calls.{call_told}
-use Rattle.pr_function_laws.specs.Lifted.{GoesElsewhere, IsAtStopAtBreakpoint, ReadsOnlyLast, StepsNoCall}
+use Rattle.pr_function_laws.specs.Lifted.{GoesElsewhere, IsAtStopAtBreakpoint, ReadsOnlyLast}
 use Rattle.pr_function_laws.specs.Met.{arguments_of}
 use Rattle.pr_function_laws.specs.OneEvent.{HasOneEventAtMost}
-use Rattle.pr_function_laws.specs.Runs.{MakesCalls, functions_after}
+use Rattle.pr_function_laws.specs.Runs.{MakesCalls, functions_after, functions_on}
 use Rattle.pr_function_laws.specs.Stretches.{acts_by}
 use Rattle.pr_function_laws.specs.Turns.{CompletesOnce, HasOneTurn, HasTrap, IsNoTurnOf, ReadsAgain, TellsItsTurn, TellsOfLwp, TurnsOnce, call_of_stop, first_arguments, told_again}
 
 -- A call that is told at the read after a breakpoint is the one turn that the lwp had since, and the other way round.
 
 -- ---- lists of exchanges
-
-makes-front : (t : TrussState) (xs : List Exchange) (y : Exchange) → MakesCalls t (xs ++ y ∷ []) → MakesCalls t xs
-makes-front t [] y makes_all = tt
-makes-front t (x ∷ xs) y makes_all = (makes_all.0, makes-front (fed_functions t x.reply) xs y makes_all.1)
 
 makes-last : (t : TrussState) (xs : List Exchange) (y : Exchange) → MakesCalls t (xs ++ y ∷ [])
     → next_function_call_of (functions_after t xs) ≡ Some y.call
@@ -111,16 +102,6 @@ has-after t (x ∷ xs) has =
     has-after (fed_functions t x.reply) xs (ap has_functions (fed_functions-options t x.reply) ∙ has)
 
 -- ---- one turn among entries
-
-turn-none : (pid id : ℕ) (t : Turned) → IsNoTurnOf pid id (record { actor = Lwp pid id; act = Turn t }) → ⊥
-turn-none pid id t w = w.other refl
-
-among-none : (pid id : ℕ) (t : Turned) (us vs : List Entry)
-    → All (IsNoTurnOf pid id) (us ++ record { actor = Lwp pid id; act = Turn t } ∷ vs) → ⊥
-among-none pid id t us vs none =
-    turn-none pid id t
-    (All-head (IsNoTurnOf pid id) (record { actor = Lwp pid id; act = Turn t }) vs
-    (all-rest (IsNoTurnOf pid id) us (record { actor = Lwp pid id; act = Turn t } ∷ vs) none))
 
 act-same : (t u : Turned) → Turn t ≡ Turn u → t ≡ u
 act-same t u is = cc
@@ -195,82 +176,24 @@ module _ (n k : ℕ) (t : TrussState) (place ns pid id : ℕ) (s : TracedState) 
 
   -- ---- the first read
 
-  lwp-then : ShownLwp here.process first_lwp
-  lwp-then =
-      let m = here.meets in
-      let l = live-lawful s.system pid here.process (let it = here.lawful in it.system) here.live in
-      shown-lwp here.process first_lwp m.event l.rising
-      (seen-then n k t place ns pid id s e (between ++ again ∷ []) here)
-      (fresh-stands (traced_at t place) first_lwp m.event m.fresh)
+  abbrev lwp-then : ShownLwp here.process first_lwp
+  lwp-then = starts.lwp-then n k t place ns pid id s e (between ++ again ∷ []) here
 
   -- the lwp as it stood at the breakpoint
   abbrev stood : TracedLwp
   stood = let x = lwp-then in x.lwp
 
   first-id : first_lwp.id ≡ id
-  first-id = let told = here.told in told.its
-
-  -- the breakpoint
-  at-break : event_of first_lwp ≡ Some (event.Incurred Bpt (address_of t.options function))
-  unfolding address_of
-  at-break =
-      let m = here.meets in
-      let b = event-breaks t.options (marks_at t place) first_lwp.id m.event function m.at_breakpoint in
-      let f = found-function t.options b.pc function b.found in
-      fresh-stands (traced_at t place) first_lwp m.event m.fresh ∙ ap (λ x. Some x) b.is
-      ∙ ap (λ pc. Some (event.Incurred Bpt pc)) (sym f.1.1 ∙ ap address_in (sym f.1.0))
+  first-id = starts.first-id n k t place ns pid id s e (between ++ again ∷ []) here
 
   lwp-stop : stood.control.stop ≡ Some (stop.Faulted Bpt)
-  lwp-stop =
-      let x = lwp-then in
-      told-stop here.process first_lwp.id x.lwp Bpt (address_of t.options function)
-      (ap event_of (sym x.is) ∙ at-break)
-
-  status-regs : (p : TracedProcess) (own : ℕ) (l : TracedLwp) → (lwpstatus_of p own l).regs ≡ l.regs
-  unfolding lwpstatus_of
-  status-regs p own l = refl
+  lwp-stop = starts.lwp-stop n k t place ns pid id s e (between ++ again ∷ []) here
 
   lwp-regs : stood.regs ≡ first_lwp.regs
-  lwp-regs =
-      let x = lwp-then in
-      sym (ap (λ (y : LwpStatus). y.regs) x.is ∙ status-regs here.process first_lwp.id x.lwp)
-
-  incurred-pc : (f : Flt) (a b : ℕ) → Some (event.Incurred f a) ≡ Some (event.Incurred f b) → a ≡ b
-  incurred-pc f a b is = cc
+  lwp-regs = starts.lwp-regs n k t place ns pid id s e (between ++ again ∷ []) here
 
   stands-at : pc_of stood.regs ≡ address_of t.options function
-  stands-at =
-      let x = lwp-then in
-      incurred-pc Bpt (pc_of x.lwp.regs) (address_of t.options function)
-      (sym (fault-told here.process first_lwp.id x.lwp Bpt lwp-stop) ∙ ap event_of (sym x.is) ∙ at-break)
-
-  waits-then : Waits id stood here.process
-  waits-then =
-      let x = lwp-then in
-      record {
-        stands = stands n k t place ns pid id s e (between ++ again ∷ []) here;
-        all = here.stops;
-        own = λ l there.
-            let one : x.lwp ≡ l = same_Some x.lwp l (sym x.there ∙ ap (lwp_of here.process) first-id ∙ there) in
-            record {
-              holds = ap (λ (y : TracedLwp). y.regs) (sym one);
-              suspended = ap (λ (y : TracedLwp). y.suspended) (sym one);
-              stop = ap (λ (y : TracedLwp). y.control.stop) (sym one) ∙ lwp-stop;
-            };
-      }
-
-  files-now : Files n k pid id c ns met place stood now
-  files-now =
-      let f = here.files in
-      let same_handles = handles-same n k t place ns pid id s e (between ++ again ∷ []) here in
-      record { control = same_handles c ∙ f.control; status = same_handles ns ∙ f.reads }
-
-  first-before : Before n k pid id c ns met place stood begun now
-  first-before =
-      walks.looks (looks-now n k t place ns pid id s e (between ++ again ∷ []) here) files-now
-      (λ p live. subst (Waits id stood)
-      (same_Some here.process p (sym (live-now n k t place ns pid id s e (between ++ again ∷ []) here) ∙ live))
-      waits-then)
+  stands-at = starts.stands-at n k t place ns pid id s e (between ++ again ∷ []) here
 
   -- ---- on the way
 
@@ -286,32 +209,15 @@ module _ (n k : ℕ) (t : TrussState) (place ns pid id : ℕ) (s : TracedState) 
   begun-has : has_functions begun.options ≡ true
   begun-has = let x = here.x in ap has_functions (fed_functions-options t x.reply) ∙ here.has
 
-  no-call-front : StepsNoCall k pid id c now between
-  no-call-front =
-      let calls : StepsNoCall k pid id c now (between ++ again ∷ []) = here.no_call in
-      record {
-        each = λ before later f x p l is.
-            calls.each before (later ++ again ∷ []) f x p l
-            (ap (λ (es : List Entry). es ++ again ∷ []) is ∙ append_assoc before (f ∷ later) (again ∷ []));
-      }
-
   going : Going n k pid id c ns met place stood begun now between
   going =
-      let first = found-live s.system pid here.process here.live in
-      let lawful : IsLawful s = here.lawful in
-      record {
-        lawful = lawful-now n k t place ns pid id s e (between ++ again ∷ []) here;
-        made = stays-made n s e pid lawful here.legal.0 (was-made pid s.system here.process lawful.system first.0);
-        fit = history-fits n s (e ∷ []) lawful here.fit (here.legal.0, tt);
-        has = begun-has;
-        legal = legal-front n now between (again ∷ []) here.legal.1;
-        makes = makes-front begun (exchanges k between) w.y makes-all;
-        quiet = reads-none ns (exchanges k between) w.y (subst (ReadsOnlyLast ns) pushed here.reads_last);
-        no_call = no-call-front;
-      }
+      starts.going-front n k t place ns pid id s e (between ++ again ∷ []) here between (again ∷ []) refl
+      (reads-none ns (exchanges k between) w.y (subst (ReadsOnlyLast ns) pushed here.reads_last))
 
   came : Comes n k pid id c ns met place stood begun now between
-  came = walk n k pid id c ns met place stood between begun now going first-before
+  came =
+      starts.came-front n k t place ns pid id s e (between ++ again ∷ []) here between (again ∷ []) refl
+      (reads-none ns (exchanges k between) w.y (subst (ReadsOnlyLast ns) pushed here.reads_last))
 
   -- ---- the second read
 
@@ -556,6 +462,14 @@ module _ (n k : ℕ) (t : TrussState) (place ns pid id : ℕ) (s : TracedState) 
       → (traced_at reads_later at).pid ≡ (traced_at t place).pid
       → (traced_at reads_later at).old ≡ (traced_at t place).old → StandsThen
 
+  -- Truss reads the status of the process at that place, of which it knows what it knew once it had met the breakpoint.
+  pub record ReadsAsMet : Type 0 where
+    pub at : ℕ
+    pub within : at < length reads_later.traced
+    pub reads : reads_later.stage ≡ ReadingStatus at
+    pub idle : reads_later.aside ≡ Nothing
+    pub known : IsKnownAs met (traced_at reads_later at)
+
   module _ (first : HasOneEventAtMost here.process) (stands_where : StandsWhereRead) where
     there-first : lwp_of here.process id ≡ Some stood
     there-first = let x = lwp-then in ap (lwp_of here.process) (sym first-id) ∙ x.there
@@ -609,6 +523,20 @@ module _ (n k : ℕ) (t : TrussState) (place ns pid id : ℕ) (s : TracedState) 
         by (walks.one_turn before later did point one facts a) =
             record { before = before; later = later; did = did; point = point; one = one; facts = facts; left = a }
         by (walks.ends gone) = absurd (none-some w.process (sym gone ∙ w.live))
+
+    pub reads-as-met : ReadsAsMet
+    reads-as-met =
+        let c = came-once in
+        let a = c.left in
+        let r = reading a.away a.files in
+        record {
+          at = r.place;
+          within = subst (λ (u : TrussState). r.place < length u.traced) (sym same-later) r.within;
+          reads = ap (λ (u : TrussState). u.stage) same-later ∙ r.reads;
+          idle = ap (λ (u : TrussState). u.aside) same-later ∙ r.idle;
+          known = subst (λ (u : TrussState). IsKnownAs met (traced_at u r.place)) (sym same-later)
+              (known a.away a.files);
+        }
 
     pub turns-once : TurnsOnce pid id between
     turns-once = let c = came-once in record { before = c.before; turned = c.did; later = c.later; one = c.one }

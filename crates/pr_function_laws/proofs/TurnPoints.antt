@@ -72,7 +72,8 @@ module _ (s : TracedSystem) (pid : ℕ) (p : TracedProcess) (id : ℕ) (l : Trac
   taken-point : (a b : Option Sig) (row : Row) → MeetsPoint row → MeetsPoint (taken_or s pid p id l a b row)
   unfolding own_taken_row shared_taken_row own_taken shared_taken
   taken-point (Some g) b row otherwise = record { point = Signal g; kind = tt; is = refl; did = refl; goes_on = refl }
-  taken-point None (Some g) row otherwise = record { point = Signal g; kind = tt; is = refl; did = refl; goes_on = refl }
+  taken-point None (Some g) row otherwise =
+      record { point = Signal g; kind = tt; is = refl; did = refl; goes_on = refl }
   taken-point None None row otherwise = otherwise
 
   executed-point : l.control.step ≡ true → (e : InstructionEffect)
@@ -81,7 +82,8 @@ module _ (s : TracedSystem) (pid : ℕ) (p : TracedProcess) (id : ℕ) (l : Trac
   executed-point marked (runs regs store) no_call =
       rw marked (record { point = Fault Trace; kind = tt; is = refl; did = refl; goes_on = refl })
   executed-point marked (calls call regs) no_call = absurd (no_call call regs refl)
-  executed-point marked (faults f address) no_call = record { point = Fault f; kind = tt; is = refl; did = refl; goes_on = refl }
+  executed-point marked (faults f address) no_call =
+      record { point = Fault f; kind = tt; is = refl; did = refl; goes_on = refl }
   executed-point marked (runs_into_watch address regs store) no_call =
       record { point = Fault Watch; kind = tt; is = refl; did = refl; goes_on = refl }
 

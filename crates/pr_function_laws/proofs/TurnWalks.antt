@@ -62,17 +62,12 @@ use Rattle.pr_function_laws.proofs.TurnCalls.{Leaves, first-step, run-leaves, wr
 use Rattle.pr_function_laws.proofs.TurnPoints.{IsOfStep, did_at, step-did, step-point, step-ran, step-stands, step-there}
 use Rattle.pr_function_laws.proofs.TurnStates.{Had, IsKept, Lives, Steps, Waits, alone-lives, had-beside, had-kept, had-no-turn, over-lives, steps-beside, steps-kept, waits-kept}
 use Rattle.pr_function_laws.specs.Lifted.{GoesElsewhere, HasControl, HasStatus, IsNoRead, StepsNoCall}
-use Rattle.pr_function_laws.specs.Runs.{MakesCalls, functions_after}
+use Rattle.pr_function_laws.specs.Runs.{MakesCalls, functions_after, functions_on}
 use Rattle.pr_function_laws.specs.Steps.{RunsNoCall}
 use Rattle.pr_function_laws.specs.Stretches.{BeginWithWrite, IsControlOf}
 use Rattle.pr_function_laws.specs.Turns.{HasOneTurn, IsNoTurnOf, RunsInstruction}
 
 -- From the read of an lwp at a breakpoint to the next read of its process the lwp has one turn, or none.
-
--- truss after what a controller did in an entry, if it was truss
-abbrev pub functions_on : TrussState → Option Exchange → TrussState
-functions_on t None = t
-functions_on t (Some x) = fed_functions t x.reply
 
 -- none of these reads the status with this handle, and none was interrupted
 abbrev pub AreNoReads : ℕ → List Exchange → Type 0
@@ -283,7 +278,8 @@ module _ (n k pid id c ns : ℕ) (met : Traced) (place : ℕ) (stood : TracedLwp
     pub control : HasControl k pid c s
     pub status : HasStatus k pid ns s
 
-  -- The lwp has not had its turn: truss looks at the process, where it waits; or truss is away, and it is stepped alone.
+  -- The lwp has not had its turn: truss looks at the process, where it waits; or truss is away, and it is stepped
+  -- alone.
   pub data Before (t : TrussState) (s : TracedState) : Type 0 where
     looks : Looks (Goes s) c ns met place t → Files s → Lives pid (Waits id stood) s.system → Before t s
     aways : Away (Goes s) c ns met t → Files s → Lives pid (Steps id stood) s.system → Before t s
@@ -403,7 +399,8 @@ module _ (n k pid id c ns : ℕ) (met : Traced) (place : ℕ) (stood : TracedLwp
             (away-lives (Steps id stood) (steps-kept id stood) lives))
 
       -- truss looks at the process
-      module _ (look : Looks (Goes s) c ns met place t) (f : Files s) (lives : Lives pid (Waits id stood) s.system) where
+      module _ (look : Looks (Goes s) c ns met place t) (f : Files s)
+          (lives : Lives pid (Waits id stood) s.system) where
         data Sends : Type 0 where
           runs : x.call ≡ call.Ctl c (spelling (message.Run step_flags) []) → Sends
           writes : (bytes : List ℕ) → x.call ≡ call.Ctl c bytes → BeginWithWrite bytes → Sends

@@ -30,8 +30,8 @@ calls_among reports = filter is_call reports
 
 -- ---- in one reply
 
--- A call is told where its first instruction has run: the lwp whose step is under way stands at the trace trap of it. Its
--- breakpoint alone tells none.
+-- A call is told where its first instruction has run: the lwp whose step is under way stands at the trace trap of it.
+-- Its breakpoint alone tells none.
 abbrev pub call_of_event : ℕ → FunctionEvent → List Report
 call_of_event pid (Completed step) = Called pid step.lwp step.function step.arguments ∷ []
 call_of_event pid event = []

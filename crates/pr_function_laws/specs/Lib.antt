@@ -1,13 +1,17 @@
 pub mod CalledTurns
 pub mod Calls
+pub mod FunctionTurns
 pub mod Lifted
 pub mod Met
 pub mod OneEvent
 pub mod Opened
+pub mod Ordinary
+pub mod OrdinaryRuns
 pub mod Returns
 pub mod Runs
 pub mod Soon
 pub mod Steppable
 pub mod Steps
 pub mod Stretches
+pub mod ToldTurns
 pub mod Turns

@@ -26,7 +26,8 @@ abbrev pub IsAwakeAtFault : TracedLwp → Type 0
 IsAwakeAtFault l = (f : Flt) → l.control.stop ≡ Some (Faulted f) → l.suspended ≡ false
 
 -- An lwp of a process stands on an event that it met, and each other one is held: it met nothing, and will stop before
--- it does anything. Where that event is a fault, the lwp is not suspended, and the process has lent its memory to nobody.
+-- it does anything. Where that event is a fault, the lwp is not suspended, and the process has lent its memory to
+-- nobody.
 pub record HasMetAlone (p : TracedProcess) (id : ℕ) : Type 0 where
   pub lwp : TracedLwp
   pub there : lwp_of p id ≡ Some lwp

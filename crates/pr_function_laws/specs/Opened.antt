@@ -1,5 +1,5 @@
--- What truss with calls of functions has of each process that it has opened: its own files of it, alone, and all signals
--- and faults of it traced.
+-- What truss with calls of functions has of each process that it has opened: its own files of it, alone, and all
+-- signals and faults of it traced.
 use Rattle.std.specs.Prelude.{◌≡◌, ◌≢◌, ◌<◌, ◌==◌, ◌++◌, ℕ, Bool, true, false, not, All, List, ◌∷◌, Some, length, slice_get}
 use Rattle.pr_line.specs.Functions.{function_limit}
 use Rattle.pr_line.specs.declared.functions.Function.{Function}
@@ -26,8 +26,9 @@ use Rattle.pr_function_laws.specs.Stretches.{OthersOnlyStop}
 
 -- ---- what is traced
 
--- Of a process all signals but SIGKILL and all faults are traced, and PR_ASYNC is not set. Of the calls those are traced
--- that the options choose; and fork, vfork and exec, which copy or replace its memory, at their entry and at their exit.
+-- Of a process all signals but SIGKILL and all faults are traced, and PR_ASYNC is not set. Of the calls those are
+-- traced that the options choose; and fork, vfork and exec, which copy or replace its memory, at their entry and at
+-- their exit.
 pub record TracesAll (o : Options) (c : TracedControl) : Type 0 where
   pub stops : StopsAtAll c
   pub entries : c.traced_entries ≡ with_copying (traced_entries o)
@@ -43,8 +44,8 @@ functions_at k o h = functions_after (first_truss o) (exchanges k h)
 pub record WasNotInterrupted (x : Exchange) : Type 0 where
   pub unbroken : x.reply ≢ Fail Intr
 
--- A legal history from a lawful state in which the controller of this number has nothing open, and in which it makes the
--- calls that a truss with these options makes. They name functions, and then follow no children.
+-- A legal history from a lawful state in which the controller of this number has nothing open, and in which it makes
+-- the calls that a truss with these options makes. They name functions, and then follow no children.
 pub record IsFunctionRun (n k : ℕ) (o : Options) (s : TracedState) (h : List Entry) : Type 0 where
   pub has : has_functions o ≡ true
   pub follows_none : o.follow ≡ false
@@ -81,9 +82,9 @@ pub record HoldsWhatItOpened (k : ℕ) (o : Options) (first : TracedState) (h : 
 -- ---- its stops at breakpoints
 
 -- In the first of these entries truss reads that the lwp of this id of the process at a place stands at a breakpoint.
--- The function is one of the first 16 and begins with an instruction that is no system call, as each does that truss was
--- given. Truss is not interrupted in these entries, and makes no call any more once it has read the status of the process
--- again.
+-- The function is one of the first 16 and begins with an instruction that is no system call, as each does that truss
+-- was given. Truss is not interrupted in these entries, and makes no call any more once it has read the status of the
+-- process again.
 pub record ReadsBreakpoint (k : ℕ) (t : TrussState) (place id : ℕ) (s : TracedState) (e : Entry)
     (between : List Entry) : Type 0 where
   pub x : Exchange

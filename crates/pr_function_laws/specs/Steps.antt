@@ -11,8 +11,8 @@ use Rattle.pr_model.specs.State.{TracedControl, TracedLwp, TracedProcess, Traced
 use Rattle.pr_model.specs.declared.lwps.Phase.TheVariants.{User}
 use Rattle.pr_truss_laws.specs.Stills.{IsHalting, will_stop}
 
--- The lwp is in its program with a step mark, is not directed to stop, and has no signal to act on first. Each other lwp
--- of its process stands still, or will stop before it does anything.
+-- The lwp is in its program with a step mark, is not directed to stop, and has no signal to act on first. Each other
+-- lwp of its process stands still, or will stop before it does anything.
 pub record IsStepped (p : TracedProcess) (id : ℕ) (l : TracedLwp) : Type 0 where
   pub there : lwp_of p id ≡ Some l
   pub in_program : l.phase ≡ User

@@ -8,10 +8,12 @@ mod lifted;
 mod lines;
 mod met;
 mod opened;
+mod ordinary;
 mod returns;
 mod soon;
 mod steps;
 mod stretches;
+mod told;
 mod turns;
 
 pub use called::in_each_history_calls_are_turns;
@@ -20,6 +22,10 @@ pub use lifted::a_breakpoint_is_lifted_for_one_lwp_alone;
 pub use lines::{each_reply_tells_at_most_one_call, the_calls_reported_are_those_told};
 pub use met::{each_call_told_was_met_at_its_breakpoint, the_calls_reported_were_met};
 pub use opened::{each_breakpoint_is_lifted_for_one_lwp_alone, what_truss_opened_it_traces_alone};
+pub use ordinary::{
+    beside_its_breakpoints_it_is_a_truss, it_calls_closes_and_leaves_its_files_as_truss_does,
+    it_shows_what_is_new, it_shows_what_it_reads_right_then,
+};
 pub use returns::a_breakpoint_is_planted_again_first;
 pub use soon::what_a_poll_named_is_soon_run_or_closed;
 pub use steps::{
@@ -30,6 +36,7 @@ pub use steps::{
 pub use stretches::{
     a_process_that_is_stopped_on_an_event_is_frozen, no_other_lwp_begins_an_instruction,
 };
+pub use told::{in_each_history_each_step_is_told, in_each_history_only_turns_are_told};
 pub use turns::{
     a_call_told_is_the_one_turn_of_its_lwp, a_turn_whose_trap_is_read_is_told,
     calls_have_their_turns_in_order,

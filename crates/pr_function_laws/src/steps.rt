@@ -75,8 +75,9 @@ pub fn a_stepped_lwp_halts_at_one_event()
 {}
 
 /// While an lwp of a process is stepped alone, an entry of a history that is not of the one controller that has the
-/// process open for writing leaves it so; or it was its own turn, and each lwp of the process stands still or is directed
-/// to stop; or the process has ended. With the law on the other lwps: none of them begins an instruction until then.
+/// process open for writing leaves it so; or it was its own turn, and each lwp of the process stands still or is
+/// directed to stop; or the process has ended. With the law on the other lwps: none of them begins an instruction until
+/// then.
 #[tactic(auto, using(crate::proofs::OtherSteps::others))]
 pub fn a_step_goes_on_until_its_own_turn()
     ensures { (n : ℕ) (s : TracedState) (k pid id : ℕ) (p : TracedProcess) (l : TracedLwp) (e : Entry) → IsLawful s

@@ -263,10 +263,10 @@ module _ (who : Hiders) (none : (k : ℕ) → who.functions k ≡ []) (k : ℕ) 
     both-alike agent p u code stack alike it = record {
       patches =
           alike.patches ∙ it.patches
-          ∙ ap (λ (bs : List ℕ). record { at = text_base; bytes = bs } ∷ record { at = stack_base; bytes = p.stack } ∷ [])
-          (sym code)
-          ∙ ap (λ (bs : List ℕ). record { at = text_base; bytes = u.code } ∷ record { at = stack_base; bytes = bs } ∷ [])
-          (sym stack);
+          ∙ ap (λ (bs : List ℕ).
+          record { at = text_base; bytes = bs } ∷ record { at = stack_base; bytes = p.stack } ∷ []) (sym code)
+          ∙ ap (λ (bs : List ℕ).
+          record { at = text_base; bytes = u.code } ∷ record { at = stack_base; bytes = bs } ∷ []) (sym stack);
       agent_is = alike.agent ∙ it.agent_is;
       code = ap (λ (bs : List ℕ). length bs) code ∙ it.code;
       stack = ap (λ (bs : List ℕ). length bs) stack ∙ it.stack;
@@ -333,10 +333,10 @@ module _ (who : Hiders) (none : (k : ℕ) → who.functions k ≡ []) (k : ℕ) 
     both-as agent d p u code stack it = record {
       patches =
           it.patches
-          ∙ ap (λ (bs : List ℕ). record { at = text_base; bytes = bs } ∷ record { at = stack_base; bytes = p.stack } ∷ [])
-          (sym code)
-          ∙ ap (λ (bs : List ℕ). record { at = text_base; bytes = u.code } ∷ record { at = stack_base; bytes = bs } ∷ [])
-          (sym stack);
+          ∙ ap (λ (bs : List ℕ).
+          record { at = text_base; bytes = bs } ∷ record { at = stack_base; bytes = p.stack } ∷ []) (sym code)
+          ∙ ap (λ (bs : List ℕ).
+          record { at = text_base; bytes = u.code } ∷ record { at = stack_base; bytes = bs } ∷ []) (sym stack);
       agent_is = it.agent_is;
       code = ap (λ (bs : List ℕ). length bs) code ∙ it.code;
       stack = ap (λ (bs : List ℕ). length bs) stack ∙ it.stack;

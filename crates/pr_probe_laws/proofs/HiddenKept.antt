@@ -216,7 +216,8 @@ module _ (n k pid : ℕ) (first : TracedState) (h : List Entry) (lawful : IsLawf
         × IsAgentMove c.patches x t.turned.did (row_for s.system pid x agent_id l).transition
     asks-goes c it asked d w l there =
         let same : w.agent ≡ l = same_Some w.agent l (sym w.there ∙ there) in
-        let did : t.turned.did ≡ (row_for s.system pid x agent_id l).did = did-is s pid agent_id t turn x l live there in
+        let did : t.turned.did ≡ (row_for s.system pid x agent_id l).did =
+        did-is s pid agent_id t turn x l live there in
         let moves =
         asking-moves d s.system pid x l w.ready (subst IsAgent same w.is) (subst (Position d) same w.so.at)
         its-process.uncaught (record { at = text_base; bytes = p.code }) p.stack it.stack

@@ -56,8 +56,8 @@ is-intr Intr is = refl
 is-intr _ is = absurd (false≢true is)
 
 -- elsewhere none does but an interrupt
-pub passed-poll : (p : ProbeState) (g : ProbeStage) (e : Errno) (c : Call) → is_over g ≡ false → is_passed_over g e ≡ true
-    → call_of p g ≡ Some c → IsInterruptedPoll c e
+pub passed-poll : (p : ProbeState) (g : ProbeStage) (e : Errno) (c : Call) → is_over g ≡ false
+    → is_passed_over g e ≡ true → call_of p g ≡ Some c → IsInterruptedPoll c e
 unfolding is_passed_over is_asking_passed_over call_of asking_call
 passed-poll p (stage.Asking d Await) e c over passed same =
     record { handles = _; is = sym (same_Some _ c same); interrupted = is-intr e passed }
@@ -362,7 +362,8 @@ module _ (k pid : ℕ) (first : TracedState) where
               place = refl;
               earlier = so.quiet refl;
               reason =
-                  no_room (reads-file (at_stage p stage.ReadMap) 4 knows.holds Map (omega arith) file.Map refl same) given;
+                  no_room (reads-file (at_stage p stage.ReadMap) 4 knows.holds Map (omega arith) file.Map refl same)
+                  given;
             })
     accepted-why p stage.Close so none knows same right =
         same-why (at_stage p stage.Close) _ none refl (λ over. absurd (false≢true (sym over))) so

@@ -40,8 +40,8 @@ module _ (n k pid : ℕ) (first : TracedState) where
   others-lead h (Probe p) actor it legal other kept = (
     others-known n k pid first h (Probe p) actor it legal other kept.0,
     λ none.
-        leads-still k pid first h (record { actor = actor; act = it }) (others-call k pid first actor it other) p p.stage
-        (kept.1 none),
+        leads-still k pid first h (record { actor = actor; act = it }) (others-call k pid first actor it other) p
+        p.stage (kept.1 none),
   )
   others-lead h _ actor it legal other kept = absurd kept.1
 

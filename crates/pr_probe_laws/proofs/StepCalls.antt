@@ -78,7 +78,8 @@ edit-keeps m none l k lwp.goes_to h = h
 edits-keep : (m : Message) → SetsNoStep m → (f : TracedLwp → TracedLwp) → ((l : TracedLwp) → LwpEdits m l (f l))
     → KeepsLwps f
 edits-keep m none f edits id l u = record {
-  no_step = lwp-edits-keep m (λ (x : TracedLwp). x.control.step ≡ false) (edit-keeps m none) l (f l) (edits l) u.no_step;
+  no_step =
+      lwp-edits-keep m (λ (x : TracedLwp). x.control.step ≡ false) (edit-keeps m none) l (f l) (edits l) u.no_step;
 }
 
 agent-unstepped : (regs : List ℕ) → IsUnsteppedLwp (agent_id, agent_lwp regs)
@@ -198,7 +199,8 @@ module _ (who : Hiders) (no_functions : (k : ℕ) → who.functions k ≡ []) wh
           || is_hider_act who (Controller k) (act.Call (call.Ctl handle bytes) r))
 
       granted : WritesNoStep (first_message bytes) → IsUnstepped a.state.system
-      granted none = call-keeps s k (call.Ctl handle bytes) a.state (call-edit s k (call.Ctl handle bytes) a given) none u
+      granted none =
+          call-keeps s k (call.Ctl handle bytes) a.state (call-edit s k (call.Ctl handle bytes) a given) none u
 
       refused : (e : Errno) → a.reply ≡ reply.Fail e → IsUnstepped a.state.system
       refused e is =

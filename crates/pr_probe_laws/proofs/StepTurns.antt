@@ -194,7 +194,9 @@ module _ (s : TracedSystem) (pid id : ℕ) (t : LwpTurn) (turn : turn_of s pid i
 
   unmarked : IsUnsteppedLwp (id, it.lwp)
   unmarked =
-      let own = All-under IsUnsteppedProcess pid it.process s.processes u.processes (live_process-found s pid it.process it.live) in
+      let own =
+      All-under IsUnsteppedProcess pid it.process s.processes u.processes
+      (live_process-found s pid it.process it.live) in
       All-under IsUnsteppedLwp id it.lwp it.process.lwps own.lwps it.there
 
   pub turn-plain : t.turned.did ≢ Faulted Trace

@@ -827,7 +827,8 @@ module _ (k pid : ℕ) (first : TracedState) (h : List Entry) (c : Call) (a : An
       let u : ProbeState = record (at_stage p (stage.Trace Signals)) { stack = take stack_size (bytes_read a.reply) } in
       λ none.
       comes-with _ same refl (at_stage p stage.SaveStack) u
-      (Unlent k pid first h (HasCode (at_stage p stage.SaveStack))) (TracesWith k pid first longer u NoneBack) refl refl refl
+      (Unlent k pid first h (HasCode (at_stage p stage.SaveStack))) (TracesWith k pid first longer u NoneBack) refl refl
+      refl
       (λ b fair known. (
         λ q live. tt,
         saves-stack k pid first h c a lawful given (at_stage p stage.SaveStack) u so.holds refl refl same

@@ -525,8 +525,8 @@ module _ (k pid : ℕ) (first : TracedState) where
       becomes : (C : Result (List ℕ) BadByte → Type 0) → IsReady C x → (l : TracedLwp) → lwp_of x agent_id ≡ Some l
           → Becomes agent_sets.exits C s.system pid x l q
       becomes C ready l there =
-          others-become agent_sets.exits C n s k pid lawful (sole-now h m front) x before ready l there actor it legal other
-          q later
+          others-become agent_sets.exits C n s k pid lawful (sole-now h m front) x before ready l there actor it legal
+          other q later
 
       kinds : q.fds ≡ x.fds → SameKinds s.system.files x.fds next.system.files q.fds
       kinds same =

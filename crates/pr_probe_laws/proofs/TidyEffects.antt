@@ -40,8 +40,8 @@ use Rattle.pr_model.specs.Signals.{is_kill}
 use Rattle.pr_model.specs.State.{TracedLwp, TracedProcess, TracedSystem}
 use Rattle.pr_model.specs.declared.frames.Frame.{Frame}
 
--- What a system call changes is tidy, where nothing is written over in its process, if it is one that copies or replaces
--- the memory: a line a call.
+-- What a system call changes is tidy, where nothing is written over in its process, if it is one that copies or
+-- replaces the memory: a line a call.
 
 -- a call that copies the memory of its process, or replaces it
 abbrev pub IsCopying : Sysno → Type 0

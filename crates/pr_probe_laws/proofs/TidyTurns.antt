@@ -97,7 +97,8 @@ module _ (covers : Covers) (s : TracedSystem) (pid : ℕ) (p : TracedProcess) (i
 
   kind-tidy : (row : Row) → RowKind s pid p id l row → row_for s pid p id l ≡ row → IsTidyRow row
   unfolding IsTidyRow requested_row requested posted_row posted dropped job_stopped died handler_row own_taken_row
-      shared_taken_row own_taken shared_taken interrupted_row interrupted returned_row returned trapped stored_in handled
+      shared_taken_row own_taken shared_taken interrupted_row interrupted returned_row returned trapped stored_in
+      handled
   kind-tidy row (kind.stops now) same = tt
   kind-tidy row (kind.posts at) same = tt
   kind-tidy row (kind.ignores now is) same = tt

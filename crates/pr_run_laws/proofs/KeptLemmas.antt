@@ -1,7 +1,6 @@
-use Rattle.std.proofs.Common.{◌≡◌, ◌≢◌, ◌==◌, ◌++◌, ℕ, Bool, true, false, not, All, Some, List, [], ◌∷◌, flat_map, length, map, refl, sym, subst, ap, arith, ◌∙◌}
+use Rattle.std.proofs.Common.{◌≡◌, ◌≢◌, ◌++◌, ℕ, Bool, true, false, All, Some, List, [], ◌∷◌, flat_map, length, map, refl, sym, subst, ap, ◌∙◌}
 use Rattle.std.specs.List.{slice_get}
 use Rattle.std.specs.Option.{option_map}
-use Rattle.std.proofs.lemmas.Bool.{ne_eqb}
 use Rattle.std.proofs.lemmas.Option.{slice_get-map}
 use Rattle.std.proofs.lemmas.List.Elements.{All-cons, All-nil}
 use Rattle.pr_api.specs.Views.{kernel_of}
@@ -19,8 +18,13 @@ use Rattle.pr_model.specs.declared.events.Entry.{Entry}
 use Rattle.pr_model.specs.declared.tools.ToolKind.{ToolKind}
 use Rattle.pr_model.specs.declared.tools.ToolKind.TheVariants.{Prun, Pstack, Pstop}
 use Rattle.pr_probe.specs.Probes.{first_probe}
+use Rattle.pr_function_hides.proofs.ClearingLaw.{clears-running}
+use Rattle.pr_function_hides.proofs.ClosingLaw.{leaves-none}
+use Rattle.pr_function_hides.proofs.HiddenTruss.{truss-hidden, truss-tidy}
+use Rattle.pr_function_hides.proofs.StepLaw.{own-steps}
 use Rattle.pr_function_hides.proofs.TidyLaw.{writes-tidily}
 use Rattle.pr_hidden.proofs.FirstLemmas.{first-untouched}
+use Rattle.pr_hidden.proofs.HistoryFollows.{hidden-first}
 use Rattle.pr_probe_laws.proofs.HiddenLaw.{alone-accepted, alone-gone, alone-hidden, alone-tidy}
 use Rattle.pr_probe_laws.proofs.StepCalls.{untouched-unstepped}
 use Rattle.pr_probe_laws.proofs.TakesBack.{probe-takes-back}
@@ -67,6 +71,8 @@ use Rattle.pr_run_laws.specs.TrussRuns.{IsTrussKept}
 use Rattle.pr_run_laws.proofs.ByteLemmas.{follows-bytes}
 use Rattle.pr_run_laws.proofs.FunctionLemmas.{function-kept}
 use Rattle.pr_run_laws.proofs.TracerLemmas.{tracers-passive}
+use Rattle.pr_run_laws.proofs.TrussHiders.{hide-trusses, plan-named}
+use Rattle.pr_run_laws.proofs.TrussOptions.{bare-truss, full-truss}
 use Rattle.pr_run_laws.proofs.TrussLemmas.{nothing-held, truss-kept}
 
 -- What runs of scenarios keep.
@@ -79,21 +85,10 @@ pub first-told : (s : Scenario) → IsTold (first_world s)
 unfolding first_world kernel_of
 first-told s = record { machine = first_state_of s; is = refl }
 
--- a truss without functions
+-- controllers without functions
 none-both : (xs ys : List Function) → xs ++ ys ≡ [] → (xs ≡ []) × (ys ≡ [])
 none-both [] ys e = (refl, e)
 none-both (x ∷ xs) ys e = absurd (cc)
-
-bare-truss : (o : Options) → o.functions ≡ [] → has_functions o ≡ false
-bare-truss o none = ap (λ (functions : List Function). not (length functions == 0)) none
-
-full-truss : (o : Options) → o.functions ≢ [] → has_functions o ≡ true
-full-truss o some = at o.functions some
-  where
-    at : (functions : List Function) → functions ≢ [] → not (length functions == 0) ≡ true
-    at [] some = absurd (some refl)
-    at (f ∷ functions) some =
-        ap not (ne_eqb (length (f ∷ functions)) 0 (λ (none : length (f ∷ functions) ≡ 0). omega (arith, none)))
 
 truss-tracer : (o : Options) → has_functions o ≡ false → IsTracer (truss_of o (has_functions o))
 unfolding IsTracer
@@ -117,8 +112,8 @@ controllers-tracers (plan.Gcore pid ∷ plans) none quiet bare =
     (controllers-tracers plans none quiet bare)
 controllers-tracers (plan.Probe pid ∷ plans) none quiet bare = absurd (cc)
 
--- without scripts, probes and functions a history that follows the protocol is passive, and so tracing is transparent in
--- it
+-- without scripts, probes and functions a history that follows the protocol is passive, and so tracing is transparent
+-- in it
 transparent-tracers : (s : Scenario) (h : List Entry) → IsLegal (length (controllers_of s)) (first_state_of s) h
     → Follows (controllers_of s) (first_state_of s) h → scripts_of s ≡ [] → probes_of s ≡ [] → shown_functions s ≡ []
     → IsTransparent (first_state_of s) h
@@ -159,9 +154,8 @@ pub functions-kept : (s : Scenario) (n : ℕ) (h : List Entry) → IsScenarioInR
     (o : Options) → slice_get s.controllers k ≡ Some (plan.Truss o) → o.functions ≢ []
     → IsFunctionTrussKept (controllers_of s) (first_state_of s) h k o
 functions-kept s n h range bytes legal own k o at some =
-    let has = full-truss o some in
-    function-kept (controllers_of s) n (first_state_of s) h k o (state-reached s range) bytes
-    (first-held s k) (truss-plan s k o true at has) has legal own
+    function-kept (controllers_of s) n (first_state_of s) h k o (state-reached s range) bytes (first-held s k)
+    (truss-plan s k o true at (full-truss o some)) some (plan-named s range k o at) legal own
 
 -- ---- tools
 
@@ -298,11 +292,12 @@ probes-kept s n h range bytes legal own k pid at = record {
 first-unstepped : (s : Scenario) → IsUnstepped (first_state_of s).system
 first-unstepped s = untouched-unstepped (first_state_of s).system (first-untouched s.programs (files_of s) s.spawns)
 
--- programs see nothing of them where they are left alone
+-- programs see nothing of those who hide and are tidy, nor of apfiles that are left alone
 pub hidden-kept : (s : Scenario) (n : ℕ) (h : List Entry) → IsScenarioInRange s → HasBytes h
     → IsLegal n (first_state_of s) h → AreOwnCalls (controllers_of s) h
     → AreHidden (controllers_of s) (first_state_of s) h
 hidden-kept s n h range bytes legal own = record {
+  unseen = λ who. hidden-first n who s.programs (files_of s) s.spawns h range.start legal;
   tidy = λ who are.
       alone-tidy n who (controllers_of s) (first_state_of s) h (state-reached s range) bytes legal own are
       (first-unstepped s);
@@ -318,15 +313,32 @@ hidden-kept s n h range bytes legal own = record {
       (first-untouched s.programs (files_of s) s.spawns);
 }
 
--- what truss with calls of functions writes
+-- what truss with calls of functions writes, and what programs see of it
 pub writes-kept : (s : Scenario) (n : ℕ) (h : List Entry) → IsScenarioInRange s → IsLegal n (first_state_of s) h
     → AreOwnCalls (controllers_of s) h → WriteUnseen (controllers_of s) (first_state_of s) h
-writes-kept s n h range legal own = record {
-  tidily = λ who are undisturbed.
-      let reached = state-reached s range in
-      writes-tidily n who (controllers_of s) (first_state_of s) h reached.lawful reached.lending legal own are
-      undisturbed;
-}
+writes-kept s n h range legal own =
+    let reached = state-reached s range in
+    record {
+      tidily = λ who hide.
+          writes-tidily n who (controllers_of s) (first_state_of s) h reached.lawful reached.lending legal own
+          (hide-trusses s range who hide);
+      leaves_none = λ who hide.
+          leaves-none n who (controllers_of s) (first_state_of s) h reached.lawful reached.lending legal own
+          (hide-trusses s range who hide);
+      clears = λ who hide.
+          clears-running n who (controllers_of s) (first_state_of s) h reached.lawful reached.lending legal own
+          (hide-trusses s range who hide);
+      own_steps = λ who hide undisturbed passive.
+          own-steps n who (controllers_of s) (first_state_of s) h reached.lawful reached.lending legal own
+          (hide-trusses s range who hide) undisturbed passive (first-unstepped s);
+      tidy = λ who hide undisturbed passive faults.
+          truss-tidy n who (controllers_of s) (first_state_of s) h reached.lawful reached.lending legal own
+          (hide-trusses s range who hide) undisturbed passive faults (first-unstepped s);
+      hidden = λ who hide undisturbed passive faults.
+          truss-hidden n who (controllers_of s) (first_state_of s) h reached.lawful reached.lending legal own
+          (hide-trusses s range who hide) undisturbed passive faults
+          (first-untouched s.programs (files_of s) s.spawns);
+    }
 
 -- ---- runs
 

@@ -4,10 +4,14 @@ pub mod KeptLemmas
 pub mod OwnPassive
 pub mod PassiveLemmas
 pub mod FunctionLemmas
+pub mod FunctionRanges
 pub mod ProbeByteLemmas
 pub mod ProgramRanges
 pub mod ScenarioRangeLemmas
 pub mod TracerLemmas
+pub mod TrussHiders
 pub mod TrussLemmas
+pub mod TrussOptions
+pub mod TrussWords
 pub mod WordRanges
 pub mod WritingRanges

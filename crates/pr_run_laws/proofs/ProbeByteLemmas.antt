@@ -52,7 +52,8 @@ fails-bytes e = All-nil IsByte
 
 module _ (s : TracedSystem) (h : IsInRange s) (at size len : ℕ) (bytes : List ℕ) (fits : IsWord at)
     (read : first_message bytes ≡ Ok (message.Read at size, len)) where
-  memory-bytes : (pid : ℕ) (p : TracedProcess) → live_process s pid ≡ Some p → GivesBytes (read_answer s pid p at size).reply
+  memory-bytes : (pid : ℕ) (p : TracedProcess) → live_process s pid ≡ Some p
+      → GivesBytes (read_answer s pid p at size).reply
   unfolding read_answer bytes_in
   memory-bytes pid p live =
       of (bytes_for 0 (space_seen s p) at size)
@@ -88,7 +89,8 @@ module _ (s : TracedSystem) (h : IsInRange s) (at size len : ℕ) (bytes : List 
       of false true same = same
       of false false same = absurd cc
 
-  targeted-bytes : (g : Held) (o : Option TracedProcess) → target_of s g ≡ o → GivesBytes (targeted_answer s g o bytes).reply
+  targeted-bytes : (g : Held) (o : Option TracedProcess) → target_of s g ≡ o
+      → GivesBytes (targeted_answer s g o bytes).reply
   unfolding target_of bytes_in
   targeted-bytes g None is = All-nil IsByte
   targeted-bytes g (Some p) is = decoded-bytes g p (still-live g (live_process s g.pid) p is)
@@ -115,7 +117,8 @@ unfolding first_message message_read two_words nth_word word_of word_bytes messa
     with_tail encoded_length unpadded_length operand_count tail_length
 read-code = refl
 
-read-stack : first_message (spelling (message.Read stack_base stack_size) []) ≡ Ok (message.Read stack_base stack_size, 24)
+read-stack : first_message (spelling (message.Read stack_base stack_size) [])
+    ≡ Ok (message.Read stack_base stack_size, 24)
 unfolding first_message message_read two_words nth_word word_of word_bytes message_code operands in_columns bad_operand
     with_tail encoded_length unpadded_length operand_count tail_length
 read-stack = refl
@@ -178,15 +181,20 @@ accepted-saves p stage.Stop r saves code stack = on (record p { until = until_in
 accepted-saves p stage.AwaitStop r saves code stack = on p saves
 accepted-saves p stage.ReadStatus r saves code stack = on (probes.with_status p (bytes_read r)) saves
 accepted-saves p stage.ReadMap r saves code stack = map-by SavesBytes p (bytes_read r) (λ e. out p e saves) (on p saves)
-accepted-saves p stage.SaveCode r saves code stack = on (record p { code = take code_size (bytes_read r) }) (All-take IsByte code_size (bytes_read r) (code refl), saves.1)
-accepted-saves p stage.SaveStack r saves code stack = on (record p { stack = take stack_size (bytes_read r) }) (saves.0, All-take IsByte stack_size (bytes_read r) (stack refl))
+accepted-saves p stage.SaveCode r saves code stack =
+    on (record p { code = take code_size (bytes_read r) })
+    (All-take IsByte code_size (bytes_read r) (code refl), saves.1)
+accepted-saves p stage.SaveStack r saves code stack =
+    on (record p { stack = take stack_size (bytes_read r) })
+    (saves.0, All-take IsByte stack_size (bytes_read r) (stack refl))
 accepted-saves p (stage.Trace k) r saves code stack = on p saves
 accepted-saves p stage.MakeAgent r saves code stack = on p saves
 accepted-saves p stage.PlantCode r saves code stack = on p saves
 accepted-saves p (stage.Asking d asking.SetRegisters) r saves code stack = on p saves
 accepted-saves p (stage.Asking d asking.Run) r saves code stack = on p saves
 accepted-saves p (stage.Asking d asking.Await) r saves code stack = poll-by SavesBytes p r saves (on p saves)
-accepted-saves p (stage.Asking d asking.ReadAgent) r saves code stack = answer-by SavesBytes p d (bytes_read r) saves saves
+accepted-saves p (stage.Asking d asking.ReadAgent) r saves code stack =
+    answer-by SavesBytes p d (bytes_read r) saves saves
 accepted-saves p (stage.Asking d asking.ReadKind) r saves code stack = kind-saves p d (kind_in (bytes_read r)) saves
 accepted-saves p stage.UntraceExits r saves code stack = on p saves
 accepted-saves p stage.SetExit r saves code stack = on p saves

@@ -1,15 +1,13 @@
 -- A scenario that was read is in range.
-use Rattle.std.proofs.Common.{◌≡◌, ℕ, ◌+◌, ◌*◌, ◌≤◌, ◌++◌, Bool, true, false, cond, is_some, Option, Some, None, List, [], ◌∷◌, refl, sym, subst, length, nat_le, nat_lt, slice_get, Result, Ok, Err, arith}
+use Rattle.std.proofs.Common.{◌≡◌, inl, inr, ℕ, ◌+◌, ◌≤◌, Bool, true, false, is_some, Option, List, [], ◌∷◌, sym, subst, length, nat_le, nat_lt, slice_get, Result, Ok, Err, arith}
 use Rattle.std.specs.Prelude.{◌==◌, codes, option_map}
-use Rattle.std.specs.List.{All, list_any}
-use Rattle.std.specs.Option.{IfSome, option_and_then}
+use Rattle.std.specs.List.{All}
 use Rattle.std.specs.Result.{IfOk}
 use Rattle.std.specs.Str.{bytes_eq}
 use Rattle.std.proofs.lemmas.List.{length-map}
 use Rattle.std.proofs.lemmas.List.Elements.{All-nil, All-map, All-push, All-tail, All-weaker}
 use Rattle.pr_line.specs.Reading.{asked_of, has_bad_option}
 use Rattle.pr_line.specs.declared.faults.WordFault.{WordFault}
-use Rattle.pr_line.specs.declared.function_names.FunctionNames.{FunctionNames}
 use Rattle.pr_line.specs.declared.functions.Function.{Function}
 use Rattle.pr_line.specs.declared.options.Options.{Options}
 use Rattle.pr_line.specs.declared.reading.Asked.{Asked}
@@ -17,18 +15,17 @@ use Rattle.pr_model.specs.FileNames.{file_of_name, mode_of_name}
 use Rattle.pr_model.specs.FirstState.{first_size, stored_file}
 use Rattle.pr_model.specs.Lawful.{IsLawfulProgram}
 use Rattle.pr_model.specs.ToolNames.{process_tool_of_name}
-use Rattle.pr_num.specs.Limits.{all_mappings_limit, controller_limit, file_limit, file_size_limit, instruction_size, list_line_limit, schedule_limit, spawn_limit, turn_limit}
-use Rattle.pr_num.specs.Instructions.{instruction_bytes}
-use Rattle.pr_num.specs.Layout.{text_base}
-use Rattle.pr_num.specs.Programs.{Program}
+use Rattle.pr_num.specs.Limits.{all_mappings_limit, controller_limit, file_limit, file_size_limit, list_line_limit, schedule_limit, spawn_limit, turn_limit}
 use Rattle.pr_num.specs.Words.{IsByte}
 use Rattle.pr_num.specs.declared.files.StoredFile.{StoredFile}
-use Rattle.pr_num.specs.declared.instructions.Instruction.{Instruction}
-use Rattle.pr_reached.proofs.MemoryRanges.{instruction-bytes}
 use Rattle.pr_reached.specs.InRange.{IsFileInRange, IsShortName, IsProgramInRange}
+use Rattle.pr_run_laws.proofs.FunctionRanges.{AreShowableOf, functions_of-named}
 use Rattle.pr_run_laws.proofs.ProgramRanges.{program-range, second-bytes}
+use Rattle.pr_run_laws.proofs.TrussOptions.{first-options}
+use Rattle.pr_run_laws.proofs.TrussWords.{AreFewAlone, asked-alone}
 use Rattle.pr_run_laws.proofs.WordRanges.{AreWordsOfBytes, name_of-range, quoted-bytes, readable-bytes, texts-bytes}
 use Rattle.pr_run_laws.proofs.WritingRanges.{messages-bytes}
+use Rattle.pr_run_laws.specs.NamedFunctions.{AreShowable, IsShowable, NamesShowable}
 use Rattle.pr_run_laws.specs.ScenarioRanges.{HasCodeOfBytes, IsCoreOfBytes, IsLineOfBytes, IsScenarioInRange}
 use Rattle.pr_run_laws.specs.ScenarioRuns.{controller_of, truss_of as started_truss}
 use Rattle.pr_probe.specs.Probes.{first_probe}
@@ -36,7 +33,7 @@ use Rattle.pr_scen.proofs.LimitLemmas.{scenario_within}
 use Rattle.pr_scen.proofs.StepLemmas.{if_ok, then_ok, of_ok, numbered_ok, folded_ok, ok_some, of_some}
 use Rattle.pr_scen.specs.Blocks.{begun, block_added, ended, endless_kind, item_in, line_added, numbered, part_added, parts_added, program_added, program_read, script_added, script_line_read, script_words_added}
 use Rattle.pr_scen.specs.Drafts.{call_added, has_program, knows_program, made, may_begin, nothing, script_line_added, with_controller, with_file, with_item, with_line, with_process, with_program, with_schedule, with_script, with_spawn, with_truss, with_turns}
-use Rattle.pr_scen.specs.Functions.{can_begin_function, function_at, function_named, function_with, functions_in, functions_of, is_called, labelled_place, program_named, with_functions}
+use Rattle.pr_scen.specs.Functions.{functions_of}
 use Rattle.pr_scen.specs.Items.{file_of, item_of, item_with, process_tool_line, program_of, schedule_of, script_of, tool_line_of, truss_of, truss_read, turns_of}
 use Rattle.pr_scen.specs.Items as items
 use Rattle.pr_scen.specs.Lines.{readable}
@@ -62,7 +59,6 @@ use Rattle.pr_scen.specs.declared.script_lines.ScriptLine.{ScriptLine}
 use Rattle.pr_scen.specs.declared.script_lines.ScriptLine.TheVariants as call
 use Rattle.pr_text.specs.Comments.{begins_comment}
 use Rattle.pr_truss.specs.Marks.{has_functions}
-use Rattle.pr_truss.specs.Trusses.{first_of_program, first_truss, idle, opening_or}
 use Rattle.pr_text.specs.Names.{name_of}
 use Rattle.pr_text.specs.NumberWords.{id_of, number_of}
 use Rattle.pr_text.specs.QuotedWords.{quoted_bytes}
@@ -70,11 +66,12 @@ use Rattle.pr_text.specs.Steps.{◌>>=◌, folded, four, none, ok_or, one, some,
 use Rattle.pr_text.specs.TextLines.{lines_of}
 use Rattle.pr_text.specs.Words.{texts_of}
 
--- ---- what a line says outside blocks: files in range, and names of programs
+-- ---- what a line says outside blocks: files in range, names of programs, and few functions
 
 abbrev InRange : Item → Type 0
 InRange (item.File name bytes) = IsFileInRange (stored_file (name, bytes))
 InRange (item.Program name) = IsShortName name
+InRange (item.Truss asked) = AreFewAlone asked
 InRange _ = Unit {0}
 
 -- what is read as a name is one
@@ -96,9 +93,9 @@ in_file row h =
           (second-bytes BadOperand row h)));
     })))
 
-in_truss : (words : List (List ℕ)) (r : Result Asked WordFault) → IfOk (truss_read words r) InRange
-in_truss words (Ok asked) = tt
-in_truss words (Err fault) = if_ok InRange (has_bad_option words) _ _ (λ _. tt) (λ _. tt)
+in_truss : (words : List (List ℕ)) (r : Result Asked WordFault) → IfOk r AreFewAlone → IfOk (truss_read words r) InRange
+in_truss words (Ok asked) alone = alone
+in_truss words (Err fault) alone = if_ok InRange (has_bad_option words) _ _ (λ _. tt) (λ _. tt)
 
 in_process_tool : (word : List ℕ) (pid : ℕ) → IfOk (process_tool_line word pid) InRange
 unfolding process_tool_line
@@ -142,7 +139,8 @@ item_in_range (first ∷ operands) h =
     (λ word _. then_ok InRange (ok_or BadOperand (name_of word)) _ (λ name _. tt))) (λ _.
     if_ok InRange (bytes_eq first (codes "script")) _ _ (λ _. then_ok InRange (none BadOperand operands) _ (λ u _. tt))
     (λ _.
-    if_ok InRange (bytes_eq first (codes "truss")) _ _ (λ _. in_truss operands (asked_of operands)) (λ _.
+    if_ok InRange (bytes_eq first (codes "truss")) _ _
+    (λ _. in_truss operands (asked_of operands) (asked-alone operands)) (λ _.
     if_ok InRange (bytes_eq first (codes "tool")) _ _ (λ _. in_tool operands) (λ _.
     if_ok InRange (bytes_eq first (codes "schedule")) _ _
     (λ _. then_ok InRange (with_turns_of [] operands) items.unless_none (λ turns _. in_schedule turns))
@@ -227,9 +225,10 @@ in_script_line (first ∷ operands) =
 
 -- ---- what was read so far
 
--- what a controller writes is bytes
-abbrev IsPlanOfBytes : Plan → Type 0
-IsPlanOfBytes plan = IsCoreOfBytes (controller_of plan)
+-- what a controller writes is bytes, and the functions whose calls it shows are as they are asked for
+record IsPlanInRange (plan : Plan) : Type 0 where
+  bytes : IsCoreOfBytes (controller_of plan)
+  functions : NamesShowable plan
 
 -- a file in range, with its name first
 abbrev IsStored : List ℕ × List ℕ → Type 0
@@ -238,7 +237,7 @@ IsStored f = IsFileInRange (stored_file f)
 record IsDraftInRange (d : Draft) : Type 0 where
   programs : All IsProgramInRange d.programs
   files : All IsStored d.files
-  controllers : All IsPlanOfBytes d.controllers
+  controllers : All IsPlanInRange d.controllers
   lines : All IsLineOfBytes d.lines
 
 range_nothing : IsDraftInRange nothing
@@ -283,7 +282,7 @@ range_spawn d name s =
     then_ok IsDraftInRange (ok_or UnknownName (option_map first_size (slice_get d.programs place))) _
     (λ size _. range_process d place size s))
 
-range_controller : (d : Draft) (plan : Plan) → IsPlanOfBytes plan → IsDraftInRange d
+range_controller : (d : Draft) (plan : Plan) → IsPlanInRange plan → IsDraftInRange d
     → IfOk (with_controller d plan) IsDraftInRange
 unfolding with_controller
 range_controller d plan p s =
@@ -291,98 +290,47 @@ range_controller d plan p s =
     (λ _. record {
       programs = s.programs;
       files = s.files;
-      controllers = All-push IsPlanOfBytes d.controllers plan
+      controllers = All-push IsPlanInRange d.controllers plan
           s.controllers p;
       lines = s.lines;
     }) (λ _. tt)
-
--- the first instructions of functions are bytes
-begun-bytes : (name : List ℕ) (at : ℕ) (i : Instruction) (b : Bool)
-    → IfSome (cond b (Some (record { name = name; at = at; code = instruction_bytes i })) None) HasCodeOfBytes
-begun-bytes name at i true = instruction-bytes i
-begun-bytes name at i false = tt
-
-function_with-bytes : (name : List ℕ) (at : ℕ) (o : Option Instruction)
-    → IfSome (function_with name at o) HasCodeOfBytes
-unfolding function_with
-function_with-bytes name at None = tt
-function_with-bytes name at (Some i) = begun-bytes name at i (can_begin_function i)
-
-function_at-bytes : (p : Program) (name : List ℕ) (place : ℕ) → IfSome (function_at p name place) HasCodeOfBytes
-unfolding function_at
-function_at-bytes p name place =
-    function_with-bytes name (text_base + instruction_size * place) (slice_get p.code place)
-
-function_named-bytes : (p : Program) (name : List ℕ) → IfSome (function_named p name) HasCodeOfBytes
-unfolding function_named
-function_named-bytes p name = of (labelled_place p.labels name)
-  where
-    of : (o : Option ℕ) → IfSome (option_and_then (function_at p name) o) HasCodeOfBytes
-    of None = tt
-    of (Some place) = function_at-bytes p name place
-
--- one function more, if there is one
-more-bytes : (more : Function → Option (List Function))
-    → ((f : Function) → HasCodeOfBytes f → IfSome (more f) (All HasCodeOfBytes)) → (o : Option Function)
-    → IfSome o HasCodeOfBytes → IfSome (option_and_then more o) (All HasCodeOfBytes)
-more-bytes more on None bytes = tt
-more-bytes more on (Some f) bytes = on f bytes
-
-unless-bytes : (b : Bool) (o : Option (List Function)) → IfSome o (All HasCodeOfBytes)
-    → IfSome (cond b None o) (All HasCodeOfBytes)
-unless-bytes true o bytes = tt
-unless-bytes false o bytes = bytes
-
-with_functions-bytes : (p : Program) (functions : List Function) (names : List (List ℕ)) → All HasCodeOfBytes functions
-    → IfSome (with_functions p functions names) (All HasCodeOfBytes)
-unfolding with_functions
-with_functions-bytes p functions [] all = all
-with_functions-bytes p functions (name ∷ names) all =
-    unless-bytes (list_any (is_called name) functions) _
-    (more-bytes (λ f. with_functions p (functions ++ f ∷ []) names)
-    (λ f bytes. with_functions-bytes p (functions ++ f ∷ []) names (All-push HasCodeOfBytes functions f all bytes))
-    (function_named p name) (function_named-bytes p name))
-
-functions_of-bytes : (names : List (List ℕ)) (programs : List Program) (o : Option FunctionNames)
-    → IfSome (functions_of names programs o) (All HasCodeOfBytes)
-unfolding functions_of
-functions_of-bytes names programs None = All-nil HasCodeOfBytes
-functions_of-bytes names programs (Some asked) = of (program_named names programs asked.program)
-  where
-    of : (p : Option Program) → IfSome (functions_in p asked.labels) (All HasCodeOfBytes)
-    of None = tt
-    of (Some p) = with_functions-bytes p [] asked.labels (All-nil HasCodeOfBytes)
-
--- truss before its first call has the options that it was given
-first-options : (o : Options) → (first_truss o).options ≡ o
-unfolding first_truss
-first-options o = of o.program
-  where
-    begun : (pid : Option ℕ) → (opening_or (idle o) (idle o) pid).options ≡ o
-    begun None = refl
-    begun (Some pid) = refl
-
-    of : (program : Option (List ℕ)) → (first_of_program o program).options ≡ o
-    of None = begun (slice_get o.pids 0)
-    of (Some program) = refl
 
 truss-plan-bytes : (o : Options) (b : Bool) → All HasCodeOfBytes o.functions → IsCoreOfBytes (started_truss o b)
 unfolding IsCoreOfBytes
 truss-plan-bytes o true all = subst (λ (p : Options). All HasCodeOfBytes p.functions) (sym (first-options o)) all
 truss-plan-bytes o false all = tt
 
-range_truss : (d : Draft) (asked : Asked) → IsDraftInRange d → IfOk (with_truss d asked) IsDraftInRange
-unfolding with_truss controller_of
-range_truss d asked s =
-    then_ok IsDraftInRange (ok_or UnknownName (functions_of d.program_names d.programs asked.functions)) _
-    (λ functions are.
+-- the options of a truss, with the functions that its words name
+named-options : (asked : Asked) (functions : List Function) → AreFewAlone asked → AreShowableOf asked.functions functions
+    → AreShowable (record asked.options { functions = functions })
+named-options asked functions alone named = record {
+  few = named.few;
+  each = named.each;
+  follows_none = λ some. elim alone.alone [ inl none ↦ absurd (some (named.none none)) | inr follow ↦ follow ];
+}
+
+truss-plan-range : (o : Options) → AreShowable o → IsPlanInRange (Truss o)
+unfolding controller_of NamesShowable
+truss-plan-range o named = record {
+  bytes =
+      truss-plan-bytes o (has_functions o)
+      (All-weaker IsShowable HasCodeOfBytes (λ f it. let s = it.steppable in s.bytes) o.functions named.each);
+  functions = named;
+}
+
+range_truss : (d : Draft) (asked : Asked) → AreFewAlone asked → IsDraftInRange d
+    → IfOk (with_truss d asked) IsDraftInRange
+unfolding with_truss
+range_truss d asked alone s =
+    let found : Option (List Function) = functions_of d.program_names d.programs asked.functions in
+    then_ok IsDraftInRange (ok_or UnknownName found) _ (λ functions are.
     if_ok IsDraftInRange (knows_program d asked.options.program) _ _
     (λ _. let o : Options = record asked.options { functions = functions } in
     range_controller d (Truss o)
-    (truss-plan-bytes o (has_functions o)
-    (of_some (All HasCodeOfBytes) (functions_of d.program_names d.programs asked.functions) functions
-    (ok_some UnknownName (functions_of d.program_names d.programs asked.functions) functions are)
-    (functions_of-bytes d.program_names d.programs asked.functions))) s) (λ _. tt))
+    (truss-plan-range o
+    (named-options asked functions alone
+    (of_some (AreShowableOf asked.functions) found functions (ok_some UnknownName found functions are)
+    (functions_of-named d.program_names d.programs asked.functions s.programs alone.few)))) s) (λ _. tt))
 
 range_schedule : (d : Draft) (turns : List Turns) → IsDraftInRange d → IfOk (with_schedule d turns) IsDraftInRange
 unfolding with_schedule
@@ -391,17 +339,19 @@ range_schedule d turns s =
     (λ _. record { programs = s.programs; files = s.files; controllers = s.controllers; lines = s.lines }) (λ _. tt)
 
 range_with : (d : Draft) (i : Item) → InRange i → IsDraftInRange d → IfOk (with_item d i) IsDraftInRange
-unfolding with_item IsCoreOfBytes controller_of first_probe
+unfolding with_item IsCoreOfBytes NamesShowable controller_of first_probe
 range_with d item.Blank h s = s
 range_with d (item.Turns n) h s = range_turns d n s
 range_with d (item.File name bytes) h s = range_file d name bytes h s
 range_with d (item.Program name) h s = s
 range_with d (item.Spawn name) h s = range_spawn d name s
 range_with d item.Script h s = s
-range_with d (item.Truss asked) h s = range_truss d asked s
-range_with d (item.Tool kind pid) h s = range_controller d (Tool kind pid) tt s
-range_with d (item.Gcore pid) h s = range_controller d (Gcore pid) tt s
-range_with d (item.Probe pid) h s = range_controller d (Probe pid) (All-nil IsByte, All-nil IsByte) s
+range_with d (item.Truss asked) h s = range_truss d asked h s
+range_with d (item.Tool kind pid) h s =
+    range_controller d (Tool kind pid) (record { bytes = tt; functions = tt }) s
+range_with d (item.Gcore pid) h s = range_controller d (Gcore pid) (record { bytes = tt; functions = tt }) s
+range_with d (item.Probe pid) h s =
+    range_controller d (Probe pid) (record { bytes = (All-nil IsByte, All-nil IsByte); functions = tt }) s
 range_with d (item.Schedule turns) h s = range_schedule d turns s
 
 range_line : (d : Draft) (this : List ℕ) → IsDraftInRange d → IfOk (line_added d this) IsDraftInRange
@@ -467,11 +417,13 @@ range_words n d this s =
     (of_ok OfBytes (script_line_of (texts_of this)) l is (in_script_line (texts_of this))) s)))
 
 range_script : (d : Draft) → IsDraftInRange d → IsDraftInRange (with_script d)
-unfolding with_script first_script IsCoreOfBytes controller_of
+unfolding with_script first_script IsCoreOfBytes NamesShowable controller_of
 range_script d s = record {
   programs = s.programs;
   files = s.files;
-  controllers = All-push IsPlanOfBytes d.controllers (Script (first_script d.lines)) s.controllers s.lines;
+  controllers =
+      All-push IsPlanInRange d.controllers (Script (first_script d.lines)) s.controllers
+      (record { bytes = s.lines; functions = tt });
   lines = All-nil IsLineOfBytes;
 }
 
@@ -525,7 +477,7 @@ range_parts d (part ∷ parts) s =
 record HasRanges (s : Scenario) : Type 0 where
   programs : All IsProgramInRange s.programs
   files : All IsStored s.files
-  controllers : All IsPlanOfBytes s.controllers
+  controllers : All IsPlanInRange s.controllers
 
 made_range : (d : Draft) → IsDraftInRange d → HasRanges (made d)
 unfolding made
@@ -551,7 +503,11 @@ in_all s w r = record {
     of_programs = r.programs;
     of_files = All-map IsFileInRange stored_file s.files r.files;
   };
-  bytes = All-map IsCoreOfBytes controller_of s.controllers r.controllers;
+  bytes =
+      All-map IsCoreOfBytes controller_of s.controllers
+      (All-weaker IsPlanInRange (λ plan. IsCoreOfBytes (controller_of plan)) (λ plan it. it.bytes) s.controllers
+      r.controllers);
+  functions = All-weaker IsPlanInRange NamesShowable (λ plan it. it.functions) s.controllers r.controllers;
 }
 
 -- a scenario that was read is in range

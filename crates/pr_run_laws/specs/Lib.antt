@@ -1,6 +1,7 @@
 pub mod CoreRuns
 pub mod Prefixes
 pub mod FunctionRuns
+pub mod NamedFunctions
 pub mod ProbeRuns
 pub mod ScenarioRanges
 pub mod ScenarioRuns

@@ -2,7 +2,7 @@ use Rattle.std.specs.Prelude.{◌≡◌, ◌∷◌, ◌++◌, ℕ, true, false, 
 use Rattle.pr_api.specs.Entries.{call_entry}
 use Rattle.pr_hidden.specs.HiddenSteps.{IsHidden}
 use Rattle.pr_hidden.specs.Hiders.{Hiders}
-use Rattle.pr_hidden.specs.Tidiness.{IsTidy}
+use Rattle.pr_hidden.specs.Tidiness.{IsPassiveBut, IsSparing, IsTidy}
 use Rattle.pr_model.specs.Legal.{state_after}
 use Rattle.pr_model.specs.State.{TracedProcess, TracedState, has_agent, live_process}
 use Rattle.pr_model.specs.declared.calls.Call.{Call}
@@ -57,11 +57,14 @@ pub record IsProbeKept (controllers : List ControllerState) (first : TracedState
   pub shows : (p : ProbeState) → slice_get (controllers_at controllers h) k ≡ Some (Probe p) → has_ended p ≡ true
       → p.refusal ≡ None → ShowsOneState k pid first h (printed p)
 
--- Programs see nothing of the apfiles that hide what they do in a history, on the conditions of AreLeftAlone: the steps
--- that are not hidden are a run of the machine without controllers, and its trace is that of the history without what
--- is hidden. Each is tidy then, and is refused nothing while it hides something, but that a wait for its agent may be
--- interrupted; and its agent has ended before the bytes are written back at which that was answered.
+-- Programs see nothing of those who hide what they do in a history, whoever they are, where all other calls are
+-- passive, programs leave alone what is hidden, and those who hide are tidy: the steps that are not hidden are a run
+-- of the machine without controllers, and its trace is that of the history without what is hidden. So it is of
+-- apfiles that hide what they do, on the conditions of AreLeftAlone. Each is tidy then, and is refused nothing while
+-- it hides something, but that a wait for its agent may be interrupted; and its agent has ended before the bytes are
+-- written back at which that was answered.
 pub record AreHidden (controllers : List ControllerState) (first : TracedState) (h : List Entry) : Type 0 where
+  pub unseen : (who : Hiders) → IsPassiveBut who h → IsSparing who first h → IsTidy who first h → IsHidden who first h
   pub hidden : (who : Hiders) → AreLeftAlone who controllers first h → IsHidden who first h
   pub tidy : (who : Hiders) → AreLeftAlone who controllers first h → IsTidy who first h
   pub accepted : (who : Hiders) → AreLeftAlone who controllers first h → (k pid : ℕ) → who.probes k ≡ true

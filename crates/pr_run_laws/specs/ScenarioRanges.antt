@@ -6,6 +6,7 @@ use Rattle.pr_reached.specs.InRange.{IsStartInRange}
 use Rattle.pr_scen.specs.Scenarios.{Scenario}
 use Rattle.pr_scen.specs.declared.script_lines.ScriptLine.{ScriptLine}
 use Rattle.pr_scen.specs.declared.script_lines.ScriptLine.TheVariants as line
+use Rattle.pr_run_laws.specs.NamedFunctions.{NamesShowable}
 use Rattle.pr_run_laws.specs.ScenarioRuns.{controllers_of, files_of}
 use Rattle.pr_world.specs.ControllerStates.{ControllerState, Script, FnTruss, Probe}
 
@@ -28,9 +29,10 @@ IsCoreOfBytes (FnTruss t) = All HasCodeOfBytes t.options.functions
 IsCoreOfBytes (Probe p) = All IsByte p.code × All IsByte p.stack
 IsCoreOfBytes _ = Unit {0}
 
--- A scenario in range: its first state is one that can be started, of programs and files in range, and what its scripts
--- write is bytes.
+-- A scenario in range: its first state is one that can be started, of programs and files in range, what its scripts
+-- write is bytes, and what its trusses show calls of are functions as they are asked for, at most 16 each.
 pub record IsScenarioInRange (s : Scenario) : Type 0 where
   pub start : IsStart s.programs (files_of s) s.spawns
   pub range : IsStartInRange s.programs (files_of s)
   pub bytes : All IsCoreOfBytes (controllers_of s)
+  pub functions : All NamesShowable s.controllers

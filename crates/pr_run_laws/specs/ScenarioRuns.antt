@@ -33,7 +33,8 @@ use Rattle.pr_world.specs.ControllerStates.{ControllerState, Script, Truss, FnTr
 abbrev pub files_of : Scenario → List StoredFile
 files_of s = map stored_file s.files
 
--- the state of the machine before the first move: the processes that the scenario spawns, of its programs, and its files
+-- the state of the machine before the first move: the processes that the scenario spawns, of its programs, and its
+-- files
 abbrev pub first_state_of : Scenario → TracedState
 first_state_of s = first_state s.programs (files_of s) s.spawns
 
@@ -68,19 +69,20 @@ first_world s = record {
 -- What every run of a scenario keeps, in whatever order its actors move: each entry is what the machine does; the
 -- controllers make the calls that come after the replies that they got, and the clock goes on only where it is awaited;
 -- and if controllers only stopped, ran and read, the programs did what they could have done without controllers. Truss
--- without functions, the tools and gcore do no more than that: where no controller is a script, none asks by an agent, and
--- none shows calls of functions, the programs always did so.
+-- without functions, the tools and gcore do no more than that: where no controller is a script, none asks by an agent,
+-- and none shows calls of functions, the programs always did so.
 --
 -- Of a truss that shows calls of functions it is said which calls it makes and what it has learnt from their replies,
 -- of which its text is a function; that it traces all of each process that it has opened, alone; and that it lifts a
--- breakpoint for one lwp alone, where its read of it is as FunctionRuns says. Each other truss has shown what was
--- selected while it watched, on the conditions of TrussRuns; it lets a process go for a reason alone, and releases it.
--- When it has finished, it has attached what it was given or reported its refusal, unless it was interrupted before; it
--- has opened or set free each child of a fork that it read and is to follow, or reported its refusal; and it has
--- nothing open. What a tool shows stood so in one state, whatever programs give its labels; what gcore prints is the
--- core of one state, where others spare the process; apfiles puts back what it writes over, and programs see nothing of
--- it where it is left alone; what truss with calls of functions writes leaves programs the memory that they had, where it
--- is undisturbed; and the programs of the machine are always those of the scenario.
+-- breakpoint for one lwp alone, where it is not interrupted before it reads the process again. Each other truss has
+-- shown what was selected while it watched, on the conditions of TrussRuns; it lets a process go for a reason alone,
+-- and releases it. When it has finished, it has attached what it was given or reported its refusal, unless it was
+-- interrupted before; it has opened or set free each child of a fork that it read and is to follow, or reported its
+-- refusal; and it has nothing open. What a tool shows stood so in one state, whatever programs give its labels; what
+-- gcore prints is the core of one state, where others spare the process; apfiles puts back what it writes over, and
+-- programs see nothing of it where it is left alone; what truss with calls of functions writes leaves programs the
+-- memory that they had, where it is undisturbed, and they see nothing of it where its faults are kept tidily too; and
+-- the programs of the machine are always those of the scenario.
 pub record IsKept (s : Scenario) (h : List Entry) : Type 0 where
   pub legal : IsLegal (length (controllers_of s)) (first_state_of s) h
   pub follows : Follows (controllers_of s) (first_state_of s) h

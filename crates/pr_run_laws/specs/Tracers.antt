@@ -7,8 +7,8 @@ use Rattle.pr_model.specs.declared.events.Actor.TheVariants.{Controller}
 use Rattle.pr_model.specs.declared.events.Entry.{Entry}
 use Rattle.pr_world.specs.ControllerStates.{ControllerState, Script, FnTruss, Probe}
 
--- Controllers that trace and show: truss without functions, the proc tools and gcore. A script may make any call, a truss
--- that shows calls of functions plants breakpoints, and a probe makes an agent and writes memory.
+-- Controllers that trace and show: truss without functions, the proc tools and gcore. A script may make any call, a
+-- truss that shows calls of functions plants breakpoints, and a probe makes an agent and writes memory.
 
 unfoldable pub IsTracer : ControllerState → Type 0
 IsTracer (Script s) = ⊥

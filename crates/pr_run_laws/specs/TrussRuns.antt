@@ -78,8 +78,8 @@ pub record IsLostByKill (k : ℕ) (o : Options) (pid : ℕ) (first : TracedState
   pub killed : DiedHeld k o pid first h
   pub unread : IsUnanswered (is_selected o) k o pid first h event
 
--- What a truss that has finished has shown of a process: all that was selected of its events while truss had hold of it,
--- each once and in order, or all but the last one of a process that SIGKILL ended.
+-- What a truss that has finished has shown of a process: all that was selected of its events while truss had hold of
+-- it, each once and in order, or all but the last one of a process that SIGKILL ended.
 pub record HasShownAll (k : ℕ) (o : Options) (pid : ℕ) (first : TracedState) (h : List Entry) : Type 0 where
   pub logged : List Logged
   pub held : CameHeld k o pid first h logged
@@ -101,8 +101,8 @@ pub record HasDone (k : ℕ) (o : Options) (first : TracedState) (h : List Entry
 
 -- ---- the children of forks
 
--- A child that truss has hold of from the end of this history on: a fork made it and no controller did, no lwp of it has
--- had a turn, and so no event of it that the options select has come.
+-- A child that truss has hold of from the end of this history on: a fork made it and no controller did, no lwp of it
+-- has had a turn, and so no event of it that the options select has come.
 pub record IsNewborn (o : Options) (pid : ℕ) (first : TracedState) (h : List Entry) : Type 0 where
   pub forked : WasForked pid h
   pub unstarted : (by : ℕ) → WasSpawned by pid h → ⊥
@@ -142,10 +142,10 @@ pub record Releases (k : ℕ) (o : Options) (first : TracedState) (h : List Entr
 -- is reported. It gets hold of a process by the whole opening of it, at most once, and from the wait of the opening on
 -- the process does nothing until truss has hold of it. It opens each file in its place: those of what it was given
 -- before it polls, those of a child right after the read that told of it, and each behind the one before it. Once it
--- has polled, or was interrupted, it sends nothing but PCRUN, PR_RLC of a child just opened, and that it follows no more
--- children of what it leaves. It calls no file but those that it has open, and polls each once. That it cannot trace a
--- process it says while it is to open what it was given, or where it opens a file of the process or a child: not of
--- what it has hold of, or has let go.
+-- has polled, or was interrupted, it sends nothing but PCRUN, PR_RLC of a child just opened, and that it follows no
+-- more children of what it leaves. It calls no file but those that it has open, and polls each once. That it cannot
+-- trace a process it says while it is to open what it was given, or where it opens a file of the process or a child:
+-- not of what it has hold of, or has let go.
 pub record OpensItsOwn (k : ℕ) (o : Options) (first : TracedState) (h : List Entry) : Type 0 where
   pub handled : IsHandledSoFar o (next_call_of (truss_at k o h)) o.program (truss_at k o h).reports (exchanges k h)
   pub grips : (pid : ℕ) → HasOneGrip k o pid first h
@@ -160,15 +160,14 @@ pub record OpensItsOwn (k : ℕ) (o : Options) (first : TracedState) (h : List E
 
 -- Of each process truss has read the events that it traces and that came while it had hold of the process, each by a
 -- read of its own, and has shown those of them that the options select. Where it follows children, this is said only of
--- a process that it never opened as the child of a fork, or that is left to truss: of this process, and of those that it
--- descends from, as far as truss opened them as children, no other controller was granted a handle for writing between
--- the fork that made it and that open, nor had truss opened all its files by its id.
--- What it shows of a process, whichever it is, it reads right then, and it runs the process before it shows more of it;
--- and what it reads and the options select it shows, once no stop is left that stood before truss came.
--- It looks at a process where a poll has just named it, in the opening of it, and once as it leaves it. It reads memory
--- for its lines alone, right behind the read of the event. What stands in the line of an event is that of the state in
--- which truss read it, and on the same condition that of the state right after the event, unless SIGKILL ended the
--- process before truss read.
+-- a process that it never opened as the child of a fork, or that is left to truss: of this process, and of those that
+-- it descends from, as far as truss opened them as children, no other controller was granted a handle for writing
+-- between the fork that made it and that open, nor had truss opened all its files by its id. What it shows of a
+-- process, whichever it is, it reads right then, and it runs the process before it shows more of it; and what it reads
+-- and the options select it shows, once no stop is left that stood before truss came. It looks at a process where a
+-- poll has just named it, in the opening of it, and once as it leaves it. It reads memory for its lines alone, right
+-- behind the read of the event. What stands in the line of an event is that of the state in which truss read it, and on
+-- the same condition that of the state right after the event, unless SIGKILL ended the process before truss read.
 pub record ShowsItsEvents (k : ℕ) (o : Options) (first : TracedState) (h : List Entry) : Type 0 where
   pub reads : (pid : ℕ) → IsLeftToTruss k o pid first h ⊎ IsNeverOpenedAsChild k o pid first h
       → ReadsHeld k o pid first h
@@ -202,9 +201,10 @@ pub record FollowsItsChildren (k : ℕ) (o : Options) (first : TracedState) (h :
 -- polls again, it runs the process, or closes a file of it. Where it does not end an opening it runs just what the last
 -- poll has named, and once for each poll. Where it lets a process go, the process has ended, or truss was interrupted.
 -- Before its last look at a process that it leaves it has the children of that process followed no more. It closes no
--- file of a process of which it has hold. Of what has ended it closes all its files before it calls anything else; so it
--- does behind that last look, but that it may read memory for a line before, or set a child free. The control file of a
--- process it closes last. How many calls come at most before it polls is told by the control files that it has open.
+-- file of a process of which it has hold. Of what has ended it closes all its files before it calls anything else; so
+-- it does behind that last look, but that it may read memory for a line before, or set a child free. The control file
+-- of a process it closes last. How many calls come at most before it polls is told by the control files that it has
+-- open.
 pub record LetsItsProcessesGo (k : ℕ) (o : Options) (first : TracedState) (h : List Entry) : Type 0 where
   pub soon : IsSoonDone k first h
   pub looks : LooksAtWhatIsNamed k first h

@@ -1,5 +1,5 @@
-//! Laws of the runs of scenarios: what the history of a run is, and what truss, the tools and gcore may send. Each public
-//! function carries one law in its contract, and does nothing.
+//! Laws of the runs of scenarios: what the history of a run is, and what truss, the tools and gcore may send. Each
+//! public function carries one law in its contract, and does nothing.
 #![tactic(auto)]
 
 mod laws;

@@ -1,0 +1,141 @@
+use Rattle.std.proofs.Common.{◌≡◌, ◌≢◌, ◌<◌, ℕ, true, cond, is_some, Option, Some, None, length, refl, sym, ap, ◌∙◌}
+use Rattle.std.proofs.lemmas.Option.{none-some, same_Some}
+use Rattle.pr_function_hides.proofs.FilesCalls.{Files}
+use Rattle.pr_function_hides.proofs.OwnFiles.{IsBeside, IsWithin}
+use Rattle.pr_model.specs.Handles.{handle_of}
+use Rattle.pr_model.specs.Replies.{number_of}
+use Rattle.pr_model.specs.State.{TracedState}
+use Rattle.pr_model.specs.declared.calls.Call.{Call}
+use Rattle.pr_model.specs.declared.calls.Call.TheVariants as call
+use Rattle.pr_model.specs.declared.handles.Held.{Held}
+use Rattle.pr_truss.specs.FunctionCalls.{call_beside, function_call_of, next_function_call_of, patch_call}
+use Rattle.pr_truss.specs.Marks.{first_function, has_functions}
+use Rattle.pr_truss.specs.NextCalls.{call_of, next_call_of, opening_call}
+use Rattle.pr_truss.specs.Processes.{last_handle}
+use Rattle.pr_truss.specs.Trusses.{TrussState, traced_at}
+use Rattle.pr_truss.specs.declared.asides.Aside.{Aside}
+use Rattle.pr_truss.specs.declared.asides.Aside.TheVariants.{Nothing, Reading, Planting, Patching}
+use Rattle.pr_truss.specs.declared.processes.Traced.{Traced}
+use Rattle.pr_truss.specs.declared.stages.AfterClosing.{AfterClosing}
+use Rattle.pr_truss.specs.declared.stages.AfterClosing.TheVariants.{OpenNext, GoOn}
+use Rattle.pr_truss.specs.declared.stages.OpeningStep.{OpeningStep}
+use Rattle.pr_truss.specs.declared.stages.OpeningStep.TheVariants as opening
+use Rattle.pr_truss.specs.declared.stages.Stage.{Stage}
+use Rattle.pr_truss.specs.declared.stages.Stage.TheVariants.{Spawning, OpeningControl, Opening, Polling, ReadingStatus, ReadingText, Running, Closing, Finished}
+
+-- Truss closes a file only as it closes those of a process that it traces, the last one first, and nothing comes before
+-- that.
+
+-- the handle that is closed next is of the process
+pub last-pid : (k : ℕ) (s : TracedState) (v : Traced) → Files k s v → (held : Held)
+    → handle_of s.opens k (last_handle v) ≡ Some held → v.pid ≡ held.pid
+unfolding last_handle
+last-pid k s v f held there = find v.memory v.lstatus v.status refl refl refl there
+  where
+    find : (a b c : Option ℕ) → v.memory ≡ a → v.lstatus ≡ b → v.status ≡ c
+        → handle_of s.opens k (cond (is_some a) (number_of a)
+        (cond (is_some b) (number_of b) (cond (is_some c) (number_of c) v.control))) ≡ Some held
+        → v.pid ≡ held.pid
+    find (Some m) b c is_a is_b is_c at =
+        ap (λ (x : Held). x.pid) (same_Some _ held (sym (f.memory m is_a) ∙ at))
+    find None (Some m) c is_a is_b is_c at =
+        ap (λ (x : Held). x.pid) (same_Some _ held (sym (f.lstatus m is_b) ∙ at))
+    find None None (Some m) is_a is_b is_c at =
+        ap (λ (x : Held). x.pid) (same_Some _ held (sym (f.status m is_c) ∙ at))
+    find None None None is_a is_b is_c at =
+        ap (λ (x : Held). x.pid) (same_Some _ held (sym f.control ∙ at))
+
+-- truss closes the file of a number: the last one of a process
+pub record IsClosing (t : TrussState) (number : ℕ) : Type 0 where
+  pub place : ℕ
+  pub within : place < length t.traced
+  pub following : AfterClosing
+  pub stage : t.stage ≡ Closing place following
+  pub inside : IsWithin (length t.traced) (Closing place following)
+  pub idle : t.aside ≡ Nothing
+  pub last : last_handle (traced_at t place) ≡ number
+
+module _ (t : TrussState) (number : ℕ) where
+  never : {A : Type 0} (d : Call) → ((m : ℕ) → d ≢ call.Close m) → Some d ≡ Some (call.Close number) → A
+  never d other is = absurd (other number (same_Some d (call.Close number) is))
+
+  closing : (q : ℕ) → Some (call.Close (last_handle (traced_at t q))) ≡ Some (call.Close number)
+      → last_handle (traced_at t q) ≡ number
+  closing q is = let same = same_Some _ _ is in close-number same
+    where
+      close-number : {a b : ℕ} → call.Close a ≡ call.Close b → a ≡ b
+      close-number e = cc
+
+  opening-never : (q : ℕ) (step : OpeningStep) → function_call_of t (Opening q step) ≡ Some (call.Close number)
+      → IsClosing t number
+  unfolding function_call_of call_of opening_call
+  opening-never q opening.OpenStatus is = never _ (λ m e. cc) is
+  opening-never q opening.OpenLstatus is = never _ (λ m e. cc) is
+  opening-never q opening.OpenMemory is = never _ (λ m e. cc) is
+  opening-never q opening.ClearModes is = never _ (λ m e. cc) is
+  opening-never q opening.SetRelease is = never _ (λ m e. cc) is
+  opening-never q opening.Stop is = never _ (λ m e. cc) is
+  opening-never q (opening.AwaitStop until) is = never _ (λ m e. cc) is
+  opening-never q opening.ReadLwps is = never _ (λ m e. cc) is
+  opening-never q opening.TraceSignals is = never _ (λ m e. cc) is
+  opening-never q opening.TraceFaults is = never _ (λ m e. cc) is
+  opening-never q opening.TraceEntries is = never _ (λ m e. cc) is
+  opening-never q opening.TraceExits is = never _ (λ m e. cc) is
+  opening-never q opening.Follow is = never _ (λ m e. cc) is
+  opening-never q opening.Start is = never _ (λ m e. cc) is
+
+  closing-stage : t.aside ≡ Nothing → (stage : Stage) → t.stage ≡ stage → IsWithin (length t.traced) stage
+      → function_call_of t stage ≡ Some (call.Close number) → IsClosing t number
+  unfolding function_call_of call_of
+  closing-stage idle (Spawning program) at w is = never _ (λ m e. cc) is
+  closing-stage idle (OpeningControl pid) at w is = never _ (λ m e. cc) is
+  closing-stage idle (Opening q step) at w is = opening-never q step is
+  closing-stage idle Polling at w is = never _ (λ m e. cc) is
+  closing-stage idle (ReadingStatus q) at w is = never _ (λ m e. cc) is
+  closing-stage idle (ReadingText q l from len) at w is = never _ (λ m e. cc) is
+  closing-stage idle (Running q) at w is = never _ (λ m e. cc) is
+  closing-stage idle (Closing q OpenNext) at w is =
+      record {
+        place = q;
+        within = w;
+        following = OpenNext;
+        stage = at;
+        inside = w;
+        idle = idle;
+        last = closing q is;
+      }
+  closing-stage idle (Closing q GoOn) at w is =
+      record {
+        place = q;
+        within = w;
+        following = GoOn;
+        stage = at;
+        inside = w;
+        idle = idle;
+        last = closing q is;
+      }
+  closing-stage idle Finished at w is = absurd (none-some _ is)
+  closing-stage idle _ at w is = absurd w
+
+  closing-patch : (q : ℕ) (plant lift : Option ℕ)
+      → Some (patch_call t.options (traced_at t q).control plant lift) ≡ Some (call.Close number) → IsClosing t number
+  closing-patch q (Some function) lift is = never _ (λ m e. cc) is
+  closing-patch q None (Some function) is = never _ (λ m e. cc) is
+  closing-patch q None None is = never _ (λ m e. cc) is
+
+  closing-aside : IsWithin (length t.traced) t.stage → (aside : Aside) → t.aside ≡ aside
+      → IsBeside (length t.traced) aside → call_beside t t.stage aside ≡ Some (call.Close number) → IsClosing t number
+  unfolding call_beside
+  closing-aside stage Nothing idle w is = closing-stage idle t.stage refl stage is
+  closing-aside stage (Reading q function) at w is = never _ (λ m e. cc) is
+  closing-aside stage (Planting q function) at w is = never _ (λ m e. cc) is
+  closing-aside stage (Patching q plants lifts clear) at w is =
+      closing-patch q (first_function plants) (first_function lifts) is
+  closing-aside stage _ at w is = absurd w
+
+  pub is-closing : IsWithin (length t.traced) t.stage → IsBeside (length t.traced) t.aside
+      → has_functions t.options ≡ true → next_function_call_of t ≡ Some (call.Close number) → IsClosing t number
+  unfolding next_function_call_of
+  is-closing stage beside has next =
+      closing-aside stage t.aside refl beside
+      (sym (ap (λ b. cond b (call_beside t t.stage t.aside) (next_call_of t)) has) ∙ next)

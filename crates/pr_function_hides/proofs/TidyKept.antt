@@ -1,0 +1,81 @@
+use Rattle.std.proofs.Common.{◌≡◌, ◌⊎◌, ℕ, true, false, Some, List, [], All}
+use Rattle.pr_hidden.specs.Covers.{Covers, Patch}
+use Rattle.pr_hidden.specs.Hiders.{Hiders, covers_at, hides, is_ctl}
+use Rattle.pr_lending.specs.Lending.{AreLending}
+use Rattle.pr_model.specs.Handles.{handle_of}
+use Rattle.pr_model.specs.Lawful.{IsLawful}
+use Rattle.pr_model.specs.Legal.{IsLegal, state_after}
+use Rattle.pr_model.specs.State.{TracedProcess, TracedState, live_process}
+use Rattle.pr_model.specs.declared.events.Entry.{Entry}
+use Rattle.pr_model.specs.declared.handles.Held.{Held}
+use Rattle.pr_report_laws.proofs.Invariant.StandLemmas.{Each}
+use Rattle.pr_truss.specs.Trusses.{TrussState}
+use Rattle.pr_truss.specs.declared.marks.Stepped.{Stepped}
+use Rattle.pr_truss.specs.declared.processes.Traced.{Traced}
+use Rattle.pr_world.specs.ControllerStates.{ControllerState}
+use Rattle.pr_tool_laws.specs.OwnCalls.{AreOwnCalls}
+use Rattle.pr_function_laws.proofs.SoundLemmas.{IsSound}
+use Rattle.pr_function_hides.proofs.FilesCalls.{Files, files-alike}
+use Rattle.pr_function_hides.proofs.FilesWalk.{Under}
+use Rattle.pr_function_hides.proofs.Unborrowed.{IsUnborrowed}
+use Rattle.pr_function_hides.specs.FunctionHiders.{AreTrusses, IsTrussAt, StandAsMarked}
+use Rattle.pr_function_hides.specs.TidyWrites.{AreUndisturbed, IsMappedIn, IsTrussAfter}
+
+-- What is kept along a history of trusses that are undisturbed: what each of them has planted, what is hidden of whom,
+-- and that the memory is mapped in which breakpoints stand.
+
+-- a legal history from a lawful state, in which each one who hides is a truss that is undisturbed
+pub record IsRunOfTrusses (n : ℕ) (who : Hiders) (controllers : List ControllerState) (first : TracedState)
+    (h : List Entry) : Type 0 where
+  pub lawful : IsLawful first
+  pub lending : AreLending first.system
+  pub legal : IsLegal n first h
+  pub own_calls : AreOwnCalls controllers h
+  pub are : AreTrusses who controllers
+  pub und : AreUndisturbed who controllers first h
+
+-- a process lives
+abbrev pub Lives : TracedState → ℕ → Type 0
+Lives s pid = (p : TracedProcess) × (live_process s.system pid ≡ Some p)
+
+-- the bytes of these breakpoints are mapped in a process
+abbrev pub AreMappedIn : TracedProcess → List Patch → Type 0
+AreMappedIn p ps = All (IsMappedIn p.space) ps
+
+-- one who hides has the control file of a process open
+pub record Holder (who : Hiders) (pid : ℕ) (s : TracedState) : Type 0 where
+  pub k : ℕ
+  pub hider : hides who k ≡ true
+  pub number : ℕ
+  pub held : Held
+  pub there : handle_of s.opens k number ≡ Some held
+  pub of : held.pid ≡ pid
+  pub control : is_ctl held.file ≡ true
+
+module _ (who : Hiders) (controllers : List ControllerState) (first : TracedState) (h : List Entry) where
+  abbrev at : List Entry → Covers
+  at front = covers_at who first front
+
+  abbrev now : List Entry → TracedState
+  now front = state_after first front
+
+  -- truss after some entries
+  pub record Truss (front : List Entry) (k : ℕ) : Type 0 where
+    pub it : IsTrussAt who controllers k
+    pub t : TrussState
+    pub is : IsTrussAfter who controllers first h front k t
+    pub sound : IsSound it.options (λ (step : Stepped). Unit {0}) t
+    pub stand : Each (λ (v : Traced). Lives (now front) v.pid
+        → StandAsMarked t.options v.marks.planted (at front v.pid).patches) t.traced
+    pub files : Under (Files k (now front)) (files-alike k (now front)) t
+    pub alone : Each (λ (v : Traced). IsUnborrowed v.pid (now front).system) t.traced
+
+  -- what is so after some entries
+  pub record Kept (front : List Entry) : Type 0 where
+    pub trusses : (k : ℕ) (hider : hides who k ≡ true) → Truss front k
+    pub bare : (pid : ℕ) → ((at front pid).patches ≡ []) ⊎ Holder who pid (now front)
+    pub no_agent : (pid : ℕ) → (at front pid).agent ≡ false
+    pub mapped : (pid : ℕ) (p : TracedProcess) → live_process (now front).system pid ≡ Some p
+        → AreMappedIn p (at front pid).patches
+    pub unlent : (pid lender : ℕ) (p : TracedProcess) → live_process (now front).system pid ≡ Some p
+        → p.lender ≡ Some lender → (at front pid).patches ≡ []

@@ -1,0 +1,219 @@
+use Rattle.std.proofs.Common.{◌≡◌, ◌⊎◌, ◌<◌, ◌++◌, ◌^◌, ℕ, true, false, IfOk, Option, Some, None, Result, Ok, Err, List, ◌∷◌, All, length, refl, sym, subst, ap, ◌∙◌, inl, inr, arith}
+use Rattle.std.proofs.lemmas.Bool.{false≢true}
+use Rattle.std.specs.List.{slice_get}
+use Rattle.pr_api.specs.Entries.{call_entry}
+use Rattle.pr_hidden.specs.Covers.{Covers, Patch}
+use Rattle.pr_hidden.specs.Hiders.{Hiders, covers_at, hides, patch_at}
+use Rattle.pr_hidden.specs.Tidiness.{IsFunctionWriteIn, IsPlantable, IsTidyCall, IsTidyControl, IsTidySent, IsTidyTargeted, IsTidyWrite}
+use Rattle.pr_line.specs.declared.functions.Function.{Function}
+use Rattle.pr_model.specs.ControlMessages.{target_of}
+use Rattle.pr_model.specs.Handles.{handle_of}
+use Rattle.pr_model.specs.Legal.{state_after}
+use Rattle.pr_model.specs.State.{TracedProcess, TracedState, live_process}
+use Rattle.pr_model.specs.declared.calls.Call.{Call}
+use Rattle.pr_model.specs.declared.calls.Call.TheVariants as call
+use Rattle.pr_model.specs.declared.calls.File.TheVariants as file
+use Rattle.pr_model.specs.declared.calls.Mode.TheVariants.{WriteExcl}
+use Rattle.pr_model.specs.declared.calls.Reply.{Reply}
+use Rattle.pr_model.specs.declared.calls.Reply.TheVariants as reply
+use Rattle.pr_model.specs.declared.events.Entry.{Entry}
+use Rattle.pr_model.specs.declared.handles.Held.{Held}
+use Rattle.pr_num.proofs.SearchLemmas.{All-at}
+use Rattle.pr_num.specs.Messages.{first_message, spelling}
+use Rattle.pr_num.specs.Words.{IsByte}
+use Rattle.pr_num.specs.declared.messages.Message.{Message}
+use Rattle.pr_num.specs.declared.messages.Message.TheVariants as message
+use Rattle.pr_num.specs.declared.messages.MsgFault.{MsgFault}
+use Rattle.pr_truss.specs.Asides.{marks_at}
+use Rattle.pr_truss.specs.Trusses.{TrussState, traced_at}
+use Rattle.pr_truss_laws.proofs.TakenLemmas.{target-live}
+use Rattle.pr_world.specs.ControllerStates.{ControllerState}
+use Rattle.pr_function_laws.specs.Stretches.{BeginWithWrite, is_write}
+use Rattle.pr_function_hides.proofs.MarkedPatches.{found-is, function-patch, none-at}
+use Rattle.pr_function_hides.proofs.OwnTidy.{Kind, other, sends, writes}
+use Rattle.pr_function_hides.proofs.OwnWrites.{write-read, write-tail}
+use Rattle.pr_function_hides.proofs.StillMessages.{BeginStill, is_still}
+use Rattle.pr_function_hides.specs.FunctionHiders.{ArePatchable, IsPatchable, StandAsMarked, patch_of}
+use Rattle.pr_function_hides.proofs.OwnFiles.{HoldsItsFiles}
+use Rattle.pr_function_hides.proofs.TidyKept.{IsRunOfTrusses, Kept, Truss}
+use Rattle.pr_function_hides.proofs.TidyCalls.{truss-now, holds-now, fits, these, below, its-kind}
+
+-- What truss writes is tidy: code of a function where none stands, or the breakpoint of one that it has marked.
+
+module _ {n : ℕ} {who : Hiders} {controllers : List ControllerState} {first : TracedState} {h : List Entry}
+    (run : IsRunOfTrusses n who controllers first h) where
+  none : (k : ℕ) → who.probes k ≡ false
+  none = run.are.no_probes
+
+  abbrev at : List Entry → Covers
+  at front = covers_at who first front
+
+  abbrev now : List Entry → TracedState
+  now front = state_after first front
+
+  module _ (front back : List Entry) (j number : ℕ) (sent : List ℕ) (r : Reply)
+      (place : h ≡ front ++ call_entry j (call.Ctl number sent) r ∷ back) (kept : Kept who controllers first h front)
+      (hider : hides who j ≡ true) where
+    abbrev tc : Call
+    tc = call.Ctl number sent
+
+    abbrev u : TracedState
+    u = now front
+
+    abbrev truss_here : Truss who controllers first h front j
+    truss_here = truss-now run front back j tc r place kept hider
+
+    abbrev tw : TrussState
+    tw = let w = truss_here in w.t
+
+    abbrev files : HoldsItsFiles j tw u
+    files = holds-now run front back j tc r place kept hider
+
+    abbrev patchable : ArePatchable tw.options
+    patchable = fits run front back j tc r place kept hider
+
+    tidy-error : (o : Option Held) (fault : MsgFault) → first_message sent ≡ Err fault
+        → IsTidyControl who j (at front) u.system o sent
+    tidy-error None fault read = tt
+    tidy-error (Some x) fault read = by (target_of u.system x)
+      where
+        by : (o : Option TracedProcess) → IsTidyTargeted who j (at front) u.system x o sent
+        by None = tt
+        by (Some p) =
+            subst (λ (y : Result (Message × ℕ) MsgFault). IsTidySent who j (at front) u.system x p sent y) (sym read) tt
+
+    still-tidy : BeginStill sent → BeginWithWrite sent → (o : Option Held)
+        → IsTidyControl who j (at front) u.system o sent
+    still-tidy still begins o = by (first_message sent) refl still begins
+      where
+        never : (m : Message) → is_still m ≡ true → is_write m ≡ true → ⊥
+        never (message.Write address size) no_write writes_it = false≢true no_write
+        never _ no_write writes_it = false≢true writes_it
+
+        by : (x : Result (Message × ℕ) MsgFault) → first_message sent ≡ x
+            → IfOk x (λ f. is_still f.0 ≡ true) → IfOk x (λ f. is_write f.0 ≡ true)
+            → IsTidyControl who j (at front) u.system o sent
+        by (Err fault) read one two = tidy-error o fault read
+        by (Ok f) read one two = absurd (never f.0 one two)
+
+    module _ (m : ℕ) (inside : m < length tw.traced) (i : ℕ) (f : Function)
+        (named : slice_get tw.options.functions i ≡ Some f) (code : List ℕ) (size : length code ≡ 16)
+        (are_bytes : All IsByte code)
+        (is : tc ≡ call.Ctl (traced_at tw m).control (spelling (message.Write f.at 16) code)) (used : ℕ)
+        (got : r ≡ reply.Used used) where
+      abbrev tpid : ℕ
+      tpid = (traced_at tw m).pid
+
+      abbrev theld : Held
+      theld = record { controller = j; pid = tpid; lwp = 0; file = file.Ctl; mode = WriteExcl }
+
+      abbrev ps : List Patch
+      ps = (at front tpid).patches
+
+      function-of : IsPatchable f
+      function-of = All-at IsPatchable tw.options.functions i f named (let p = patchable in p.each)
+
+      low : f.at < 2 ^ 64
+      low = let p = function-of in let w = p.within in omega (arith, w)
+
+      read : first_message (spelling (message.Write f.at 16) code)
+          ≡ Ok (message.Write f.at 16, length (spelling (message.Write f.at 16) code))
+      read = write-read f.at code low size are_bytes
+
+      module _ (p : TracedProcess) (live : live_process u.system tpid ≡ Some p) where
+        stands : StandAsMarked tw.options (marks_at tw m).planted ps
+        stands = let w = truss_here in w.stand m inside (p, live)
+
+        address-is : patch_at f.at (who.functions j) ≡ Some (patch_of f)
+        address-is =
+            ap (patch_at f.at) (these run front back j tc r place kept hider)
+            ∙ function-patch tw.options patchable i f named
+
+        written-place : (o : Option Patch) → patch_at f.at ps ≡ o
+            → (patch_at f.at ps ≡ Some (patch_of f)) ⊎ IsPlantable (patch_of f) ps p.space
+        written-place (Some g) found =
+            let w = stands in
+            inl (found ∙ ap (λ (x : Patch). Some x)
+            (found-is tw.options patchable (marks_at tw m).planted ps i f g named w.all found).0)
+        written-place None found =
+            let w = stands in
+            let q = function-of in
+            let long = q.size in
+            let most = q.within in
+            inr (record {
+              none = found;
+              apart = none-at tw.options patchable (marks_at tw m).planted ps i f named w.all found;
+              within = omega (arith, long, most);
+              code = run.und.stands front j used f.at tpid p (patch_of f)
+                  (record {
+                    back = back;
+                    handle = (traced_at tw m).control;
+                    bytes = spelling (message.Write f.at 16) code;
+                    is = place ∙ ap (λ (d : Call). front ++ call_entry j d r ∷ back) is
+                        ∙ ap (λ (x : Reply). front ++ call_entry j (call.Ctl (traced_at tw m).control
+                        (spelling (message.Write f.at 16) code)) x ∷ back) got;
+                    hides_it = hider;
+                    held = theld;
+                    there = (let w = files in w.control m inside);
+                    of = refl;
+                    target = target-live u j (traced_at tw m).control theld (let w = files in w.control m inside) refl
+                        ∙ live;
+                    size = 16;
+                    len = _;
+                    read = read;
+                  }) address-is found;
+            })
+
+        written-tidy : IsTidyWrite who j ps p.space f.at code
+        written-tidy = record {
+          probe = λ hiding. absurd (false≢true (sym (none j) ∙ hiding));
+          function = λ hiding.
+              let q = function-of in
+              subst (λ (x : Option Patch). IsFunctionWriteIn x ps p.space code) (sym address-is)
+              (record { size = size ∙ sym q.size; place = written-place (patch_at f.at ps) refl });
+        }
+
+      control-tidy : IsTidyControl who j (at front) u.system (handle_of u.opens j (traced_at tw m).control)
+          (spelling (message.Write f.at 16) code)
+      control-tidy =
+          let w = files in
+          subst (λ (o : Option Held). IsTidyControl who j (at front) u.system o (spelling (message.Write f.at 16) code))
+          (sym (w.control m inside))
+          (subst (λ (o : Option TracedProcess). IsTidyTargeted who j (at front) u.system theld o
+          (spelling (message.Write f.at 16) code))
+          (sym (target-live u j (traced_at tw m).control theld (w.control m inside) refl))
+          (by (live_process u.system tpid) refl))
+        where
+          by : (o : Option TracedProcess) → live_process u.system tpid ≡ o
+              → IsTidyTargeted who j (at front) u.system theld o (spelling (message.Write f.at 16) code)
+          by None live = tt
+          by (Some p) live =
+              subst (λ (y : Result (Message × ℕ) MsgFault). IsTidySent who j (at front) u.system theld p
+              (spelling (message.Write f.at 16) code) y) (sym read)
+              (subst (IsTidyWrite who j ps p.space f.at) (sym (write-tail f.at code low size are_bytes))
+              (written-tidy p live))
+
+    pub sent-tidy : BeginWithWrite sent → IsTidyCall who (at front) u j (call.Ctl number sent) r
+    sent-tidy begins = by r refl
+      where
+        same-call : {a b : ℕ} {xs ys : List ℕ} → call.Ctl a xs ≡ call.Ctl b ys → (a ≡ b) × (xs ≡ ys)
+        same-call e = (cc, cc)
+
+        of : (used : ℕ) → r ≡ reply.Used used
+            → Kind j u tc tw patchable files (below run front back j tc r place kept hider)
+            → IsTidyControl who j (at front) u.system (handle_of u.opens j number) sent
+        of used got (writes m inside i f named code size are_bytes is) =
+            let both = same-call is in
+            subst (λ (xs : List ℕ). IsTidyControl who j (at front) u.system (handle_of u.opens j number) xs)
+            (sym both.1)
+            (subst (λ a. IsTidyControl who j (at front) u.system (handle_of u.opens j a)
+            (spelling (message.Write f.at 16) code)) (sym both.0)
+            (control-tidy m inside i f named code size are_bytes is used got))
+        of used got (sends m inside bytes is still) =
+            let both = same-call is in
+            still-tidy (subst BeginStill (sym both.1) still) begins (handle_of u.opens j number)
+        of used got (other never) = absurd (never number sent refl)
+
+        by : (x : Reply) → r ≡ x → IsTidyCall who (at front) u j (call.Ctl number sent) x
+        by (reply.Used used) got = of used got (its-kind run front back j tc r place kept hider)
+        by _ got = tt

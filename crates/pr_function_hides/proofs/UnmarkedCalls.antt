@@ -1,0 +1,183 @@
+use Rattle.std.proofs.Common.{◌≡◌, ◌≢◌, ℕ, Bool, false, None, Some, Ok, List, [], refl, sym, subst, ap, ◌∙◌}
+use Rattle.std.proofs.lemmas.Bool.{false≢true}
+use Rattle.std.proofs.lemmas.List.Elements.{All-cons, All-nil}
+use Rattle.std.proofs.lemmas.Option.{same_Some}
+use Rattle.std.specs.List.{All}
+use Rattle.pr_keeps.proofs.CallLemmas.{call-edit, close-edit}
+use Rattle.pr_keeps.proofs.KeepsLemmas.{all-replaced, lwp-edits-keep, process-edits-keep}
+use Rattle.pr_keeps.specs.CallEdits as edit
+use Rattle.pr_keeps.specs.CallEdits.{CallEdit, CloseEdit}
+use Rattle.pr_keeps.specs.LwpEdits as lwp
+use Rattle.pr_keeps.specs.LwpEdits.{LwpEdit, LwpEdits}
+use Rattle.pr_keeps.specs.MessageEdits as made
+use Rattle.pr_keeps.specs.MessageEdits.{MessageEdit}
+use Rattle.pr_keeps.specs.ProcessEdits as process
+use Rattle.pr_keeps.specs.ProcessEdits.{ProcessEdit}
+use Rattle.pr_laws.proofs.RefusalLemmas.{control-leaves, refused-system}
+use Rattle.pr_model.proofs.StateLemmas.{live_process-found}
+use Rattle.pr_model.specs.Calls.{Answer, answer_to}
+use Rattle.pr_model.specs.Changes.{with_space}
+use Rattle.pr_model.specs.ControlMessages.{control_answer, tail_of}
+use Rattle.pr_model.specs.Handles.{handle_of, released, released_lwp, with_closed, with_opened}
+use Rattle.pr_model.specs.Lives.{bare_process, first_lwp, new_lwp, new_process, with_spawned}
+use Rattle.pr_model.specs.Machines.{no_marks, traced}
+use Rattle.pr_model.specs.Messages.{agent_lwp, lwp_without_one, with_address, with_agent, with_held_set, with_registers}
+use Rattle.pr_model.specs.Running.{let_go, with_abort, with_directive, without_current, without_directive, without_fault}
+use Rattle.pr_model.specs.State.{TracedLwp, TracedProcess, TracedState, TracedSystem, process_of, with_process}
+use Rattle.pr_model.specs.declared.calls.Call.{Call}
+use Rattle.pr_model.specs.declared.calls.Call.TheVariants as call
+use Rattle.pr_model.specs.declared.calls.Reply.{Reply}
+use Rattle.pr_model.specs.declared.calls.Reply.TheVariants as reply
+use Rattle.pr_model.specs.declared.handles.Held.{Held}
+use Rattle.pr_num.proofs.ByIdLaws.{All-inserted}
+use Rattle.pr_num.specs.Agents.{agent_id}
+use Rattle.pr_num.specs.Control.{has_flags, single_step}
+use Rattle.pr_num.specs.Messages.{first_message}
+use Rattle.pr_num.specs.Programs.{Program}
+use Rattle.pr_num.specs.declared.errnos.Errno.{Errno}
+use Rattle.pr_num.specs.declared.messages.Message.{Message}
+use Rattle.pr_num.specs.declared.messages.Message.TheVariants as message
+use Rattle.pr_function_hides.proofs.UnmarkedTurns.{IsUnmarked, IsUnmarkedAt, KeepsMarks, generated-keeps, lwp-keeps, lwps-keep, made-keeps, process-keeps, with_this_ended-keeps}
+use Rattle.pr_probe_laws.proofs.StepLemmas.{KeepsLwps}
+use Rattle.pr_probe_laws.specs.StepMarks.{IsUnsteppedLwp}
+
+-- A step mark comes of PCRUN with PRSTEP alone, which is sent to its process.
+
+-- a message that sets no step mark
+abbrev pub SetsNoStep : Message → Type 0
+SetsNoStep (message.Run flags) = has_flags flags single_step ≡ false
+SetsNoStep _ = Unit {0}
+
+-- ---- messages
+
+edit-keeps : (m : Message) → SetsNoStep m → (l k : TracedLwp) → LwpEdit m l k → l.control.step ≡ false
+    → k.control.step ≡ false
+unfolding without_current without_fault with_directive without_directive let_go with_abort lwp_without_one with_held_set
+    with_registers with_address
+edit-keeps m none l k (lwp.drops_signal is) h = h
+edit-keeps m none l k (lwp.drops_fault is) h = h
+edit-keeps m none l k (lwp.directs_it is) h = h
+edit-keeps m none l k lwp.undirects h = h
+edit-keeps m none l k lwp.lets_go h = h
+edit-keeps m none l k (lwp.requests is) h = h
+edit-keeps m none l k (lwp.ends_request is) h = h
+edit-keeps m none l k (lwp.steps is) h = absurd (false≢true (sym none ∙ is))
+edit-keeps m none l k (lwp.aborts is) h = h
+edit-keeps m none l k (lwp.signal_is is) h = h
+edit-keeps m none l k (lwp.takes_back is) h = h
+edit-keeps m none l k lwp.holds h = h
+edit-keeps m none l k lwp.registers_are h = h
+edit-keeps m none l k lwp.goes_to h = h
+
+edits-keep : (m : Message) → SetsNoStep m → (f : TracedLwp → TracedLwp) → ((l : TracedLwp) → LwpEdits m l (f l))
+    → KeepsLwps f
+edits-keep m none f edits id l u = record {
+  no_step =
+      lwp-edits-keep m (λ (x : TracedLwp). x.control.step ≡ false) (edit-keeps m none) l (f l) (edits l) u.no_step;
+}
+
+agent-unmarked : (regs : List ℕ) → IsUnsteppedLwp (agent_id, agent_lwp regs)
+unfolding agent_lwp new_lwp traced no_marks
+agent-unmarked regs = record { no_step = refl }
+
+process-keep : (m : Message) (tail : List ℕ) → SetsNoStep m → (x y : TracedProcess) → ProcessEdit m tail x y
+    → All IsUnsteppedLwp x.lwps → All IsUnsteppedLwp y.lwps
+unfolding with_agent with_space
+process-keep m tail none x y (process.one_lwp id f edits) u = lwp-keeps id f (edits-keep m none f edits) x u
+process-keep m tail none x y (process.each_lwp f edits) u = lwps-keep f (edits-keep m none f edits) x u
+process-keep m tail none x y (process.control_is e) u = u
+process-keep m tail none x y (process.takes_back is) u = u
+process-keep (message.Agent regs) tail none x y (process.gets_agent free room) u =
+    All-inserted IsUnsteppedLwp agent_id (agent_lwp regs) x.lwps (agent-unmarked regs) u
+process-keep m tail none x y (process.is_written own mapped) u = u
+
+module _ (pid : ℕ) where
+  -- to this process it sets no step mark; to another it may
+  message-keeps : (s : TracedSystem) (target : ℕ) (p : TracedProcess) (m : Message) (tail : List ℕ) (t : TracedSystem)
+      → (target ≡ pid → SetsNoStep m) → process_of s target ≡ Some p → MessageEdit s target p m tail t
+      → IsUnmarked pid s → IsUnmarked pid t
+  unfolding with_process
+  message-keeps s target p m tail t none found made.nothing u = u
+  message-keeps s target p m tail t none found (made.a_process f edits) u = record {
+    processes =
+        all-replaced (IsUnmarkedAt pid) target f p s.processes found
+        (λ un. record {
+          lwps = λ same.
+              process-edits-keep m tail (λ (x : TracedProcess). All IsUnsteppedLwp x.lwps)
+              (process-keep m tail (none same)) p (f p) edits (un.lwps same);
+        }) u.processes;
+  }
+  message-keeps s target p m tail t none found made.an_end u = with_this_ended-keeps pid target p _ s u
+  message-keeps s target p m tail t none found (made.a_signal own g is room) u =
+      generated-keeps pid target own g _ s u
+
+  -- ---- calls
+
+  released-keeps : KeepsMarks released
+  unfolding released released_lwp
+  released-keeps x u = lwps-keep released_lwp (λ id l un. record { no_step = refl }) x u
+
+  close-keeps : (s : TracedSystem) (target : ℕ) (t : TracedSystem) → CloseEdit s target t → IsUnmarked pid s
+      → IsUnmarked pid t
+  close-keeps s target t edit.nothing u = u
+  close-keeps s target t (edit.kills p live mode) u = with_this_ended-keeps pid target p _ s u
+  close-keeps s target t (edit.releases p live spares mode) u =
+      process-keeps pid target released (λ same. released-keeps) s u
+
+  spawned-keeps : (program : Program) (held : Bool) (s : TracedSystem) → IsUnmarked pid s
+      → IsUnmarked pid (with_spawned traced program held s)
+  unfolding with_spawned new_process bare_process first_lwp new_lwp traced no_marks
+  spawned-keeps program held s u =
+      made-keeps pid (new_process traced program s.clock held) s
+      (All-cons IsUnsteppedLwp _ [] (record { no_step = refl }) (All-nil IsUnsteppedLwp)) u
+
+  -- a call writes no message to this process that sets a step mark
+  pub record MarksNone (s : TracedState) (by : ℕ) (c : Call) : Type 0 where
+    pub none : (handle : ℕ) (bytes : List ℕ) (held : Held) (m : Message) (len : ℕ) → c ≡ call.Ctl handle bytes
+        → handle_of s.opens by handle ≡ Some held → held.pid ≡ pid → first_message bytes ≡ Ok (m, len) → SetsNoStep m
+
+  call-keeps : (s : TracedState) (by : ℕ) (c : Call) (t : TracedState) → CallEdit s by c t → MarksNone s by c
+      → IsUnmarked pid s.system → IsUnmarked pid t.system
+  unfolding with_opened
+  call-keeps s by c t edit.looks none u = u
+  call-keeps s by c t (edit.opens free grants) none u = u
+  call-keeps s by c t (edit.closes {handle = handle} {held = h} at) none u =
+      close-keeps s.system h.pid (with_closed h handle s).system (close-edit s handle h) u
+  call-keeps s by c t (edit.controls {handle = handle} {bytes = bytes} {held = h} {p = p} {m = m} {t = v} w e) none u =
+      message-keeps s.system h.pid p m (tail_of m bytes) v
+      (λ same. none.none handle bytes h m w.length refl w.handle_is same w.read)
+      (live_process-found s.system h.pid p w.live) e u
+  call-keeps s by c t edit.sees_interrupt none u = u
+  call-keeps s by c t (edit.interrupts there) none u = u
+  call-keeps s by c t (edit.spawns {held = held} {program = program} named grants) none u =
+      spawned-keeps program held s.system u
+  call-keeps s by c t (edit.sends {pid = target} {g = g} is) none u = generated-keeps pid target None g _ s.system u
+
+  -- What a call leaves. One that was refused leaves all.
+  pub called-unmarked : (s : TracedState) (k : ℕ) (c : Call) (a : Answer) → answer_to s k c ≡ Some a
+      → (((e : Errno) → a.reply ≢ reply.Fail e) → MarksNone s k c) → IsUnmarked pid s.system
+      → IsUnmarked pid a.state.system
+  unfolding answer_to
+  called-unmarked s k (call.Ctl handle bytes) a given none u = by a.reply refl
+    where
+      refused : (e : Errno) → a.reply ≡ reply.Fail e → IsUnmarked pid a.state.system
+      refused e is =
+          let c = control_answer s.system s.opens k handle bytes in
+          let same = same_Some _ a given in
+          let left =
+          refused-system s.system c e (control-leaves s.system s.opens k handle bytes)
+          (ap (λ (x : Answer). x.reply) same ∙ is) in
+          subst (IsUnmarked pid) (sym left ∙ ap (λ (x : Answer). x.state.system) same) u
+
+      granted : ((e : Errno) → a.reply ≢ reply.Fail e) → IsUnmarked pid a.state.system
+      granted other =
+          call-keeps s k (call.Ctl handle bytes) a.state (call-edit s k (call.Ctl handle bytes) a given) (none other) u
+
+      by : (r : Reply) → a.reply ≡ r → IsUnmarked pid a.state.system
+      by (reply.Fail e) is = refused e is
+      by _ is = granted (λ e same. cc)
+  called-unmarked s k c a given none u =
+      call-keeps s k c a.state (call-edit s k c a given)
+      (record {
+        none = λ handle bytes held m len is there its read. absurd (let e : c ≡ call.Ctl handle bytes = is in cc);
+      }) u
