@@ -36,6 +36,6 @@ kept-beside s h range legal own others =
       cores = gcores-kept s n h range bytes legal own;
       probes = probes-kept s n h range bytes legal own;
       hides = hidden-kept s n h range bytes legal own;
-      writes = writes-kept s n h range legal own;
+      writes = writes-kept s n h range bytes legal own;
       programs = first-same n s.programs (files_of s) s.spawns h range.start legal;
     }

@@ -31,13 +31,14 @@ use Rattle.pr_num.specs.declared.messages.MsgFault.{MsgFault}
 use Rattle.pr_parts.specs.AddressSpaces.{with_bytes}
 use Rattle.pr_report_laws.proofs.Releasing.ReleaseStays.{not-allowed}
 use Rattle.pr_truss.specs.Replies.{answer_of}
+use Rattle.pr_truss.specs.Trusses.{TrussState}
 use Rattle.pr_truss.specs.declared.replies.Answer.TheVariants.{Accepted, Interrupted}
 use Rattle.pr_truss_laws.proofs.AnswerLemmas.{IsAnswer, answer-is}
 use Rattle.pr_truss_laws.proofs.FrameLemmas.{was-made}
 use Rattle.pr_truss_laws.proofs.OpensLemmas.{close-closes, held_by, keeps_handles, open-opens, own-free, own-other, plain-leaves}
 use Rattle.pr_truss_laws.proofs.TakenLemmas.{ctl-is}
 use Rattle.pr_truss_laws.specs.Exchanges.{errno_in}
-use Rattle.pr_world.specs.ControllerStates.{ControllerState}
+use Rattle.pr_world.specs.ControllerStates.{ControllerState, FnTruss}
 use Rattle.pr_world.specs.Protocol.{controllers_after, controllers_at}
 use Rattle.pr_tool_laws.specs.OwnCalls.{AreOwnCalls, IsOwnCall}
 
@@ -214,3 +215,7 @@ pub controllers-push : (controllers : List ControllerState) (h : List Entry) (e 
     → controllers_at controllers (h ++ e ∷ []) ≡ controllers_after (controllers_at controllers h) e
 controllers-push controllers [] e = refl
 controllers-push controllers (x ∷ xs) e = controllers-push (controllers_after controllers x) xs e
+
+-- one truss stands at a place
+pub same-truss : (a b : TrussState) (o : Option ControllerState) → o ≡ Some (FnTruss a) → o ≡ Some (FnTruss b) → a ≡ b
+same-truss a b o one two = let both : Some (FnTruss a) ≡ Some (FnTruss b) = sym one ∙ two in cc

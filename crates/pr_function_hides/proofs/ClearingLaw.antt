@@ -1,9 +1,11 @@
 use Rattle.std.proofs.Common.{◌≡◌, ◌≢◌, ◌++◌, ℕ, true, cond, Some, List, ◌∷◌, refl, sym, ap, ◌∙◌}
+use Rattle.pr_reached.specs.ByteHistories.{HasBytes}
+use Rattle.pr_reached.specs.Reached.{IsReached}
 use Rattle.std.proofs.lemmas.Bool.{false≢true}
 use Rattle.pr_api.specs.Entries.{call_entry}
 use Rattle.pr_function_hides.proofs.ClosingLaw as Closing
-use Rattle.pr_function_hides.proofs.KnownFiles.{Knows}
-use Rattle.pr_function_hides.proofs.SentMessages.{Admits, Clears, Sends, aside-sends, stage-sends}
+use Rattle.pr_function_laws.proofs.KnownFiles.{Knows}
+use Rattle.pr_function_hides.proofs.SentMessages.{Admits, Clears, Sends, aside-sends, run-begins, stage-sends}
 use Rattle.pr_function_hides.proofs.TidyCalls as Calls
 use Rattle.pr_function_hides.proofs.TidyKept.{IsRunOfTrusses, Kept as TidyKept}
 use Rattle.pr_function_hides.proofs.TidyLaw.{kept-at}
@@ -12,8 +14,6 @@ use Rattle.pr_function_hides.specs.FunctionHiders.{ArePatchable, AreTrusses}
 use Rattle.pr_function_hides.specs.TidyWrites.{AreUndisturbed}
 use Rattle.pr_function_laws.proofs.KeptPlaces.{AtAside, Kept}
 use Rattle.pr_hidden.specs.Hiders.{Hiders, hides}
-use Rattle.pr_lending.specs.Lending.{AreLending}
-use Rattle.pr_model.specs.Lawful.{IsLawful}
 use Rattle.pr_model.specs.Legal.{IsLegal}
 use Rattle.pr_model.specs.State.{TracedState}
 use Rattle.pr_model.specs.declared.calls.Call.{Call}
@@ -25,7 +25,7 @@ use Rattle.pr_num.specs.declared.messages.Message.TheVariants as message
 use Rattle.pr_tool_laws.specs.OwnCalls.{AreOwnCalls}
 use Rattle.pr_truss.specs.FunctionCalls.{call_beside, next_function_call_of}
 use Rattle.pr_truss.specs.NextCalls.{next_call_of}
-use Rattle.pr_truss.specs.Trusses.{TrussState}
+use Rattle.pr_truss.specs.Trusses.{TrussState, traced_at}
 use Rattle.pr_truss.specs.declared.asides.Aside.{Aside}
 use Rattle.pr_truss.specs.declared.asides.Aside.TheVariants.{Nothing, Patching}
 use Rattle.pr_world.specs.ControllerStates.{ControllerState}
@@ -44,20 +44,21 @@ admits-unclear = record {
   sfault = λ set. tt;
   sentry = λ set. tt;
   sexit = λ set. tt;
-  set = λ modes. tt;
+  follow = tt;
+  release = tt;
   unset = λ modes. tt;
   read = λ at size. tt;
   write = λ at. tt;
 }
 
 module _ (n : ℕ) (who : Hiders) (controllers : List ControllerState) (first : TracedState) (h : List Entry)
-    (lawful : IsLawful first) (lending : AreLending first.system) (legal : IsLegal n first h)
-    (own_calls : AreOwnCalls controllers h) (are : AreTrusses who controllers)
+    (reached : IsReached first) (bytes : HasBytes h) (legal : IsLegal n first h)
+    (own_calls : AreOwnCalls controllers h) (are : AreTrusses who controllers first)
     (und : AreUndisturbed who controllers first h) where
   run : IsRunOfTrusses n who controllers first h
   run = record {
-    lawful = lawful;
-    lending = lending;
+    reached = reached;
+    bytes = bytes;
     legal = legal;
     own_calls = own_calls;
     are = are;
@@ -68,7 +69,7 @@ module _ (n : ℕ) (who : Hiders) (controllers : List ControllerState) (first : 
       (hider : hides who j ≡ true) where
     abbrev kept : TidyKept who controllers first h front
     kept =
-        kept-at n who controllers first h lawful lending legal own_calls are und front (call_entry j c r ∷ back) place
+        kept-at n who controllers first h reached bytes legal own_calls are und front (call_entry j c r ∷ back) place
 
     abbrev t : TrussState
     t = Calls.tr run front back j c r place kept hider
@@ -80,7 +81,7 @@ module _ (n : ℕ) (who : Hiders) (controllers : List ControllerState) (first : 
     known =
         let w = Calls.truss-now run front back j c r place kept hider in
         let it =
-        Closing.closed-at n who controllers first h lawful lending legal own_calls are und front
+        Closing.closed-at n who controllers first h reached bytes legal own_calls are und front
         (call_entry j c r ∷ back) place j hider t w.is in
         it.known
 
@@ -110,7 +111,8 @@ module _ (n : ℕ) (who : Hiders) (controllers : List ControllerState) (first : 
         by : (aside : Aside) → t.aside ≡ aside → Sends IsUnclear c
         by Nothing idle =
             let f = Calls.holds-now run front back j c r place kept hider in
-            stage-sends IsUnclear admits-unclear t fits c (λ word. tt) t.stage f.stage
+            stage-sends IsUnclear admits-unclear t fits c tt
+            (λ q within. run-begins IsUnclear (λ word. tt) (traced_at t q).marks.flags) t.stage f.stage
             (sym (ap (call_beside t t.stage) idle) ∙ beside-is)
         by _ idle = busy (λ none. cc)
 

@@ -1,20 +1,24 @@
-use Rattle.std.proofs.Common.{◌≡◌, ◌≢◌, ◌<◌, ℕ, true, cond, is_some, Option, Some, None, length, refl, sym, ap, ◌∙◌}
+use Rattle.std.proofs.Common.{◌≡◌, ◌≢◌, ◌<◌, ◌⊎◌, ℕ, Bool, true, false, cond, is_some, Option, Some, None, length, refl, sym, ap, ◌∙◌, inl, inr}
 use Rattle.std.proofs.lemmas.Option.{none-some, same_Some}
 use Rattle.pr_function_hides.proofs.FilesCalls.{Files}
 use Rattle.pr_function_hides.proofs.OwnFiles.{IsBeside, IsWithin}
-use Rattle.pr_model.specs.Handles.{handle_of}
+use Rattle.pr_model.specs.Handles.{handle_of, is_writable}
 use Rattle.pr_model.specs.Replies.{number_of}
 use Rattle.pr_model.specs.State.{TracedState}
 use Rattle.pr_model.specs.declared.calls.Call.{Call}
 use Rattle.pr_model.specs.declared.calls.Call.TheVariants as call
+use Rattle.pr_model.specs.declared.calls.File.{File}
+use Rattle.pr_model.specs.declared.calls.File.TheVariants as file
+use Rattle.pr_model.specs.declared.calls.Mode.TheVariants.{Read}
 use Rattle.pr_model.specs.declared.handles.Held.{Held}
 use Rattle.pr_truss.specs.FunctionCalls.{call_beside, function_call_of, next_function_call_of, patch_call}
 use Rattle.pr_truss.specs.Marks.{first_function, has_functions}
 use Rattle.pr_truss.specs.NextCalls.{call_of, next_call_of, opening_call}
-use Rattle.pr_truss.specs.Processes.{last_handle}
+use Rattle.pr_truss.specs.Processes.{last_handle, without_last}
 use Rattle.pr_truss.specs.Trusses.{TrussState, traced_at}
 use Rattle.pr_truss.specs.declared.asides.Aside.{Aside}
 use Rattle.pr_truss.specs.declared.asides.Aside.TheVariants.{Nothing, Reading, Planting, Patching}
+use Rattle.pr_truss.specs.declared.marks.Marks.{Marks}
 use Rattle.pr_truss.specs.declared.processes.Traced.{Traced}
 use Rattle.pr_truss.specs.declared.stages.AfterClosing.{AfterClosing}
 use Rattle.pr_truss.specs.declared.stages.AfterClosing.TheVariants.{OpenNext, GoOn}
@@ -22,6 +26,7 @@ use Rattle.pr_truss.specs.declared.stages.OpeningStep.{OpeningStep}
 use Rattle.pr_truss.specs.declared.stages.OpeningStep.TheVariants as opening
 use Rattle.pr_truss.specs.declared.stages.Stage.{Stage}
 use Rattle.pr_truss.specs.declared.stages.Stage.TheVariants.{Spawning, OpeningControl, Opening, Polling, ReadingStatus, ReadingText, Running, Closing, Finished}
+use Rattle.pr_truss_laws.proofs.OpensLemmas.{held_by}
 
 -- Truss closes a file only as it closes those of a process that it traces, the last one first, and nothing comes before
 -- that.
@@ -44,6 +49,43 @@ last-pid k s v f held there = find v.memory v.lstatus v.status refl refl refl th
         ap (λ (x : Held). x.pid) (same_Some _ held (sym (f.status m is_c) ∙ at))
     find None None None is_a is_b is_c at =
         ap (λ (x : Held). x.pid) (same_Some _ held (sym f.control ∙ at))
+
+-- it is that of the control file, and then no other is left; or it is none for writing
+abbrev pub IsLastMode : ℕ → TracedState → Traced → Type 0
+IsLastMode k s v =
+    ((last_handle v ≡ v.control) × (without_last v ≡ None))
+    ⊎ ((held : Held) → handle_of s.opens k (last_handle v) ≡ Some held → is_writable held.mode ≡ false)
+
+module _ (k : ℕ) (s : TracedState) where
+  mode-is : (pid m : ℕ) (f : File) → handle_of s.opens k m ≡ Some (held_by k pid 0 f Read) → (held : Held)
+      → handle_of s.opens k m ≡ Some held → is_writable held.mode ≡ false
+  mode-is pid m f its held there =
+      ap (λ (x : Held). is_writable x.mode) (sym (same_Some (held_by k pid 0 f Read) held (sym its ∙ there)))
+
+  mode-fields : (pid control : ℕ) (status lstatus memory : Option ℕ) (attached : Bool) (old : ℕ) (seen : Bool)
+      (marks : Marks)
+      → let u : Traced = record {
+        pid = pid;
+        control = control;
+        status = status;
+        lstatus = lstatus;
+        memory = memory;
+        attached = attached;
+        old = old;
+        seen = seen;
+        marks = marks;
+      } in Files k s u → IsLastMode k s u
+  unfolding last_handle without_last
+  mode-fields pid control status lstatus (Some n) attached old seen marks f =
+      inr (mode-is pid n file.Mem (f.memory n refl))
+  mode-fields pid control status (Some n) None attached old seen marks f =
+      inr (mode-is pid n file.Lstatus (f.lstatus n refl))
+  mode-fields pid control (Some n) None None attached old seen marks f =
+      inr (mode-is pid n file.Status (f.status n refl))
+  mode-fields pid control None None None attached old seen marks f = inl (refl, refl)
+
+  pub last-mode : (v : Traced) → Files k s v → IsLastMode k s v
+  last-mode v f = mode-fields v.pid v.control v.status v.lstatus v.memory v.attached v.old v.seen v.marks f
 
 -- truss closes the file of a number: the last one of a process
 pub record IsClosing (t : TrussState) (number : ℕ) : Type 0 where

@@ -1,40 +1,35 @@
-use Rattle.pr_lending.specs.Lending.{AreLending}
-use Rattle.pr_model.specs.Replies.{number_of}
 use Rattle.pr_function_hides.proofs.ClosingCalls.{IsClosing, is-closing, last-pid}
+use Rattle.pr_function_hides.proofs.ClosingStages.{stage-stays}
+use Rattle.pr_reached.specs.ByteHistories.{HasBytes}
+use Rattle.pr_reached.specs.Reached.{IsReached}
 use Rattle.pr_function_hides.proofs.ClosingWalk.{CalledSo, ClosesSo, Lifts, StageSo, called_at, fed-closes, first-closes}
-use Rattle.pr_function_hides.proofs.GoneCalls.{ctl-gone, open-gone, wait-gone}
-use Rattle.pr_function_hides.proofs.KnownFiles.{Knows, KnowsAll, known-fed, known-first}
+use Rattle.pr_function_laws.proofs.KnownFiles.{Knows, known-fed, known-first}
 use Rattle.pr_function_hides.specs.Copying.{IsEmpty}
 use Rattle.pr_function_hides.proofs.OwnFiles.{HoldsItsFiles, IsBeside, IsWithin}
 use Rattle.pr_function_hides.proofs.TidyKept.{Kept as TidyKept, Truss as TidyTruss}
 use Rattle.pr_function_hides.proofs.TidyLaw.{kept-at}
 use Rattle.pr_function_hides.proofs.FilesCalls.{Files, holds-of}
-use Rattle.pr_function_hides.proofs.CallFacts.{calm-reply, controllers-push, legal-here, open-finds, own-here}
-use Rattle.pr_function_hides.specs.FunctionHiders.{AreTrusses, IsMarked}
+use Rattle.pr_function_hides.proofs.CallFacts.{calm-reply, controllers-push, legal-here, open-finds, own-here, same-truss}
+use Rattle.pr_function_hides.specs.FunctionHiders.{AreTrusses}
 use Rattle.pr_function_hides.specs.TidyCloses.{LeavesNoBreakpoint}
 use Rattle.pr_function_hides.specs.TidyWrites.{AreUndisturbed, IsTrussAfter}
 use Rattle.pr_function_laws.proofs.BreakpointLemmas.{IsOwnEntry, own-entry}
-use Rattle.pr_function_laws.proofs.KeptPlaces.{AtStage, Kept, opens}
+use Rattle.pr_function_laws.proofs.KeptPlaces.{Kept}
 use Rattle.pr_function_laws.proofs.OpenedLemmas.{control-made}
-use Rattle.pr_report_laws.proofs.Machine.GoneLaws.{is_read, read-gone}
 use Rattle.pr_report_laws.proofs.Invariant.StandLemmas.{Each}
 use Rattle.pr_api.specs.Entries.{call_entry}
 use Rattle.pr_hidden.specs.Covers.{Patch}
 use Rattle.pr_hidden.specs.Hiders.{Hiders, covers_at, hides}
 use Rattle.pr_lawful.proofs.HandleLemmas.{handle-at, handle-writer}
 use Rattle.pr_lawful.proofs.HistoryLemmas.{history-state}
-use Rattle.pr_line.specs.declared.options.Options.{Options}
 use Rattle.pr_model.proofs.HistoryLemmas.{state_after-push}
-use Rattle.pr_model.specs.Calls.{Answer, answer_to}
+use Rattle.pr_model.specs.Calls.{answer_to}
 use Rattle.pr_model.specs.Handles.{handle_of, has_writer}
 use Rattle.pr_model.specs.Lawful.{IsLawful}
 use Rattle.pr_model.specs.Legal.{IsLegal, IsLegalEntry, after, state_after}
 use Rattle.pr_model.specs.State.{TracedProcess, TracedState, live_process}
 use Rattle.pr_model.specs.declared.calls.Call.{Call}
 use Rattle.pr_model.specs.declared.calls.Call.TheVariants as call
-use Rattle.pr_model.specs.declared.calls.File.{File}
-use Rattle.pr_model.specs.declared.calls.File.TheVariants as file
-use Rattle.pr_model.specs.declared.calls.Mode.TheVariants.{Read}
 use Rattle.pr_model.specs.declared.calls.Reply.{Reply}
 use Rattle.pr_model.specs.declared.events.Act.{Act}
 use Rattle.pr_model.specs.declared.events.Act.TheVariants as act
@@ -43,15 +38,14 @@ use Rattle.pr_model.specs.declared.events.Actor.TheVariants.{Controller, Lwp, Cl
 use Rattle.pr_model.specs.declared.events.Entry.{Entry}
 use Rattle.pr_model.specs.declared.events.Turned.{Turned}
 use Rattle.pr_model.specs.declared.handles.Held.{Held}
-use Rattle.pr_num.specs.Limits.{read_limit}
 use Rattle.pr_tool_laws.proofs.ProtocolLemmas.{fed-other, fed-own}
 use Rattle.pr_tool_laws.proofs.WholeLemmas.{front-legal}
 use Rattle.pr_tool_laws.specs.OwnCalls.{AreOwnCalls, IsOwnCall}
 use Rattle.pr_truss.specs.Asides.{marks_at}
-use Rattle.pr_truss.specs.FunctionCalls.{call_beside, function_call_of, next_function_call_of, patch_call}
+use Rattle.pr_truss.specs.FunctionCalls.{call_beside, function_call_of, next_function_call_of}
 use Rattle.pr_truss.specs.FunctionFeeding.{fed_functions}
-use Rattle.pr_truss.specs.Marks.{first_function, has_functions}
-use Rattle.pr_truss.specs.NextCalls.{call_of, next_call_of, open_control, open_file, opening_call, read_record}
+use Rattle.pr_truss.specs.Marks.{has_functions}
+use Rattle.pr_truss.specs.NextCalls.{call_of, next_call_of, open_control}
 use Rattle.pr_truss.specs.Processes.{last_handle}
 use Rattle.pr_truss.specs.Replies.{answer_of}
 use Rattle.pr_truss.specs.Trusses.{TrussState, first_truss, traced_at}
@@ -62,21 +56,20 @@ use Rattle.pr_truss.specs.declared.replies.Answer.TheVariants.{Accepted, Gone, I
 use Rattle.pr_truss.specs.declared.stages.AfterClosing.{AfterClosing}
 use Rattle.pr_truss.specs.declared.stages.AfterClosing.TheVariants.{OpenNext, GoOn}
 use Rattle.pr_truss.specs.declared.stages.OpeningStep.{OpeningStep}
-use Rattle.pr_truss.specs.declared.stages.OpeningStep.TheVariants as opening
 use Rattle.pr_truss.specs.declared.stages.Stage.{Stage}
-use Rattle.pr_truss.specs.declared.stages.Stage.TheVariants.{Spawning, OpeningControl, Opening, Polling, ReadingStatus, ReadingText, Running, Closing, Finished}
-use Rattle.pr_truss_laws.proofs.OpensLemmas.{held_by}
+use Rattle.pr_truss.specs.declared.stages.Stage.TheVariants.{OpeningControl, Opening, ReadingStatus, ReadingText, Running, Closing}
 use Rattle.pr_truss_laws.proofs.OverLemmas.{stays-over}
 use Rattle.pr_world.specs.ControllerStates.{ControllerState, FnTruss}
 use Rattle.pr_world.specs.Controllers.{after_reply, call_by, next_call, with_fed}
 use Rattle.pr_world.specs.Protocol.{controllers_after, controllers_at}
-use Rattle.std.proofs.Common.{◌≡◌, ◌≢◌, ◌<◌, ◌++◌, ℕ, Bool, true, cond, Option, Some, None, List, [], ◌∷◌, All, length, refl, sym, subst, ap, ◌∙◌, inl, inr}
-use Rattle.std.proofs.lemmas.Bool.{cases_eq, eq-eqb, false≢true}
+use Rattle.std.proofs.Common.{◌≡◌, ◌≢◌, ◌<◌, ◌++◌, ℕ, true, cond, Some, None, List, [], ◌∷◌, length, refl, sym, subst, ap, ◌∙◌, inl, inr}
+use Rattle.std.proofs.lemmas.Bool.{cases_eq, eq-eqb}
 use Rattle.std.proofs.lemmas.List.{append-nil, append_assoc}
-use Rattle.std.proofs.lemmas.List.Elements.{All-head}
 use Rattle.std.proofs.lemmas.Option.{none-some, same_Some, slice_get_within}
 use Rattle.std.specs.List.{slice_get}
 use Rattle.std.specs.Option.{option_and_then}
+use Rattle.pr_function_hides.proofs.GoneTold.{told-gone}
+use Rattle.pr_function_hides.proofs.CopyFree.{none-marked}
 
 -- Where truss closes the control file of a process that lives, no breakpoint stands there.
 
@@ -90,141 +83,23 @@ abbrev pub no_leaves : ℕ → Type 0
 no_leaves pid = Unit {0}
 
 -- what is so of processes that have ended stays so
-module _ (Over Later : ℕ → Type 0) (t : TrussState)
-    (stays : (q : ℕ) → q < length t.traced → Over (traced_at t q).pid → Later (traced_at t q).pid) where
-  stage-stays : (stage : Stage) → IsWithin (length t.traced) stage → StageSo Over no_opens no_leaves t stage
-      → StageSo Later no_opens no_leaves t stage
-  stage-stays (Spawning program) w it = tt
-  stage-stays (OpeningControl pid) w it = tt
-  stage-stays (Opening q step) w it = tt
-  stage-stays Polling w it = tt
-  stage-stays (ReadingStatus q) w it = tt
-  stage-stays (ReadingText q l from len) w it = tt
-  stage-stays (Running q) w it = tt
-  stage-stays (Closing q OpenNext) w (inl over) = inl (stays q w over)
-  stage-stays (Closing q OpenNext) w (inr it) = inr it
-  stage-stays (Closing q GoOn) w over = stays q w over
-  stage-stays Finished w it = tt
-  stage-stays _ w it = absurd w
-
--- truss is told of the process that it acts on that it is gone, where it has ended
-module _ (k : ℕ) (s : TracedState) (c : Call) (a : Answer) (given : answer_to s k c ≡ Some a) (t : TrussState)
-    (files : (q : ℕ) → q < length t.traced → Files k s (traced_at t q)) (known : Kept Knows t)
-    (at_stage : IsWithin (length t.traced) t.stage) (at_aside : IsBeside (length t.traced) t.aside)
-    (gone : answer_of a.reply ≡ Gone) where
-  abbrev Ended : ℕ → Type 0
-  Ended q = live_process s.system (traced_at t q).pid ≡ None
-
-  by-message : (q : ℕ) → q < length t.traced → (bytes : List ℕ)
-      → Some (call.Ctl (traced_at t q).control bytes) ≡ Some c → Ended q
-  by-message q within bytes is =
-      let f = files q within in
-      ctl-gone s k (traced_at t q).control _ f.control refl a bytes
-      (ap (answer_to s k) (same_Some _ c is) ∙ given) gone
-
-  by-wait : (q : ℕ) → q < length t.traced → (until : ℕ) (bytes : List ℕ)
-      → Some (call.CtlWait (traced_at t q).control until bytes) ≡ Some c → Ended q
-  by-wait q within until bytes is =
-      let f = files q within in
-      wait-gone s k (traced_at t q).control _ f.control refl a until bytes
-      (ap (answer_to s k) (same_Some _ c is) ∙ given) gone
-
-  by-open : (q : ℕ) (f : File) → is_read f ≡ true → Some (open_file (traced_at t q).pid f) ≡ Some c → Ended q
-  by-open q f reads is =
-      open-gone s k (traced_at t q).pid f reads a (ap (answer_to s k) (same_Some _ c is) ∙ given) gone
-
-  by-read : (q : ℕ) (o : Option ℕ) (m : ℕ) (f : File) (from len : ℕ) → o ≡ Some m
-      → handle_of s.opens k m ≡ Some (held_by k (traced_at t q).pid 0 f Read) → is_read f ≡ true
-      → Some (call.Read (number_of o) from len) ≡ Some c → Ended q
-  by-read q o m f from len is there reads same =
-      read-gone s k m (held_by k (traced_at t q).pid 0 f Read) there a from len f refl reads
-      (ap (λ (x : Option ℕ). answer_to s k (call.Read (number_of x) from len)) (sym is)
-      ∙ ap (answer_to s k) (same_Some _ c same) ∙ given) gone
-
-  lwps-read : (q : ℕ) → q < length t.traced → KnowsAll (traced_at t q)
-      → Some (read_record (traced_at t q).lstatus) ≡ Some c → Ended q
-  lwps-read q within all is =
-      let f = files q within in
-      let l = all.lstatus in
-      by-read q (traced_at t q).lstatus l.number file.Lstatus 0 read_limit l.is (f.lstatus l.number l.is) refl is
-
-  by-step : (q : ℕ) (step : OpeningStep) → q < length t.traced → Knows (opens step) (traced_at t q)
-      → function_call_of t (Opening q step) ≡ Some c → Ended q
-  unfolding function_call_of call_of opening_call
-  by-step q opening.OpenStatus within w is = by-open q file.Status refl is
-  by-step q opening.OpenLstatus within w is = by-open q file.Lstatus refl is
-  by-step q opening.OpenMemory within w is = by-open q file.Mem refl is
-  by-step q opening.ClearModes within w is = by-message q within _ is
-  by-step q opening.SetRelease within w is = by-message q within _ is
-  by-step q opening.Stop within w is = by-message q within _ is
-  by-step q (opening.AwaitStop until) within w is = by-wait q within until _ is
-  by-step q opening.ReadLwps within w is = lwps-read q within w is
-  by-step q opening.TraceSignals within w is = by-message q within _ is
-  by-step q opening.TraceFaults within w is = by-message q within _ is
-  by-step q opening.TraceEntries within w is = by-message q within _ is
-  by-step q opening.TraceExits within w is = by-message q within _ is
-  by-step q opening.Follow within w is = by-message q within _ is
-  by-step q opening.Start within w is = by-message q within _ is
-
-  by-status : (q : ℕ) → q < length t.traced → KnowsAll (traced_at t q)
-      → Some (read_record (traced_at t q).status) ≡ Some c → Ended q
-  by-status q within all is =
-      let f = files q within in
-      let x = all.status in
-      by-read q (traced_at t q).status x.number file.Status 0 read_limit x.is (f.status x.number x.is) refl is
-
-  by-text : (q from len : ℕ) → q < length t.traced → KnowsAll (traced_at t q)
-      → Some (call.Read (number_of (traced_at t q).memory) from len) ≡ Some c → Ended q
-  by-text q from len within all is =
-      let f = files q within in
-      let x = all.memory in
-      by-read q (traced_at t q).memory x.number file.Mem from len x.is (f.memory x.number x.is) refl is
-
-  by-stage : (stage : Stage) → AtStage Knows t.traced stage → function_call_of t stage ≡ Some c → (q : ℕ)
-      → called_at stage Nothing ≡ Some q → Ended q
-  unfolding function_call_of call_of
-  by-stage (Opening b step) w is q here =
-      subst Ended (same_Some b q here) (by-step b step w.0 w.1.1 is)
-  by-stage (ReadingStatus b) w is q here =
-      subst Ended (same_Some b q here) (by-status b w.0 (w.1.0 b w.0) is)
-  by-stage (ReadingText b l from len) w is q here =
-      subst Ended (same_Some b q here) (by-text b from len w.0 (w.1.0 b w.0) is)
-  by-stage (Running b) w is q here =
-      subst Ended (same_Some b q here) (by-message b w.0 _ is)
-  by-stage _ w is q here = absurd (none-some q here)
-
-  by-patch : (q : ℕ) → q < length t.traced → (plant lift : Option ℕ)
-      → Some (patch_call t.options (traced_at t q).control plant lift) ≡ Some c → Ended q
-  by-patch q within (Some function) lift is = by-message q within _ is
-  by-patch q within None (Some function) is = by-message q within _ is
-  by-patch q within None None is = by-message q within _ is
-
-  by-aside : (aside : Aside) → IsBeside (length t.traced) aside → call_beside t t.stage aside ≡ Some c → (q : ℕ)
-      → called_at t.stage aside ≡ Some q → Ended q
-  unfolding call_beside
-  by-aside Nothing w is q here = by-stage t.stage known.stage is q here
-  by-aside (Reading b function) w is q here = subst Ended (same_Some b q here) (by-message b w _ is)
-  by-aside (Planting b function) w is q here = subst Ended (same_Some b q here) (by-message b w _ is)
-  by-aside (Patching b plants lifts clear) w is q here =
-      subst Ended (same_Some b q here) (by-patch b w (first_function plants) (first_function lifts) is)
-  by-aside _ w is q here = absurd w
-
-  pub told-gone : has_functions t.options ≡ true → next_function_call_of t ≡ Some c → (q : ℕ)
-      → called_at t.stage t.aside ≡ Some q → Ended q
-  unfolding next_function_call_of
-  told-gone has next q here =
-      by-aside t.aside at_aside
-      (sym (ap (λ b. cond b (call_beside t t.stage t.aside) (next_call_of t)) has) ∙ next) q here
+over-stays : (Over Later : ℕ → Type 0) (t : TrussState)
+    → ((q : ℕ) → q < length t.traced → Over (traced_at t q).pid → Later (traced_at t q).pid)
+    → IsWithin (length t.traced) t.stage → StageSo Over no_opens no_leaves t t.stage
+    → StageSo Later no_opens no_leaves t t.stage
+over-stays Over Later t stays within =
+    stage-stays Over Later no_opens no_opens no_leaves no_leaves t stays t.stage within (λ q step w is it. tt)
+    (λ q w is it. tt)
 
 -- ---- along the history
 
 module _ (n : ℕ) (who : Hiders) (controllers : List ControllerState) (first : TracedState) (h : List Entry)
-    (lawful : IsLawful first) (lending : AreLending first.system) (legal : IsLegal n first h)
+    (reached : IsReached first) (bytes : HasBytes h) (legal : IsLegal n first h)
     (own_calls : AreOwnCalls controllers h)
-    (are : AreTrusses who controllers) (und : AreUndisturbed who controllers first h) where
+    (are : AreTrusses who controllers first) (und : AreUndisturbed who controllers first h) where
   abbrev its_kept : (front back : List Entry) → h ≡ front ++ back
       → TidyKept who controllers first h front
-  its_kept = kept-at n who controllers first h lawful lending legal own_calls are und
+  its_kept = kept-at n who controllers first h reached bytes legal own_calls are und
 
   abbrev pub here : List Entry → TracedState
   here front = state_after first front
@@ -242,9 +117,6 @@ module _ (n : ℕ) (who : Hiders) (controllers : List ControllerState) (first : 
       (k : ℕ) → hides who k ≡ true → (t : TrussState) → IsTrussAfter who controllers first h front k t
       → ClosesAt front t
 
-  pub same-truss : (a b : TrussState) (o : Option ControllerState) → o ≡ Some (FnTruss a) → o ≡ Some (FnTruss b) → a ≡ b
-  same-truss a b o one two = let both : Some (FnTruss a) ≡ Some (FnTruss b) = sym one ∙ two in cc
-
   module _ (front : List Entry) (e : Entry) (back : List Entry) (place : h ≡ front ++ e ∷ back)
       (closed : Closed front) where
     abbrev s : TracedState
@@ -255,7 +127,7 @@ module _ (n : ℕ) (who : Hiders) (controllers : List ControllerState) (first : 
 
     its-lawful : IsLawful s
     its-lawful =
-        history-state n first front lawful
+        history-state n first front reached.lawful
         (front-legal n first front (e ∷ back) (subst (λ (es : List Entry). IsLegal n first es) place legal))
 
     its-legal : IsLegalEntry n s e
@@ -293,7 +165,7 @@ module _ (n : ℕ) (who : Hiders) (controllers : List ControllerState) (first : 
           subst (ClosesAt (front ++ e ∷ [])) (same-truss t later _ w.is (sym same ∙ is))
           (record {
             closes = record {
-              stage = stage-stays (Over front) (Over (front ++ e ∷ [])) t stays t.stage f.stage so.stage;
+              stage = over-stays (Over front) (Over (front ++ e ∷ [])) t stays f.stage so.stage;
               looks = so.looks;
             };
             known = was.known;
@@ -403,7 +275,7 @@ module _ (n : ℕ) (who : Hiders) (controllers : List ControllerState) (first : 
       stage-now =
           let was = was-so in
           let so = was.closes in
-          stage-stays (Over front) (Over (front ++ e ∷ [])) tr stays-now tr.stage holds-now.stage so.stage
+          over-stays (Over front) (Over (front ++ e ∷ [])) tr stays-now holds-now.stage so.stage
 
       called-so : CalledSo (Over (front ++ e ∷ [])) no_opens no_leaves tr r
       called-so = record {
@@ -495,13 +367,6 @@ module _ (n : ℕ) (who : Hiders) (controllers : List ControllerState) (first : 
 
   -- ---- a close
 
-  -- where no function is marked, no breakpoint stands
-  none-stand : (o : Options) (set : List Bool) (ps : List Patch) → IsEmpty set → All (IsMarked o set) ps → ps ≡ []
-  none-stand o set [] none all = refl
-  none-stand o set (p ∷ ps) none all =
-      let m = All-head (IsMarked o set) p ps all in
-      absurd (false≢true (sym (none m.function) ∙ m.marked))
-
   module _ (front back : List Entry) (j number : ℕ) (r : Reply)
       (place : h ≡ front ++ call_entry j (call.Close number) r ∷ back) (hider : hides who j ≡ true) (held : Held)
       (there : handle_of (here front).opens j number ≡ Some held) (p : TracedProcess)
@@ -545,7 +410,7 @@ module _ (n : ℕ) (who : Hiders) (controllers : List ControllerState) (first : 
             let w = its in
             let stand = w.stand q within (p, ap (λ i. live_process (here front).system i) same ∙ live) in
             ap (λ i. (covers_at who first front i).patches) (sym same)
-            ∙ none-stand tc.options (marks_at tc q).planted _ none stand.all
+            ∙ none-marked tc.options (marks_at tc q).planted _ none stand.all
 
     closes-at : IsClosing tc number → patches ≡ []
     closes-at w = of w.following w.stage w.inside

@@ -44,7 +44,7 @@ use Rattle.pr_truss.specs.declared.stages.Stage.TheVariants.{Spawning, OpeningCo
 use Rattle.pr_truss.specs.declared.stages.Stage.{Stage}
 use Rattle.pr_truss_laws.proofs.HeldLemmas.{at_place, set-at}
 use Rattle.pr_truss_laws.proofs.ReplySteps.{lost-same}
-use Rattle.std.proofs.lemmas.Option.{none-some}
+use Rattle.std.proofs.lemmas.Option.{none-some, same_Some}
 
 -- One walk over the replies of a truss with functions that follows no children and was not interrupted: what is so of a
 -- process while it is opened stays so where its opening is refused; and then its breakpoints are lifted before its
@@ -55,6 +55,15 @@ abbrev pub is_quiet : Stage → Bool
 is_quiet (Opening q step) = false
 is_quiet (Closing q next) = false
 is_quiet _ = true
+
+-- whether a step of an opening comes next
+abbrev pub is_opening : Stage → Bool
+is_opening (Opening q step) = true
+is_opening _ = false
+
+quiet-opens : (stage : Stage) → is_quiet stage ≡ true → is_opening stage ≡ false
+quiet-opens (Opening q step) is = absurd (false≢true is)
+quiet-opens _ is = refl
 
 -- whether functions of a process that is opened are looked at
 abbrev is_looking : Aside → Bool
@@ -72,6 +81,14 @@ called_at (ReadingStatus q) Nothing = Some q
 called_at (ReadingText q l from len) Nothing = Some q
 called_at (Running q) Nothing = Some q
 called_at stage aside = None
+
+-- the process of which functions are looked at is opened, and only its start is left to do; and else nothing is
+-- planted or lifted while a process is opened
+abbrev pub LooksSo : Stage → Aside → Type 0
+LooksSo stage Nothing = Unit {0}
+LooksSo stage (Reading q function) = stage ≡ Opening q opening.Start
+LooksSo stage (Planting q function) = stage ≡ Opening q opening.Start
+LooksSo stage _ = is_opening stage ≡ false
 
 -- What is so of a process that has ended, of one of which a step of the opening comes next, and of one of which the
 -- opening was refused.
@@ -92,12 +109,6 @@ module _ (Over : ℕ → Type 0) (Opens : OpeningStep → ℕ → Type 0) (Leave
   StageSo t (Closing q next) = Over (traced_at t q).pid
   StageSo t _ = Unit {0}
 
-  -- the process of which functions are looked at is opened
-  abbrev pub LooksSo : Stage → Aside → Type 0
-  LooksSo stage (Reading q function) = (step : OpeningStep) × (stage ≡ Opening q step)
-  LooksSo stage (Planting q function) = (step : OpeningStep) × (stage ≡ Opening q step)
-  LooksSo stage _ = Unit {0}
-
   pub record ClosesSo (t : TrussState) : Type 0 where
     pub stage : StageSo t t.stage
     pub looks : LooksSo t.stage t.aside
@@ -113,13 +124,18 @@ module _ (Over : ℕ → Type 0) (Opens : OpeningStep → ℕ → Type 0) (Leave
   quiet-stage v (Closing q next) is = absurd (false≢true is)
   quiet-stage v _ is = tt
 
-  quiet-looks : (stage : Stage) (aside : Aside) → is_looking aside ≡ false → LooksSo stage aside
-  quiet-looks stage (Reading q function) is = absurd (false≢true (sym is))
-  quiet-looks stage (Planting q function) is = absurd (false≢true (sym is))
-  quiet-looks stage _ is = tt
+  quiet-looks : (stage : Stage) (aside : Aside) → is_looking aside ≡ false → is_opening stage ≡ false
+      → LooksSo stage aside
+  quiet-looks stage Nothing is closed = tt
+  quiet-looks stage (Reading q function) is closed = absurd (false≢true (sym is))
+  quiet-looks stage (Planting q function) is closed = absurd (false≢true (sym is))
+  quiet-looks stage _ is closed = closed
 
   quiet-so : (v : TrussState) → Quiet v → ClosesSo v
-  quiet-so v w = record { stage = quiet-stage v v.stage w.stage; looks = quiet-looks v.stage v.aside w.aside }
+  quiet-so v w = record {
+    stage = quiet-stage v v.stage w.stage;
+    looks = quiet-looks v.stage v.aside w.aside (quiet-opens v.stage w.stage);
+  }
 
   either : (b : Bool) (v w : TrussState) → Quiet v → Quiet w → Quiet (cond b v w)
   either true v w x y = x
@@ -266,7 +282,7 @@ module _ (Over : ℕ → Type 0) (Opens : OpeningStep → ℕ → Type 0) (Leave
         → is_looking v.aside ≡ false → ClosesSo v
     over-closes v q is over plain = record {
       stage = subst (StageSo v) (sym is) over;
-      looks = quiet-looks v.stage v.aside plain;
+      looks = quiet-looks v.stage v.aside plain (ap is_opening is);
     }
 
     -- an opening that was refused, by an end
@@ -274,7 +290,7 @@ module _ (Over : ℕ → Type 0) (Opens : OpeningStep → ℕ → Type 0) (Leave
         → is_looking v.aside ≡ false → ClosesSo v
     ended-closes v q is over plain = record {
       stage = subst (StageSo v) (sym is) (inl over);
-      looks = quiet-looks v.stage v.aside plain;
+      looks = quiet-looks v.stage v.aside plain (ap is_opening is);
     }
 
     -- and otherwise: what was planted is lifted first
@@ -293,7 +309,7 @@ module _ (Over : ℕ → Type 0) (Opens : OpeningStep → ℕ → Type 0) (Leave
     unfolding with_refused_opening with_refused_step with_lifts patching
     refused-so u q errno left = record {
       stage = inr (left, lifts-so q (marks_at u q).planted _ refl);
-      looks = quiet-looks (Closing q OpenNext) _ (patching-looks q no_functions (marks_at u q).planted false);
+      looks = quiet-looks (Closing q OpenNext) _ (patching-looks q no_functions (marks_at u q).planted false) refl;
     }
 
     module _ (idle_aside : t.aside ≡ Nothing) where
@@ -320,7 +336,7 @@ module _ (Over : ℕ → Type 0) (Opens : OpeningStep → ℕ → Type 0) (Leave
           get_or_push t.traced u nobody (length t.traced) refl in
           record {
             stage = subst (Opens opening.OpenStatus) (sym (ap (λ (x : Traced). x.pid) last)) opens;
-            looks = quiet-looks _ t.aside plain;
+            looks = subst (LooksSo (Opening (length t.traced) opening.OpenStatus)) (sym idle_aside) tt;
           }
 
       control-so : (pid : ℕ) → t.stage ≡ OpeningControl pid → (a : Answer) → answer_of r ≡ a → a ≢ Interrupted
@@ -391,7 +407,7 @@ module _ (Over : ℕ → Type 0) (Opens : OpeningStep → ℕ → Type 0) (Leave
             → without_last (traced_at t q) ≡ Some v → ClosesSo (with_traced t q v)
         left-so next v is left = record {
           stage = subst (StageSo (with_traced t q v)) (sym is) (by next (called.closes q next v is left));
-          looks = quiet-looks t.stage t.aside plain;
+          looks = quiet-looks t.stage t.aside plain (ap is_opening is);
         }
           where
             pid-same : (traced_at (with_traced t q v) q).pid ≡ (traced_at t q).pid
@@ -435,25 +451,35 @@ module _ (Over : ℕ → Type 0) (Opens : OpeningStep → ℕ → Type 0) (Leave
                     → ClosesSo (with_functions_begun (with_next_opening u) q s)
                 none-begun opening.TraceExits e = absurd (none-some _ (sym e))
                 none-begun _ e = quiet-so _ (opening-quiet u off follow plain)
-            done (Some next) after = begun step
+            done (Some next) after = begun step after
               where
                 opens-now : Opens next (traced_at u q).pid
                 opens-now =
                     subst (Opens next) (sym pid-same) (called.steps q step next is idle_aside told after)
 
                 base : ClosesSo (record u { stage = Opening q next })
-                base = record { stage = opens-now; looks = quiet-looks (Opening q next) t.aside plain }
+                base = record {
+                  stage = opens-now;
+                  looks = subst (LooksSo (Opening q next)) (sym idle_aside) tt;
+                }
 
-                first : (b : Bool)
+                -- behind the traced sets the start comes
+                starts : step_after t.options r opening.TraceExits ≡ Some next → next ≡ opening.Start
+                starts its =
+                    same_Some next opening.Start
+                    (sym its ∙ ap (λ b. Some (cond b opening.Follow opening.Start)) follow)
+
+                first : next ≡ opening.Start → (b : Bool)
                     → ClosesSo
                     (cond b (with_aside (record u { stage = Opening q next }) (Reading q 0))
                     (with_aside (record u { stage = Opening q next }) Nothing))
-                first true = record { stage = opens-now; looks = (next, refl) }
-                first false = record { stage = opens-now; looks = tt }
+                first last true = record { stage = opens-now; looks = ap (λ (x : OpeningStep). Opening q x) last }
+                first last false = record { stage = opens-now; looks = tt }
 
-                begun : (s : OpeningStep) → ClosesSo (with_functions_begun (record u { stage = Opening q next }) q s)
-                begun opening.TraceExits = first (nat_lt 0 (length t.options.functions))
-                begun _ = base
+                begun : (s : OpeningStep) → step_after t.options r s ≡ Some next
+                    → ClosesSo (with_functions_begun (record u { stage = Opening q next }) q s)
+                begun opening.TraceExits its = first (starts its) (nat_lt 0 (length t.options.functions))
+                begun _ its = base
         step-so step is (Refused errno) told other =
             refused-so t q errno
             (leaves step (traced_at t q).pid
@@ -486,16 +512,18 @@ module _ (Over : ℕ → Type 0) (Opens : OpeningStep → ℕ → Type 0) (Leave
 
     module _ (q : ℕ) (within : q < length t.traced) where
       -- functions are looked at
-      module _ (step : OpeningStep) (is : t.stage ≡ Opening q step) (busy : t.aside ≢ Nothing)
+      module _ (is : t.stage ≡ Opening q opening.Start) (busy : t.aside ≢ Nothing)
           (its : called_at t.stage t.aside ≡ Some q) where
-        still : Opens step (traced_at t q).pid
+        still : Opens opening.Start (traced_at t q).pid
         still = subst (StageSo t) is (called.stays (inl busy))
 
         -- the same stage, whatever is planted
         goes : (v : TrussState) (aside : Aside) → v.stage ≡ t.stage → (traced_at v q).pid ≡ (traced_at t q).pid
-            → LooksSo (Opening q step) aside → ClosesSo (with_aside v aside)
+            → LooksSo (Opening q opening.Start) aside → ClosesSo (with_aside v aside)
         goes v aside stage_is same looks = record {
-          stage = subst (StageSo (with_aside v aside)) (sym (stage_is ∙ is)) (subst (Opens step) (sym same) still);
+          stage =
+              subst (StageSo (with_aside v aside)) (sym (stage_is ∙ is))
+              (subst (Opens opening.Start) (sym same) still);
           looks = subst (λ (x : Stage). LooksSo x aside) (sym (stage_is ∙ is)) looks;
         }
 
@@ -505,7 +533,7 @@ module _ (Over : ℕ → Type 0) (Opens : OpeningStep → ℕ → Type 0) (Leave
         next-goes v function stage_is same =
             elim (nat_lt function (length v.options.functions))
             as (λ b. ClosesSo (cond b (with_aside v (Reading q function)) (with_aside v Nothing))) [
-              | true ↦ goes v (Reading q function) stage_is same (step, refl)
+              | true ↦ goes v (Reading q function) stage_is same refl
               | false ↦ goes v Nothing stage_is same tt
             ]
 
@@ -514,7 +542,7 @@ module _ (Over : ℕ → Type 0) (Opens : OpeningStep → ℕ → Type 0) (Leave
         looked-gone told = ended-closes _ q refl (called.gone q its told) refl
 
         looked-refused : (errno : Errno) → ClosesSo (with_refused_opening idle_now q errno)
-        looked-refused errno = refused-so idle_now q errno (leaves step (traced_at t q).pid still)
+        looked-refused errno = refused-so idle_now q errno (leaves opening.Start (traced_at t q).pid still)
 
         code-so : (function : ℕ) (a : Answer) → answer_of r ≡ a → a ≢ Interrupted
             → ClosesSo (with_code_answered idle_now q function r a)
@@ -523,7 +551,7 @@ module _ (Over : ℕ → Type 0) (Opens : OpeningStep → ℕ → Type 0) (Leave
             elim (is_code (code_of t.options function) (bytes_in r))
             as (λ b. ClosesSo
             (cond b (with_aside idle_now (Planting q function)) (with_next_function idle_now q (function + 1)))) [
-              | true ↦ goes idle_now (Planting q function) refl refl (step, refl)
+              | true ↦ goes idle_now (Planting q function) refl refl refl
               | false ↦ next-goes idle_now (function + 1) refl refl
             ]
         code-so function (Refused errno) told other = looked-refused errno
@@ -544,6 +572,9 @@ module _ (Over : ℕ → Type 0) (Opens : OpeningStep → ℕ → Type 0) (Leave
       module _ (plants lifts : List Bool) (clear : Bool) (is : t.aside ≡ Patching q plants lifts clear) where
         busy : t.aside ≢ Nothing
         busy e = let both : Patching q plants lifts clear ≡ Nothing = sym is ∙ e in cc
+
+        not-opening : is_opening t.stage ≡ false
+        not-opening = subst (LooksSo t.stage) is looks_so
 
         still-so : StageSo t t.stage
         still-so = called.stays (inl busy)
@@ -585,7 +616,7 @@ module _ (Over : ℕ → Type 0) (Opens : OpeningStep → ℕ → Type 0) (Leave
           goes-on : ClosesSo (with_aside v rest)
           goes-on = record {
             stage = subst (StageSo (with_aside v rest)) (sym stage_is) (on t.stage at_stage still-so);
-            looks = quiet-looks v.stage rest rest_plain;
+            looks = quiet-looks v.stage rest rest_plain (ap is_opening stage_is ∙ not-opening);
           }
 
           gone-on : (u : TrussState) → u.stage ≡ Closing q GoOn → (traced_at u q).pid ≡ (traced_at v q).pid
@@ -699,10 +730,10 @@ module _ (Over : ℕ → Type 0) (Opens : OpeningStep → ℕ → Type 0) (Leave
     unfolding with_aside_answered with_patch_answered
     aside-so Nothing is w looks = stage-so is t.stage refl at_stage
     aside-so (Reading q function) is w looks =
-        code-so q w looks.0 looks.1 (λ e. let both : Reading q function ≡ Nothing = sym is ∙ e in cc)
+        code-so q w looks (λ e. let both : Reading q function ≡ Nothing = sym is ∙ e in cc)
         (ap (called_at t.stage) is) function (answer_of r) refl calm
     aside-so (Planting q function) is w looks =
-        plant-so q w looks.0 looks.1 (λ e. let both : Planting q function ≡ Nothing = sym is ∙ e in cc)
+        plant-so q w looks (λ e. let both : Planting q function ≡ Nothing = sym is ∙ e in cc)
         (ap (called_at t.stage) is) function (answer_of r) refl calm
     aside-so (Patching q plants lifts clear) is w looks =
         first-so q w plants lifts clear is (first_function plants) (first_function lifts) refl refl

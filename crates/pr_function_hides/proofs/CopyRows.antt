@@ -83,7 +83,7 @@ module _ (o : Options) (m : Marks) (of : ℕ) where
           let same : i ≡ function = cc in subst (λ j. has_function (standing m) j ≡ true) same has
       by false has found = cc
 
-  breakpoint-stands : (e : Event) (function : ℕ) → function_event o m of e ≡ AtBreakpoint function
+  pub breakpoint-stands : (e : Event) (function : ℕ) → function_event o m of e ≡ AtBreakpoint function
       → has_function (standing m) function ≡ true
   unfolding function_event function_at
   breakpoint-stands e function is =

@@ -22,7 +22,7 @@ use Rattle.pr_function_hides.specs.Copying.{HasNoCopyGoing, HaveNoCopyGoing, IsN
 
 -- ---- an lwp that is run
 
-abbrev IsOut : TracedLwp → Type 0
+abbrev pub IsOut : TracedLwp → Type 0
 IsOut k = is_in_copy k.phase ≡ false
 
 abbrev IsFree : TracedLwp → Type 0
@@ -45,34 +45,34 @@ module _ (X : TracedLwp → Type 0) where
   flagged flags flag f k keeps it = choice X (has_flags flags flag) (f k) k (λ set. keeps k it) (λ unset. it)
 
   -- what the flags do leaves so
-  record IsFlagKept : Type 0 where
-    directed : (k : TracedLwp) → X k → X (with_directive k)
-    stepped : (k : TracedLwp) → X k → X (with_step k)
-    aborted : (k : TracedLwp) → X k → X (with_abort k)
-    faultless : (k : TracedLwp) → X k → X (without_fault k)
-    signalless : (k : TracedLwp) → X k → X (without_current k)
+  pub record IsFlagKept : Type 0 where
+    pub directed : (k : TracedLwp) → X k → X (with_directive k)
+    pub stepped : (k : TracedLwp) → X k → X (with_step k)
+    pub aborted : (k : TracedLwp) → X k → X (with_abort k)
+    pub faultless : (k : TracedLwp) → X k → X (without_fault k)
+    pub signalless : (k : TracedLwp) → X k → X (without_current k)
 
   module _ (kept : IsFlagKept) where
-    cleared-so : (flags : ℕ) (k : TracedLwp) → X k → X (with_cleared flags k)
+    pub cleared-so : (flags : ℕ) (k : TracedLwp) → X k → X (with_cleared flags k)
     unfolding with_cleared
     cleared-so flags k it =
         flagged flags clear_fault without_fault _ kept.faultless
         (flagged flags clear_signal without_current k kept.signalless it)
 
-    aborted-so : (flags : ℕ) (stopped : Option Stop) (k : TracedLwp) → X k → X (with_aborted flags stopped k)
+    pub aborted-so : (flags : ℕ) (stopped : Option Stop) (k : TracedLwp) → X k → X (with_aborted flags stopped k)
     unfolding with_aborted
     aborted-so flags stopped k it =
         flagged flags abort_call (with_abort_from stopped) k
         (λ m so. choice X _ (with_abort m) m (λ yes. kept.aborted m so) (λ no. so)) it
 
-    run-so : (flags : ℕ) (l : TracedLwp) → X (let_go l) → X (run_lwp flags l)
+    pub run-so : (flags : ℕ) (l : TracedLwp) → X (let_go l) → X (run_lwp flags l)
     unfolding run_lwp
     run-so flags l it =
         flagged flags stop_again with_directive _ kept.directed
         (aborted-so flags l.control.stop _
         (flagged flags single_step with_step _ kept.stepped (cleared-so flags (let_go l) it)))
 
-out-kept : IsFlagKept IsOut
+pub out-kept : IsFlagKept IsOut
 unfolding with_directive with_step with_abort without_current
 out-kept = record {
   directed = λ k it. it;

@@ -28,8 +28,7 @@ use Rattle.pr_function_laws.specs.Runs.{functions_after}
 use Rattle.pr_function_hides.proofs.CallFacts.{legal-here}
 use Rattle.pr_function_hides.proofs.CopyOthers.{others-wait}
 use Rattle.pr_function_hides.proofs.CopyTurns.{turn-makes-none}
-use Rattle.pr_function_hides.specs.Copying.{CopiesStand, HaveNoCopyGoing, IsLifted, IsTracedIn, NoCopyGoesIn, StandIn, bare, none_goes, one_goes}
-use Rattle.pr_function_hides.specs.TidyWrites.{makes_copy}
+use Rattle.pr_function_hides.specs.Copying.{CopiesStand, HaveNoCopyGoing, IsLifted, IsTracedIn, NoCopyGoesIn, StandIn, bare, makes_copy, none_goes, one_goes}
 
 -- Between two calls of truss the forks, vforks and execs of a process that it has opened stand as they did.
 

@@ -53,8 +53,7 @@ use Rattle.pr_truss_laws.proofs.OwnTurnLemmas.{meeting-same}
 use Rattle.pr_truss_laws.specs.Stills.{HasSameSettings, IsUndisturbed}
 use Rattle.pr_report_laws.proofs.Machine.TurnSettings.{turn-settings}
 use Rattle.pr_function_laws.proofs.StopTurns.{directed-leaves, end-rises, free-stopless}
-use Rattle.pr_function_hides.specs.Copying.{HasNoCopyGoing, HaveNoCopyGoing, IsNot, StopsAtCopies, is_in_copy, leaves_copy}
-use Rattle.pr_function_hides.specs.TidyWrites.{makes_copy}
+use Rattle.pr_function_hides.specs.Copying.{HasNoCopyGoing, HaveNoCopyGoing, IsNot, StopsAtCopies, is_in_copy, leaves_copy, makes_copy}
 
 -- Where the lwps of a process stop at the entry of each fork, vfork and exec, no turn makes one of a lwp that has not
 -- been run from there.
@@ -100,14 +99,14 @@ alone-clear but p q alone all = record {
 
 -- Where an lwp comes from in the turn of another one: it is new, and in its program; it was there, at the same call and
 -- on the same stop; or it is the one whose turn it is.
-data Came (id : ℕ) (l : TracedLwp) (p : TracedProcess) (n : ℕ) (k : TracedLwp) : Type 0 where
+pub data Came (id : ℕ) (l : TracedLwp) (p : TracedProcess) (n : ℕ) (k : TracedLwp) : Type 0 where
   new : k.control.stop ≡ None → k.phase ≡ User → Came id l p n k
   kept : (m : TracedLwp) → lwp_of p n ≡ Some m → k.control.stop ≡ m.control.stop → k.phase ≡ m.phase
       → Came id l p n k
   acts : n ≡ id → k.control.stop ≡ l.control.stop → k.phase ≡ l.phase → Came id l p n k
 
 module _ (id : ℕ) (l : TracedLwp) where
-  abbrev Come : TracedProcess → TracedProcess → Type 0
+  abbrev pub Come : TracedProcess → TracedProcess → Type 0
   Come p q = (n : ℕ) (k : TracedLwp) → lwp_of q n ≡ Some k → Came id l p n k
 
   come-self : (p : TracedProcess) → Come p p
@@ -184,7 +183,7 @@ module _ (id : ℕ) (l : TracedLwp) where
           (ap (λ (y : TracedLwp). y.phase) (sym it))
       by false other is = absurd (none-some k is)
 
-  come-gone : (gone : ℕ) (p : TracedProcess) → IsRising p.lwps → Come p (without_lwp gone p)
+  pub come-gone : (gone : ℕ) (p : TracedProcess) → IsRising p.lwps → Come p (without_lwp gone p)
   unfolding without_lwp
   come-gone gone p rises n k there = elim (cases_eq gone n) [
     | inl same ↦ absurd
@@ -195,14 +194,14 @@ module _ (id : ℕ) (l : TracedLwp) where
 
   module _ (pid : ℕ) where
     -- the process of this id, where it lives later, lived before, and its lwps came from there
-    record Goes (s u : TracedSystem) : Type 0 where
-      from : (q : TracedProcess) → process_of u pid ≡ Some q → q.ended ≡ None
+    pub record Goes (s u : TracedSystem) : Type 0 where
+      pub from : (q : TracedProcess) → process_of u pid ≡ Some q → q.ended ≡ None
           → (p : TracedProcess) × ((process_of s pid ≡ Some p) × ((p.ended ≡ None) × Come p q))
 
-    goes-same : (s : TracedSystem) → Goes s s
+    pub goes-same : (s : TracedSystem) → Goes s s
     goes-same s = record { from = λ q there live. (q, (there, (live, come-self q))) }
 
-    goes-next : (s u v : TracedSystem) → Goes s u → Goes u v → Goes s v
+    pub goes-next : (s u v : TracedSystem) → Goes s u → Goes u v → Goes s v
     goes-next s u v one two = record {
       from = λ r there live.
           let b = two.from r there live in
@@ -210,18 +209,18 @@ module _ (id : ℕ) (l : TracedLwp) where
           (a.0, (a.1.0, (a.1.1.0, come-next a.0 b.0 r a.1.1.1 b.1.1.1)));
     }
 
-    goes-if : (b : Bool) (s u v : TracedSystem) → Goes s u → Goes s v → Goes s (cond b u v)
+    pub goes-if : (b : Bool) (s u v : TracedSystem) → Goes s u → Goes s v → Goes s (cond b u v)
     goes-if true s u v one other = one
     goes-if false s u v one other = other
 
-    goes-spared : (s u : TracedSystem) → Spares pid s u → Goes s u
+    pub goes-spared : (s u : TracedSystem) → Spares pid s u → Goes s u
     goes-spared s u spares = record {
       from = λ q there live.
           let a = spares.from q there live in
           (a.0, (a.1.0, (sym (ended-same a.0 q a.1.1) ∙ live, come-alone a.0 q a.1.1)));
     }
 
-    own-goes : (f : TracedProcess → TracedProcess) (s : TracedSystem)
+    pub own-goes : (f : TracedProcess → TracedProcess) (s : TracedSystem)
         → ((x : TracedProcess) → process_of s pid ≡ Some x → ((f x).ended ≡ x.ended) × Come x (f x))
         → Goes s (with_process pid f s)
     unfolding with_process
@@ -331,7 +330,7 @@ module _ (id : ℕ) (l : TracedLwp) where
       change-goes (suspends target suspended) s =
           lwp-goes target (with_suspended suspended) s (λ k. refl) (λ k. refl)
 
-      changes-go : (cs : List Change) (s : TracedSystem) → Goes s (all_changed traced pid p id l cs s)
+      pub changes-go : (cs : List Change) (s : TracedSystem) → Goes s (all_changed traced pid p id l cs s)
       unfolding all_changed
       changes-go [] s = goes-same s
       changes-go (c ∷ cs) s =

@@ -96,7 +96,7 @@ same-join u v w a b = record {
   memory = b.memory ∙ a.memory;
 }
 
-join : (u v w : TrussState) → Likens u v → Goes v w → Goes u w
+pub join : (u v w : TrussState) → Likens u v → Goes v w → Goes u w
 join u v w a b = record {
   many = b.many ∙ a.many;
   files = λ i. same-join (traced_at u i) (traced_at v i) (traced_at w i) (a.files i) (b.files i);
@@ -106,7 +106,7 @@ join u v w a b = record {
   stage = b.stage;
 }
 
-staged : (u : TrussState) (stage : Stage) → IsWithin (length u.traced) stage → Goes u (with_stage u stage)
+pub staged : (u : TrussState) (stage : Stage) → IsWithin (length u.traced) stage → Goes u (with_stage u stage)
 staged u stage within = record {
   many = refl;
   files = λ i. same-self (traced_at u i);
@@ -116,7 +116,7 @@ staged u stage within = record {
   stage = within;
 }
 
-told : (u : TrussState) (report : Report) → Likens u (with_report u report)
+pub told : (u : TrussState) (report : Report) → Likens u (with_report u report)
 told u report = record {
   many = refl;
   files = λ i. same-self (traced_at u i);
@@ -125,7 +125,7 @@ told u report = record {
   aside = refl;
 }
 
-set-likens : (u : TrussState) (q : ℕ) (t : Traced) → q < length u.traced → SameFiles (traced_at u q) t
+pub set-likens : (u : TrussState) (q : ℕ) (t : Traced) → q < length u.traced → SameFiles (traced_at u q) t
     → Likens u (with_traced u q t)
 set-likens u q t within same = record {
   many = length-set u.traced q t;
@@ -140,7 +140,7 @@ set-likens u q t within same = record {
   aside = refl;
 }
 
-marked : (u : TrussState) (q : ℕ) (m : Marks) → q < length u.traced → Likens u (with_marks u q m)
+pub marked : (u : TrussState) (q : ℕ) (m : Marks) → q < length u.traced → Likens u (with_marks u q m)
 marked u q m within = set-likens u q (record (traced_at u q) { marks = m }) within
     (record { pid = refl; control = refl; status = refl; lstatus = refl; memory = refl })
 
@@ -149,11 +149,11 @@ either u true v w x y = x
 either u false v w x y = y
 
 module _ (u : TrussState) (off : u.leaving ≡ false) (follow : u.options.follow ≡ false) where
-  over : (q : ℕ) → q < length u.traced → Goes u (with_stop_over u q)
+  pub over : (q : ℕ) → q < length u.traced → Goes u (with_stop_over u q)
   unfolding with_stop_over
   over q within = either u u.leaving _ _ (staged u (Closing q GoOn) within) (staged u (Running q) within)
 
-  event-over : (q : ℕ) (l : LwpStatus) → q < length u.traced → Goes u (with_event_over u q l)
+  pub event-over : (q : ℕ) (l : LwpStatus) → q < length u.traced → Goes u (with_event_over u q l)
   unfolding with_event_over followed_child
   event-over q l within =
       subst (Goes u) (sym (ap (λ f. with_child_or u q (cond f (child_of l) None)) follow)) (over q within)
@@ -162,7 +162,7 @@ module _ (u : TrussState) (off : u.leaving ≡ false) (follow : u.options.follow
   polls None = staged u Finished tt
   polls (Some t) = staged u Polling tt
 
-  going : Goes u (with_going_on u)
+  pub going : Goes u (with_going_on u)
   unfolding with_going_on
   going =
       subst (Goes u)
@@ -180,7 +180,7 @@ module _ (u : TrussState) (off : u.leaving ≡ false) (follow : u.options.follow
     stage = tt;
   }
 
-  opens-next : Goes u (with_next_opening u)
+  pub opens-next : Goes u (with_next_opening u)
   unfolding with_next_opening
   opens-next = next (slice_get u.options.pids u.begun)
 
@@ -205,7 +205,7 @@ module _ (u : TrussState) (off : u.leaving ≡ false) (follow : u.options.follow
       (set-likens u q t within (record { pid = refl; control = refl; status = refl; lstatus = refl; memory = refl }))
       (over (with_traced u q t) off follow q (subst (λ k. q < k) (sym (length-set u.traced q t)) within))
 
-  stop : Goes u (with_stop u q l)
+  pub stop : Goes u (with_stop u q l)
   unfolding with_stop
   stop =
       either u _ _ _ (over u off follow q within)

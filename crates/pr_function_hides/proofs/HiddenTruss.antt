@@ -1,5 +1,6 @@
-use Rattle.pr_lending.specs.Lending.{AreLending}
 use Rattle.std.proofs.Common.{◌≡◌, ◌≢◌, ◌&&◌, ◌||◌, ◌==◌, ◌++◌, ℕ, Bool, true, false, not, IfOk, Option, Some, None, Result, Ok, Err, List, [], ◌∷◌, All, refl, sym, subst, ap, ◌∙◌, inl, inr}
+use Rattle.pr_reached.specs.ByteHistories.{HasBytes}
+use Rattle.pr_reached.specs.Reached.{IsReached}
 use Rattle.std.proofs.lemmas.Bool.{and_parts, cases_Bool, eqb-true, false≢true}
 use Rattle.std.proofs.lemmas.List.{append_assoc}
 use Rattle.std.proofs.lemmas.List.Elements.{All-head, All-tail}
@@ -10,13 +11,18 @@ use Rattle.pr_function_hides.proofs.CalledCovers.{covers-push}
 use Rattle.pr_function_hides.specs.FunctionHiders.{AreTrusses}
 use Rattle.pr_function_hides.specs.ClearedFaults.{ClearByRunning}
 use Rattle.pr_function_hides.specs.OwnSteps.{AreStepsOwn}
-use Rattle.pr_function_hides.specs.TidyCloses.{LeavesNoBreakpoint}
-use Rattle.pr_function_hides.specs.TidyFaults.{AreFaultsTidy, is_clearing}
+use Rattle.pr_function_hides.specs.PassiveOthers.{AreOthersPassive}
+use Rattle.pr_function_hides.specs.TidyCloses.{LeavesNoBreakpoint, LeavesNoFault}
+use Rattle.pr_function_hides.specs.TidyFaults.{AreFaultsTidy, PostsNoOwnFault, is_clearing}
 use Rattle.pr_function_hides.specs.TidyWrites.{AreUndisturbed, WritesTidily}
+use Rattle.pr_function_hides.proofs.CleanLaw.{leaves-no-fault}
 use Rattle.pr_function_hides.proofs.ClearingLaw.{clears-running}
 use Rattle.pr_function_hides.proofs.ClosingLaw.{leaves-none}
+use Rattle.pr_function_hides.proofs.PassiveHiders.{passive-but}
+use Rattle.pr_function_hides.proofs.PostedLaw.{posts-none}
 use Rattle.pr_function_hides.proofs.StepLaw.{own-steps}
-use Rattle.pr_function_hides.proofs.TidyLaw.{writes-tidily}
+use Rattle.pr_function_hides.proofs.TidyKept.{IsRunOfTrusses}
+use Rattle.pr_function_hides.proofs.WritesLaw.{writes-tidily}
 use Rattle.pr_hidden.proofs.HistoryFollows.{hidden-later}
 use Rattle.pr_hidden.specs.Covers.{Covers}
 use Rattle.pr_hidden.specs.HiddenSteps.{IsHidden}
@@ -27,7 +33,6 @@ use Rattle.pr_hidden.specs.Tidiness.{HoldsFrom, IsPassiveBut, IsSparing, IsTidy,
 use Rattle.pr_model.proofs.HistoryLemmas.{state_after-push}
 use Rattle.pr_model.specs.ControlMessages.{aim_of, tail_of, target_of}
 use Rattle.pr_model.specs.Handles.{handle_of}
-use Rattle.pr_model.specs.Lawful.{IsLawful}
 use Rattle.pr_model.specs.Legal.{IsLegal, state_after}
 use Rattle.pr_model.specs.Passive.{is_passive_act, is_passive_message, is_passive_write}
 use Rattle.pr_model.specs.State.{TracedProcess, TracedState, TracedSystem}
@@ -47,8 +52,9 @@ use Rattle.pr_num.specs.Messages.{first_message}
 use Rattle.pr_num.specs.declared.messages.Message.{Message}
 use Rattle.pr_num.specs.declared.messages.Message.TheVariants as message
 use Rattle.pr_num.specs.declared.messages.MsgFault.{MsgFault}
-use Rattle.pr_probe_laws.proofs.StepCalls.{untouched-unstepped}
+use Rattle.pr_probe_laws.proofs.MarkCalls.{untouched-unstepped}
 use Rattle.pr_probe_laws.specs.StepMarks.{IsUnstepped}
+use Rattle.pr_reached.specs.ByteHistories.{HasBytes}
 use Rattle.pr_tool_laws.specs.OwnCalls.{AreOwnCalls}
 use Rattle.pr_world.specs.ControllerStates.{ControllerState}
 
@@ -110,7 +116,8 @@ whole-control who k covers s bytes x read so (Some held) = by (target_of s held)
 module _ (who : Hiders) (controllers : List ControllerState) (no_probes : (k : ℕ) → who.probes k ≡ false)
     (first : TracedState) (h : List Entry) (passive : IsPassiveBut who h)
     (writes : WritesTidily who controllers first h) (leaves : LeavesNoBreakpoint who first h)
-    (steps : AreStepsOwn who first h) (unclears : ClearByRunning who h) (faults : AreFaultsTidy who first h) where
+    (unfaulted : LeavesNoFault who first h) (steps : AreStepsOwn who first h) (unclears : ClearByRunning who h)
+    (unposted : PostsNoOwnFault who first h) (faults : AreFaultsTidy who first h) where
   abbrev at : List Entry → Covers
   at front = covers_at who first front
 
@@ -193,7 +200,8 @@ module _ (who : Hiders) (controllers : List ControllerState) (no_probes : (k : �
       record {
         no_patches = leaves.bare front back k number reply.Done held p place both.0 there live;
         no_agent = leaves.no_agent front (call_entry k (call.Close number) reply.Done ∷ back) held.pid place;
-        lwps = faults.closes front back k number held p place both.0 there both.1 live;
+        lwps = λ i d within f address phase.
+            unfaulted.none front back k number reply.Done held p _ both.0 place there live;
       }
 
   -- ---- each call, and each turn
@@ -216,7 +224,7 @@ module _ (who : Hiders) (controllers : List ControllerState) (no_probes : (k : �
         record {
           beside_agent = λ agent. absurd (false≢true (sym none ∙ agent));
           never_posted = λ own f address phase.
-              faults.never_posted front back pid id t p l f address place live there own phase;
+              absurd (unposted.none front back pid id t p l f address place live there own phase);
           own_steps = λ did. steps.own front back pid id t place did;
           changes = w.changes;
           returns = w.returns;
@@ -249,20 +257,28 @@ module _ (who : Hiders) (controllers : List ControllerState) (no_probes : (k : �
 -- ---- the laws
 
 module _ (n : ℕ) (who : Hiders) (controllers : List ControllerState) (s : TracedState) (h : List Entry)
-    (lawful : IsLawful s) (lending : AreLending s.system) (legal : IsLegal n s h) (own_calls : AreOwnCalls controllers h)
-    (are : AreTrusses who controllers) (und : AreUndisturbed who controllers s h) (passive : IsPassiveBut who h)
+    (reached : IsReached s) (bytes : HasBytes h) (legal : IsLegal n s h) (own_calls : AreOwnCalls controllers h)
+    (are : AreTrusses who controllers s) (und : AreUndisturbed who controllers s h) (others : AreOthersPassive who h)
     (faults : AreFaultsTidy who s h) where
+  passive : IsPassiveBut who h
+  passive =
+      let run : IsRunOfTrusses n who controllers s h =
+      record { reached = reached; bytes = bytes; legal = legal; own_calls = own_calls; are = are; und = und } in
+      passive-but run others
+
   pub truss-tidy : IsUnstepped s.system → IsTidy who s h
   truss-tidy unstepped =
       walk who controllers are.no_probes s h passive
-      (writes-tidily n who controllers s h lawful lending legal own_calls are und)
-      (leaves-none n who controllers s h lawful lending legal own_calls are und)
-      (own-steps n who controllers s h lawful lending legal own_calls are und passive unstepped)
-      (clears-running n who controllers s h lawful lending legal own_calls are und) faults [] h refl
+      (writes-tidily n who controllers s h reached bytes legal own_calls are und)
+      (leaves-none n who controllers s h reached bytes legal own_calls are und)
+      (leaves-no-fault n who controllers s h reached bytes legal own_calls are und others unstepped)
+      (own-steps n who controllers s h reached bytes legal own_calls are und others unstepped)
+      (clears-running n who controllers s h reached bytes legal own_calls are und)
+      (posts-none n who controllers s h reached bytes legal own_calls are und others unstepped) faults [] h refl
 
   pub truss-hidden : IsUntouched s.system → IsSparing who s h → IsHidden who s h
   truss-hidden untouched spares =
-      hidden-later n who s h lawful untouched legal passive spares
+      hidden-later n who s h reached.lawful untouched legal passive spares
       (truss-tidy (untouched-unstepped s.system untouched))
 
 pub ruleset truss_hides = (truss-tidy, truss-hidden)

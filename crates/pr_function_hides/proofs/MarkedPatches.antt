@@ -27,7 +27,7 @@ to-true a b le = elim (cases_Bool (nat_le a b)) [
   | inr not ↦ absurd (let less = leb-false a b not in omega (arith, le, less))
 ]
 
-functions-apart : (f g : Function) → IsPatchable f → IsPatchable g → f.at ≢ g.at
+pub functions-apart : (f g : Function) → IsPatchable f → IsPatchable g → f.at ≢ g.at
     → is_apart (patch_of f) (patch_of g) ≡ true
 functions-apart f g a b other = by (nat_le (f.at + length f.code) g.at) refl
   where

@@ -68,7 +68,7 @@ use Rattle.pr_function_hides.proofs.PlantedWalk.{marks_then}
 
 module _ (k : ℕ) (s : TracedState) where
   -- the control file, or another one
-  abbrev IsLast : Traced → Type 0
+  abbrev pub IsLast : Traced → Type 0
   IsLast u = ((last_handle u ≡ u.control) × (without_last u ≡ None)) ⊎ IsOfOtherFile k s (last_handle u)
 
   last-fields : (pid control : ℕ) (status lstatus memory : Option ℕ) (attached : Bool) (old : ℕ) (seen : Bool)
@@ -93,7 +93,7 @@ module _ (k : ℕ) (s : TracedState) where
       inr (All-head (IsOfOtherFile k s) n [] all)
   last-fields pid control None None None attached old seen marks all = inl (refl, refl)
 
-  last-is : (u : Traced) → All (IsOfOtherFile k s) (other_handles u) → IsLast u
+  pub last-is : (u : Traced) → All (IsOfOtherFile k s) (other_handles u) → IsLast u
   last-is u all = last-fields u.pid u.control u.status u.lstatus u.memory u.attached u.old u.seen u.marks all
 
 -- ---- what a reply leaves planted
@@ -167,7 +167,8 @@ module _ (who : Hiders) (none : (k : ℕ) → who.probes k ≡ false) (k : ℕ) 
     still-call control bytes same still pid =
         is-call (call.Ctl control bytes) same pid (ctl-still who none covers s k pid control bytes r still)
 
-    opening-stays : (q : ℕ) (step : OpeningStep) → function_call_of t (Opening q step) ≡ Some c → (pid : ℕ) → Stays pid
+    pub opening-stays : (q : ℕ) (step : OpeningStep) → function_call_of t (Opening q step) ≡ Some c → (pid : ℕ)
+        → Stays pid
     unfolding function_call_of call_of opening_call
     opening-stays q opening.OpenStatus is pid = is-call _ is pid (call-still who none covers s k pid _ r refl)
     opening-stays q opening.OpenLstatus is pid = is-call _ is pid (call-still who none covers s k pid _ r refl)
@@ -377,22 +378,22 @@ module _ (who : Hiders) (none : (k : ℕ) → who.probes k ≡ false) (k : ℕ) 
       event-stands q l Replaced none_stand stand = none_stand refl
       event-stands q l _ none_stand stand = stand
 
-      stage-after : (stage : Stage) → IsWithin (length t.traced) stage → t.stage ≡ stage
+      stage-after : t.aside ≡ Nothing → (stage : Stage) → IsWithin (length t.traced) stage → t.stage ≡ stage
           → function_call_of t stage ≡ Some c → AfterStage MarksStand t r stage
       unfolding function_call_of call_of
-      stage-after (Spawning program) w at is =
+      stage-after idle (Spawning program) w at is =
           all-stay (λ pid. is-call _ is pid (call-still who none covers s k pid _ r refl))
-      stage-after (OpeningControl pid) w at is = (
+      stage-after idle (OpeningControl pid) w at is = (
         all-stay (λ n. is-call _ is n (call-still who none covers s k n _ r refl)),
         λ accepted lives.
             let stays : Stays pid = is-call _ is pid (call-still who none covers s k pid _ r refl) in
             subst (StandAsMarked o no_functions) (sym (stays.patches ∙ fresh pid (sym (same_Some _ c is)) accepted))
             (none-stand o fit),
       )
-      stage-after (Opening q step) w at is = all-stay (opening-stays q step is)
-      stage-after Polling w at is =
+      stage-after idle (Opening q step) w at is = all-stay (opening-stays q step is)
+      stage-after idle Polling w at is =
           all-stay (λ pid. is-call _ is pid (call-still who none covers s k pid _ r refl))
-      stage-after (ReadingStatus q) w at is = (
+      stage-after idle (ReadingStatus q) w at is = (
         all-stay (λ pid. is-call _ is pid (call-still who none covers s k pid _ r refl)),
         λ l e accepted told new.
             let stays : Stays (traced_at t q).pid =
@@ -402,6 +403,7 @@ module _ (who : Hiders) (none : (k : ℕ) → who.probes k ≡ false) (k : ℕ) 
             subst (StandAsMarked o no_functions)
             (sym (stays.patches ∙ replaced q (record {
               reads = at;
+              idle = idle;
               accepted = accepted;
               l = l;
               told = told;
@@ -412,16 +414,16 @@ module _ (who : Hiders) (none : (k : ℕ) → who.probes k ≡ false) (k : ℕ) 
             (none-stand o fit))
             (all-stay (λ pid. is-call _ is pid (call-still who none covers s k pid _ r refl)) q w),
       )
-      stage-after (ReadingText q l from len) w at is =
+      stage-after idle (ReadingText q l from len) w at is =
           all-stay (λ pid. is-call _ is pid (call-still who none covers s k pid _ r refl))
-      stage-after (Running q) w at is = (
+      stage-after idle (Running q) w at is = (
         each-but (So MarksStand) t.traced q (all-stay (λ pid. still-call _ _ is (run-still _) pid)),
         all-stay (λ pid. still-call _ _ is (run-still _) pid) q w,
       )
-      stage-after (Closing q OpenNext) w at is = (others-stay q w is, left-so q w is)
-      stage-after (Closing q GoOn) w at is = (others-stay q w is, left-so q w is)
-      stage-after Finished w at is = absurd (none-some c is)
-      stage-after _ w at is = absurd w
+      stage-after idle (Closing q OpenNext) w at is = (others-stay q w is, left-so q w is)
+      stage-after idle (Closing q GoOn) w at is = (others-stay q w is, left-so q w is)
+      stage-after idle Finished w at is = absurd (none-some c is)
+      stage-after idle _ w at is = absurd w
 
       -- a breakpoint is planted
       plant-after : (q i : ℕ) (lift : Option ℕ) → q < length t.traced → i < length o.functions
@@ -454,13 +456,13 @@ module _ (who : Hiders) (none : (k : ℕ) → who.probes k ≡ false) (k : ℕ) 
                 (tail-long q within i f it.1 f.code p.size p.bytes) live found),
           )
 
-      aside-after : (aside : Aside) → IsBeside (length t.traced) aside → AsideIsBelow (length o.functions) aside
-          → call_beside t t.stage aside ≡ Some c → AfterAside MarksStand t r aside
+      aside-after : (aside : Aside) → t.aside ≡ aside → IsBeside (length t.traced) aside
+          → AsideIsBelow (length o.functions) aside → call_beside t t.stage aside ≡ Some c → AfterAside MarksStand t r aside
       unfolding call_beside
-      aside-after Nothing w small is = stage-after t.stage holds.stage refl is
-      aside-after (Reading q i) w small is = all-stay (λ pid. still-call _ _ is (read-still _ _) pid)
-      aside-after (Planting q i) w small is = plant-after q i None w small is
-      aside-after (Patching q plants lifts clear) w small is =
+      aside-after Nothing beside w small is = stage-after beside t.stage holds.stage refl is
+      aside-after (Reading q i) beside w small is = all-stay (λ pid. still-call _ _ is (read-still _ _) pid)
+      aside-after (Planting q i) beside w small is = plant-after q i None w small is
+      aside-after (Patching q plants lifts clear) beside w small is =
           by (first_function plants) (first_function lifts) refl refl is
         where
           by : (plant lift : Option ℕ) → first_function plants ≡ plant → first_function lifts ≡ lift
@@ -473,12 +475,12 @@ module _ (who : Hiders) (none : (k : ℕ) → who.probes k ≡ false) (k : ℕ) 
             subst (NowStand (traced_at t q).pid) (sym (none-after (marks_at t q).planted (answer_of r)))
                 (all-stay (λ pid. still-call _ _ its cfault-still pid) q w),
           )
-      aside-after _ w small is = absurd w
+      aside-after _ beside w small is = absurd w
 
       pub own-planted : next_function_call_of t ≡ Some c → has_functions o ≡ true → answer_of r ≢ Interrupted
           → Each (So MarksStand) (fed_functions t r).traced
       unfolding next_function_call_of
       own-planted next has calm =
           fed-so MarksStand t r holds.off holds.follow holds.stage holds.beside calm has
-          (aside-after t.aside holds.beside below
+          (aside-after t.aside refl holds.beside below
           (sym (ap (λ b. cond b (call_beside t t.stage t.aside) (next_call_of t)) has) ∙ next))

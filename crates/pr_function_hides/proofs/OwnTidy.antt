@@ -1,4 +1,4 @@
-use Rattle.std.proofs.Common.{◌≡◌, ◌≢◌, ◌<◌, ℕ, true, cond, Option, Some, None, List, All, length, refl, sym, ap, ◌∙◌}
+use Rattle.std.proofs.Common.{◌≡◌, ◌≢◌, ◌⊎◌, ◌<◌, ℕ, true, cond, Option, Some, None, List, All, length, refl, sym, ap, ◌∙◌, inl, inr}
 use Rattle.std.proofs.lemmas.Option.{none-some, same_Some}
 use Rattle.std.specs.List.{slice_get}
 use Rattle.pr_line.specs.declared.functions.Function.{Function}
@@ -49,15 +49,26 @@ module _ (k : ℕ) (s : TracedState) (c : Call) (t : TrussState) (fit : ArePatch
         → BeginStill bytes → Kind
     other : ((number : ℕ) (bytes : List ℕ) → c ≢ call.Ctl number bytes) → Kind
 
-  is-other : (d : Call) → Some d ≡ Some c → ((number : ℕ) (bytes : List ℕ) → d ≢ call.Ctl number bytes) → Kind
-  is-other d same none = other (λ number bytes is. none number bytes (same_Some d c same ∙ is))
+  -- it writes nothing
+  abbrev pub Quiet : Type 0
+  Quiet =
+      ((q : ℕ) × ((q < length t.traced)
+      × ((bytes : List ℕ) × ((c ≡ call.Ctl (traced_at t q).control bytes) × BeginStill bytes))))
+      ⊎ ((number : ℕ) (bytes : List ℕ) → c ≢ call.Ctl number bytes)
+
+  as-kind : Quiet → Kind
+  as-kind (inl (q, (within, (bytes, (is, still))))) = sends q within bytes is still
+  as-kind (inr never) = other never
+
+  is-other : (d : Call) → Some d ≡ Some c → ((number : ℕ) (bytes : List ℕ) → d ≢ call.Ctl number bytes) → Quiet
+  is-other d same none = inr (λ number bytes is. none number bytes (same_Some d c same ∙ is))
 
   is-sent : (q : ℕ) → q < length t.traced → (bytes : List ℕ)
-      → Some (call.Ctl (traced_at t q).control bytes) ≡ Some c → BeginStill bytes → Kind
-  is-sent q within bytes same still = sends q within bytes (sym (same_Some _ c same)) still
+      → Some (call.Ctl (traced_at t q).control bytes) ≡ Some c → BeginStill bytes → Quiet
+  is-sent q within bytes same still = inl (q, (within, (bytes, (sym (same_Some _ c same), still))))
 
   opening-kind : (q : ℕ) (step : OpeningStep) → q < length t.traced → function_call_of t (Opening q step) ≡ Some c
-      → Kind
+      → Quiet
   unfolding function_call_of call_of opening_call
   opening-kind q opening.OpenStatus w is = is-other _ is (λ n b same. cc)
   opening-kind q opening.OpenLstatus w is = is-other _ is (λ n b same. cc)
@@ -74,7 +85,7 @@ module _ (k : ℕ) (s : TracedState) (c : Call) (t : TrussState) (fit : ArePatch
   opening-kind q opening.Follow w is = is-sent q w _ is (set-still _)
   opening-kind q opening.Start w is = is-sent q w _ is (run-still _)
 
-  stage-kind : (stage : Stage) → IsWithin (length t.traced) stage → function_call_of t stage ≡ Some c → Kind
+  pub stage-kind : (stage : Stage) → IsWithin (length t.traced) stage → function_call_of t stage ≡ Some c → Quiet
   unfolding function_call_of call_of
   stage-kind (Spawning program) w is = is-other _ is (λ n b same. cc)
   stage-kind (OpeningControl pid) w is = is-other _ is (λ n b same. cc)
@@ -107,8 +118,8 @@ module _ (k : ℕ) (s : TracedState) (c : Call) (t : TrussState) (fit : ArePatch
   aside-kind : (aside : Aside) → IsBeside (length t.traced) aside → AsideIsBelow (length o.functions) aside
       → call_beside t t.stage aside ≡ Some c → Kind
   unfolding call_beside
-  aside-kind Nothing w small is = stage-kind t.stage holds.stage is
-  aside-kind (Reading q i) w small is = is-sent q w _ is (read-still _ _)
+  aside-kind Nothing w small is = as-kind (stage-kind t.stage holds.stage is)
+  aside-kind (Reading q i) w small is = as-kind (is-sent q w _ is (read-still _ _))
   aside-kind (Planting q i) w small is = plant-kind q i w small is
   aside-kind (Patching q plants lifts clear) w small is =
       by (first_function plants) (first_function lifts) refl refl is
@@ -117,7 +128,7 @@ module _ (k : ℕ) (s : TracedState) (c : Call) (t : TrussState) (fit : ArePatch
           → Some (patch_call o (traced_at t q).control plant lift) ≡ Some c → Kind
       by (Some i) lift first second its = plant-kind q i w (first-below _ plants i small.0 first) its
       by None (Some i) first second its = lift-kind q i w (first-below _ lifts i small.1 second) its
-      by None None first second its = is-sent q w _ its cfault-still
+      by None None first second its = as-kind (is-sent q w _ its cfault-still)
   aside-kind _ w small is = absurd w
 
   pub kind : next_function_call_of t ≡ Some c → has_functions o ≡ true → Kind

@@ -11,7 +11,7 @@ use Rattle.pr_truss.specs.Feeding.{fed, with_reply}
 use Rattle.pr_truss.specs.FunctionEvents.{fresh_event, function_event}
 use Rattle.pr_truss.specs.FunctionFeeding.{after_first, after_patch, fed_functions, is_code, with_aside_answered, with_code_answered, with_code_read, with_function_reply, with_function_step_answered, with_functions_begun, with_next_function, with_patch_answered, with_pending_told, with_plant_answered, with_planted, with_refused_opening}
 use Rattle.pr_truss.specs.FunctionStops.{after_function_text, with_fresh_event, with_function_event, with_function_run_answered, with_function_status_answered, with_function_stop, with_function_stop_read, with_function_text_answered, with_last_event, with_last_stop}
-use Rattle.pr_truss.specs.Marks.{code_of, first_function, has_functions, no_functions, no_marks, with_function, without_function}
+use Rattle.pr_truss.specs.Marks.{code_of, first_function, has_functions, no_marks, with_function, without_function}
 use Rattle.pr_truss.specs.Openings.{at_step, learnt, step_after, with_control, with_control_answered, with_refused_control, with_refused_start, with_refused_step, with_start_answered, with_step_done}
 use Rattle.pr_truss.specs.Processes.{newly_traced, without_last}
 use Rattle.pr_truss.specs.Records.{status_lwp}
@@ -20,7 +20,6 @@ use Rattle.pr_truss.specs.Stops.{after_text, text_of, with_event_shown, with_pol
 use Rattle.pr_truss.specs.Trusses.{TrussState, first_of_program, first_truss, idle, nobody, opening_or, traced_at, with_traced, without_traced}
 use Rattle.pr_truss.specs.declared.asides.Aside.TheVariants.{Nothing, Reading, Planting, Patching}
 use Rattle.pr_truss.specs.declared.asides.Aside.{Aside}
-use Rattle.pr_truss.specs.declared.function_events.FunctionEvent.TheVariants.{Replaced}
 use Rattle.pr_truss.specs.declared.function_events.FunctionEvent.{FunctionEvent}
 use Rattle.pr_truss.specs.declared.marks.Marks.{Marks}
 use Rattle.pr_truss.specs.declared.processes.Traced.{Traced}
@@ -58,7 +57,7 @@ unfolding learnt
 learnt-pid t r opening.OpenStatus = refl
 learnt-pid t r _ = refl
 
-learnt-marks : (t : Traced) (r : Reply) (step : OpeningStep) → (learnt t r step).marks ≡ t.marks
+pub learnt-marks : (t : Traced) (r : Reply) (step : OpeningStep) → (learnt t r step).marks ≡ t.marks
 unfolding learnt
 learnt-marks t r opening.OpenStatus = refl
 learnt-marks t r _ = refl
@@ -439,9 +438,9 @@ module _ (Q : ℕ → Marks → Type 0) where
 
 -- ---- before the first call nothing is traced
 
-module _ (Q : ℕ → List Bool → Type 0) where
+module _ (Q : Traced → Type 0) where
   abbrev Each_so : List Traced → Type 0
-  Each_so ts = Each (λ (v : Traced). Q v.pid v.marks.planted) ts
+  Each_so ts = Each Q ts
 
   none-each : Each_so []
   none-each q within = absurd (omega (arith, within))

@@ -28,7 +28,7 @@ use Rattle.pr_num.specs.declared.errnos.Errno.{Errno}
 use Rattle.pr_num.specs.declared.syscalls.Sysno.{Sysno}
 use Rattle.pr_num.specs.declared.syscalls.Sysno.TheVariants as sys
 use Rattle.pr_truss.specs.FunctionEvents.{copies_memory}
-use Rattle.pr_function_hides.specs.TidyWrites.{makes_copy}
+use Rattle.pr_function_hides.specs.Copying.{makes_copy}
 
 -- A fork, a vfork and an exec that are refused change nothing.
 

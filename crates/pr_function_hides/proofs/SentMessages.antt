@@ -1,16 +1,20 @@
-use Rattle.std.proofs.Common.{◌≡◌, ◌≢◌, ◌<◌, ◌^◌, ℕ, false, nat_lt, Option, Some, None, Result, Ok, List, [], All, length, refl, sym, subst, arith}
+use Rattle.std.proofs.Common.{◌≡◌, ◌≢◌, ◌<◌, ◌+◌, ◌^◌, ◌==◌, ◌||◌, ℕ, Bool, true, false, nat_lt, Option, Some, None, Result, Ok, List, [], All, length, refl, sym, subst, arith, inl, inr}
+use Rattle.std.proofs.lemmas.Bool.{eqb-true, false≢true}
 use Rattle.std.proofs.lemmas.Option.{none-some, same_Some}
 use Rattle.std.specs.List.{slice_get}
 use Rattle.pr_function_hides.proofs.OwnFiles.{IsBeside, IsWithin}
 use Rattle.pr_function_hides.proofs.OwnWrites.{breakpoint-size, code-is, named-at, write-is, write-read}
+use Rattle.pr_function_laws.proofs.MarkLemmas.{AreRunFlags}
 use Rattle.pr_function_hides.specs.FunctionHiders.{ArePatchable, IsPatchable}
 use Rattle.pr_function_laws.proofs.MarkLemmas.{first-below}
 use Rattle.pr_function_laws.proofs.SoundLemmas.{AsideIsBelow}
+use Rattle.pr_hidden.specs.Tidiness.{is_step_flags}
 use Rattle.pr_line.specs.declared.functions.Function.{Function}
 use Rattle.pr_line.specs.declared.options.Options.{Options}
 use Rattle.pr_model.specs.declared.calls.Call.{Call}
 use Rattle.pr_model.specs.declared.calls.Call.TheVariants as call
 use Rattle.pr_num.proofs.SearchLemmas.{All-at}
+use Rattle.pr_num.specs.Control.{clear_fault, fork_mode, rlc_mode, single_step}
 use Rattle.pr_num.specs.Messages.{first_message, message_code, message_read, nth_word, one_word, operands, spelling, two_words}
 use Rattle.pr_num.specs.Words.{IsByte, word_bytes, word_of}
 use Rattle.pr_num.specs.declared.instructions.Instruction.TheVariants.{Bpt}
@@ -40,19 +44,21 @@ module _ (P : Message → Type 0) where
   abbrev pub Begin : List ℕ → Type 0
   Begin bytes = (m : Message) (len : ℕ) → first_message bytes ≡ Ok (m, len) → P m
 
-  -- the message that a call writes is so
+  -- the message that a call writes is so; and where it waits, it waits for PCSTOP
   abbrev pub Sends : Call → Type 0
   Sends (call.Ctl handle bytes) = Begin bytes
+  Sends (call.CtlWait handle until bytes) = bytes ≡ spelling message.Stop []
   Sends _ = Unit {0}
 
-  -- messages that set what is traced, and those that stop, read and write
+  -- messages that set what is traced and how a process is left, and those that stop, read and write
   pub record Admits : Type 0 where
     pub stop : P message.Stop
     pub strace : (set : ℕ) → P (message.Strace set)
     pub sfault : (set : ℕ) → P (message.Sfault set)
     pub sentry : (set : ℕ) → P (message.Sentry set)
     pub sexit : (set : ℕ) → P (message.Sexit set)
-    pub set : (modes : ℕ) → P (message.Set modes)
+    pub follow : P (message.Set fork_mode)
+    pub release : P (message.Set rlc_mode)
     pub unset : (modes : ℕ) → P (message.Unset modes)
     pub read : (at size : ℕ) → P (message.Read at size)
     pub write : (at : ℕ) → P (message.Write at 16)
@@ -86,17 +92,54 @@ module _ (P : Message → Type 0) where
   unfolding message_code operands nth_word word_bytes word_of message_read one_word
   none-begins is = one-begins message.Run (spelling (message.Run 0) []) is refl refl
 
-  run-begins : ((word : ℕ) → P (message.Run word)) → (flags : ℕ) → Begin (spelling (message.Run flags) [])
+  pub run-begins : ((word : ℕ) → P (message.Run word)) → (flags : ℕ) → Begin (spelling (message.Run flags) [])
   unfolding message_code operands nth_word word_bytes word_of message_read one_word
   run-begins all flags = one-begins message.Run (spelling (message.Run flags) []) (all _) refl refl
+
+  -- PCRUN with the flags that truss gives it
+  clear-begins : P (message.Run clear_fault) → Begin (spelling (message.Run clear_fault) [])
+  unfolding message_code operands nth_word word_bytes word_of message_read one_word
+  clear-begins is = one-begins message.Run (spelling (message.Run clear_fault) []) is refl refl
+
+  step-begins : P (message.Run single_step) → Begin (spelling (message.Run single_step) [])
+  unfolding message_code operands nth_word word_bytes word_of message_read one_word
+  step-begins is = one-begins message.Run (spelling (message.Run single_step) []) is refl refl
+
+  both-begins : P (message.Run (clear_fault + single_step))
+      → Begin (spelling (message.Run (clear_fault + single_step)) [])
+  unfolding message_code operands nth_word word_bytes word_of message_read one_word
+  both-begins is = one-begins message.Run (spelling (message.Run (clear_fault + single_step)) []) is refl refl
+
+  pub flags-begin : P (message.Run 0) → ((flags : ℕ) → is_step_flags flags ≡ true → P (message.Run flags))
+      → (flags : ℕ) → AreRunFlags flags → Begin (spelling (message.Run flags) [])
+  flags-begin plain steps flags (inl none) =
+      subst (λ f. Begin (spelling (message.Run f) [])) (sym none) (none-begins plain)
+  flags-begin plain steps flags (inr some) =
+      by (flags == clear_fault) (flags == single_step) (flags == clear_fault + single_step) refl refl refl some
+    where
+      at : (f : ℕ) → (flags == f) ≡ true → Begin (spelling (message.Run f) [])
+          → Begin (spelling (message.Run flags) [])
+      at f same is = subst (λ g. Begin (spelling (message.Run g) [])) (sym (eqb-true flags f same)) is
+
+      by : (a b d : Bool) → (flags == clear_fault) ≡ a → (flags == single_step) ≡ b
+          → (flags == clear_fault + single_step) ≡ d → (a || (b || d)) ≡ true → Begin (spelling (message.Run flags) [])
+      by true b d clears one two is = at clear_fault clears (clear-begins (steps clear_fault refl))
+      by false true d clears one two is = at single_step one (step-begins (steps single_step refl))
+      by false false true clears one two is =
+          at (clear_fault + single_step) two (both-begins (steps (clear_fault + single_step) refl))
+      by false false false clears one two is = absurd (false≢true is)
 
   module _ (all : Admits) where
     stop-begins : Begin (spelling message.Stop [])
     stop-begins = reads-so (spelling message.Stop []) message.Stop all.stop stop-reads
 
-    set-begins : (modes : ℕ) → Begin (spelling (message.Set modes) [])
+    follow-begins : Begin (spelling (message.Set fork_mode) [])
     unfolding message_code operands nth_word word_bytes word_of message_read one_word
-    set-begins modes = one-begins message.Set (spelling (message.Set modes) []) (all.set _) refl refl
+    follow-begins = one-begins message.Set (spelling (message.Set fork_mode) []) all.follow refl refl
+
+    release-begins : Begin (spelling (message.Set rlc_mode) [])
+    unfolding message_code operands nth_word word_bytes word_of message_read one_word
+    release-begins = one-begins message.Set (spelling (message.Set rlc_mode) []) all.release refl refl
 
     unset-begins : (modes : ℕ) → Begin (spelling (message.Unset modes) [])
     unfolding message_code operands nth_word word_bytes word_of message_read one_word
@@ -149,15 +192,15 @@ module _ (P : Message → Type 0) where
       opening-sends starts q opening.OpenLstatus is = as-call _ is tt
       opening-sends starts q opening.OpenMemory is = as-call _ is tt
       opening-sends starts q opening.ClearModes is = as-call _ is (unset-begins _)
-      opening-sends starts q opening.SetRelease is = as-call _ is (set-begins _)
+      opening-sends starts q opening.SetRelease is = as-call _ is release-begins
       opening-sends starts q opening.Stop is = as-call _ is stop-begins
-      opening-sends starts q (opening.AwaitStop until) is = as-call _ is tt
+      opening-sends starts q (opening.AwaitStop until) is = as-call _ is refl
       opening-sends starts q opening.ReadLwps is = as-call _ is tt
       opening-sends starts q opening.TraceSignals is = as-call _ is (strace-begins _)
       opening-sends starts q opening.TraceFaults is = as-call _ is (sfault-begins _)
       opening-sends starts q opening.TraceEntries is = as-call _ is (sentry-begins _)
       opening-sends starts q opening.TraceExits is = as-call _ is (sexit-begins _)
-      opening-sends starts q opening.Follow is = as-call _ is (set-begins _)
+      opening-sends starts q opening.Follow is = as-call _ is follow-begins
       opening-sends starts q opening.Start is = as-call _ is (none-begins starts)
 
       -- while it closes the files of one
@@ -165,21 +208,25 @@ module _ (P : Message → Type 0) where
       unfolding function_call_of call_of
       closing-sends q next is = as-call _ is tt
 
+      -- the run flags of each process are so
+      abbrev pub Runs : Type 0
+      Runs = (q : ℕ) → q < length t.traced → Begin (spelling (message.Run (traced_at t q).marks.flags) [])
+
       -- at each stage, where nothing comes before
-      pub stage-sends : ((word : ℕ) → P (message.Run word)) → (stage : Stage) → IsWithin (length t.traced) stage
+      pub stage-sends : P (message.Run 0) → Runs → (stage : Stage) → IsWithin (length t.traced) stage
           → function_call_of t stage ≡ Some c → Sends c
       unfolding function_call_of call_of
-      stage-sends runs (Spawning program) w is = as-call _ is tt
-      stage-sends runs (OpeningControl pid) w is = as-call _ is tt
-      stage-sends runs (Opening q step) w is = opening-sends (runs 0) q step is
-      stage-sends runs Polling w is = as-call _ is tt
-      stage-sends runs (ReadingStatus q) w is = as-call _ is tt
-      stage-sends runs (ReadingText q l from len) w is = as-call _ is tt
-      stage-sends runs (Running q) w is = as-call _ is (run-begins runs _)
-      stage-sends runs (Closing q OpenNext) w is = as-call _ is tt
-      stage-sends runs (Closing q GoOn) w is = as-call _ is tt
-      stage-sends runs Finished w is = absurd (none-some c is)
-      stage-sends runs _ w is = absurd w
+      stage-sends starts runs (Spawning program) w is = as-call _ is tt
+      stage-sends starts runs (OpeningControl pid) w is = as-call _ is tt
+      stage-sends starts runs (Opening q step) w is = opening-sends starts q step is
+      stage-sends starts runs Polling w is = as-call _ is tt
+      stage-sends starts runs (ReadingStatus q) w is = as-call _ is tt
+      stage-sends starts runs (ReadingText q l from len) w is = as-call _ is tt
+      stage-sends starts runs (Running q) w is = as-call _ is (runs q w)
+      stage-sends starts runs (Closing q OpenNext) w is = as-call _ is tt
+      stage-sends starts runs (Closing q GoOn) w is = as-call _ is tt
+      stage-sends starts runs Finished w is = absurd (none-some c is)
+      stage-sends starts runs _ w is = absurd w
 
       -- while it plants and lifts
       patchable : (i : ℕ) (f : Function) → slice_get o.functions i ≡ Some f → IsPatchable f

@@ -1,24 +1,25 @@
-use Rattle.std.proofs.Common.{◌≡◌, ◌⊎◌, ◌||◌, ◌++◌, ℕ, Bool, true, false, List, ◌∷◌, Some, refl, sym, ap, ◌∙◌, inl, inr}
+use Rattle.std.proofs.Common.{◌≡◌, ◌⊎◌, ◌++◌, ℕ, true, false, List, ◌∷◌, Some, refl, sym, ap, ◌∙◌, inl, inr}
+use Rattle.pr_reached.specs.ByteHistories.{HasBytes}
+use Rattle.pr_reached.specs.Reached.{IsReached}
 use Rattle.std.proofs.lemmas.Bool.{eq-eqb, false≢true}
 use Rattle.std.proofs.lemmas.Option.{none-some}
+use Rattle.pr_function_hides.proofs.PassiveHiders.{are-functions, passive-but}
 use Rattle.pr_function_hides.proofs.StepWalk.{Calm, stepped-at}
 use Rattle.pr_function_hides.proofs.TidyEntries.{its-legal}
 use Rattle.pr_function_hides.proofs.TidyKept.{Holder, IsRunOfTrusses}
 use Rattle.pr_function_hides.proofs.TidyLaw.{kept-at}
-use Rattle.pr_function_hides.proofs.UnmarkedTurns.{unmarked-lwp}
 use Rattle.pr_function_hides.specs.FunctionHiders.{AreTrusses}
 use Rattle.pr_function_hides.specs.OwnSteps.{AreStepsOwn}
+use Rattle.pr_function_hides.specs.PassiveOthers.{AreOthersPassive}
 use Rattle.pr_function_hides.specs.TidyWrites.{AreUndisturbed}
 use Rattle.pr_function_laws.proofs.TrapLemmas.{IsTrapless, trapless}
 use Rattle.pr_hidden.proofs.FaultRows.{HowFaulted, by_instruction, by_return, how-faulted, return-marked, trace-effect}
-use Rattle.pr_hidden.specs.Hiders.{Hiders, are_some, has_hold, is_hold}
+use Rattle.pr_hidden.specs.Hiders.{Hiders, has_hold, is_hold}
 use Rattle.pr_hidden.specs.Tidiness.{IsPassiveBut}
 use Rattle.pr_lawful.proofs.HandleLemmas.{any-at, handle-at}
-use Rattle.pr_lending.specs.Lending.{AreLending}
 use Rattle.pr_model.proofs.TurnLemmas.{turn-taken}
 use Rattle.pr_model.specs.InstructionEffects as instruction
 use Rattle.pr_model.specs.InstructionEffects.{InstructionEffect, instruction_effect}
-use Rattle.pr_model.specs.Lawful.{IsLawful}
 use Rattle.pr_model.specs.Legal.{IsLegal, IsLegalEntry, state_after}
 use Rattle.pr_model.specs.LwpTurns.{LwpTurn, settled, turn_of}
 use Rattle.pr_model.specs.Rows.{Row, executed_row, row_for, watched_row}
@@ -29,6 +30,7 @@ use Rattle.pr_model.specs.declared.events.Did.TheVariants.{Faulted}
 use Rattle.pr_model.specs.declared.events.Entry.{Entry}
 use Rattle.pr_model.specs.declared.events.Turned.{Turned}
 use Rattle.pr_num.specs.declared.faults.Flt.TheVariants.{Trace, Watch}
+use Rattle.pr_probe_laws.proofs.MarkTurns.{IsOne, unmarked-lwp}
 use Rattle.pr_probe_laws.specs.StepMarks.{IsUnstepped}
 use Rattle.pr_truss_laws.proofs.OpensLemmas.{handle-controller}
 use Rattle.pr_tool_laws.specs.OwnCalls.{AreOwnCalls}
@@ -71,32 +73,28 @@ holder-hold : (who : Hiders) → ((k : ℕ) → who.probes k ≡ false) → (s :
 unfolding has_hold
 holder-hold who none s pid x =
     any-at (is_hold who pid) s.opens x.number (Some x.held) (handle-at s.opens x.k x.number x.held x.there)
-    (rw (eq-eqb x.held.pid pid x.of, x.control, handle-controller s.opens x.k x.number x.held x.there) functions)
-  where
-    functions : are_some (who.functions x.k) ≡ true
-    functions = by (are_some (who.functions x.k)) (who.probes x.k) (none x.k) x.hider
-      where
-        by : (a b : Bool) → b ≡ false → (a || b) ≡ true → a ≡ true
-        by true b off is = refl
-        by false true off is = absurd (false≢true (sym off))
-        by false false off is = absurd (false≢true is)
+    (rw (eq-eqb x.held.pid pid x.of, x.control, handle-controller s.opens x.k x.number x.held x.there)
+    (are-functions who x.k (none x.k) x.hider))
 
 -- ---- along the history
 
 module _ (n : ℕ) (who : Hiders) (controllers : List ControllerState) (first : TracedState) (h : List Entry)
-    (lawful : IsLawful first) (lending : AreLending first.system) (legal : IsLegal n first h)
-    (own_calls : AreOwnCalls controllers h) (are : AreTrusses who controllers)
-    (und : AreUndisturbed who controllers first h) (passive : IsPassiveBut who h)
+    (reached : IsReached first) (bytes : HasBytes h) (legal : IsLegal n first h)
+    (own_calls : AreOwnCalls controllers h) (are : AreTrusses who controllers first)
+    (und : AreUndisturbed who controllers first h) (others : AreOthersPassive who h)
     (unstepped : IsUnstepped first.system) where
   run : IsRunOfTrusses n who controllers first h
   run = record {
-    lawful = lawful;
-    lending = lending;
+    reached = reached;
+    bytes = bytes;
     legal = legal;
     own_calls = own_calls;
     are = are;
     und = und;
   }
+
+  passive : IsPassiveBut who h
+  passive = passive-but run others
 
   module _ (front back : List Entry) (pid id : ℕ) (t : Turned)
       (place : h ≡ front ++ record { actor = Lwp pid id; act = act.Turn t } ∷ back) where
@@ -108,7 +106,7 @@ module _ (n : ℕ) (who : Hiders) (controllers : List ControllerState) (first : 
     its-turn =
         let legal_here =
         its-legal run front (record { actor = Lwp pid id; act = act.Turn t }) back place
-        (kept-at n who controllers first h lawful lending legal own_calls are und front
+        (kept-at n who controllers first h reached bytes legal own_calls are und front
         (record { actor = Lwp pid id; act = act.Turn t } ∷ back) place) in
         (record { system = legal_here.0; turned = t }, (legal_here.1, refl))
 
@@ -121,7 +119,7 @@ module _ (n : ℕ) (who : Hiders) (controllers : List ControllerState) (first : 
             let it = turn-taken s.system pid id its-turn.0 its-turn.1.0 in
             let row = row_for s.system pid it.process id it.lwp in
             absurd (false≢true
-            (sym (unmarked-lwp pid s.system it.process id it.lwp u it.live it.there)
+            (sym (unmarked-lwp (IsOne pid) s.system pid it.process id it.lwp refl u it.live it.there)
             ∙ trace-marked s.system pid it.process id it.lwp
             (sym (ap (λ (y : LwpTurn). y.turned.did) it.is)
             ∙ ap (λ (y : Turned). y.did) its-turn.1.1 ∙ did)))

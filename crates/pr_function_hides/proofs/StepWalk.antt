@@ -1,4 +1,4 @@
-use Rattle.std.proofs.Common.{◌≡◌, ◌≢◌, ◌⊎◌, ◌<◌, ◌++◌, ◌||◌, ℕ, true, false, cond, Option, Some, None, Result, Ok, List, [], ◌∷◌, All, length, refl, sym, subst, ap, ◌∙◌, inl, inr}
+use Rattle.std.proofs.Common.{◌≡◌, ◌≢◌, ◌⊎◌, ◌<◌, ◌++◌, ◌||◌, ℕ, true, false, cond, Some, None, Result, Ok, List, [], ◌∷◌, All, length, refl, sym, subst, ap, ◌∙◌, inl, inr}
 use Rattle.std.proofs.lemmas.Bool.{cases_Bool, cases_eq, false≢true}
 use Rattle.std.proofs.lemmas.List.{append-nil, append_assoc}
 use Rattle.std.proofs.lemmas.List.Elements.{All-head, All-tail, All-weaker}
@@ -6,9 +6,10 @@ use Rattle.std.proofs.lemmas.Option.{same_Some}
 use Rattle.std.specs.Bool.{IsTrue}
 use Rattle.std.specs.List.{slice_get}
 use Rattle.pr_api.specs.Entries.{call_entry}
-use Rattle.pr_function_hides.proofs.CallFacts.{calm-reply, controllers-push, legal-here, open-finds}
+use Rattle.pr_function_hides.proofs.CallFacts.{calm-reply, controllers-push, legal-here, open-finds, same-truss}
 use Rattle.pr_function_hides.proofs.ClosingCalls.{IsClosing, is-closing, last-pid}
 use Rattle.pr_function_hides.proofs.ClosingLaw as Closing
+use Rattle.pr_function_hides.proofs.ClosingStages.{stage-stays}
 use Rattle.pr_function_hides.proofs.ClosingWalk.{CalledSo, ClosesSo, StageSo, called_at, fed-closes, first-closes, is_quiet}
 use Rattle.pr_function_hides.proofs.FilesCalls.{holds-of}
 use Rattle.pr_function_hides.proofs.OwnFiles.{HoldsItsFiles, IsWithin}
@@ -17,10 +18,8 @@ use Rattle.pr_function_hides.proofs.SteplessCalls.{CallsNoStep, aside-stepless, 
 use Rattle.pr_function_hides.proofs.TidyCalls as Calls
 use Rattle.pr_function_hides.proofs.TidyCovers as Called
 use Rattle.pr_function_hides.proofs.TidyEntries.{its-lawful, its-legal, now-is}
-use Rattle.pr_function_hides.proofs.TidyKept.{Holder, IsRunOfTrusses, Kept, Truss}
+use Rattle.pr_function_hides.proofs.TidyKept.{Holder, IsRunOfTrusses, Kept, Truss, holder-moves}
 use Rattle.pr_function_hides.proofs.TidyLaw.{kept-at}
-use Rattle.pr_function_hides.proofs.UnmarkedCalls.{MarksNone, called-unmarked}
-use Rattle.pr_function_hides.proofs.UnmarkedTurns.{IsUnmarked, IsUnmarkedAt, turn-unmarked}
 use Rattle.pr_function_hides.specs.TidyWrites.{IsTrussAfter}
 use Rattle.pr_function_laws.proofs.BreakpointLemmas.{foreign-entry}
 use Rattle.pr_function_laws.proofs.OpenedLemmas.{control-made, control-sole}
@@ -50,7 +49,9 @@ use Rattle.pr_num.specs.Messages.{first_message}
 use Rattle.pr_num.specs.declared.errnos.Errno.{Errno}
 use Rattle.pr_num.specs.declared.messages.Message.{Message}
 use Rattle.pr_num.specs.declared.messages.MsgFault.{MsgFault}
-use Rattle.pr_probe_laws.specs.StepMarks.{IsUnstepped, IsUnsteppedProcess}
+use Rattle.pr_probe_laws.proofs.MarkCalls.{MarksNone, called-unmarked}
+use Rattle.pr_probe_laws.proofs.MarkTurns.{IsOne, IsUnmarked, turn-unmarked}
+use Rattle.pr_probe_laws.specs.StepMarks.{IsUnmarkedAt, IsUnstepped, IsUnsteppedProcess}
 use Rattle.pr_tool_laws.proofs.ProtocolLemmas.{fed-own}
 use Rattle.pr_truss.specs.FunctionCalls.{call_beside, function_call_of, next_function_call_of}
 use Rattle.pr_truss.specs.FunctionFeeding.{fed_functions}
@@ -74,44 +75,23 @@ use Rattle.pr_world.specs.Protocol.{controllers_after, controllers_at}
 -- Only who runs a process has set step marks in it: none stands in one whose control file nobody who hides has open, in
 -- one that truss is still opening, or in one whose opening was refused.
 
--- ---- where truss opens or closes
-
--- what is so of the processes of a truss is so later, where this holds of each that it opens or closes
-module _ (Over Later Calm Calmer : ℕ → Type 0) (t : TrussState)
-    (over : (q : ℕ) → q < length t.traced → Over (traced_at t q).pid → Later (traced_at t q).pid) where
-  stage-stays : (stage : Stage) → IsWithin (length t.traced) stage
-      → (is_quiet stage ≡ false → (q : ℕ) → q < length t.traced → Calm (traced_at t q).pid → Calmer (traced_at t q).pid)
-      → StageSo Over (λ step pid. Calm pid) Calm t stage → StageSo Later (λ step pid. Calmer pid) Calmer t stage
-  stage-stays (stage.Spawning program) w calm it = tt
-  stage-stays (stage.OpeningControl pid) w calm it = tt
-  stage-stays (stage.Opening q step) w calm it = calm refl q w it
-  stage-stays stage.Polling w calm it = tt
-  stage-stays (stage.ReadingStatus q) w calm it = tt
-  stage-stays (stage.ReadingText q l from len) w calm it = tt
-  stage-stays (stage.Running q) w calm it = tt
-  stage-stays (stage.Closing q OpenNext) w calm (inl gone) = inl (over q w gone)
-  stage-stays (stage.Closing q OpenNext) w calm (inr it) = inr (calm refl q w it.0, it.1)
-  stage-stays (stage.Closing q GoOn) w calm gone = over q w gone
-  stage-stays stage.Finished w calm it = tt
-  stage-stays _ w calm it = absurd w
-
 -- ---- one entry
 
 -- what a turn or a tick leaves, and a call that sets no mark
-entry-unmarked : (n : ℕ) (s : TracedState) (pid : ℕ) (actor : Actor) (did : Act)
+pub entry-unmarked : (n : ℕ) (s : TracedState) (pid : ℕ) (actor : Actor) (did : Act)
     → IsLegalEntry n s (record { actor = actor; act = did })
     → ((k : ℕ) (c : Call) (r : Reply) → actor ≡ Controller k → did ≡ act.Call c r → ((e : Errno) → r ≢ reply.Fail e)
-    → MarksNone pid s k c)
+    → MarksNone (IsOne pid) s k c)
     → IsUnmarked pid s.system → IsUnmarked pid (after s (record { actor = actor; act = did })).system
 unfolding IsLegalEntry after
 entry-unmarked n s pid (Controller by) (act.Call c r) legal plain u =
     let a : Answer = record { state = legal.1.0; reply = r } in
     let answer : answer_to s by c ≡ Some a = legal.1.1 in
-    rw answer (called-unmarked pid s by c a answer (plain by c r refl refl) u)
+    rw answer (called-unmarked (IsOne pid) s by c a answer (plain by c r refl refl) u)
 entry-unmarked n s pid (Lwp acting id) (act.Turn turned) legal plain u =
     let t : LwpTurn = record { system = legal.0; turned = turned } in
     let taken : turn_of s.system acting id ≡ Some t = legal.1 in
-    rw taken (turn-unmarked pid s.system acting id t taken u)
+    rw taken (turn-unmarked (IsOne pid) s.system acting id t taken u)
 entry-unmarked n s pid Clock (act.Tick moment) legal plain u = record { processes = u.processes }
 entry-unmarked n s pid _ _ legal plain u = absurd legal
 
@@ -128,9 +108,9 @@ module _ {n : ℕ} {who : Hiders} {controllers : List ControllerState} {first : 
   KeptAfter front = Kept who controllers first h front
 
   abbrev kept : (front back : List Entry) → h ≡ front ++ back → KeptAfter front
-  kept = kept-at n who controllers first h run.lawful run.lending run.legal run.own_calls run.are run.und
+  kept = kept-at n who controllers first h run.reached run.bytes run.legal run.own_calls run.are run.und
 
-  abbrev Over : List Entry → ℕ → Type 0
+  abbrev pub Over : List Entry → ℕ → Type 0
   Over front pid = live_process (here front).system pid ≡ None
 
   -- a process was made, and lives no more
@@ -148,9 +128,6 @@ module _ {n : ℕ} {who : Hiders} {controllers : List ControllerState} {first : 
   pub record Stepped (front : List Entry) : Type 0 where
     pub bare : (pid : ℕ) → Calm front pid ⊎ Holder who pid (here front)
     pub trusses : (k : ℕ) → hides who k ≡ true → (t : TrussState) → After front k t → Closes front t
-
-  same-truss : (a b : TrussState) (o : Option ControllerState) → o ≡ Some (FnTruss a) → o ≡ Some (FnTruss b) → a ≡ b
-  same-truss a b o one two = let both : Some (FnTruss a) ≡ Some (FnTruss b) = sym one ∙ two in cc
 
   module _ (front : List Entry) (actor : Actor) (did : Act) (back : List Entry)
       (place : h ≡ front ++ record { actor = actor; act = did } ∷ back) (stepped : Stepped front) where
@@ -180,9 +157,9 @@ module _ {n : ℕ} {who : Hiders} {controllers : List ControllerState} {first : 
         ap (λ (x : TracedState). live_process x.system pid) later-is
         ∙ stays-over n s e pid lawful-here legal-entry made over
 
-    calm-later : (pid : ℕ)
+    pub calm-later : (pid : ℕ)
         → ((k : ℕ) (c : Call) (r : Reply) → actor ≡ Controller k → did ≡ act.Call c r
-        → ((x : Errno) → r ≢ reply.Fail x) → MarksNone pid s k c)
+        → ((x : Errno) → r ≢ reply.Fail x) → MarksNone (IsOne pid) s k c)
         → Calm front pid → Calm next_front pid
     calm-later pid plain (inl u) =
         inl (subst (λ (x : TracedState). IsUnmarked pid x.system) (sym later-is)
@@ -205,7 +182,7 @@ module _ {n : ℕ} {who : Hiders} {controllers : List ControllerState} {first : 
       files : HoldsItsFiles k t s
       files = let w = truss in holds-of k s w.t w.files
 
-      made-at : (q : ℕ) → q < length t.traced → (traced_at t q).pid < s.system.made
+      pub made-at : (q : ℕ) → q < length t.traced → (traced_at t q).pid < s.system.made
       made-at q within =
           let f = files in
           control-made k (traced_at t q).pid (traced_at t q).control s lawful-here (f.control q within)
@@ -219,8 +196,10 @@ module _ {n : ℕ} {who : Hiders} {controllers : List ControllerState} {first : 
       stage-later calm =
           let f = files in
           let was = before in
-          stage-stays (Over front) (Over next_front) (Calm front) (Calm next_front) t
-          (λ q within. over-later (traced_at t q).pid (made-at q within)) t.stage f.stage calm was.stage
+          stage-stays (Over front) (Over next_front) (λ step pid. Calm front pid) (λ step pid. Calm next_front pid)
+          (Calm front) (Calm next_front) t (λ q within. over-later (traced_at t q).pid (made-at q within)) t.stage
+          f.stage (λ q step within is. calm (ap is_quiet is) q within) (λ q within is. calm (ap is_quiet is) q within)
+          was.stage
 
       foreign-closes : ((q : ℕ) → q < length t.traced → Calm front (traced_at t q).pid
           → Calm next_front (traced_at t q).pid)
@@ -235,15 +214,7 @@ module _ {n : ℕ} {who : Hiders} {controllers : List ControllerState} {first : 
     holder-later : (pid : ℕ) (x : Holder who pid s)
         → handle_of (here next_front).opens x.k x.number ≡ handle_of s.opens x.k x.number
         → Holder who pid (here next_front)
-    holder-later pid x same = record {
-      k = x.k;
-      hider = x.hider;
-      number = x.number;
-      held = x.held;
-      there = same ∙ x.there;
-      of = x.of;
-      control = x.control;
-    }
+    holder-later pid x same = holder-moves x (same ∙ x.there)
 
   -- ---- turns and ticks
 
@@ -312,15 +283,15 @@ module _ {n : ℕ} {who : Hiders} {controllers : List ControllerState} {first : 
     kept-now = kept front (call_entry j c r ∷ back) place
 
     -- the call itself
-    calm-called : (pid : ℕ) → (((x : Errno) → r ≢ reply.Fail x) → MarksNone pid v j c) → Calm front pid
+    pub calm-called : (pid : ℕ) → (((x : Errno) → r ≢ reply.Fail x) → MarksNone (IsOne pid) v j c) → Calm front pid
         → Calm later_front pid
     calm-called pid plain =
         calm-later front (Controller j) (act.Call c r) back place stepped pid
         (λ k d y by is granted.
         let who_is : j ≡ k = actor-same by in
         let what : (c ≡ d) × (r ≡ y) = act-same is in
-        subst (λ i. MarksNone pid v i d) who_is
-        (subst (MarksNone pid v j) what.0
+        subst (λ i. MarksNone (IsOne pid) v i d) who_is
+        (subst (MarksNone (IsOne pid) v j) what.0
         (plain (λ x fails. granted x (sym what.1 ∙ fails)))))
       where
         actor-same : {a b : ℕ} → Controller a ≡ Controller b → a ≡ b
@@ -343,7 +314,7 @@ module _ {n : ℕ} {who : Hiders} {controllers : List ControllerState} {first : 
         among (x ∷ xs) all = among xs (All-tail Passes x (xs ++ call_entry j c r ∷ back) all)
 
     -- of one who hides nothing
-    other-none : hides who j ≡ false → (pid : ℕ) → ((x : Errno) → r ≢ reply.Fail x) → MarksNone pid v j c
+    pub other-none : hides who j ≡ false → (pid : ℕ) → ((x : Errno) → r ≢ reply.Fail x) → MarksNone (IsOne pid) v j c
     other-none bare pid granted = record {
       none = λ handle bytes held m len is there its read.
           other-stepless who j m bare (written handle bytes is m len read r refl granted);
@@ -412,8 +383,8 @@ module _ {n : ℕ} {who : Hiders} {controllers : List ControllerState} {first : 
       ctl-same e = cc
 
       -- the message goes to another process
-      elsewhere : (pid q : ℕ) (bytes : List ℕ) → q < length tr.traced → c ≡ call.Ctl (traced_at tr q).control bytes
-          → (traced_at tr q).pid ≢ pid → MarksNone pid v j c
+      pub elsewhere : (pid q : ℕ) (bytes : List ℕ) → q < length tr.traced → c ≡ call.Ctl (traced_at tr q).control bytes
+          → (traced_at tr q).pid ≢ pid → MarksNone (IsOne pid) v j c
       elsewhere pid q bytes within is apart = record {
         none = λ handle sent held m len same there its read.
             let at : (traced_at tr q).control ≡ handle = ctl-same (sym is ∙ same) in
@@ -424,16 +395,16 @@ module _ {n : ℕ} {who : Hiders} {controllers : List ControllerState} {first : 
             absurd (apart (ap (λ (x : Held). x.pid) found ∙ its));
       }
 
-      no-message : (pid : ℕ) → ((number : ℕ) (bytes : List ℕ) → c ≢ call.Ctl number bytes) → MarksNone pid v j c
+      pub no-message : (pid : ℕ) → ((number : ℕ) (bytes : List ℕ) → c ≢ call.Ctl number bytes) → MarksNone (IsOne pid) v j c
       no-message pid none = record {
         none = λ handle bytes held m len is there its read. absurd (none handle bytes is);
       }
 
       -- of another process than those that it traces
-      foreign-none : (pid : ℕ) → ((q : ℕ) → q < length tr.traced → (traced_at tr q).pid ≢ pid) → MarksNone pid v j c
+      foreign-none : (pid : ℕ) → ((q : ℕ) → q < length tr.traced → (traced_at tr q).pid ≢ pid) → MarksNone (IsOne pid) v j c
       foreign-none pid apart = by (Calls.its-kind run front back j c r place kept-now hider)
         where
-          by : KindNow → MarksNone pid v j c
+          by : KindNow → MarksNone (IsOne pid) v j c
           by (writes q within i f named code size bytes is) = elsewhere pid q _ within is (apart q within)
           by (sends q within bytes is still) = elsewhere pid q bytes within is (apart q within)
           by (other none) = no-message pid none
@@ -479,7 +450,7 @@ module _ {n : ℕ} {who : Hiders} {controllers : List ControllerState} {first : 
           by-aside Nothing idle = by-stage tr.stage busy (sym (ap (call_beside tr tr.stage) idle) ∙ beside-is)
           by-aside _ idle = busy-aside (λ none. cc)
 
-      plain-none : is_quiet tr.stage ≡ false → (pid : ℕ) → MarksNone pid v j c
+      plain-none : is_quiet tr.stage ≡ false → (pid : ℕ) → MarksNone (IsOne pid) v j c
       plain-none busy pid = record {
         none = λ handle bytes held m len is there its read. subst CallsNoStep is (plain-call busy) m len read;
       }
@@ -534,21 +505,21 @@ module _ {n : ℕ} {who : Hiders} {controllers : List ControllerState} {first : 
             own-calm (ap is_quiet is) (traced_at tr q).pid (opens-at q step is);
       }
         where
-          closed : Closing.Closed n who controllers first h run.lawful run.lending run.legal run.own_calls run.are
+          closed : Closing.Closed n who controllers first h run.reached run.bytes run.legal run.own_calls run.are
               run.und front
           closed =
-              Closing.closed-at n who controllers first h run.lawful run.lending run.legal run.own_calls run.are run.und
+              Closing.closed-at n who controllers first h run.reached run.bytes run.legal run.own_calls run.are run.und
               front (call_entry j c r ∷ back) place
 
           called-within : (q : ℕ) → called_at tr.stage tr.aside ≡ Some q → q < length tr.traced
           called-within =
-              Closing.called-within n who controllers first h run.lawful run.lending run.legal run.own_calls run.are
+              Closing.called-within n who controllers first h run.reached run.bytes run.legal run.own_calls run.are
               run.und front back j c r place closed hider
 
           told-gone : (q : ℕ) → called_at tr.stage tr.aside ≡ Some q → answer_of r ≡ Gone
               → Over front (traced_at tr q).pid
           told-gone =
-              Closing.gone n who controllers first h run.lawful run.lending run.legal run.own_calls run.are run.und
+              Closing.gone n who controllers first h run.reached run.bytes run.legal run.own_calls run.are run.und
               front back j c r place closed hider
 
           opens-at : (q : ℕ) (step : OpeningStep) → tr.stage ≡ stage.Opening q step → Calm front (traced_at tr q).pid
@@ -737,13 +708,16 @@ module _ {n : ℕ} {who : Hiders} {controllers : List ControllerState} {first : 
       (legal-here n first front e (middle ++ back) (subst (λ (es : List Entry). IsLegal n first es) place run.legal))
       stepped))
 
+  pub first-calm : (pid : ℕ) → Calm [] pid
+  first-calm pid = inl (record {
+    processes =
+        All-weaker IsUnsteppedProcess (IsUnmarkedAt (IsOne pid)) (λ x it. record { lwps = λ same. it.lwps })
+        first.system.processes unstepped.processes;
+  })
+
   at-first : Stepped []
   at-first = record {
-    bare = λ pid. inl (inl (record {
-      processes =
-          All-weaker IsUnsteppedProcess (IsUnmarkedAt pid) (λ x it. record { lwps = λ same. it.lwps })
-          first.system.processes unstepped.processes;
-    }));
+    bare = λ pid. inl (first-calm pid);
     trusses = λ k hider t is.
         let i = run.are.trusses k hider in
         subst (Closes []) (same-truss (first_truss i.options) t _ i.starts is)

@@ -1,16 +1,15 @@
-use Rattle.std.proofs.Common.{◌≡◌, ◌≢◌, ◌&&◌, ◌||◌, ◌==◌, ℕ, Bool, true, false, eqb, Some, length, refl, sym, ap, inl, inr}
-use Rattle.std.proofs.lemmas.Bool.{cases_Bool, eqb-true, false≢true}
+use Rattle.std.proofs.Common.{◌≡◌, ◌≢◌, ◌&&◌, ◌||◌, ℕ, Bool, true, false, Some, length, refl, sym}
+use Rattle.std.proofs.lemmas.Bool.{false≢true}
 use Rattle.std.specs.Bool.{IsTrue}
 use Rattle.pr_function_hides.proofs.OwnFiles.{IsBeside}
 use Rattle.pr_function_hides.proofs.SentMessages.{Admits, Clears, Sends, aside-sends, closing-sends, opening-sends}
-use Rattle.pr_function_hides.proofs.UnmarkedCalls.{SetsNoStep}
 use Rattle.pr_function_hides.specs.FunctionHiders.{ArePatchable}
 use Rattle.pr_function_laws.proofs.SoundLemmas.{AsideIsBelow}
 use Rattle.pr_hidden.specs.Hiders.{Hiders, are_some, hides}
 use Rattle.pr_hidden.specs.Tidiness.{is_function_message, is_hider_message, is_probe_message}
 use Rattle.pr_model.specs.Passive.{is_passive_message}
 use Rattle.pr_model.specs.declared.calls.Call.{Call}
-use Rattle.pr_num.specs.Control.{has_flags, single_step, stop_again}
+use Rattle.pr_num.specs.Control.{has_flags}
 use Rattle.pr_num.specs.Sets.{common_word}
 use Rattle.pr_num.specs.declared.messages.Message.{Message}
 use Rattle.pr_num.specs.declared.messages.Message.TheVariants as message
@@ -21,6 +20,7 @@ use Rattle.pr_truss.specs.declared.asides.Aside.TheVariants.{Nothing, Patching}
 use Rattle.pr_truss.specs.declared.stages.AfterClosing.{AfterClosing}
 use Rattle.pr_truss.specs.declared.stages.OpeningStep.{OpeningStep}
 use Rattle.pr_truss.specs.declared.stages.Stage.TheVariants.{Opening, Closing}
+use Rattle.pr_probe_laws.proofs.MarkCalls.{SetsNoStep, passive-plain}
 
 -- Which calls set no step mark: those of who hides nothing, where they are passive; and those of a truss that opens a
 -- process or closes its files.
@@ -37,7 +37,8 @@ admits-stepless = record {
   sfault = λ set. tt;
   sentry = λ set. tt;
   sexit = λ set. tt;
-  set = λ modes. tt;
+  follow = tt;
+  release = tt;
   unset = λ modes. tt;
   read = λ at size. tt;
   write = λ at. tt;
@@ -67,22 +68,10 @@ module _ (t : TrussState) (fit : ArePatchable t.options) (c : Call) where
 
 -- ---- the calls of who hides nothing
 
-run-plain : (flags : ℕ) → ((flags == 0) || (flags == stop_again)) ≡ true → has_flags flags single_step ≡ false
-unfolding has_flags common_word
-run-plain flags passive = elim (cases_Bool (eqb flags 0)) [
-  | inl zero ↦ ap (λ (f : ℕ). has_flags f single_step) (eqb-true flags 0 zero)
-  | inr some ↦ ap (λ (f : ℕ). has_flags f single_step) (eqb-true flags stop_again (rw some at passive))
-]
-
-passive-stepless : (m : Message) → is_passive_message m ≡ true → SetsNoStep m
-unfolding is_passive_message
-passive-stepless (message.Run flags) is = run-plain flags is
-passive-stepless _ is = tt
-
 pub other-stepless : (who : Hiders) (k : ℕ) (m : Message) → hides who k ≡ false
     → IsTrue (is_passive_message m || is_hider_message who k m) → SetsNoStep m
 other-stepless who k m bare allowed =
-    passive-stepless m
+    passive-plain m
     (by (is_passive_message m) (are_some (who.functions k)) (who.probes k) (is_function_message m) (is_probe_message m)
     bare allowed)
   where

@@ -62,11 +62,13 @@ use Rattle.pr_function_hides.proofs.MarkedPatches.{patch-there}
 use Rattle.pr_function_hides.proofs.OwnCalls.{own-planted}
 use Rattle.pr_function_hides.proofs.OwnTidy.{Kind, kind}
 use Rattle.pr_function_hides.proofs.PlantedReplies.{learnt-pid}
+use Rattle.pr_function_hides.proofs.RunFlags.{flags-fed}
 use Rattle.pr_function_hides.proofs.Unborrowed.{IsUnborrowed, unborrowed-now}
 use Rattle.pr_function_hides.proofs.WriteReplies.{mapped-user, write-granted}
 use Rattle.pr_function_hides.specs.FunctionHiders.{ArePatchable, IsTrussAt, StandAsMarked, patch_of}
 use Rattle.pr_function_hides.proofs.OwnFiles.{HoldsItsFiles, IsBeside, IsWithin}
-use Rattle.pr_function_hides.specs.TidyWrites.{IsMappedIn}
+use Rattle.pr_function_hides.specs.TidyWrites.{IsMappedIn, IsTrussAfter}
+use Rattle.pr_function_hides.proofs.CopyFree.{replaced-bare}
 use Rattle.pr_function_hides.proofs.TidyKept.{AreMappedIn, Holder, IsRunOfTrusses, Kept, Lives, Truss}
 use Rattle.pr_function_hides.proofs.TidyEntries.{now-is, at-is, its-lawful, its-legal, its-call, its-lending, foreign-maps, later-unborrowed, lived, quiet-kept}
 
@@ -129,22 +131,26 @@ module _ {n : ℕ} {who : Hiders} {controllers : List ControllerState} {first : 
 
   -- ---- of one who hides nothing
 
-  pub other-kept : hides who j ≡ false → Kept who controllers first h later_front
-  other-kept bare =
-      quiet-kept run front e back place kept (λ pid. called-stays pid (by pid c))
-      (λ k hider. foreign-same k (λ same. false≢true (sym bare ∙ ap (hides who) same ∙ hider)))
-      (λ k m hider. foreign-handles k m (λ same. false≢true (sym bare ∙ ap (hides who) same ∙ hider)))
-      (λ pid p q live later all. called-maps pid p q live later (at front pid).patches all)
+  -- it changes no patches
+  pub other-stays : hides who j ≡ false → (pid : ℕ) → IsAsPatched (at front pid) (at later_front pid)
+  other-stays bare pid = called-stays pid (by c)
     where
       nothing : (fs : List Patch) (b : Bool) → (are_some fs || b) ≡ false → fs ≡ []
       nothing [] b is = refl
       nothing (f ∷ fs) b is = absurd (false≢true (sym is))
 
-      by : (pid : ℕ) (d : Call) → IsAsPatched (at front pid) (covers_called who (at front) v j d r pid)
-      by pid (call.Ctl number bytes) =
+      by : (d : Call) → IsAsPatched (at front pid) (covers_called who (at front) v j d r pid)
+      by (call.Ctl number bytes) =
           ctl-other who none (at front) v j pid number bytes r (nothing (who.functions j) (who.probes j) bare)
-      by pid (call.Close number) = close-other who none (at front) v j pid number r bare
-      by pid d = call-still who none (at front) v j pid d r refl
+      by (call.Close number) = close-other who none (at front) v j pid number r bare
+      by d = call-still who none (at front) v j pid d r refl
+
+  pub other-kept : hides who j ≡ false → Kept who controllers first h later_front
+  other-kept bare =
+      quiet-kept run front e back place kept (other-stays bare)
+      (λ k hider. foreign-same k (λ same. false≢true (sym bare ∙ ap (hides who) same ∙ hider)))
+      (λ k m hider. foreign-handles k m (λ same. false≢true (sym bare ∙ ap (hides who) same ∙ hider)))
+      (λ pid p q live later all. called-maps pid p q live later (at front pid).patches all)
 
   -- ---- of truss
 
@@ -267,7 +273,7 @@ module _ {n : ℕ} {who : Hiders} {controllers : List ControllerState} {first : 
         (λ q within lives. lived run front e back place kept j hider q within lives)
         (λ q within lives. w.stand q within (lived run front e back place kept j hider q within lives))
         shape fresh
-        (λ q tells. run.und.replaced front back j c r tr q place hider w.is tells)
+        (λ q tells. replaced-bare run front back j c r place kept hider q tells)
         granted next has (calm-reply r (run.und.unbroken front back j c r place hider))
 
     files-later : Under (Files j (now later_front)) (files-alike j (now later_front)) (fed_functions tr r)
@@ -302,10 +308,11 @@ module _ {n : ℕ} {who : Hiders} {controllers : List ControllerState} {first : 
         (unborrowed-now pid v.system lawful-now.system
         (open-made v j pid lawful-now.system own.answer (given _ is) (ap answer_of reply-is ∙ accepted))
         (λ p live.
-        run.und.unlent front back j pid r p (place ∙ ap (λ (d : Call). front ++ call_entry j d r ∷ back) is) hider
+        run.und.untouched.unlent front back j pid r p
+        (place ∙ ap (λ (d : Call). front ++ call_entry j d r ∷ back) is) hider
         accepted live))
 
-    new-apart : (pid : ℕ) → c ≡ call.Open pid 0 file.Ctl WriteExcl → answer_of r ≡ Accepted → (i : ℕ)
+    pub new-apart : (pid : ℕ) → c ≡ call.Open pid 0 file.Ctl WriteExcl → answer_of r ≡ Accepted → (i : ℕ)
         → i < length tr.traced → (traced_at tr i).pid ≢ pid
     new-apart pid is accepted i within same =
         open-finds v j pid own.answer (given _ is) (ap answer_of reply-is ∙ accepted)
@@ -371,15 +378,20 @@ module _ {n : ℕ} {who : Hiders} {controllers : List ControllerState} {first : 
         (sym (ap (λ b. cond b (call_beside tr tr.stage tr.aside) (next_call_of tr)) has) ∙ next)) in
         u.each
 
-    pub own-truss : Truss who controllers first h later_front j
+    pub own-after : IsTrussAfter who controllers first h later_front j (fed_functions tr r)
     unfolding after_reply
+    own-after =
+        let w = truss-now in
+        ap (λ (cs : List ControllerState). slice_get cs j) called-controllers
+        ∙ fed-own (controllers_at controllers front) j r (FnTruss tr) w.is
+
+    pub own-truss : Truss who controllers first h later_front j
     own-truss =
         let w = truss-now in
         record {
           it = w.it;
           t = fed_functions tr r;
-          is = ap (λ (cs : List ControllerState). slice_get cs j) called-controllers
-              ∙ fed-own (controllers_at controllers front) j r (FnTruss tr) w.is;
+          is = own-after;
           sound = function-sound o (λ (step : Stepped). Unit {0}) tr r w.sound
               (λ q l told event function fresh_event at_breakpoint. tt);
           stand = λ q within lives.
@@ -390,4 +402,7 @@ module _ {n : ℕ} {who : Hiders} {controllers : List ControllerState} {first : 
               (cs (traced_at (fed_functions tr r) q).pid).patches) (sym called-is) (stand-later q within lives));
           files = files-later;
           alone = alone-later;
+          flags =
+              flags-fed tr r holds-now.off holds-now.follow holds-now.stage holds-now.beside
+              (calm-reply r (run.und.unbroken front back j c r place hider)) w.flags has;
         }

@@ -4,7 +4,7 @@ use Rattle.std.proofs.lemmas.Option.{none-some, same_Some}
 use Rattle.pr_api.specs.Entries.{call_entry}
 use Rattle.pr_function_hides.proofs.CallFacts.{legal-here}
 use Rattle.pr_function_hides.proofs.RefusedCopies.{call_in, performed-call, refused-leaves}
-use Rattle.pr_function_hides.specs.TidyWrites.{TurnsTidily, makes_copy}
+use Rattle.pr_function_hides.specs.TidyWrites.{TurnsTidily}
 use Rattle.pr_hidden.specs.Covers.{Covers}
 use Rattle.pr_hidden.specs.Following.{IsReturnable, MayEnd}
 use Rattle.pr_hidden.specs.Hiders.{Hiders, covers_at}
@@ -30,6 +30,7 @@ use Rattle.pr_probe_laws.proofs.TidyEffects.{IsCopying}
 use Rattle.pr_probe_laws.proofs.TidyTurns.{row-tidy}
 use Rattle.pr_truss.specs.FunctionEvents.{copies_memory}
 use Rattle.pr_world.specs.ControllerStates.{ControllerState}
+use Rattle.pr_function_hides.specs.Copying.{makes_copy}
 
 -- What turns change, and whom controllers kill, is tidy where breakpoints stand.
 

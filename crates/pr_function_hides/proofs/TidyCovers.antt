@@ -44,7 +44,7 @@ use Rattle.pr_function_hides.proofs.WriteReplies.{write-mapped}
 use Rattle.pr_function_hides.specs.FunctionHiders.{ArePatchable, IsPatchable, patch_of}
 use Rattle.pr_function_hides.proofs.OwnFiles.{HoldsItsFiles}
 use Rattle.pr_function_hides.specs.TidyWrites.{IsMappedIn}
-use Rattle.pr_function_hides.proofs.TidyKept.{AreMappedIn, Holder, IsRunOfTrusses, Kept, Lives, Truss}
+use Rattle.pr_function_hides.proofs.TidyKept.{AreMappedIn, Holder, IsRunOfTrusses, Kept, Lives, Truss, holder-moves}
 use Rattle.pr_function_hides.proofs.TidyEntries.{its-lawful, mapped-later, unlent-later, lived, foreign-truss, sole}
 use Rattle.pr_function_hides.proofs.TidyCalls as Calls
 
@@ -170,13 +170,15 @@ module _ {n : ℕ} {who : Hiders} {controllers : List ControllerState} {first : 
           (ctl-still who none (at front) v j pid (traced_at tr m).control bytes r still)
       by-kind (other never) = by-call c refl never
 
+      -- its patches stay
+      pub foreign-stays : IsAsPatched (at front pid) (at later_front pid)
+      foreign-stays = Calls.called-stays run front back j c r place kept pid (by-kind its-kind)
+
     others-truss : (k : ℕ) (hider_too : hides who k ≡ true) → j ≢ k → Truss who controllers first h later_front k
     others-truss k hider_too apart =
         foreign-truss run front e back place kept k hider_too
         (Calls.foreign-same run front back j c r place kept k apart)
-        (λ q within.
-        Calls.called-stays run front back j c r place kept (pid k hider_too apart q within)
-        (by-kind k hider_too apart q within its-kind))
+        (λ q within. foreign-stays k hider_too apart q within)
         (λ m. foreign-handles k m apart)
 
     each-truss : (k : ℕ) (hider_too : hides who k ≡ true) → Truss who controllers first h later_front k
@@ -416,15 +418,7 @@ module _ {n : ℕ} {who : Hiders} {controllers : List ControllerState} {first : 
     held-later pid x = by (cases_eq j x.k)
       where
         moved : handle_of (now later_front).opens x.k x.number ≡ Some x.held → Holder who pid (now later_front)
-        moved there = record {
-          k = x.k;
-          hider = x.hider;
-          number = x.number;
-          held = x.held;
-          there = there;
-          of = x.of;
-          control = x.control;
-        }
+        moved there = holder-moves x there
 
         by : (j ≡ x.k) ⊎ (j ≢ x.k) → ((at later_front pid).patches ≡ []) ⊎ Holder who pid (now later_front)
         by (inr apart) = inr (moved (foreign-handles x.k x.number apart ∙ x.there))

@@ -45,8 +45,10 @@ use Rattle.pr_function_hides.proofs.MarkedPatches.{through-all}
 use Rattle.pr_function_hides.proofs.Unborrowed.{IsUnborrowed, entry-unborrowed, unborrowed-none, unborrowed-now}
 use Rattle.pr_function_hides.specs.FunctionHiders.{StandAsMarked}
 use Rattle.pr_function_hides.proofs.OwnFiles.{HoldsItsFiles}
-use Rattle.pr_function_hides.specs.TidyWrites.{IsMappedIn, makes_copy}
-use Rattle.pr_function_hides.proofs.TidyKept.{AreMappedIn, Holder, IsRunOfTrusses, Kept, Lives, Truss}
+use Rattle.pr_function_hides.specs.TidyWrites.{IsMappedIn}
+use Rattle.pr_function_hides.proofs.CopyFree.{copies-bare}
+use Rattle.pr_function_hides.proofs.TidyKept.{AreMappedIn, Holder, IsRunOfTrusses, Kept, Lives, Truss, holder-moves}
+use Rattle.pr_function_hides.specs.Copying.{makes_copy}
 
 -- What is kept is so one entry later, where the entry changes nothing that is hidden; so it is kept by each turn, and
 -- by each tick of the clock.
@@ -71,7 +73,7 @@ module _ {n : ℕ} {who : Hiders} {controllers : List ControllerState} {first : 
 
   pub lending-at : (front back : List Entry) → h ≡ front ++ back → AreLending (now front).system
   lending-at front back place =
-      history-lends n first front run.lawful run.lending
+      history-lends n first front (let x = run.reached in x.lawful) (let x = run.reached in x.lending)
       (front-legal n first front back (subst (λ (es : List Entry). IsLegal n first es) place run.legal))
 
   -- ---- one entry
@@ -92,7 +94,7 @@ module _ {n : ℕ} {who : Hiders} {controllers : List ControllerState} {first : 
 
     pub its-lawful : IsLawful s
     its-lawful =
-        history-state n first front run.lawful
+        history-state n first front (let x = run.reached in x.lawful)
         (front-legal n first front (e ∷ back) (subst (λ (es : List Entry). IsLegal n first es) place run.legal))
 
     pub its-legal : IsLegalEntry n s e
@@ -227,6 +229,7 @@ module _ {n : ℕ} {who : Hiders} {controllers : List ControllerState} {first : 
                 (w.stand q within (lived q within lives));
             files = foreign-under k (now front) (now next_front) w.t handles w.files;
             alone = λ q within. later-unborrowed (traced_at w.t q).pid (w.alone q within);
+            flags = w.flags;
           }
 
       -- nobody else has its processes open for writing
@@ -263,28 +266,28 @@ module _ {n : ℕ} {who : Hiders} {controllers : List ControllerState} {first : 
           by : (pid : ℕ) → ((at front pid).patches ≡ []) ⊎ Holder who pid (now front)
               → ((at next_front pid).patches ≡ []) ⊎ Holder who pid (now next_front)
           by pid (inl nothing) = let a = stays pid in inl (a.patches ∙ nothing)
-          by pid (inr it) = inr (record {
-            k = it.k;
-            hider = it.hider;
-            number = it.number;
-            held = it.held;
-            there = handles it.k it.number it.hider ∙ it.there;
-            of = it.of;
-            control = it.control;
-          })
+          by pid (inr it) = inr (holder-moves it (handles it.k it.number it.hider ∙ it.there))
 
   -- ---- turns, and ticks of the clock
+
+  -- a turn changes no patches
+  pub turn-covers : (front back : List Entry) (acting id : ℕ) (turned : Turned)
+      → h ≡ front ++ record { actor = Lwp acting id; act = act.Turn turned } ∷ back → Kept who controllers first h front
+      → (pid : ℕ)
+      → IsAsPatched (at front pid) (at (front ++ record { actor = Lwp acting id; act = act.Turn turned } ∷ []) pid)
+  unfolding covers_after
+  turn-covers front back acting id turned place kept pid =
+      subst (λ (cs : Covers). IsAsPatched (at front pid) (cs pid))
+      (sym (at-is front (record { actor = Lwp acting id; act = act.Turn turned }) back place kept))
+      (turn-stays who none (at front) (now front) acting id turned.did pid (kept.no_agent acting)
+      (λ is. copies-bare run front back acting id turned place (replaced-copies turned.did is) kept))
 
   pub turn-kept : (front back : List Entry) (acting id : ℕ) (turned : Turned)
       → h ≡ front ++ record { actor = Lwp acting id; act = act.Turn turned } ∷ back → Kept who controllers first h front
       → Kept who controllers first h (front ++ record { actor = Lwp acting id; act = act.Turn turned } ∷ [])
-  unfolding covers_after controllers_after
+  unfolding controllers_after
   turn-kept front back acting id turned place kept =
-      quiet-kept front e back place kept
-      (λ pid.
-      subst (λ (cs : Covers). IsAsPatched (at front pid) (cs pid)) (sym (at-is front e back place kept))
-      (turn-stays who none (at front) (now front) acting id turned.did pid (kept.no_agent acting)
-      (λ is. run.und.copies front back acting id turned place (replaced-copies turned.did is))))
+      quiet-kept front e back place kept (turn-covers front back acting id turned place kept)
       (λ k hider. ap (λ (cs : List ControllerState). slice_get cs k) (controllers-push controllers front e))
       (λ k m hider.
       ap (λ (x : TracedState). handle_of x.opens k m) (now-is front e back place kept)
@@ -301,7 +304,8 @@ module _ {n : ℕ} {who : Hiders} {controllers : List ControllerState} {first : 
           let mapping : Patch → Type 0 = λ (f : Patch). IsMappedIn p.space f → IsMappedIn q.space f in
           through-all (IsMappedIn p.space) (IsMappedIn q.space) (at front pid).patches
           (subst (λ i. All mapping (at front i).patches) same
-          (run.und.stays_mapped front back acting id turned p q place (ap (live_process (now front).system) same ∙ live)
+          (run.und.untouched.stays_mapped front back acting id turned p q place
+          (ap (live_process (now front).system) same ∙ live)
           (ap (live_process (after (now front) e).system) same
           ∙ later-is front e back place kept pid (Some q) later))) all
 
@@ -316,14 +320,22 @@ module _ {n : ℕ} {who : Hiders} {controllers : List ControllerState} {first : 
           lwp-same : {a b i j : ℕ} → Lwp a i ≡ Lwp b j → a ≡ b
           lwp-same is = cc
 
+  -- nor does a tick
+  pub tick-covers : (front back : List Entry) (moment : ℕ)
+      → h ≡ front ++ record { actor = Clock; act = act.Tick moment } ∷ back → Kept who controllers first h front
+      → at (front ++ record { actor = Clock; act = act.Tick moment } ∷ []) ≡ at front
+  unfolding covers_after
+  tick-covers front back moment place kept =
+      at-is front (record { actor = Clock; act = act.Tick moment }) back place kept
+
   pub tick-kept : (front back : List Entry) (moment : ℕ)
       → h ≡ front ++ record { actor = Clock; act = act.Tick moment } ∷ back → Kept who controllers first h front
       → Kept who controllers first h (front ++ record { actor = Clock; act = act.Tick moment } ∷ [])
-  unfolding covers_after controllers_after
+  unfolding controllers_after
   tick-kept front back moment place kept =
       quiet-kept front e back place kept
       (λ pid.
-      subst (λ (cs : Covers). IsAsPatched (at front pid) (cs pid)) (sym (at-is front e back place kept))
+      subst (λ (cs : Covers). IsAsPatched (at front pid) (cs pid)) (sym (tick-covers front back moment place kept))
       (patched-self (at front pid)))
       (λ k hider. ap (λ (cs : List ControllerState). slice_get cs k) (controllers-push controllers front e))
       (λ k m hider.

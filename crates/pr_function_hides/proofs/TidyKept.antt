@@ -1,13 +1,13 @@
 use Rattle.std.proofs.Common.{◌≡◌, ◌⊎◌, ℕ, true, false, Some, List, [], All}
 use Rattle.pr_hidden.specs.Covers.{Covers, Patch}
 use Rattle.pr_hidden.specs.Hiders.{Hiders, covers_at, hides, is_ctl}
-use Rattle.pr_lending.specs.Lending.{AreLending}
 use Rattle.pr_model.specs.Handles.{handle_of}
-use Rattle.pr_model.specs.Lawful.{IsLawful}
 use Rattle.pr_model.specs.Legal.{IsLegal, state_after}
 use Rattle.pr_model.specs.State.{TracedProcess, TracedState, live_process}
 use Rattle.pr_model.specs.declared.events.Entry.{Entry}
 use Rattle.pr_model.specs.declared.handles.Held.{Held}
+use Rattle.pr_reached.specs.ByteHistories.{HasBytes}
+use Rattle.pr_reached.specs.Reached.{IsReached}
 use Rattle.pr_report_laws.proofs.Invariant.StandLemmas.{Each}
 use Rattle.pr_truss.specs.Trusses.{TrussState}
 use Rattle.pr_truss.specs.declared.marks.Stepped.{Stepped}
@@ -17,6 +17,8 @@ use Rattle.pr_tool_laws.specs.OwnCalls.{AreOwnCalls}
 use Rattle.pr_function_laws.proofs.SoundLemmas.{IsSound}
 use Rattle.pr_function_hides.proofs.FilesCalls.{Files, files-alike}
 use Rattle.pr_function_hides.proofs.FilesWalk.{Under}
+use Rattle.pr_function_hides.proofs.PlantedReplies.{So}
+use Rattle.pr_function_hides.proofs.RunFlags.{FlagsOf}
 use Rattle.pr_function_hides.proofs.Unborrowed.{IsUnborrowed}
 use Rattle.pr_function_hides.specs.FunctionHiders.{AreTrusses, IsTrussAt, StandAsMarked}
 use Rattle.pr_function_hides.specs.TidyWrites.{AreUndisturbed, IsMappedIn, IsTrussAfter}
@@ -24,14 +26,14 @@ use Rattle.pr_function_hides.specs.TidyWrites.{AreUndisturbed, IsMappedIn, IsTru
 -- What is kept along a history of trusses that are undisturbed: what each of them has planted, what is hidden of whom,
 -- and that the memory is mapped in which breakpoints stand.
 
--- a legal history from a lawful state, in which each one who hides is a truss that is undisturbed
+-- a legal history from a state that the machine reaches, in which each one who hides is a truss that is undisturbed
 pub record IsRunOfTrusses (n : ℕ) (who : Hiders) (controllers : List ControllerState) (first : TracedState)
     (h : List Entry) : Type 0 where
-  pub lawful : IsLawful first
-  pub lending : AreLending first.system
+  pub reached : IsReached first
+  pub bytes : HasBytes h
   pub legal : IsLegal n first h
   pub own_calls : AreOwnCalls controllers h
-  pub are : AreTrusses who controllers
+  pub are : AreTrusses who controllers first
   pub und : AreUndisturbed who controllers first h
 
 -- a process lives
@@ -69,6 +71,7 @@ module _ (who : Hiders) (controllers : List ControllerState) (first : TracedStat
         → StandAsMarked t.options v.marks.planted (at front v.pid).patches) t.traced
     pub files : Under (Files k (now front)) (files-alike k (now front)) t
     pub alone : Each (λ (v : Traced). IsUnborrowed v.pid (now front).system) t.traced
+    pub flags : Each (So FlagsOf) t.traced
 
   -- what is so after some entries
   pub record Kept (front : List Entry) : Type 0 where
@@ -79,3 +82,16 @@ module _ (who : Hiders) (controllers : List ControllerState) (first : TracedStat
         → AreMappedIn p (at front pid).patches
     pub unlent : (pid lender : ℕ) (p : TracedProcess) → live_process (now front).system pid ≡ Some p
         → p.lender ≡ Some lender → (at front pid).patches ≡ []
+
+-- who holds a process goes on so, while that handle stays
+pub holder-moves : {who : Hiders} {pid : ℕ} {s u : TracedState} (x : Holder who pid s)
+    → handle_of u.opens x.k x.number ≡ Some x.held → Holder who pid u
+holder-moves x there = record {
+  k = x.k;
+  hider = x.hider;
+  number = x.number;
+  held = x.held;
+  there = there;
+  of = x.of;
+  control = x.control;
+}

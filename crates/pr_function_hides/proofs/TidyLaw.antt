@@ -1,50 +1,48 @@
-use Rattle.std.proofs.Common.{◌≡◌, ◌<◌, ◌++◌, ℕ, Option, Some, None, List, [], ◌∷◌, length, refl, sym, subst, ◌∙◌, inl}
+use Rattle.std.proofs.Common.{◌≡◌, ◌++◌, ℕ, Option, Some, None, List, [], ◌∷◌, refl, sym, subst, ◌∙◌, inl}
+use Rattle.pr_reached.specs.ByteHistories.{HasBytes}
+use Rattle.pr_reached.specs.Reached.{IsReached}
 use Rattle.std.proofs.lemmas.List.{append-nil, append_assoc}
 use Rattle.std.proofs.lemmas.List.Elements.{All-nil}
-use Rattle.pr_api.specs.Entries.{call_entry}
 use Rattle.pr_hidden.specs.Covers.{Covers}
 use Rattle.pr_hidden.specs.Hiders.{Hiders, covers_at}
 use Rattle.pr_lending.specs.Lending.{AreLending}
-use Rattle.pr_model.specs.Lawful.{IsLawful}
 use Rattle.pr_model.specs.Legal.{IsLegal, IsLegalEntry, state_after}
 use Rattle.pr_model.specs.State.{TracedProcess, TracedState, live_process}
-use Rattle.pr_model.specs.declared.calls.Call.TheVariants as call
 use Rattle.pr_model.specs.declared.events.Act.{Act}
 use Rattle.pr_model.specs.declared.events.Act.TheVariants as act
 use Rattle.pr_model.specs.declared.events.Actor.{Actor}
 use Rattle.pr_model.specs.declared.events.Actor.TheVariants.{Controller, Lwp, Clock}
 use Rattle.pr_model.specs.declared.events.Entry.{Entry}
-use Rattle.pr_truss.specs.Asides.{marks_at}
-use Rattle.pr_truss.specs.Trusses.{TrussState, first_truss, traced_at}
+use Rattle.pr_truss.specs.Trusses.{first_truss}
 use Rattle.pr_truss.specs.declared.marks.Stepped.{Stepped}
 use Rattle.pr_truss.specs.declared.processes.Traced.{Traced}
-use Rattle.pr_world.specs.ControllerStates.{ControllerState, FnTruss}
+use Rattle.pr_world.specs.ControllerStates.{ControllerState}
 use Rattle.pr_tool_laws.specs.OwnCalls.{AreOwnCalls}
 use Rattle.pr_function_laws.proofs.SoundLemmas.{first-sound}
 use Rattle.pr_function_hides.proofs.CallFacts.{legal-here}
 use Rattle.pr_function_hides.proofs.FilesCalls.{Files, files-alike}
 use Rattle.pr_function_hides.proofs.FilesWalk.{first-under-truss}
 use Rattle.pr_function_hides.proofs.MappedMemory.{bare-patches, lender-bare, lender-lives}
-use Rattle.pr_function_hides.proofs.PlantedReplies.{first-so-truss}
-use Rattle.pr_function_hides.proofs.TidyChanges.{kill-tidy, turn-changes}
+use Rattle.pr_function_hides.proofs.PlantedReplies.{So, first-so-truss}
+use Rattle.pr_function_hides.proofs.RunFlags.{FlagsOf}
 use Rattle.pr_function_hides.proofs.Unborrowed.{IsUnborrowed}
 use Rattle.pr_function_hides.specs.FunctionHiders.{AreTrusses, StandAsMarked}
-use Rattle.pr_function_hides.specs.TidyWrites.{AreUndisturbed, IsMappedIn, WritesTidily}
+use Rattle.pr_function_hides.specs.TidyWrites.{AreUndisturbed, IsMappedIn}
 use Rattle.pr_function_hides.proofs.TidyKept.{IsRunOfTrusses, Kept, Lives}
 use Rattle.pr_function_hides.proofs.TidyEntries.{lending-at, turn-kept, tick-kept}
 use Rattle.pr_function_hides.proofs.TidyCovers.{called-kept}
-use Rattle.pr_function_hides.proofs.TidySent.{sent-tidy}
 
--- The writes of each truss are tidy, and the breakpoints that stand are those that it has marked.
+-- The breakpoints that stand are those that each truss has marked; and nothing is hidden of who borrows or lends
+-- memory.
 
 module _ (n : ℕ) (who : Hiders) (controllers : List ControllerState) (first : TracedState) (h : List Entry)
-    (lawful : IsLawful first) (lending : AreLending first.system) (legal : IsLegal n first h)
+    (reached : IsReached first) (bytes : HasBytes h) (legal : IsLegal n first h)
     (own_calls : AreOwnCalls controllers h)
-    (are : AreTrusses who controllers) (und : AreUndisturbed who controllers first h) where
+    (are : AreTrusses who controllers first) (und : AreUndisturbed who controllers first h) where
   abbrev run : IsRunOfTrusses n who controllers first h
   run = record {
-    lawful = lawful;
-    lending = lending;
+    reached = reached;
+    bytes = bytes;
     legal = legal;
     own_calls = own_calls;
     are = are;
@@ -69,14 +67,15 @@ module _ (n : ℕ) (who : Hiders) (controllers : List ControllerState) (first : 
           t = first_truss i.options;
           is = i.starts;
           sound = first-sound i.options (λ (step : Stepped). Unit {0});
-          stand = first-so-truss (λ pid planted. Lives first pid
-              → StandAsMarked (first_truss i.options).options planted (at [] pid).patches) i.options;
+          stand = first-so-truss (λ (v : Traced). Lives first v.pid
+              → StandAsMarked (first_truss i.options).options v.marks.planted (at [] v.pid).patches) i.options;
           files = first-under-truss (Files k first) (files-alike k first) i.options i.follows_none;
           alone =
               let u =
               first-under-truss (λ (v : Traced). IsUnborrowed v.pid first.system)
               (λ x y same it. subst (λ m. IsUnborrowed m first.system) (sym same.pid) it) i.options i.follows_none in
               u.each;
+          flags = first-so-truss (So FlagsOf) i.options;
         };
     bare = λ pid. inl refl;
     no_agent = λ pid. refl;
@@ -108,7 +107,7 @@ module _ (n : ℕ) (who : Hiders) (controllers : List ControllerState) (first : 
   kept-at front back place = walk front [] back place at-first
 
   -- nothing is hidden of a borrower, nor of its lender
-  lenders-at : (front back : List Entry) (pid lender : ℕ) (p : TracedProcess) → h ≡ front ++ back
+  pub lenders-at : (front back : List Entry) (pid lender : ℕ) (p : TracedProcess) → h ≡ front ++ back
       → live_process (now front).system pid ≡ Some p → p.lender ≡ Some lender
       → ((at front pid).patches ≡ []) × ((at front lender).patches ≡ [])
   lenders-at front back pid lender p place live lends = (
@@ -125,25 +124,3 @@ module _ (n : ℕ) (who : Hiders) (controllers : List ControllerState) (first : 
           let kept = kept-at front back place in
           bare-patches q.space (at front lender).patches
           (lender-bare (now front).system pid lender p lending-now live lends q lives) (kept.mapped lender q lives)
-
-  pub writes-tidily : WritesTidily who controllers first h
-  writes-tidily = record {
-    tidy = λ front back k handle bytes r place hider begins.
-        sent-tidy run front back k handle bytes r place
-        (kept-at front (call_entry k (call.Ctl handle bytes) r ∷ back) place) hider begins;
-    turns = λ front back pid id t p l place live there.
-        turn-changes n who controllers first h legal und.copies lenders-at front back pid id t p l place live there;
-    kills = λ front back k pid number r place.
-        kill-tidy n who controllers first h legal und.copies lenders-at front back k pid number r place;
-    marked = λ front back k t q p place hider is within live.
-        let w = let kept = kept-at front back place in kept.trusses k hider in
-        let same : w.t ≡ t = same-truss w.t t (sym w.is ∙ is) in
-        subst (λ (x : TrussState). q < length x.traced → live_process (now front).system (traced_at x q).pid ≡ Some p
-        → StandAsMarked x.options (marks_at x q).planted (at front (traced_at x q).pid).patches) same
-        (λ inside lives. w.stand q inside (p, lives)) within live;
-  }
-    where
-      same-truss : (a b : TrussState) → Some (FnTruss a) ≡ Some (FnTruss b) → a ≡ b
-      same-truss a b e = cc
-
-pub ruleset tidily = (writes-tidily)

@@ -36,7 +36,10 @@ use Rattle.pr_function_hides.proofs.StillMessages.{BeginStill, is_still}
 use Rattle.pr_function_hides.specs.FunctionHiders.{ArePatchable, IsPatchable, StandAsMarked, patch_of}
 use Rattle.pr_function_hides.proofs.OwnFiles.{HoldsItsFiles}
 use Rattle.pr_function_hides.proofs.TidyKept.{IsRunOfTrusses, Kept, Truss}
-use Rattle.pr_function_hides.proofs.TidyCalls.{truss-now, holds-now, fits, these, below, its-kind}
+use Rattle.pr_function_hides.proofs.CodeWalk.{CodeAt, Counted, Known, Replaced}
+use Rattle.pr_function_hides.proofs.TidyCalls.{truss-now, has, holds-now, fits, next, these, below, its-kind}
+use Rattle.pr_function_hides.proofs.WrittenFunctions.{written-known}
+use Rattle.pr_parts.specs.AddressSpaces.{with_bytes}
 
 -- What truss writes is tidy: code of a function where none stands, or the breakpoint of one that it has marked.
 
@@ -53,7 +56,7 @@ module _ {n : ℕ} {who : Hiders} {controllers : List ControllerState} {first : 
 
   module _ (front back : List Entry) (j number : ℕ) (sent : List ℕ) (r : Reply)
       (place : h ≡ front ++ call_entry j (call.Ctl number sent) r ∷ back) (kept : Kept who controllers first h front)
-      (hider : hides who j ≡ true) where
+      (hider : hides who j ≡ true) (counted : Counted run front) where
     abbrev tc : Call
     tc = call.Ctl number sent
 
@@ -129,6 +132,42 @@ module _ {n : ℕ} {who : Hiders} {controllers : List ControllerState} {first : 
             ap (patch_at f.at) (these run front back j tc r place kept hider)
             ∙ function-patch tw.options patchable i f named
 
+        -- where no breakpoint stands, the code does: truss has read it, or lifted the breakpoint
+        code-stands : patch_at f.at ps ≡ None → with_bytes f.at f.code p.space ≡ p.space
+        code-stands found = by (function-known f named)
+          where
+            function-known : Known run front j tw.options tpid i
+            function-known =
+                let w = truss_here in
+                let all = counted.each j hider w.t w.is in
+                written-known j u tc tw patchable files (below run front back j tc r place kept hider)
+                (next run front back j tc r place kept hider) (has run front back j tc r place kept hider)
+                (λ pid function. Known run front j tw.options pid function) all.aside m inside i f named code size
+                are_bytes is
+
+            by : CodeAt run front tpid (patch_of f) ⊎ Replaced run front j tpid
+                → with_bytes f.at f.code p.space ≡ p.space
+            by (inl code_at) = let it = code_at.holds p live found in it.stands
+            by (inr replaced) =
+                run.und.stands front j used f.at tpid p (patch_of f)
+                (record {
+                  back = back;
+                  handle = (traced_at tw m).control;
+                  bytes = spelling (message.Write f.at 16) code;
+                  is = place ∙ ap (λ (d : Call). front ++ call_entry j d r ∷ back) is
+                      ∙ ap (λ (x : Reply). front ++ call_entry j (call.Ctl (traced_at tw m).control
+                      (spelling (message.Write f.at 16) code)) x ∷ back) got;
+                  hides_it = hider;
+                  held = theld;
+                  there = (let w = files in w.control m inside);
+                  of = refl;
+                  target = target-live u j (traced_at tw m).control theld (let w = files in w.control m inside) refl
+                      ∙ live;
+                  size = 16;
+                  len = _;
+                  read = read;
+                }) address-is found replaced
+
         written-place : (o : Option Patch) → patch_at f.at ps ≡ o
             → (patch_at f.at ps ≡ Some (patch_of f)) ⊎ IsPlantable (patch_of f) ps p.space
         written-place (Some g) found =
@@ -144,24 +183,7 @@ module _ {n : ℕ} {who : Hiders} {controllers : List ControllerState} {first : 
               none = found;
               apart = none-at tw.options patchable (marks_at tw m).planted ps i f named w.all found;
               within = omega (arith, long, most);
-              code = run.und.stands front j used f.at tpid p (patch_of f)
-                  (record {
-                    back = back;
-                    handle = (traced_at tw m).control;
-                    bytes = spelling (message.Write f.at 16) code;
-                    is = place ∙ ap (λ (d : Call). front ++ call_entry j d r ∷ back) is
-                        ∙ ap (λ (x : Reply). front ++ call_entry j (call.Ctl (traced_at tw m).control
-                        (spelling (message.Write f.at 16) code)) x ∷ back) got;
-                    hides_it = hider;
-                    held = theld;
-                    there = (let w = files in w.control m inside);
-                    of = refl;
-                    target = target-live u j (traced_at tw m).control theld (let w = files in w.control m inside) refl
-                        ∙ live;
-                    size = 16;
-                    len = _;
-                    read = read;
-                  }) address-is found;
+              code = code-stands found;
             })
 
         written-tidy : IsTidyWrite who j ps p.space f.at code

@@ -39,17 +39,17 @@ use Rattle.pr_function_hides.specs.Treating.{AsideTreats, Treats, WillBeTreated,
 
 -- ---- at a place that is run soon
 
-own-place : (q : ℕ) → (q == q) ≡ true
+pub own-place : (q : ℕ) → (q == q) ≡ true
 own-place q = eq-eqb q q refl
 
 -- truss is about to run the process at a place, with these marks, and with this before its next call
-record At (q : ℕ) (m : Marks) (a : Aside) (v : TrussState) : Type 0 where
-  follow : v.options.follow ≡ false
-  off : v.leaving ≡ false
-  within : q < length v.traced
-  stage : is_run_soon v.stage q ≡ true
-  marks : marks_at v q ≡ m
-  aside : v.aside ≡ a
+pub record At (q : ℕ) (m : Marks) (a : Aside) (v : TrussState) : Type 0 where
+  pub follow : v.options.follow ≡ false
+  pub off : v.leaving ≡ false
+  pub within : q < length v.traced
+  pub stage : is_run_soon v.stage q ≡ true
+  pub marks : marks_at v q ≡ m
+  pub aside : v.aside ≡ a
 
 at-if : (q : ℕ) (m : Marks) (a : Aside) (b : Bool) (v w : TrussState) → At q m a v → At q m a w → At q m a (cond b v w)
 at-if q m a true v w x y = x
@@ -57,12 +57,12 @@ at-if q m a false v w x y = y
 
 module _ (q : ℕ) where
   -- truss looks at the process at the place
-  record Looks (m : Marks) (a : Aside) (u : TrussState) : Type 0 where
-    follow : u.options.follow ≡ false
-    off : u.leaving ≡ false
-    within : q < length u.traced
-    marks : marks_at u q ≡ m
-    aside : u.aside ≡ a
+  pub record Looks (m : Marks) (a : Aside) (u : TrussState) : Type 0 where
+    pub follow : u.options.follow ≡ false
+    pub off : u.leaving ≡ false
+    pub within : q < length u.traced
+    pub marks : marks_at u q ≡ m
+    pub aside : u.aside ≡ a
 
   module _ (m : Marks) (a : Aside) where
     to : (u : TrussState) (stage : Stage) → is_run_soon stage q ≡ true → Looks m a u → At q m a (with_stage u stage)
@@ -75,18 +75,18 @@ module _ (q : ℕ) where
       aside = w.aside;
     }
 
-    over-at : (u : TrussState) → Looks m a u → At q m a (with_stop_over u q)
+    pub over-at : (u : TrussState) → Looks m a u → At q m a (with_stop_over u q)
     unfolding with_stop_over
     over-at u w =
         subst (At q m a) (sym (ap (λ b. cond b (with_closing u q) (with_stage u (Running q))) w.off))
         (to u (Running q) (own-place q) w)
 
-    event-over-at : (u : TrussState) (l : LwpStatus) → Looks m a u → At q m a (with_event_over u q l)
+    pub event-over-at : (u : TrussState) (l : LwpStatus) → Looks m a u → At q m a (with_event_over u q l)
     unfolding with_event_over followed_child
     event-over-at u l w =
         subst (At q m a) (sym (ap (λ f. with_child_or u q (cond f (child_of l) None)) w.follow)) (over-at u w)
 
-    shown-looks : (u : TrussState) (l : LwpStatus) (text : _) → Looks m a u → Looks m a (with_event_shown u q l text)
+    pub shown-looks : (u : TrussState) (l : LwpStatus) (text : _) → Looks m a u → Looks m a (with_event_shown u q l text)
     unfolding with_event_shown
     shown-looks u l text w = record {
       follow = w.follow;
@@ -118,14 +118,14 @@ module _ (q : ℕ) where
           aside = w.aside;
         })
 
-    stop-at : (u : TrussState) (l : LwpStatus) → Looks m a u → At q m a (with_stop u q l)
+    pub stop-at : (u : TrussState) (l : LwpStatus) → Looks m a u → At q m a (with_stop u q l)
     unfolding with_stop
     stop-at u l w =
         at-if q m a _ _ _ (over-at u w)
         (at-if q m a _ _ _ (old-at u w) (at-if q m a _ _ _ (over-at u w) (event-at u l (event_of l) w)))
 
   -- with other marks
-  marked : (u : TrussState) (a : Aside) (n : Marks) → u.options.follow ≡ false → u.leaving ≡ false
+  pub marked : (u : TrussState) (a : Aside) (n : Marks) → u.options.follow ≡ false → u.leaving ≡ false
       → q < length u.traced → u.aside ≡ a → Looks n a (with_marks u q n)
   marked u a n follow off within aside = record {
     follow = follow;
@@ -137,7 +137,7 @@ module _ (q : ℕ) where
 
 -- ---- breakpoints that are planted and lifted
 
-first-of-none : first_function no_functions ≡ None
+pub first-of-none : first_function no_functions ≡ None
 first-of-none = by (first_function no_functions) refl
   where
     by : (o : Option ℕ) → first_function no_functions ≡ o → first_function no_functions ≡ None
@@ -176,7 +176,7 @@ module _ (m : Marks) (e : FunctionEvent) (q : ℕ) where
   }
 
   -- nothing more is planted or lifted
-  done : (now : Marks) (v : TrussState) → At q now Nothing v → WillBeTreated m e no_functions no_functions now
+  pub done : (now : Marks) (v : TrussState) → At q now Nothing v → WillBeTreated m e no_functions no_functions now
       → Treats m e q v
   done now v w will = record {
     follows_none = w.follow;
@@ -212,7 +212,7 @@ module _ (t : TrussState) (q : ℕ) (follow : t.options.follow ≡ false) (off :
   looks : (n : Marks) → Looks q n Nothing (with_marks t q n)
   looks n = marked q t Nothing n follow off within idle
 
-  trap-will : (flags : ℕ)
+  pub trap-will : (flags : ℕ)
       → WillBeTreated m TraceTrap no_functions no_functions (record m { flags = flags })
   trap-will flags = record {
     each = λ n d. (

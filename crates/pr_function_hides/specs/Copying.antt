@@ -4,6 +4,9 @@ use Rattle.pr_function_laws.specs.Opened.{TracesAll}
 use Rattle.pr_line.specs.declared.options.Options.{Options}
 use Rattle.pr_model.specs.Points.{is_traced}
 use Rattle.pr_model.specs.State.{TracedControl, TracedLwp, TracedProcess, TracedState, live_process, lwp_of}
+use Rattle.pr_model.specs.declared.events.Did.{Did}
+use Rattle.pr_model.specs.declared.events.Did.TheVariants.{Made, Woke}
+use Rattle.pr_model.specs.declared.events.Res.TheVariants.{Value}
 use Rattle.pr_model.specs.declared.lwps.Phase.{Phase}
 use Rattle.pr_model.specs.declared.lwps.Phase.TheVariants.{Entered, Asleep}
 use Rattle.pr_model.specs.declared.stops.Point.TheVariants.{Entry}
@@ -18,6 +21,12 @@ use Rattle.pr_truss.specs.declared.marks.Marks.{Marks}
 use Rattle.pr_truss.specs.declared.marks.Stepped.{Stepped}
 
 -- ---- an lwp
+
+-- A turn makes a call that copies or replaces the memory, a fork(2), a vfork(2) or an exec(2), and it is granted.
+abbrev pub makes_copy : Did → Bool
+makes_copy (Made call (Value value)) = copies_memory call
+makes_copy (Woke call (Value value)) = copies_memory call
+makes_copy did = false
 
 -- it is at such a call, which it has not made yet, or asleep in one
 abbrev pub is_in_copy : Phase → Bool
@@ -57,6 +66,10 @@ pub record HaveNoCopyGoing (but : Option ℕ) (p : TracedProcess) : Type 0 where
 -- so it is of the process of this id, if it lives
 pub record NoCopyGoesIn (pid : ℕ) (but : Option ℕ) (s : TracedState) : Type 0 where
   pub live : (p : TracedProcess) → live_process s.system pid ≡ Some p → HaveNoCopyGoing but p
+
+-- no lwp of a process is at such a call
+pub record AreOutOfCopies (p : TracedProcess) : Type 0 where
+  pub each : (id : ℕ) (l : TracedLwp) → lwp_of p id ≡ Some l → is_in_copy l.phase ≡ false
 
 -- truss traces it, if it lives
 pub record IsTracedIn (o : Options) (pid : ℕ) (s : TracedState) : Type 0 where

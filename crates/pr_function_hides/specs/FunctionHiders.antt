@@ -7,10 +7,12 @@ use Rattle.pr_hidden.specs.Tidiness.{AreApart}
 use Rattle.pr_line.specs.Functions.{function_limit}
 use Rattle.pr_line.specs.declared.functions.Function.{Function}
 use Rattle.pr_line.specs.declared.options.Options.{Options}
+use Rattle.pr_model.specs.State.{TracedState}
 use Rattle.pr_num.specs.Limits.{instruction_size}
 use Rattle.pr_num.specs.Words.{IsByte}
 use Rattle.pr_truss.specs.Marks.{breakpoint, has_function, has_functions}
 use Rattle.pr_truss.specs.Trusses.{first_truss}
+use Rattle.pr_truss_laws.specs.Handles.{HasNothingOpen}
 use Rattle.pr_world.specs.ControllerStates.{ControllerState, FnTruss}
 
 -- ---- functions
@@ -46,10 +48,12 @@ pub record IsTrussAt (who : Hiders) (controllers : List ControllerState) (k : �
   pub patchable : ArePatchable options
   pub hides_these : who.functions k ≡ map patch_of options.functions
 
--- The controllers that hide what they do are each a truss that shows calls of functions, and none asks by an agent.
-pub record AreTrusses (who : Hiders) (controllers : List ControllerState) : Type 0 where
+-- The controllers that hide what they do are each a truss that shows calls of functions, which has nothing open at
+-- first, and none asks by an agent.
+pub record AreTrusses (who : Hiders) (controllers : List ControllerState) (first : TracedState) : Type 0 where
   pub no_probes : (k : ℕ) → who.probes k ≡ false
   pub trusses : (k : ℕ) → hides who k ≡ true → IsTrussAt who controllers k
+  pub begins : (k : ℕ) → hides who k ≡ true → HasNothingOpen k first
 
 -- ---- which breakpoints stand
 

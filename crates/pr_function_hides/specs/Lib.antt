@@ -1,7 +1,11 @@
 pub mod ClearedFaults
 pub mod Copying
+pub mod CountedFunctions
 pub mod FunctionHiders
+pub mod ListedCalls
+pub mod LiftedCopies
 pub mod OwnSteps
+pub mod PassiveOthers
 pub mod TidyCloses
 pub mod TidyFaults
 pub mod TidyWrites

@@ -20,3 +20,12 @@ pub record LeavesNoBreakpoint (who : Hiders) (first : TracedState) (h : List Ent
       → (covers_at who first front held.pid).patches ≡ []
   pub no_agent : (front back : List Entry) (pid : ℕ) → h ≡ front ++ back
       → (covers_at who first front pid).agent ≡ false
+
+-- Nor does an lwp of the process count then as standing at a fault of one who hides: at a breakpoint of theirs, or at
+-- FLTTRACE behind a step of theirs.
+pub record LeavesNoFault (who : Hiders) (first : TracedState) (h : List Entry) : Type 0 where
+  pub none : (front back : List Entry) (k number : ℕ) (r : Reply) (held : Held) (p : TracedProcess) (id : ℕ)
+      → hides who k ≡ true → h ≡ front ++ call_entry k (call.Close number) r ∷ back
+      → handle_of (state_after first front).opens k number ≡ Some held
+      → live_process (state_after first front).system held.pid ≡ Some p
+      → (covers_at who first front held.pid).faulted id ≡ false

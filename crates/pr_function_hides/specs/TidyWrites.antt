@@ -1,14 +1,18 @@
 -- The writes of a truss that shows calls of functions are tidy, and so is what each turn changes; the breakpoints that
 -- stand are those that it has marked; and what is asked of a history for that.
-use Rattle.std.specs.Prelude.{◌≡◌, ◌≢◌, ◌<◌, ◌++◌, ℕ, Bool, true, false, All, List, [], ◌∷◌, None, Some, Ok, is_ok, length, option_and_then, slice_get}
+use Rattle.std.specs.Prelude.{◌≡◌, ◌≢◌, ◌<◌, ◌++◌, ℕ, true, false, All, List, ◌∷◌, None, Some, Ok, is_ok, length, option_and_then, slice_get}
 use Rattle.pr_api.specs.Entries.{call_entry}
-use Rattle.pr_function_hides.specs.FunctionHiders.{StandAsMarked}
+use Rattle.pr_function_hides.specs.Copying.{AreOutOfCopies}
+use Rattle.pr_function_hides.specs.CountedFunctions.{Counts, LeavesAlone, takes_memory}
+use Rattle.pr_function_hides.specs.FunctionHiders.{StandAsMarked, patch_of}
+use Rattle.pr_function_laws.specs.Lifted.{HasControl}
 use Rattle.pr_function_laws.specs.Stretches.{BeginWithWrite}
 use Rattle.pr_hidden.specs.Covers.{Covers, Patch}
 use Rattle.pr_hidden.specs.Hiders.{Hiders, covers_at, hides, patch_at}
 use Rattle.pr_hidden.specs.Following.{IsReturnable}
 use Rattle.pr_hidden.specs.Tidiness.{AreTidyChanges, IsTidyCall}
 use Rattle.pr_line.specs.declared.events.Event.{Event}
+use Rattle.pr_line.specs.declared.functions.Function.{Function}
 use Rattle.pr_model.specs.Changes.{Ending}
 use Rattle.pr_model.specs.ControlMessages.{target_of}
 use Rattle.pr_model.specs.Handles.{handle_of}
@@ -24,10 +28,7 @@ use Rattle.pr_model.specs.declared.calls.Reply.{Reply}
 use Rattle.pr_model.specs.declared.calls.Reply.TheVariants.{Fail, Used}
 use Rattle.pr_model.specs.declared.events.Act.TheVariants.{Turn}
 use Rattle.pr_model.specs.declared.events.Actor.TheVariants.{Lwp}
-use Rattle.pr_model.specs.declared.events.Did.{Did}
-use Rattle.pr_model.specs.declared.events.Did.TheVariants.{Made, Woke}
 use Rattle.pr_model.specs.declared.events.Entry.{Entry}
-use Rattle.pr_model.specs.declared.events.Res.TheVariants.{Value}
 use Rattle.pr_model.specs.declared.events.Turned.{Turned}
 use Rattle.pr_model.specs.declared.handles.Held.{Held}
 use Rattle.pr_num.specs.Limits.{instruction_size}
@@ -38,26 +39,22 @@ use Rattle.pr_num.specs.declared.messages.Message.TheVariants as message
 use Rattle.pr_parts.specs.AddressSpaces.{with_bytes}
 use Rattle.pr_rec.specs.declared.lwps.LwpStatus.{LwpStatus}
 use Rattle.pr_truss.specs.Asides.{marks_at}
-use Rattle.pr_truss.specs.FunctionEvents.{copies_memory, fresh_event, function_event}
+use Rattle.pr_truss.specs.FunctionEvents.{fresh_event, function_event}
 use Rattle.pr_truss.specs.Records.{status_lwp}
 use Rattle.pr_truss.specs.Replies.{answer_of}
 use Rattle.pr_truss.specs.Trusses.{TrussState, traced_at}
+use Rattle.pr_truss.specs.declared.asides.Aside.TheVariants.{Nothing, Reading}
 use Rattle.pr_truss.specs.declared.function_events.FunctionEvent.TheVariants.{Replaced}
 use Rattle.pr_truss.specs.declared.replies.Answer.TheVariants.{Accepted}
 use Rattle.pr_truss.specs.declared.stages.Stage.TheVariants.{ReadingStatus}
 use Rattle.pr_world.specs.ControllerStates.{ControllerState, FnTruss}
 use Rattle.pr_world.specs.Protocol.{controllers_at}
 
--- A turn makes a call that copies or replaces the memory, a fork(2), a vfork(2) or an exec(2), and it is granted.
-abbrev pub makes_copy : Did → Bool
-makes_copy (Made call (Value value)) = copies_memory call
-makes_copy (Woke call (Value value)) = copies_memory call
-makes_copy did = false
-
 -- A reply tells truss, which reads the status of the process at a place, that its memory was replaced by exec, or that
 -- a child has it too by vfork.
 pub record TellsReplaced (t : TrussState) (place : ℕ) (r : Reply) : Type 0 where
   pub reads : t.stage ≡ ReadingStatus place
+  pub idle : t.aside ≡ Nothing
   pub accepted : answer_of r ≡ Accepted
   pub l : LwpStatus
   pub told : option_and_then status_lwp (bytes_in r) ≡ Some l
@@ -97,14 +94,30 @@ module _ (who : Hiders) (controllers : List ControllerState) (first : TracedStat
     pub len : ℕ
     pub read : first_message bytes ≡ Ok (message.Write at size, len)
 
-  -- Where a breakpoint is planted, the code of its function stands. No turn of an lwp unmaps the bytes of a breakpoint
-  -- that stands in its process, as long as that lives. A process whose control file truss opens has borrowed its memory
-  -- from nobody. A fork, a vfork and an exec that is granted finds no breakpoint, and neither does the read of the exit
-  -- of a vfork or an exec that was. And truss is not interrupted.
-  pub record AreUndisturbed : Type 0 where
-    pub stands : (front : List Entry) (k used at pid : ℕ) (p : TracedProcess) (f : Patch)
-        → WritesAt front k (Used used) at pid p → patch_at at (who.functions k) ≡ Some f
-        → patch_at at (hidden_after front pid).patches ≡ None → with_bytes f.at f.bytes p.space ≡ p.space
+  -- While one who hides had the control file of a process open, an lwp of that made a vfork or an exec, which was
+  -- granted.
+  pub record WasReplaced (front : List Entry) (k pid : ℕ) : Type 0 where
+    pub before : List Entry
+    pub later : List Entry
+    pub id : ℕ
+    pub t : Turned
+    pub is : front ≡ before ++ record { actor = Lwp pid id; act = Turn t } ∷ later
+    pub takes : takes_memory t.did ≡ true
+    pub number : ℕ
+    pub control : HasControl k pid number (state_there before)
+
+  -- Programs leave alone each function that counts as planted. While its breakpoint does not stand they store nothing
+  -- there, and ask for no memory there; and as long as their process lives they unmap no byte of one that stands. A
+  -- process has borrowed its memory from nobody when truss opens its control file, and has it to itself when truss
+  -- reads the code of a function in it.
+  pub record AreUntouched : Type 0 where
+    pub spares : (front back : List Entry) (pid id : ℕ) (t : Turned) (p : TracedProcess) (l : TracedLwp) (k : ℕ)
+        (u : TrussState) (place function : ℕ) (f : Function)
+        → h ≡ front ++ record { actor = Lwp pid id; act = Turn t } ∷ back
+        → live_process (state_there front).system pid ≡ Some p → lwp_of p id ≡ Some l → l.control.directed ≡ false
+        → hides who k ≡ true → IsTrussAfter front k u → place < length u.traced → (traced_at u place).pid ≡ pid
+        → Counts u place function → slice_get u.options.functions function ≡ Some f
+        → patch_at f.at (hidden_after front pid).patches ≡ None → LeavesAlone (patch_of f) p l
     pub stays_mapped : (front back : List Entry) (pid id : ℕ) (t : Turned) (p q : TracedProcess)
         → h ≡ front ++ record { actor = Lwp pid id; act = Turn t } ∷ back
         → live_process (state_there front).system pid ≡ Some p
@@ -113,12 +126,24 @@ module _ (who : Hiders) (controllers : List ControllerState) (first : TracedStat
     pub unlent : (front back : List Entry) (k pid : ℕ) (r : Reply) (p : TracedProcess)
         → h ≡ front ++ call_entry k (call.Open pid 0 Ctl WriteExcl) r ∷ back → hides who k ≡ true
         → answer_of r ≡ Accepted → live_process (state_there front).system pid ≡ Some p → p.lender ≡ None
-    pub copies : (front back : List Entry) (pid id : ℕ) (t : Turned)
-        → h ≡ front ++ record { actor = Lwp pid id; act = Turn t } ∷ back → makes_copy t.did ≡ true
-        → (hidden_after front pid).patches ≡ []
-    pub replaced : (front back : List Entry) (k : ℕ) (c : Call) (r : Reply) (t : TrussState) (place : ℕ)
-        → h ≡ front ++ call_entry k c r ∷ back → hides who k ≡ true → IsTrussAfter front k t
-        → TellsReplaced t place r → (hidden_after front (traced_at t place).pid).patches ≡ []
+    pub owns : (front back : List Entry) (k : ℕ) (c : Call) (r : Reply) (u : TrussState) (place function : ℕ)
+        (p : TracedProcess) → h ≡ front ++ call_entry k c r ∷ back → hides who k ≡ true → IsTrussAfter front k u
+        → u.aside ≡ Reading place function
+        → live_process (state_there front).system (traced_at u place).pid ≡ Some p → p.borrower ≡ None
+
+  -- Programs leave the functions alone. Where a breakpoint is planted in a process whose memory was replaced, or in
+  -- whose memory a child was, the code of its function stands. No lwp of a process is at a fork, a vfork or an exec
+  -- when the wait of its opening is answered; truss waits for nothing else, as it is not interrupted.
+  pub record AreUndisturbed : Type 0 where
+    pub untouched : AreUntouched
+    pub stands : (front : List Entry) (k used at pid : ℕ) (p : TracedProcess) (f : Patch)
+        → WritesAt front k (Used used) at pid p → patch_at at (who.functions k) ≡ Some f
+        → patch_at at (hidden_after front pid).patches ≡ None → WasReplaced front k pid
+        → with_bytes f.at f.bytes p.space ≡ p.space
+    pub opens_out : (front back : List Entry) (k handle until : ℕ) (bytes : List ℕ) (r : Reply) (held : Held)
+        (p : TracedProcess) → h ≡ front ++ call_entry k (call.CtlWait handle until bytes) r ∷ back
+        → hides who k ≡ true → answer_of r ≡ Accepted → handle_of (state_there front).opens k handle ≡ Some held
+        → live_process (state_there front).system held.pid ≡ Some p → AreOutOfCopies p
     pub unbroken : (front back : List Entry) (k : ℕ) (c : Call) (r : Reply) → h ≡ front ++ call_entry k c r ∷ back
         → hides who k ≡ true → r ≢ Fail Intr
 

@@ -25,8 +25,7 @@ ghost use Rattle.pr_truss_laws.specs.Exchanges.{exchange_of, exchanges};
 ghost use Rattle.pr_truss_laws.specs.Stills.{IsUndisturbed};
 ghost use Rattle.pr_function_laws.specs.Lifted.{HasControl};
 ghost use Rattle.pr_function_laws.specs.Opened.{IsFunctionRun, WasNotInterrupted, functions_at, is_opened};
-ghost use Rattle.pr_function_hides.specs.Copying.{CopiesStand, HaveNoCopyGoing, IsLifted, IsNot, IsTracedIn, IsTreated, NoCopyGoesIn, PlantsNone, StandIn, StopsAtCopies, Tells, ends_copy, is_in_copy};
-ghost use Rattle.pr_function_hides.specs.TidyWrites.{makes_copy};
+ghost use Rattle.pr_function_hides.specs.Copying.{CopiesStand, HaveNoCopyGoing, IsLifted, IsNot, IsTracedIn, IsTreated, NoCopyGoesIn, PlantsNone, StandIn, StopsAtCopies, Tells, ends_copy, is_in_copy, makes_copy};
 
 /// Where the lwps of a process stop at the entry of each fork, vfork and exec, and none has been run from there, no
 /// turn makes such a call, and it stays so; so it does where others leave the process alone. And so of all but one.

@@ -84,7 +84,7 @@ handles-fields Q t None (Some l) status all = All-head Q _ _ all
 handles-fields Q t None None (Some s) all = All-head Q s (t.control ∷ []) all
 handles-fields Q t None None None all = All-head Q t.control [] all
 
-last-one : (Q : ℕ → Type 0) (t : Traced) → All Q (handles_of t) → Q (last_handle t)
+pub last-one : (Q : ℕ → Type 0) (t : Traced) → All Q (handles_of t) → Q (last_handle t)
 last-one Q t all = handles-fields Q t t.memory t.lstatus t.status all
 
 abbrev LeftFiles : (ℕ → Type 0) → Option Traced → Type 0

@@ -31,7 +31,7 @@ use Rattle.pr_truss_laws.proofs.HeldLemmas.{at_place}
 use Rattle.pr_truss_laws.proofs.ReplySteps.{lost-same}
 use Rattle.pr_truss_laws.specs.Exchanges.{Exchange, exchange_of, exchanges}
 use Rattle.pr_function_laws.proofs.KeptLemmas.{fed-kept-where}
-use Rattle.pr_function_laws.proofs.KeptPlaces.{AfterBeside, AfterStage, Apart, AtAside, AtStage, IsLastingWhere, Kept, LeftHas, Position, apart-at, closes, kept-weaker, looks, opens, planted_as, position_after, rests, runs}
+use Rattle.pr_function_laws.proofs.KeptPlaces.{AfterBeside, AfterStage, Apart, AtAside, AtStage, IsLastingWhere, Kept, LeftHas, Position, apart-at, closes, kept-weaker, looks, opens, planted_as, position_after, rests, runs, to_read}
 use Rattle.pr_function_laws.proofs.StepMarks.{AreLike, IsRead}
 use Rattle.pr_function_laws.proofs.TurnWalks.{AreNoReads}
 use Rattle.pr_function_laws.specs.Lifted.{IsNoRead, MeetsBreakpoint, ReadsOnlyLast}
@@ -113,6 +113,7 @@ module _ (k : ℕ) (o : Options) (first : TracedState) (h : List Entry) where
   abbrev pub StepsAt : Position → Traced → Type 0
   StepsAt (opens step) u = u.marks.stepped ≡ None
   StepsAt rests u = Steps u
+  StepsAt to_read u = Unit {0}
   StepsAt looks u = Unit {0}
   StepsAt runs u = Steps u
   StepsAt closes u = Unit {0}
@@ -121,6 +122,7 @@ module _ (k : ℕ) (o : Options) (first : TracedState) (h : List Entry) where
   abbrev StepsBut : ℕ → Position → Traced → Type 0
   StepsBut pid (opens step) u = u.marks.stepped ≡ None
   StepsBut pid rests u = u.pid ≢ pid → Steps u
+  StepsBut pid to_read u = Unit {0}
   StepsBut pid looks u = Unit {0}
   StepsBut pid runs u = u.pid ≢ pid → Steps u
   StepsBut pid closes u = Unit {0}
@@ -128,6 +130,7 @@ module _ (k : ℕ) (o : Options) (first : TracedState) (h : List Entry) where
   plants-at : (at : Position) (u : Traced) (set : List Bool) → StepsAt at u → StepsAt at (planted_as u set)
   plants-at (opens step) u set w = w
   plants-at rests u set w = w
+  plants-at to_read u set w = tt
   plants-at looks u set w = tt
   plants-at runs u set w = w
   plants-at closes u set w = tt
@@ -136,6 +139,7 @@ module _ (k : ℕ) (o : Options) (first : TracedState) (h : List Entry) where
       → StepsBut pid at (planted_as u set)
   plants-but pid (opens step) u set w = w
   plants-but pid rests u set w = w
+  plants-but pid to_read u set w = tt
   plants-but pid looks u set w = tt
   plants-but pid runs u set w = w
   plants-but pid closes u set w = tt
@@ -144,6 +148,7 @@ module _ (k : ℕ) (o : Options) (first : TracedState) (h : List Entry) where
   steps-lasting : IsLastingWhere StepsAt (λ (u : Traced). ⊥)
   steps-lasting = record {
     may_close = λ at u w. tt;
+    reads = λ u seen w its. tt;
     may_run = λ u w seen. w;
     counts = λ u w seen some. w;
     sees = λ u m w. tt;
@@ -156,6 +161,7 @@ module _ (k : ℕ) (o : Options) (first : TracedState) (h : List Entry) where
   but-lasting : (pid : ℕ) → IsLastingWhere (StepsBut pid) (λ (u : Traced). u.pid ≡ pid)
   but-lasting pid = record {
     may_close = λ at u w. tt;
+    reads = λ u seen w its. tt;
     may_run = λ u w seen. w;
     counts = λ u w seen some. w;
     sees = λ u m w. tt;
@@ -270,6 +276,7 @@ module _ (k : ℕ) (o : Options) (first : TracedState) (h : List Entry) where
             → StepsBut pid at (at_place (fed_functions t r).traced j)
             → StepsAt at (at_place (fed_functions t r).traced j)
         at-place like j inside (opens step) same w = w
+        at-place like j inside to_read same w = tt
         at-place like j inside looks same w = tt
         at-place like j inside closes same w = tt
         at-place like j inside rests (inl same) w =

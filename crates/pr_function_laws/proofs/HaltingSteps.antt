@@ -42,14 +42,14 @@ use Rattle.pr_function_laws.specs.Steps.{IsStepped, RunsNoCall, StopsAtAll}
 
 -- ---- all signals and all faults
 
-every-signal : (g : Sig) → g ≢ Kill
+pub every-signal : (g : Sig) → g ≢ Kill
     → has_number (without_number all_signals (signal_number Kill)) (signal_number g) ≡ true
 unfolding has_number without_number minus_word common_word signal_number
 every-signal Hup other = refl
 every-signal Kill other = absurd (other refl)
 every-signal _ other = refl
 
-every-fault : (f : Flt) → has_number all_faults (fault_number f) ≡ true
+pub every-fault : (f : Flt) → has_number all_faults (fault_number f) ≡ true
 unfolding has_number fault_number
 every-fault Ill = refl
 every-fault _ = refl

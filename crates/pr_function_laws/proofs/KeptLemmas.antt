@@ -43,7 +43,7 @@ use Rattle.pr_truss.specs.declared.stages.Stage.{Stage}
 use Rattle.pr_truss.specs.declared.stages.Stage.TheVariants.{Spawning, OpeningControl, Opening, Polling, ReadingStatus, ReadingText, Running, Closing, Finished}
 use Rattle.pr_truss_laws.proofs.HeldLemmas.{at_place, set-at}
 use Rattle.pr_function_laws.proofs.TurnReads.{fresh-new}
-use Rattle.pr_function_laws.proofs.KeptPlaces.{AfterBeside, AfterStage, Apart, AtAside, AtPlace, AtStage, IsLasting, IsLastingWhere, Kept, LeftHas, Position, Whole, apart-append, apart-remove, apart-set, closes, lasting-where, looks, opens, planted_as, position_after, rests, runs, unflagged}
+use Rattle.pr_function_laws.proofs.KeptPlaces.{AfterBeside, AfterStage, Apart, AtAside, AtPlace, AtStage, IsLasting, IsLastingWhere, Kept, LeftHas, Position, Whole, apart-append, apart-remove, apart-set, closes, lasting-where, looks, opens, to_read, planted_as, position_after, rests, runs, unflagged}
 
 -- One walk over all replies that are no interrupts, of a truss with functions that follows no children and does not
 -- leave its processes: what is so of each process, by where truss has come with it, stays so.
@@ -299,6 +299,15 @@ module _ (P : Position → Traced → Type 0) (Seen : Traced → Type 0) (lastin
       base : (q : ℕ) → (q < length t.traced) × (Whole P t.traced × P looks (at_place t.traced q)) → Base q t
       base q here = record { full = full here.1.0; here = here.0; sees = here.1.1 }
 
+      -- where the status is read that a poll named
+      named-base : (q : ℕ) → Seen (traced_at t q)
+          → (q < length t.traced) × (Whole P t.traced × P to_read (at_place t.traced q)) → Base q t
+      named-base q its here = record {
+        full = full here.1.0;
+        here = here.0;
+        sees = lasting.reads (traced_at t q) its (here.1.0 q here.0) here.1.1;
+      }
+
       reported : (report : Report) → Whole P t.traced → Full (with_report t report)
       reported report all = record { follow = follow; off = off; all = all; idle = idle; apart = apart }
 
@@ -348,7 +357,7 @@ module _ (P : Position → Traced → Type 0) (Seen : Traced → Type 0) (lastin
 
       -- a poll
       polled : (place : Option ℕ)
-          → ((q : ℕ) → place ≡ Some q → (q < length t.traced) × P looks (at_place t.traced q)) → t.stage ≡ Polling
+          → ((q : ℕ) → place ≡ Some q → (q < length t.traced) × P to_read (at_place t.traced q)) → t.stage ≡ Polling
           → Whole P t.traced → Kept P (with_polled t place)
       polled None named is all = record {
         follow = follow;
@@ -364,11 +373,11 @@ module _ (P : Position → Traced → Type 0) (Seen : Traced → Type 0) (lastin
       abbrev Finds : Type 0
       Finds =
           (handle q : ℕ) → ready_in r ≡ Some handle → position (has_control handle) t.traced ≡ Some q
-          → P looks (at_place t.traced q)
+          → P to_read (at_place t.traced q)
 
       poll-named : Finds → (handle : Option ℕ) → ready_in r ≡ handle → (q : ℕ)
           → option_and_then (λ h. position (has_control h) t.traced) handle ≡ Some q
-          → (q < length t.traced) × P looks (at_place t.traced q)
+          → (q < length t.traced) × P to_read (at_place t.traced q)
       poll-named finds None ready q is = absurd (none-some q is)
       poll-named finds (Some h) ready q is = (position-within (has_control h) t.traced q is, finds h q ready is)
 
@@ -633,7 +642,8 @@ module _ (P : Position → Traced → Type 0) (Seen : Traced → Type 0) (lastin
         step-kept idle q step (answer_of r) calm w.0 w.1.0 w.1.1.0 w.1.1.1
     stage-kept idle Polling is w = poll-kept idle (answer_of r) calm is w.0 w.1
     stage-kept idle (ReadingStatus q) is w =
-        let it = status-kept idle q (answer_of r) calm (seen q idle is) (base idle q w) in it.kept
+        let its = seen q idle is in
+        let it = status-kept idle q (answer_of r) calm its (named-base idle q its w) in it.kept
     stage-kept idle (ReadingText q l from len) is w =
         let it = text-kept idle q l len (answer_of r) calm (base idle q w) in
         function-text-kept idle q _ (answer_of r) it.kept
@@ -713,7 +723,7 @@ module _ (P : Position → Traced → Type 0) (Seen : Traced → Type 0) (lastin
       stage-marked Polling w = all-set ts q marked within (same rests) w
       stage-marked (ReadingStatus b) w = (
         longer b w.0,
-        (all-set ts q marked within (same rests) w.1.0, one-set looks ts q b marked within (same looks) w.1.1),
+        (all-set ts q marked within (same rests) w.1.0, one-set to_read ts q b marked within (same to_read) w.1.1),
       )
       stage-marked (ReadingText b l from len) w = (
         longer b w.0,

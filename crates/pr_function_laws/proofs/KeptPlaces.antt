@@ -74,11 +74,12 @@ apart-at (u ∷ us) (suc i) (suc j) within inside other a =
 
 -- ---- where truss has come with a process
 
--- This step of its opening comes next, the process was opened whole, truss looks at a stop of it that a poll named, it
--- is run next, or its files may be closed.
+-- This step of its opening comes next, the process was opened whole, a poll named it and its status is read next, truss
+-- looks at the stop that it read, it is run next, or its files may be closed.
 pub data Position : Type 0 where
   opens : OpeningStep → Position
   rests : Position
+  to_read : Position
   looks : Position
   runs : Position
   closes : Position
@@ -116,7 +117,7 @@ module _ (P : Position → Traced → Type 0) where
   AtStage ts (OpeningControl pid) = Whole ts
   AtStage ts (Opening q step) = (q < length ts) × (EachBut (P rests) ts q × P (opens step) (at_place ts q))
   AtStage ts Polling = Whole ts
-  AtStage ts (ReadingStatus q) = (q < length ts) × (Whole ts × P looks (at_place ts q))
+  AtStage ts (ReadingStatus q) = (q < length ts) × (Whole ts × P to_read (at_place ts q))
   AtStage ts (ReadingText q l from len) = (q < length ts) × (Whole ts × P looks (at_place ts q))
   AtStage ts (Running q) = (q < length ts) × (EachBut (P rests) ts q × P runs (at_place ts q))
   AtStage ts (Closing q OpenNext) = AtPlace ts q
@@ -143,6 +144,7 @@ module _ (P : Position → Traced → Type 0) where
   -- which the other thing is so.
   pub record IsLastingWhere (Seen : Traced → Type 0) : Type 0 where
     pub may_close : (at : Position) (u : Traced) → P at u → P closes u
+    pub reads : (u : Traced) → Seen u → P rests u → P to_read u → P looks u
     pub may_run : (u : Traced) → P rests u → P looks u → P runs u
     pub counts : (u : Traced) → P rests u → P looks u → 0 < u.old → P runs (record u { old = u.old - 1 })
     pub sees : (u : Traced) (m : Marks) → P looks u → P looks (record u { marks = m })
@@ -153,6 +155,7 @@ module _ (P : Position → Traced → Type 0) where
   -- the same, whatever process it looks at
   pub record IsLasting : Type 0 where
     pub may_close : (at : Position) (u : Traced) → P at u → P closes u
+    pub reads : (u : Traced) → P rests u → P to_read u → P looks u
     pub may_run : (u : Traced) → P rests u → P looks u → P runs u
     pub counts : (u : Traced) → P rests u → P looks u → 0 < u.old → P runs (record u { old = u.old - 1 })
     pub sees : (u : Traced) (m : Marks) → P looks u → P looks (record u { marks = m })
@@ -163,6 +166,7 @@ module _ (P : Position → Traced → Type 0) where
   pub lasting-where : IsLasting → IsLastingWhere (λ (u : Traced). Unit {0})
   lasting-where w = record {
     may_close = w.may_close;
+    reads = λ u seen. w.reads u;
     may_run = w.may_run;
     counts = w.counts;
     sees = w.sees;
@@ -226,7 +230,7 @@ module _ (P : Position → Traced → Type 0) where
   AfterStage t r Polling =
       Whole t.traced
       × (answer_of r ≡ Accepted → (handle q : ℕ) → ready_in r ≡ Some handle
-      → position (has_control handle) t.traced ≡ Some q → P looks (at_place t.traced q))
+      → position (has_control handle) t.traced ≡ Some q → P to_read (at_place t.traced q))
   AfterStage t r (Running q) =
       (q < length t.traced)
       × (EachBut (P rests) t.traced q
@@ -264,7 +268,7 @@ module _ (P Q : Position → Traced → Type 0) (ts : List Traced)
   stage-weaker (OpeningControl pid) w = whole-weaker w
   stage-weaker (Opening q step) w = (w.0, (but-weaker q w.1.0, each q w.0 (opens step) w.1.1))
   stage-weaker Polling w = whole-weaker w
-  stage-weaker (ReadingStatus q) w = (w.0, (whole-weaker w.1.0, each q w.0 looks w.1.1))
+  stage-weaker (ReadingStatus q) w = (w.0, (whole-weaker w.1.0, each q w.0 to_read w.1.1))
   stage-weaker (ReadingText q l from len) w = (w.0, (whole-weaker w.1.0, each q w.0 looks w.1.1))
   stage-weaker (Running q) w = (w.0, (but-weaker q w.1.0, each q w.0 runs w.1.1))
   stage-weaker (Closing q OpenNext) w = place-weaker q w

@@ -1,15 +1,19 @@
-use Rattle.std.proofs.Common.{◌≡◌, ◌<◌, ◌≤◌, ◌+◌, ℕ, zero, suc, Bool, true, false, Option, Some, None, List, [], ◌∷◌, ◌++◌, position, replicate, get_or, refl, sym, ap, ◌∙◌, arith}
+use Rattle.std.proofs.Common.{◌≡◌, ◌⊎◌, ◌<◌, ◌≤◌, ◌+◌, ℕ, zero, suc, Bool, true, false, Option, Some, None, List, [], ◌∷◌, ◌++◌, position, replicate, get_or, refl, sym, ap, ◌∙◌, arith, inl, inr}
 use Rattle.std.proofs.lemmas.Bool.{false≢true}
 use Rattle.std.proofs.lemmas.List.Quantifiers.{position-Some}
 use Rattle.std.specs.List.{remove, slice_set}
+use Rattle.pr_hidden.specs.Tidiness.{is_step_flags}
 use Rattle.pr_line.specs.Functions.{function_limit}
+use Rattle.pr_num.specs.Control.{clear_fault, single_step}
+use Rattle.pr_num.specs.Sets.{union_word}
 use Rattle.pr_truss.specs.Marks.{is_in, no_marks, with_step}
 use Rattle.pr_truss.specs.declared.marks.Marks.{Marks}
 use Rattle.pr_truss.specs.declared.marks.Stepped.{Stepped}
 use Rattle.pr_truss.specs.declared.processes.Traced.{Traced}
 use Rattle.pr_truss_laws.proofs.HeldLemmas.{at_place, unit}
 
--- The sets of functions among the marks of truss: they name functions of the options alone.
+-- The marks of truss: their sets of functions name functions of the options alone, and their run flags are none or
+-- those of a step.
 
 -- ---- sets of functions
 
@@ -85,16 +89,27 @@ pub step-below : (n : ℕ) (Q : Stepped → Type 0) (step : Option Stepped) (bs 
 step-below n Q None bs within h = h
 step-below n Q (Some step) bs within h = more-below n bs step.function within.0 h
 
+-- no run flag, or those of a step
+abbrev pub AreRunFlags : ℕ → Type 0
+AreRunFlags flags = (flags ≡ 0) ⊎ (is_step_flags flags ≡ true)
+
+-- those that truss gives to the lwp that it steps over a breakpoint
+pub stepping-flags : AreRunFlags (union_word clear_fault single_step)
+unfolding union_word
+stepping-flags = inr refl
+
 pub record MarksAreBelow (n : ℕ) (Q : Stepped → Type 0) (m : Marks) : Type 0 where
   pub planted : AreBelow n m.planted
   pub lifted : AreBelow n m.lifted
   pub stepped : StepIsBelow n Q m.stepped
+  pub flags : AreRunFlags m.flags
 
 pub no-marks-below : (n : ℕ) (Q : Stepped → Type 0) → MarksAreBelow n Q no_marks
 no-marks-below n Q = record {
   planted = none-below n function_limit;
   lifted = none-below n function_limit;
   stepped = tt;
+  flags = inl refl;
 }
 
 -- ---- each process

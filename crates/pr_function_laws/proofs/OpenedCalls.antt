@@ -60,7 +60,7 @@ use Rattle.pr_function_laws.proofs.StretchLemmas as stretch
 use Rattle.pr_function_laws.specs.Lifted.{HasControl}
 use Rattle.pr_function_laws.specs.Stretches.{acts_by, is_write}
 use Rattle.pr_function_laws.proofs.StoodCalls.{BeginLeavingLwps, leaves-stands, leaves_lwps, opening-stands, run-stands}
-use Rattle.pr_function_laws.proofs.KeptPlaces.{AfterBeside, AfterStage, AtAside, AtPlace, AtStage, IsLasting, Kept, LeftHas, Whole, apart-at, Position, closes, looks, opens, position_after, rests, runs}
+use Rattle.pr_function_laws.proofs.KeptPlaces.{AfterBeside, AfterStage, AtAside, AtPlace, AtStage, IsLasting, Kept, LeftHas, Whole, apart-at, Position, closes, looks, opens, position_after, rests, runs, to_read}
 use Rattle.pr_function_laws.proofs.StoodLemmas.{StandsSo, alone-at, prepared-plants, stood-counts, stood-meets, stood-plants, stood-runs}
 use Rattle.pr_report_laws.proofs.Invariant.OtherSteps.{lives-later}
 use Rattle.pr_truss.specs.Openings.{learnt, step_after}
@@ -129,14 +129,14 @@ read-as-is P all at size =
     by _ is = absurd (false≢true is)
 
 -- bytes begin with no message that sets anything, or that runs an lwp or clears a fault
-abbrev IsMild : List ℕ → Type 0
+abbrev pub IsMild : List ℕ → Type 0
 IsMild bytes = BeginWithPlain bytes × BeginLeavingLwps bytes
 
-write-mild : (at size : ℕ) (code : List ℕ) → IsMild (spelling (message.Write at size) code)
+pub write-mild : (at size : ℕ) (code : List ℕ) → IsMild (spelling (message.Write at size) code)
 write-mild at size code =
     (write-as is_plain (λ at size. refl) at size code, write-as leaves_lwps (λ at size. refl) at size code)
 
-read-mild : (at size : ℕ) → IsMild (spelling (message.Read at size) [])
+pub read-mild : (at size : ℕ) → IsMild (spelling (message.Read at size) [])
 read-mild at size = (read-as-is is_plain (λ at size. refl) at size, read-as-is leaves_lwps (λ at size. refl) at size)
 
 -- ---- what is so of a process
@@ -145,6 +145,7 @@ read-mild at size = (read-as-is is_plain (λ at size. refl) at size, read-as-is 
 abbrev pub step_of : Position → Option OpeningStep
 step_of (opens step) = Some step
 step_of rests = None
+step_of to_read = None
 step_of looks = None
 step_of runs = None
 step_of closes = Some opening.OpenStatus
@@ -168,6 +169,7 @@ module _ (Reached : Type 0) (k : ℕ) (o : Options) (s : TracedState) where
   pub so-lasting : IsLasting (IsSo Reached k o s)
   so-lasting = record {
     may_close = so-closes;
+    reads = λ u h g. record { holds = g.holds; stands = λ r. let w = g.stands r in record { prepared = tt; stood = w.stood } };
     may_run = λ u h g. record {
       holds = h.holds;
       stands = λ r.
@@ -228,7 +230,7 @@ module _ (Reached : Type 0) (k : ℕ) (o : Options) where
     stage-stays (OpeningControl pid) w = whole-stays w
     stage-stays (Opening q step) w = (w.0, (but-stays q w.1.0, stays q w.0 (opens step) w.1.1))
     stage-stays Polling w = whole-stays w
-    stage-stays (ReadingStatus q) w = (w.0, (whole-stays w.1.0, stays q w.0 looks w.1.1))
+    stage-stays (ReadingStatus q) w = (w.0, (whole-stays w.1.0, stays q w.0 to_read w.1.1))
     stage-stays (ReadingText q l from len) w = (w.0, (whole-stays w.1.0, stays q w.0 looks w.1.1))
     stage-stays (Running q) w = (w.0, (but-stays q w.1.0, stays q w.0 runs w.1.1))
     stage-stays (Closing q OpenNext) w = place-stays q w
@@ -273,7 +275,7 @@ module _ (Reached : Type 0) (k : ℕ) (o : Options) where
 
 -- ---- a call of truss
 
-abbrev acts_if : Option Call → Option ℕ
+abbrev pub acts_if : Option Call → Option ℕ
 acts_if None = None
 acts_if (Some d) = acts_by d
 
@@ -284,7 +286,7 @@ ready-is (reply.Ready x) m ready = ap (λ i. reply.Ready i) (same_Some x m ready
 ready-is _ m ready = absurd (none-some m ready)
 
 -- the handle by which the call of an opening acts, if it acts by one, is that of the control file
-opened-acts : (o : Options) (v : Traced) (step : OpeningStep)
+pub opened-acts : (o : Options) (v : Traced) (step : OpeningStep)
     → (acts_by (opened_call o v step) ≡ None) ⊎ (acts_by (opened_call o v step) ≡ Some v.control)
 unfolding opening_call
 opened-acts o v opening.OpenStatus = inl refl
@@ -302,7 +304,7 @@ opened-acts o v opening.TraceExits = inr refl
 opened-acts o v opening.Follow = inr refl
 opened-acts o v opening.Start = inr refl
 
-call-is : (t : TrussState) (q : ℕ) (step : OpeningStep)
+pub call-is : (t : TrussState) (q : ℕ) (step : OpeningStep)
     → function_call_of t (Opening q step) ≡ Some (opened_call t.options (traced_at t q) step)
 unfolding function_call_of call_of
 call-is t q opening.TraceSignals = refl
@@ -548,7 +550,7 @@ module _ (Reached : Type 0) (n k : ℕ) (s : TracedState) (lawful : IsLawful s) 
       ]
 
   polled-looks : (handles : List ℕ) → c ≡ call.Poll handles → (q : ℕ) (n : Names t a.reply q)
-      → Whole (IsSo Reached k t.options s) ts → Each Lasts ts → Later looks (at_place ts q)
+      → Whole (IsSo Reached k t.options s) ts → Each Lasts ts → Later to_read (at_place ts q)
   polled-looks handles is q n w lasts =
       let within = named-within t a.reply q n in
       let h = w q within in
@@ -578,7 +580,7 @@ module _ (Reached : Type 0) (n k : ℕ) (s : TracedState) (lawful : IsLawful s) 
       )
   stage-after (ReadingStatus q) w is =
       let lasts : Each Lasts ts = quiet (ap acts_if (sym is)) in
-      (w.0, (whole-stays Reached k o s a.state ts lasts w.1.0, lasts q w.0 looks w.1.1))
+      (w.0, (whole-stays Reached k o s a.state ts lasts w.1.0, lasts q w.0 to_read w.1.1))
   stage-after (ReadingText q l from len) w is =
       let lasts : Each Lasts ts = quiet (ap acts_if (sym is)) in
       (w.0, (whole-stays Reached k o s a.state ts lasts w.1.0, lasts q w.0 looks w.1.1))
@@ -602,7 +604,7 @@ module _ (Reached : Type 0) (n k : ℕ) (s : TracedState) (lawful : IsLawful s) 
       let here : Before closes (at_place ts q) = w.1.1 in
       let h = here.holds in h.its
 
-  patch-mild : (control : ℕ) (plant lift : Option ℕ) → (is_some plant || is_some lift) ≡ true → (d : Call)
+  pub patch-mild : (control : ℕ) (plant lift : Option ℕ) → (is_some plant || is_some lift) ≡ true → (d : Call)
       → patch_call o control plant lift ≡ d → (bytes : List ℕ) × ((d ≡ call.Ctl control bytes) × IsMild bytes)
   patch-mild control (Some function) lift busy d is = (
     spelling (message.Write (address_of o function) instruction_size) breakpoint,

@@ -1,4 +1,4 @@
-use Rattle.std.proofs.Common.{◌≡◌, ◌≢◌, ◌==◌, ◌<◌, ◌++◌, ◌⊎◌, ℕ, Bool, true, false, is_some, not, Option, Some, None, List, [], ◌∷◌, length, refl, sym, subst, ap, ◌∙◌, inl, inr, arith}
+use Rattle.std.proofs.Common.{◌≡◌, ◌≢◌, ◌==◌, ◌<◌, ◌++◌, ◌⊎◌, ℕ, suc, Bool, true, false, is_some, not, Option, Some, None, List, [], ◌∷◌, length, refl, sym, subst, ap, ◌∙◌, inl, inr, arith}
 use Rattle.std.proofs.lemmas.Bool.{cases_eq, eqb-false, false≢true, eqb-true}
 use Rattle.std.proofs.lemmas.List.Elements.{All-cons, All-head, All-nil, All-tail}
 use Rattle.std.proofs.lemmas.Option.{none-some, same_Some}
@@ -45,6 +45,7 @@ use Rattle.pr_report_laws.proofs.Invariant.StandLemmas.{Each, EachBut}
 use Rattle.pr_report_laws.proofs.Machine.RecordLaws.{status-ended, status-read}
 use Rattle.pr_report_laws.proofs.Machine.StayingLwps.{turn-no-agent}
 use Rattle.pr_report_laws.proofs.Machine.TurnSettings.{turn-settings}
+use Rattle.pr_report_laws.proofs.Watching.HistoryParts.{legal-front, legal-rest}
 use Rattle.pr_report_laws.specs.AtBirth.{is_met_if}
 use Rattle.pr_truss.specs.FunctionCalls.{next_function_call_of}
 use Rattle.pr_truss.specs.FunctionFeeding.{fed_functions}
@@ -79,7 +80,7 @@ use Rattle.pr_function_laws.specs.OneEvent.{HasOneEventAtMost, HasOneEventEach, 
 use Rattle.pr_function_laws.specs.Opened.{OwnsAndTraces, HoldsWhatItOpened, IsFunctionRun, WasNotInterrupted, LiftsForOneAlone, ReadsBreakpoint, TracesAll, functions_at, is_opened}
 use Rattle.pr_function_laws.specs.Runs.{MakesCalls, functions_after}
 use Rattle.pr_function_laws.specs.Stretches.{OthersOnlyStop}
-use Rattle.pr_function_laws.proofs.KeptPlaces.{AtStage, Kept, apart-at, first-kept, looks, Position, rests, runs}
+use Rattle.pr_function_laws.proofs.KeptPlaces.{AtStage, Kept, apart-at, first-kept, looks, Position, rests, runs, to_read}
 use Rattle.pr_function_laws.proofs.OpenedCalls.{IsSo, Stays, aside-stays, call-kept, lowest, stage-stays, step_of}
 use Rattle.pr_function_laws.proofs.StoodLemmas.{DirectsAt, StandsSo, Stood, StoodAt, alone-at, as_stopped, turn-at, unmet-stopped, waits}
 use Rattle.pr_function_laws.proofs.StopTurns.{AreAsStopped}
@@ -114,7 +115,7 @@ module _ (n k : ℕ) (s : TracedState) (lawful : IsLawful s) (e : Entry) (legal 
       (let f = foreign in f.other) live)
       over-now
 
-  elsewhere-alone : (o : Options) (t : TrussState) → ((own : ℕ) → e.actor ≢ Lwp pid own) → (q : TracedProcess)
+  pub elsewhere-alone : (o : Options) (t : TrussState) → ((own : ℕ) → e.actor ≢ Lwp pid own) → (q : TracedProcess)
       → live_process (after s e).system pid ≡ Some q
       → (p : TracedProcess) × ((live_process s.system pid ≡ Some p) × IsUndisturbed p q)
   elsewhere-alone o t apart q later =
@@ -123,7 +124,7 @@ module _ (n k : ℕ) (s : TracedState) (lawful : IsLawful s) (e : Entry) (legal 
       (let f = foreign in f.other) live)
       over-now q later
 
-turn-later : (s : TracedState) (acting own : ℕ) (turned : Turned) (t : LwpTurn) → turn_of s.system acting own ≡ Some t
+pub turn-later : (s : TracedState) (acting own : ℕ) (turned : Turned) (t : LwpTurn) → turn_of s.system acting own ≡ Some t
     → (after s (record { actor = Lwp acting own; act = act.Turn turned })).system ≡ t.system
 unfolding after
 turn-later s acting own turned t is = ap (λ (o : Option LwpTurn). (after_turn s o).system) is
@@ -153,7 +154,7 @@ turned-sets s lawful pid own t u same turn over = record {
     )
 
 -- what an entry of another controller, of an lwp, or of the clock keeps
-foreign-sets : (n k : ℕ) (s : TracedState) (lawful : IsLawful s) (actor : Actor) (it : Act)
+pub foreign-sets : (n k : ℕ) (s : TracedState) (lawful : IsLawful s) (actor : Actor) (it : Act)
     (legal : IsLegalEntry n s (record { actor = actor; act = it }))
     (foreign : IsForeign k s (record { actor = actor; act = it })) (pid control : ℕ) (its : HasControl k pid control s)
     → KeepsSets pid s (after s (record { actor = actor; act = it }))
@@ -247,7 +248,7 @@ module _ (Reached : Type 0) (n k : ℕ) (o : Options) (t : TrussState) (s : Trac
       later-reached n s (e ∷ []) (g.reached r) (All-cons IsEntryOfBytes e [] (bytes r) (All-nil IsEntryOfBytes))
       (legal, tt)
 
-  foreign-goes : IsForeign k s e → Goes Reached k o t (after s e)
+  pub foreign-goes : IsForeign k s e → Goes Reached k o t (after s e)
   foreign-goes foreign =
       let w = g.kept in
       let lasts : Each (Stays Reached k t.options s (after s e)) t.traced =
@@ -284,7 +285,7 @@ module _ (Reached : Type 0) (n k : ℕ) (o : Options) (t : TrussState) (s : Trac
               let all = traces.stops in all.directs
           directs-at _ p set = tt
 
-  own-goes : (x : Exchange) → has_functions o ≡ true → IsOwnEntry k s e x → next_function_call_of t ≡ Some x.call
+  pub own-goes : (x : Exchange) → has_functions o ≡ true → IsOwnEntry k s e x → next_function_call_of t ≡ Some x.call
       → WasNotInterrupted x → Goes Reached k o (fed_functions t x.reply) (after s e)
   unfolding IsAnswer
   own-goes x has own next calm =
@@ -346,16 +347,6 @@ module _ (Reached : Type 0) (n k : ℕ) (o : Options) where
       (subst (All WasNotInterrupted) (cons-exchanges k e h) calm))
 
 -- ---- the front of a history
-
-legal-front : (n : ℕ) (s : TracedState) (before later : List Entry) → IsLegal n s (before ++ later)
-    → IsLegal n s before
-legal-front n s [] later legal = tt
-legal-front n s (e ∷ before) later legal = (legal.0, legal-front n (after s e) before later legal.1)
-
-legal-rest : (n : ℕ) (s : TracedState) (before later : List Entry) → IsLegal n s (before ++ later)
-    → IsLegal n (state_after s before) later
-legal-rest n s [] later legal = legal
-legal-rest n s (e ∷ before) later legal = legal-rest n (after s e) before later legal.1
 
 pub calls-front : (t : TrussState) (xs ys : List Exchange) → MakesCalls t (xs ++ ys) → MakesCalls t xs
 calls-front t [] ys makes = tt
@@ -477,13 +468,19 @@ module _ (Reached : Type 0) (k : ℕ) (o : Options) (s : TracedState) (ts : List
 
 module _ (Reached : Type 0) (k : ℕ) (o : Options) (t : TrussState) (s : TracedState) (g : Goes Reached k o t s)
     (place : ℕ) (within : place < length t.traced) where
-  goes-opened : is_opened t.stage place ≡ true → OwnsAndTraces k o t place s
+  -- its files and what is set on it
+  pub goes-holds : is_opened t.stage place ≡ true
+      → (let v : Traced = traced_at t place in Holds k t.options s None v.pid v.control v.status v.lstatus v.memory)
+  goes-holds opened =
+      let w = g.kept in
+      whole-files Reached k t.options s t.traced place within t.stage
+      (opened-whole Reached k t.options s t.traced place within t.stage opened w.stage)
+
+  pub goes-opened : is_opened t.stage place ≡ true → OwnsAndTraces k o t place s
   goes-opened opened =
       let w = g.kept in
       let pid : ℕ = (traced_at t place).pid in
-      let h =
-      whole-files Reached k t.options s t.traced place within t.stage
-      (opened-whole Reached k t.options s t.traced place within t.stage opened w.stage) in
+      let h = goes-holds opened in
       let known = h.known in
       record {
         status = known.number;
@@ -502,7 +499,7 @@ module _ (Reached : Type 0) (k : ℕ) (o : Options) (t : TrussState) (s : Traced
       }
 
   -- where no stop is left that stood before truss came, one lwp at most stands on an event
-  goes-few : Reached → is_opened t.stage place ≡ true → t.stage ≢ Running place → (traced_at t place).old ≡ 0
+  pub goes-few : Reached → is_opened t.stage place ≡ true → t.stage ≢ Running place → (traced_at t place).old ≡ 0
       → (p : TracedProcess) → live_process s.system (traced_at t place).pid ≡ Some p → HasOneEventAtMost p
   goes-few r opened rests_so new p live =
       let w = g.kept in
@@ -516,8 +513,25 @@ module _ (Reached : Type 0) (k : ℕ) (o : Options) (t : TrussState) (s : Traced
       by (inl h) = let stands = h.stands r in by-stood (stands.stood p live)
       by (inr h) = absurd (rests_so h.1)
 
+  -- where it is run next, one lwp at most stands on an event, or it is run with no run flag
+  pub goes-runs : Reached → t.stage ≡ Running place → (p : TracedProcess)
+      → live_process s.system (traced_at t place).pid ≡ Some p
+      → HasOneEventAtMost p ⊎ ((traced_at t place).marks.flags ≡ 0)
+  goes-runs r is p live =
+      let w = g.kept in
+      let at = subst (AtStage (IsSo Reached k t.options s) t.traced) is w.stage in
+      let h : IsSo Reached k t.options s runs (traced_at t place) = at.1.1 in
+      let stands = h.stands r in
+      let stood = stands.stood p live in
+      by stood.0
+    where
+      by : Stood (traced_at t place).marks.flags (suc (traced_at t place).old) p
+          → HasOneEventAtMost p ⊎ ((traced_at t place).marks.flags ≡ 0)
+      by (as_stopped all few) = inl few
+      by (waits w none) = inr none
+
   -- where a new stop of it is read each of its lwps is as it stopped
-  goes-stopped : Reached → t.stage ≡ ReadingStatus place → (traced_at t place).old ≡ 0 → (p : TracedProcess)
+  pub goes-stopped : Reached → t.stage ≡ ReadingStatus place → (traced_at t place).old ≡ 0 → (p : TracedProcess)
       → live_process s.system (traced_at t place).pid ≡ Some p → AreAsStopped p
   goes-stopped r reads new p live =
       let w = g.kept in
@@ -541,7 +555,7 @@ module _ (Reached : Type 0) (k : ℕ) (o : Options) (t : TrussState) (s : Traced
   looked-still : (stage : Stage) → is_looked_at stage place ≡ true
       → AtStage (IsSo Reached k t.options s) t.traced stage → IsFrozen p
   looked-still (ReadingStatus at) looked w =
-      let h : IsSo Reached k t.options s looks (traced_at t at) = w.1.1 in
+      let h : IsSo Reached k t.options s to_read (traced_at t at) = w.1.1 in
       let stands = h.stands r in stands.stood p (live-at at looked)
   looked-still (ReadingText at l from len) looked w =
       let h : IsSo Reached k t.options s looks (traced_at t at) = w.1.1 in
@@ -551,7 +565,7 @@ module _ (Reached : Type 0) (k : ℕ) (o : Options) (t : TrussState) (s : Traced
       let stands = h.stands r in (stands.stood p (live-at at looked)).1
   looked-still _ looked w = absurd (false≢true looked)
 
-  goes-still : is_looked_at t.stage place ≡ true → IsFrozen p
+  pub goes-still : is_looked_at t.stage place ≡ true → IsFrozen p
   goes-still looked = let w = g.kept in looked-still t.stage looked w.stage
 
 module _ (n k : ℕ) (o : Options) (s : TracedState) (h : List Entry) (run : IsFunctionRun n k o s h) where

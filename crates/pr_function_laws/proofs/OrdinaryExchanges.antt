@@ -1,253 +1,68 @@
-use Rattle.std.proofs.Common.{◌≡◌, ◌≢◌, ℕ, true, false, cond, Option, Some, None, List, [], ◌∷◌, refl, sym, subst, ap, ◌∙◌}
+use Rattle.std.proofs.Common.{◌≡◌, ◌≢◌, ◌++◌, ℕ, true, false, cond, Some, List, [], ◌∷◌, length, refl, sym, subst, ap, ◌∙◌}
 use Rattle.std.proofs.lemmas.Bool.{false≢true}
 use Rattle.std.proofs.lemmas.List.Elements.{All-head, All-tail}
-use Rattle.std.proofs.lemmas.Option.{same_Some}
 use Rattle.std.specs.List.{All}
 use Rattle.pr_line.specs.declared.options.Options.{Options}
-use Rattle.pr_model.specs.Replies.{number_of}
-use Rattle.pr_model.specs.declared.calls.Call.{Call}
-use Rattle.pr_model.specs.declared.calls.Call.TheVariants as call
 use Rattle.pr_model.specs.declared.calls.Reply.{Reply}
 use Rattle.pr_model.specs.declared.calls.Reply.TheVariants as reply
-use Rattle.pr_num.specs.Control.{fork_mode}
-use Rattle.pr_num.specs.Limits.{read_limit}
-use Rattle.pr_num.specs.declared.errnos.Errno.{Errno}
-use Rattle.pr_num.specs.declared.errnos.Errno.TheVariants.{Intr, Noent}
-use Rattle.pr_num.specs.declared.messages.Message.TheVariants as message
-use Rattle.pr_report_laws.proofs.Replies.TextReports.{reads_stop}
+use Rattle.pr_num.specs.declared.errnos.Errno.TheVariants.{Intr}
+use Rattle.pr_report_laws.proofs.Asking.NamedRuns.{runs-named}
+use Rattle.pr_truss.specs.Asides.{marks_at}
 use Rattle.pr_truss.specs.Feeding.{fed}
-use Rattle.pr_truss.specs.FunctionCalls.{call_beside, function_call_of, next_function_call_of, patch_call}
+use Rattle.pr_truss.specs.FunctionCalls.{call_beside, function_call_of, next_function_call_of}
 use Rattle.pr_truss.specs.FunctionFeeding.{fed_functions}
-use Rattle.pr_truss.specs.Marks.{first_function, has_functions}
-use Rattle.pr_truss.specs.Messages.{message_call}
-use Rattle.pr_truss.specs.NextCalls.{call_of, child_call, next_call_of, opening_call, read_record, run_call}
-use Rattle.pr_truss.specs.Processes.{last_handle}
+use Rattle.pr_truss.specs.Marks.{has_functions}
+use Rattle.pr_truss.specs.NextCalls.{next_call_of}
 use Rattle.pr_truss.specs.Replies.{answer_of}
-use Rattle.pr_truss.specs.Trusses.{TrussState, first_truss, traced_at}
-use Rattle.pr_truss.specs.declared.asides.Aside.{Aside}
-use Rattle.pr_truss.specs.declared.asides.Aside.TheVariants.{Nothing, Reading, Planting, Patching, AwaitingStop, Asking, AwaitingAgain}
-use Rattle.pr_truss.specs.declared.processes.Traced.{Traced}
+use Rattle.pr_truss.specs.Trusses.{TrussState, first_truss}
+use Rattle.pr_truss.specs.declared.asides.Aside.TheVariants.{Nothing}
 use Rattle.pr_truss.specs.declared.replies.Answer.TheVariants.{Interrupted}
-use Rattle.pr_truss.specs.declared.stages.ChildStep.{ChildStep}
-use Rattle.pr_truss.specs.declared.stages.ChildStep.TheVariants as child
-use Rattle.pr_truss.specs.declared.stages.OpeningStep.{OpeningStep}
-use Rattle.pr_truss.specs.declared.stages.OpeningStep.TheVariants as opening
-use Rattle.pr_truss.specs.declared.stages.Stage.{Stage}
-use Rattle.pr_truss.specs.declared.stages.Stage.TheVariants.{Spawning, OpeningControl, Opening, Polling, ReadingStatus, ReadingText, OpeningChildControl, OpeningChild, Running, Closing, Unfollowing, ReadingLwps, FreeingChild, Finished}
-use Rattle.pr_truss_laws.proofs.AnswerLemmas.{IsAnswer, Refuses, answer-is}
+use Rattle.pr_truss_laws.proofs.AnswerLemmas.{IsAnswer, answer-is}
 use Rattle.pr_truss_laws.proofs.BusinessLemmas.{does-business}
 use Rattle.pr_truss_laws.proofs.FunctionOptionLemmas.{fed_functions-options}
+use Rattle.pr_truss_laws.proofs.HeldLemmas.{Grown, grown-all, grown-same}
 use Rattle.pr_truss_laws.proofs.KnownLemmas.{Knows, first-knows}
 use Rattle.pr_truss_laws.specs.Exchanges.{Exchange, Makes, truss_after}
-use Rattle.pr_truss_laws.specs.Sent.{sends}
-use Rattle.pr_function_laws.proofs.OrdinaryReplies.{at-ordinary, controls-ordinary, first-ordinary}
-use Rattle.pr_function_laws.proofs.OrdinaryRows.{IsRefusable, Row, Step, feeds, function-row, is_beside, passes, refuses, stays, writes}
+use Rattle.pr_function_laws.proofs.MarkLemmas.{AreRunFlags}
+use Rattle.pr_function_laws.proofs.OrdinaryCalls.{Likes, beside-sees, own-likes, refused-likes, stage-likes, write-still}
+use Rattle.pr_function_laws.proofs.OrdinaryReplies.{first-ordinary}
+use Rattle.pr_function_laws.proofs.OrdinaryLines.{prints-lines}
+use Rattle.pr_function_laws.proofs.OrdinaryPatches.{function-row}
+use Rattle.pr_function_laws.proofs.OrdinaryRows.{Row, Step, feeds, is_beside, passes, refuses, stays, writes}
 use Rattle.pr_function_laws.proofs.OrdinaryStops.{FitsAside}
-use Rattle.pr_function_laws.specs.Ordinary.{AreLike, IsLike, IsTrussBeside, TellsOfOwnFault, ended, left_out, none, one, ordinary, other_message, own_fault, same, unmarked}
+use Rattle.pr_function_laws.proofs.SoonLemmas.{any_step, any-sound}
+use Rattle.pr_function_laws.proofs.SoundLemmas.{AsideIsBelow, IsSound, Names, first-sound}
+use Rattle.pr_function_laws.specs.Ordinary.{AreLike, IsLike, IsTrussBeside, PassesOver, PrintsInOrder, SeesTo, left_out, none, one, ordinary}
 use Rattle.pr_function_laws.specs.Runs.{MakesCalls, functions_after}
-use Rattle.pr_function_laws.specs.Soon.{IsCalm, may_wait}
+use Rattle.pr_function_laws.specs.Soon.{IsCalm}
 
 -- The exchanges of truss with calls of functions, without those on breakpoints, are those of a truss.
-
--- ---- its calls
-
--- the call of a stage does not depend on breakpoints
-opening-call : (o : Options) (t : Traced) (now : OpeningStep) → opening_call o (unmarked t) now ≡ opening_call o t now
-unfolding opening_call
-opening-call o t opening.Stop = refl
-opening-call o t _ = refl
-
-child-call : (t : Traced) (now : ChildStep) → child_call (unmarked t) now ≡ child_call t now
-unfolding child_call
-child-call t child.Start = refl
-child-call t _ = refl
-
-pub call-ordinary : (s : TrussState) (stage : Stage) → call_of (ordinary s) stage ≡ call_of s stage
-unfolding call_of last_handle
-call-ordinary s (Spawning program) = refl
-call-ordinary s (OpeningControl pid) = refl
-call-ordinary s (Opening place now) =
-    ap (λ t. Some (opening_call s.options t now)) (at-ordinary s place)
-    ∙ ap (λ c. Some c) (opening-call s.options (traced_at s place) now)
-call-ordinary s Polling = ap (λ handles. Some (call.Poll handles)) (controls-ordinary s.traced)
-call-ordinary s (ReadingStatus place) = ap (λ t. Some (read_record t.status)) (at-ordinary s place)
-call-ordinary s (ReadingText place l at len) =
-    ap (λ t. Some (call.Read (number_of t.memory) at len)) (at-ordinary s place)
-call-ordinary s (OpeningChildControl parent pid) = refl
-call-ordinary s (OpeningChild parent place now) =
-    ap (λ t. Some (child_call t now)) (at-ordinary s place)
-    ∙ ap (λ c. Some c) (child-call (traced_at s place) now)
-call-ordinary s (Running place) = ap (λ t. Some (run_call t.control)) (at-ordinary s place)
-call-ordinary s (Closing place next) = ap (λ t. Some (call.Close (last_handle t))) (at-ordinary s place)
-call-ordinary s Unfollowing =
-    ap (λ t. Some (message_call t.control (message.Unset fork_mode))) (at-ordinary s 0)
-call-ordinary s ReadingLwps = ap (λ t. Some (read_record t.lstatus)) (at-ordinary s 0)
-call-ordinary s (FreeingChild pid now) = refl
-call-ordinary s Finished = refl
-
--- what comes beside a stage is a message or a wait
-pub record IsMessage (control : ℕ) (c : Call) : Type 0 where
-  pub bytes : List ℕ
-  pub is : c ≡ call.Ctl control bytes
-
-pub patch-is : (o : Options) (control : ℕ) (plant lift : Option ℕ) → IsMessage control (patch_call o control plant lift)
-patch-is o control (Some function) lift = record { bytes = _; is = refl }
-patch-is o control None (Some function) = record { bytes = _; is = refl }
-patch-is o control None None = record { bytes = _; is = refl }
-
-module _ (s : TrussState) where
-  pub beside-sends : (stage : Stage) (aside : Aside) (c : Call) → call_beside s stage aside ≡ Some c
-      → is_beside aside ≡ true → sends c ≡ true
-  unfolding call_beside
-  beside-sends stage Nothing c is on = absurd (false≢true on)
-  beside-sends stage (Reading place function) c is on = ap sends (sym (same_Some _ c is))
-  beside-sends stage (Planting place function) c is on = ap sends (sym (same_Some _ c is))
-  beside-sends stage (Patching place plants lifts clear) c is on =
-      let m = patch-is s.options (traced_at s place).control (first_function plants) (first_function lifts) in
-      ap sends (sym (same_Some _ c is) ∙ m.is)
-  beside-sends stage (AwaitingStop until) c is on = ap sends (sym (same_Some _ c is))
-  beside-sends stage Asking c is on = ap sends (sym (same_Some _ c is))
-  beside-sends stage (AwaitingAgain until) c is on = ap sends (sym (same_Some _ c is))
-
-  write-still : (stage : Stage) (aside : Aside) (c : Call) → call_beside s stage aside ≡ Some c
-      → writes aside ≡ true → may_wait c ≡ false
-  unfolding call_beside
-  write-still stage (Reading place function) c is on = ap may_wait (sym (same_Some _ c is))
-  write-still stage (Planting place function) c is on = ap may_wait (sym (same_Some _ c is))
-  write-still stage (Patching place plants lifts clear) c is on =
-      let m = patch-is s.options (traced_at s place).control (first_function plants) (first_function lifts) in
-      ap may_wait (sym (same_Some _ c is) ∙ m.is)
-  write-still stage _ c is on = absurd (false≢true on)
 
 -- ---- one exchange
 
 -- It is left out, and truss is as it was without breakpoints; or it is like one of a truss.
-pub data Turn (o : Options) (s : TrussState) (x : Exchange) : Type 0 where
-  goes_out : sends x.call ≡ true → ordinary (fed_functions s x.reply) ≡ ordinary s → Turn o s x
-  goes_on : (y : Exchange) → IsLike o x y → next_call_of (ordinary s) ≡ Some y.call
-      → ordinary (fed_functions s x.reply) ≡ fed (ordinary s) y.reply → Turn o s x
+pub data Turn (s : TrussState) (x : Exchange) : Type 0 where
+  goes_out : SeesTo s s.stage x.call → PassesOver s.stage x.reply → ordinary (fed_functions s x.reply) ≡ ordinary s
+      → Turn s x
+  goes_on : (y : Exchange) → IsLike s x y → next_call_of (ordinary s) ≡ Some y.call
+      → ordinary (fed_functions s x.reply) ≡ fed (ordinary s) y.reply → Turn s x
 
-module _ (o : Options) (s : TrussState) (x : Exchange) where
-  -- the call of truss at a stage, where the exchange is like one of it with this reply
-  record Likes (stage : Stage) (r : Reply) : Type 0 where
-    called : Call
-    is : call_of (ordinary s) stage ≡ Some called
-    like : IsLike o x (record { call = called; reply = r })
-
-  same-likes : (stage : Stage) → call_of s stage ≡ Some x.call → Likes stage x.reply
-  same-likes stage is = record { called = x.call; is = call-ordinary s stage ∙ is; like = same }
-
-  -- another message to the same file
-  message-likes : (stage : Stage) (control : ℕ) (bytes others : List ℕ) → call.Ctl control bytes ≡ x.call
-      → call_of s stage ≡ Some (call.Ctl control others) → Likes stage x.reply
-  message-likes stage control bytes others own is = record {
-    called = call.Ctl control others;
-    is = call-ordinary s stage ∙ is;
-    like = subst (λ c. IsLike o (record { call = c; reply = x.reply }) (record {
-      call = call.Ctl control others;
-      reply = x.reply;
-    })) own other_message;
-  }
-
-  stage-likes : (stage : Stage) → function_call_of s stage ≡ Some x.call → Likes stage x.reply
-  unfolding function_call_of call_of opening_call
-  stage-likes (Opening place opening.TraceSignals) is =
-      message-likes _ (traced_at s place).control _ _ (same_Some _ x.call is) refl
-  stage-likes (Opening place opening.TraceFaults) is =
-      message-likes _ (traced_at s place).control _ _ (same_Some _ x.call is) refl
-  stage-likes (Opening place opening.TraceEntries) is =
-      message-likes _ (traced_at s place).control _ _ (same_Some _ x.call is) refl
-  stage-likes (Opening place opening.TraceExits) is =
-      message-likes _ (traced_at s place).control _ _ (same_Some _ x.call is) refl
-  stage-likes (Running place) is =
-      message-likes _ (traced_at s place).control _ _ (same_Some _ x.call is) refl
-  stage-likes Unfollowing is = message-likes _ (traced_at s 0).control _ _ (same_Some _ x.call is) refl
-  stage-likes stage is = same-likes stage is
-
-  -- truss is told by what comes beside its stage that the process has ended
-  ended-likes : (stage : Stage) (handle from len : ℕ) → sends x.call ≡ true → x.reply ≡ reply.Fail Noent
-      → call_of s stage ≡ Some (call.Read handle from len) → Likes stage x.reply
-  ended-likes stage handle from len sent gone is = record {
-    called = call.Read handle from len;
-    is = call-ordinary s stage ∙ is;
-    like = subst (λ r. IsLike o (record { call = x.call; reply = r }) (record {
-      call = call.Read handle from len;
-      reply = r;
-    })) (sym gone) (ended sent);
-  }
-
-  wait-likes : (stage : Stage) (errno : Errno) → stage ≡ ReadingLwps → IsRefusable stage errno
-      → sends x.call ≡ true → Refuses x.reply errno → Likes stage x.reply
-  unfolding call_of
-  wait-likes stage errno at may sent refused =
-      ended-likes stage (number_of (traced_at s 0).lstatus) 0 read_limit sent
-      (refused.is ∙ ap reply.Fail (subst (λ st. IsRefusable st errno) at may)) (ap (call_of s) at)
-
-  refused-likes : (aside : Aside) (stage : Stage) (errno : Errno) → FitsAside aside stage → IsRefusable stage errno
-      → is_beside aside ≡ true → call_beside s stage aside ≡ Some x.call → Refuses x.reply errno
-      → Likes stage x.reply
-  unfolding call_beside call_of opening_call
-  refused-likes (Reading place function) (Opening at opening.Start) errno fits may beside is refused =
-      message-likes _ (traced_at s place).control _ _ (same_Some _ x.call is)
-      (ap (λ n. Some (run_call (traced_at s n).control)) fits)
-  refused-likes (Reading place function) _ errno fits may beside is refused = absurd fits
-  refused-likes (Planting place function) (Opening at opening.Start) errno fits may beside is refused =
-      message-likes _ (traced_at s place).control _ _ (same_Some _ x.call is)
-      (ap (λ n. Some (run_call (traced_at s n).control)) fits)
-  refused-likes (Planting place function) _ errno fits may beside is refused = absurd fits
-  refused-likes (Patching place plants lifts clear) (Running at) errno fits may beside is refused =
-      let m = patch-is s.options (traced_at s place).control (first_function plants) (first_function lifts) in
-      message-likes _ (traced_at s place).control m.bytes _ (sym m.is ∙ same_Some _ x.call is)
-      (ap (λ n. Some (run_call (traced_at s n).control)) fits)
-  refused-likes (Patching place plants lifts clear) (ReadingText at l from len) errno fits may beside is refused =
-      ended-likes (ReadingText at l from len) (number_of (traced_at s at).memory) from len
-      (beside-sends s (ReadingText at l from len) (Patching place plants lifts clear) x.call is refl)
-      (refused.is ∙ ap reply.Fail may) refl
-  refused-likes (Patching place plants lifts clear) (Opening at opening.Start) errno fits may beside is refused =
-      absurd fits
-  refused-likes (Patching place plants lifts clear) ReadingLwps errno fits may beside is refused = absurd fits
-  refused-likes (Patching place plants lifts clear) _ errno fits may beside is refused = absurd may
-  refused-likes (AwaitingStop until) stage errno fits may beside is refused =
-      wait-likes stage errno fits may (beside-sends s stage (AwaitingStop until) x.call is refl) refused
-  refused-likes Asking stage errno fits may beside is refused =
-      wait-likes stage errno fits may (beside-sends s stage Asking x.call is refl) refused
-  refused-likes (AwaitingAgain until) stage errno fits may beside is refused =
-      wait-likes stage errno fits may (beside-sends s stage (AwaitingAgain until) x.call is refl) refused
-  refused-likes Nothing stage errno fits may beside is refused = absurd (false≢true beside)
-
-  -- the read of a fault of truss's own
-  own-likes : (stage : Stage) → reads_stop stage ≡ true → TellsOfOwnFault o x.reply
-      → function_call_of s stage ≡ Some x.call → Likes stage (reply.Bytes [])
-  unfolding function_call_of call_of
-  own-likes (ReadingStatus place) reads own is = record {
-    called = read_record (traced_at s place).status;
-    is = call-ordinary s (ReadingStatus place);
-    like = subst (λ c. IsLike o (record { call = c; reply = x.reply }) (record {
-      call = read_record (traced_at s place).status;
-      reply = reply.Bytes [];
-    })) (same_Some _ x.call is) (own_fault own);
-  }
-  own-likes ReadingLwps reads own is = record {
-    called = read_record (traced_at s 0).lstatus;
-    is = call-ordinary s ReadingLwps;
-    like = subst (λ c. IsLike o (record { call = c; reply = x.reply }) (record {
-      call = read_record (traced_at s 0).lstatus;
-      reply = reply.Bytes [];
-    })) (same_Some _ x.call is) (own_fault own);
-  }
-  own-likes _ reads own is = absurd (false≢true reads)
-
--- truss follows no children, and what it does beside its stage fits to that
+-- what truss does beside its stage fits to that, and its marks are sound
 pub record IsFit (o : Options) (s : TrussState) : Type 0 where
   pub options : s.options ≡ o
   pub fits : FitsAside s.aside s.stage
+  pub sound : IsSound o any_step s
 
 module _ (o : Options) (has : has_functions o ≡ true) (off : o.follow ≡ false) where
   pub first-fit : IsFit o (first_truss o)
   first-fit =
       let knows : Knows o [] (first_truss o) = first-knows o in
       let free : Nothing ≡ (first_truss o).aside = ap (λ (s : TrussState). s.aside) (first-ordinary o) in
-      record { options = knows.options; fits = subst (λ a. FitsAside a (first_truss o).stage) free tt }
+      record {
+        options = knows.options;
+        fits = subst (λ a. FitsAside a (first_truss o).stage) free tt;
+        sound = first-sound o any_step;
+      }
 
   module _ (s : TrussState) (x : Exchange) (fit : IsFit o s) (next : next_function_call_of s ≡ Some x.call)
       (calm : IsCalm x) where
@@ -274,43 +89,57 @@ module _ (o : Options) (has : has_functions o ≡ true) (off : o.follow ≡ fals
     pub next-fit : IsFit o (fed_functions s x.reply)
     next-fit =
         let row = own-row in
-        record { options = fed_functions-options s x.reply ∙ fit.options; fits = row.fits }
+        record {
+          options = fed_functions-options s x.reply ∙ fit.options;
+          fits = row.fits;
+          sound = any-sound o s x.reply fit.sound;
+        }
 
     -- the call of the stage, where nothing comes before it
     stage-is : s.aside ≡ Nothing → function_call_of s s.stage ≡ Some x.call
     unfolding call_beside
     stage-is free = ap (call_beside s s.stage) (sym free) ∙ beside-is
 
-    turned : (r : Reply) → Likes o s x s.stage r → ordinary (fed_functions s x.reply) ≡ fed (ordinary s) r
-        → Turn o s x
+    turned : (r : Reply) → Likes s x s.stage r → ordinary (fed_functions s x.reply) ≡ fed (ordinary s) r → Turn s x
     unfolding next_call_of
     turned r likes is = goes_on (record { call = likes.called; reply = r }) likes.like likes.is is
 
-    by : Step s x.reply (fed_functions s x.reply) → Turn o s x
-    by (stays beside is) = goes_out (beside-sends s s.stage s.aside x.call beside-is beside) is
-    by (feeds free is) = turned x.reply (stage-likes o s x s.stage (stage-is free)) is
-    by (refuses errno beside refused may is) =
-        turned x.reply (refused-likes o s x s.aside s.stage errno fit.fits may beside beside-is refused) is
-    by (passes free reads own is) =
-        turned (reply.Bytes [])
-        (own-likes o s x s.stage reads (subst (λ p. TellsOfOwnFault p x.reply) fit.options own) (stage-is free)) is
+    names : Names o any_step s
+    names = let sound = fit.sound in sound.names
 
-    pub turn : Turn o s x
+    sees : is_beside s.aside ≡ true → SeesTo s s.stage x.call
+    sees beside =
+        let w = names in
+        beside-sees s s.stage s.aside x.call fit.fits
+        (subst (λ (opts : Options). AsideIsBelow (length opts.functions) s.aside) (sym fit.options) w.aside)
+        beside-is beside
+
+    flags : (place : ℕ) → AreRunFlags (marks_at s place).flags
+    flags place = let w = names in let m = w.marks place in m.flags
+
+    by : Step s x.reply (fed_functions s x.reply) → Turn s x
+    by (stays beside over is) = goes_out (sees beside) over is
+    by (feeds free none_own is) = turned x.reply (stage-likes s x none_own flags s.stage (stage-is free)) is
+    by (refuses errno beside was may is) = turned x.reply (refused-likes s x errno may (sees beside) was) is
+    by (passes free reads own is) =
+        turned (reply.Bytes []) (own-likes s x s.stage reads own (stage-is free)) is
+
+    pub turn : Turn s x
     turn = let row = own-row in by row.step
 
   -- ---- all exchanges
 
   record Without (s : TrussState) (xs : List Exchange) : Type 0 where
     others : List Exchange
-    like : AreLike o xs others
+    like : AreLike s xs others
     makes : Makes (ordinary s) others
     is : truss_after (ordinary s) others ≡ ordinary (functions_after s xs)
 
-  without-next : (s : TrussState) (x : Exchange) (xs : List Exchange) → Turn o s x
+  without-next : (s : TrussState) (x : Exchange) (xs : List Exchange) → Turn s x
       → Without (fed_functions s x.reply) xs → Without s (x ∷ xs)
-  without-next s x xs (goes_out sent stay) w = record {
+  without-next s x xs (goes_out sees over stay) w = record {
     others = w.others;
-    like = left_out sent w.like;
+    like = left_out sees over w.like;
     makes = subst (λ u. Makes u w.others) stay w.makes;
     is = ap (λ u. truss_after u w.others) (sym stay) ∙ w.is;
   }
@@ -328,6 +157,47 @@ module _ (o : Options) (has : has_functions o ≡ true) (off : o.follow ≡ fals
       without-next s x xs (turn s x fit makes.0 still)
       (without xs (fed_functions s x.reply) (next-fit s x fit makes.0 still) makes.1 (All-tail IsCalm x xs calm))
 
+  -- ---- its lines
+
+  -- truss later
+  record Later (s u : TrussState) : Type 0 where
+    fit : IsFit o u
+    grows : Grown s.reports u.reports
+
+  later : (xs : List Exchange) (s : TrussState) → IsFit o s → MakesCalls s xs → All IsCalm xs
+      → Later s (functions_after s xs)
+  later [] s fit makes calm = record { fit = fit; grows = grown-same s.reports }
+  later (x ∷ xs) s fit makes calm =
+      let still = All-head IsCalm x xs calm in
+      let row = own-row s x fit makes.0 still in
+      let rest =
+      later xs (fed_functions s x.reply) (next-fit s x fit makes.0 still) makes.1 (All-tail IsCalm x xs calm) in
+      record { fit = rest.fit; grows = grown-all s.reports _ _ row.grows rest.grows }
+
+  grows-from : (before after : List Exchange) (s : TrussState) → IsFit o s → MakesCalls s (before ++ after)
+      → All IsCalm (before ++ after)
+      → Grown (functions_after s before).reports (functions_after s (before ++ after)).reports
+  grows-from [] after s fit makes calm = let it = later after s fit makes calm in it.grows
+  grows-from (x ∷ before) after s fit makes calm =
+      let still = All-head IsCalm x (before ++ after) calm in
+      grows-from before after (fed_functions s x.reply) (next-fit s x fit makes.0 still) makes.1
+      (All-tail IsCalm x (before ++ after) calm)
+
+  prints-in-order : (xs : List Exchange) → MakesCalls (first_truss o) xs → All IsCalm xs → PrintsInOrder o xs
+  prints-in-order xs makes calm = record {
+    reports = λ before after is.
+        let grown =
+        grows-from before after (first_truss o) first-fit (subst (MakesCalls (first_truss o)) is makes)
+        (subst (All IsCalm) is calm) in (
+          grown.more,
+          ap (λ ys. (functions_after (first_truss o) ys).reports) is ∙ grown.is,
+        );
+    lines = λ none.
+        let it = later xs (first_truss o) first-fit makes calm in
+        let fit = it.fit in
+        prints-lines o (functions_after (first_truss o) xs) fit.options none;
+  }
+
   pub beside : (xs : List Exchange) → MakesCalls (first_truss o) xs → All IsCalm xs → IsTrussBeside o xs
   beside xs makes calm =
       let w = without xs (first_truss o) first-fit makes calm in
@@ -338,6 +208,8 @@ module _ (o : Options) (has : has_functions o ≡ true) (off : o.follow ≡ fals
         makes = own;
         is = ap (λ u. truss_after u w.others) (sym (first-ordinary o)) ∙ w.is;
         business = does-business o w.others own;
+        runs = runs-named o w.others own;
+        prints = prints-in-order xs makes calm;
       }
 
 pub truss-beside : (o : Options) (xs : List Exchange) → has_functions o ≡ true → o.follow ≡ false

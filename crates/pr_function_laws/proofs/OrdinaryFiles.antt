@@ -13,11 +13,14 @@ use Rattle.pr_model.specs.declared.calls.Call.TheVariants as call
 use Rattle.pr_model.specs.declared.calls.File.{File}
 use Rattle.pr_model.specs.declared.calls.Mode.{Mode}
 use Rattle.pr_model.specs.declared.calls.Reply.{Reply}
+use Rattle.pr_model.specs.declared.calls.Reply.TheVariants as reply
 use Rattle.pr_model.specs.declared.events.Act.{Act}
 use Rattle.pr_model.specs.declared.events.Act.TheVariants as act
 use Rattle.pr_model.specs.declared.events.Actor.{Actor}
 use Rattle.pr_model.specs.declared.events.Actor.TheVariants.{Controller, Lwp, Clock}
 use Rattle.pr_model.specs.declared.events.Entry.{Entry}
+use Rattle.pr_num.specs.declared.errnos.Errno.{Errno}
+use Rattle.pr_num.specs.declared.errnos.Errno.TheVariants.{Noent}
 use Rattle.pr_report_laws.proofs.Files.FedFiles.{fed-keeps}
 use Rattle.pr_report_laws.proofs.Files.FileLaws.{FileOf, HasFiles, each-has, has-each, same-files, stands-once}
 use Rattle.pr_report_laws.proofs.Files.FileSteps.{MakesNext, calm-call, entry-lawful}
@@ -29,11 +32,14 @@ use Rattle.pr_truss.specs.Feeding.{fed}
 use Rattle.pr_truss.specs.FunctionCalls.{next_function_call_of}
 use Rattle.pr_truss.specs.FunctionFeeding.{fed_functions}
 use Rattle.pr_truss.specs.Marks.{has_functions}
-use Rattle.pr_truss.specs.NextCalls.{next_call_of}
+use Rattle.pr_truss.specs.NextCalls.{call_of, next_call_of, opening_call}
 use Rattle.pr_truss.specs.Replies.{answer_of}
 use Rattle.pr_truss.specs.Trusses.{TrussState, first_truss}
 use Rattle.pr_truss.specs.declared.replies.Answer.{Answer as Answered}
 use Rattle.pr_truss.specs.declared.replies.Answer.TheVariants.{Accepted, Interrupted}
+use Rattle.pr_truss.specs.declared.stages.OpeningStep.TheVariants as opening
+use Rattle.pr_truss.specs.declared.stages.Stage.{Stage}
+use Rattle.pr_truss.specs.declared.stages.Stage.TheVariants.{Opening, ReadingText, Running, ReadingLwps}
 use Rattle.pr_truss_laws.proofs.FedLemmas.{Changes, fed-changes}
 use Rattle.pr_truss_laws.proofs.FitLemmas.{fed-fits}
 use Rattle.pr_truss_laws.proofs.HeldLemmas.{held}
@@ -41,10 +47,11 @@ use Rattle.pr_truss_laws.proofs.OpensLemmas.{keeps_handles, plain-leaves}
 use Rattle.pr_truss_laws.proofs.OwnLemmas.{Owns, owned}
 use Rattle.pr_truss_laws.specs.Exchanges.{Exchange, exchange_in, exchange_of, exchanges}
 use Rattle.pr_truss_laws.specs.Sent.{sends}
+use Rattle.pr_function_laws.proofs.OrdinaryCalls.{sees-sends}
 use Rattle.pr_function_laws.proofs.OrdinaryExchanges.{IsFit, Turn, first-fit, goes_on, goes_out, next-fit, turn}
 use Rattle.pr_function_laws.proofs.OrdinaryReplies.{first-ordinary}
 use Rattle.pr_function_laws.specs.Opened.{IsFunctionRun}
-use Rattle.pr_function_laws.specs.Ordinary.{IsLike, ended, ordinary, other_message, own_fault, same}
+use Rattle.pr_function_laws.specs.Ordinary.{IsLike, IsTakenUp, PlantsAtFirst, SeesTo, StandsFor, common, entries, exits, faults, in_place, leaves, ordinary, own_fault, plants_at_first, reads_code, refused, runs, same, signals, waits}
 use Rattle.pr_function_laws.specs.Runs.{MakesCalls, functions_after}
 use Rattle.pr_function_laws.specs.Soon.{IsCalm, may_wait}
 
@@ -179,13 +186,68 @@ record IsQuiet (x y : Exchange) : Type 0 where
   now : keeps_handles y.call ≡ true
   calm : keep.IsCalm (answer_of y.reply) (Some y.call)
 
-like-quiet : {o : Options} {x y : Exchange} → IsLike o x y
+stands-quiet : {o : Options} {c d : Call} (r : Reply) → StandsFor o c d
+    → (can_wait c ≡ false → answer_of r ≢ Interrupted)
+    → IsQuiet (record { call = c; reply = r }) (record { call = d; reply = r })
+stands-quiet r (common m is) calm =
+    record { before = refl; now = refl; calm = calm-call (answer_of r) _ (λ still. calm refl) }
+stands-quiet r waits calm =
+    record { before = refl; now = refl; calm = calm-call (answer_of r) _ (λ still. calm still) }
+stands-quiet r signals calm =
+    record { before = refl; now = refl; calm = calm-call (answer_of r) _ (λ still. calm refl) }
+stands-quiet r faults calm =
+    record { before = refl; now = refl; calm = calm-call (answer_of r) _ (λ still. calm refl) }
+stands-quiet r entries calm =
+    record { before = refl; now = refl; calm = calm-call (answer_of r) _ (λ still. calm refl) }
+stands-quiet r exits calm =
+    record { before = refl; now = refl; calm = calm-call (answer_of r) _ (λ still. calm refl) }
+stands-quiet r (runs flags step) calm =
+    record { before = refl; now = refl; calm = calm-call (answer_of r) _ (λ still. calm refl) }
+stands-quiet r leaves calm =
+    record { before = refl; now = refl; calm = calm-call (answer_of r) _ (λ still. calm refl) }
+
+-- a call at first does not wait
+first-still : {o : Options} {control : ℕ} {c : Call} → PlantsAtFirst o control c → can_wait c ≡ false
+first-still (reads_code below) = refl
+first-still (plants_at_first below) = refl
+
+-- the call that was not made
+module _ (s : TrussState) (c d : Call) (errno : Errno) where
+  abbrev AreQuiet : Type 0
+  AreQuiet =
+      IsQuiet (record { call = c; reply = reply.Fail errno }) (record { call = d; reply = reply.Fail errno })
+
+  gone-quiet : sends c ≡ true → keeps_handles d ≡ true → errno ≡ Noent → AreQuiet
+  unfolding answer_of
+  gone-quiet sent now gone = record {
+    before = sent-keeps c sent;
+    now = now;
+    calm = subst (λ e. keep.IsCalm (answer_of (reply.Fail e)) (Some d)) (sym gone) tt;
+  }
+
+  taken-quiet : (stage : Stage) → SeesTo s stage c → IsTakenUp stage errno → call_of s stage ≡ Some d
+      → (can_wait c ≡ false → answer_of (reply.Fail errno) ≢ Interrupted) → AreQuiet
+  unfolding call_of opening_call
+  taken-quiet (Opening place opening.Start) sees may is calm = record {
+    before = sent-keeps c (sees-sends s (Opening place opening.Start) c sees);
+    now = ap keeps_handles (sym (same_Some _ d is));
+    calm = calm-call (answer_of (reply.Fail errno)) d (λ still. calm (first-still sees));
+  }
+  taken-quiet (Running place) sees may is calm =
+      gone-quiet (sees-sends s (Running place) c sees) (ap keeps_handles (sym (same_Some _ d is))) may
+  taken-quiet (ReadingText place l from len) sees may is calm =
+      gone-quiet (sees-sends s (ReadingText place l from len) c sees) (ap keeps_handles (sym (same_Some _ d is))) may
+  taken-quiet ReadingLwps sees may is calm =
+      gone-quiet (sees-sends s ReadingLwps c sees) (ap keeps_handles (sym (same_Some _ d is))) may
+  taken-quiet _ sees may is calm = absurd may
+
+like-quiet : {s : TrussState} {x y : Exchange} → IsLike s x y
     → (can_wait x.call ≡ false → answer_of x.reply ≢ Interrupted) → (x ≡ y) ⊎ IsQuiet x y
-unfolding answer_of
-like-quiet same calm = inl refl
-like-quiet (other_message {handle = handle} {others = others} {r = r}) calm =
-    inr (record { before = refl; now = refl; calm = calm-call (answer_of r) (call.Ctl handle others) calm })
-like-quiet (ended {c = c} sent) calm = inr (record { before = sent-keeps c sent; now = refl; calm = tt })
+unfolding answer_of next_call_of
+like-quiet (same unsent none_own) calm = inl refl
+like-quiet (in_place {r = r} stands) calm = inr (stands-quiet r stands calm)
+like-quiet {s} (refused {c = c} {d = d} {errno = errno} sees may is) calm =
+    inr (taken-quiet s c d errno s.stage sees may is calm)
 like-quiet (own_fault own) calm = inr (record { before = refl; now = refl; calm = tt })
 
 pub record Follows (k : ℕ) (o : Options) (t : TrussState) (s : TracedState) : Type 0 where
@@ -237,9 +299,10 @@ module _ (o : Options) (has : has_functions o ≡ true) (off : o.follow ≡ fals
         (same-reach (subst (λ (z : Exchange). next_call_of (ordinary t) ≡ Some z.call) (sym is) next))
     like-reach y next (inr quiet) = quiet-reach y next quiet
 
-    turn-reach : Turn o t x → Reaches k (ordinary (fed_functions t x.reply)) (after s e)
-    turn-reach (goes_out sent stay) =
+    turn-reach : Turn t x → Reaches k (ordinary (fed_functions t x.reply)) (after s e)
+    turn-reach (goes_out sees over stay) =
         let g = reached in
+        let sent : sends x.call ≡ true = sees-sends t t.stage x.call sees in
         subst (λ u. Reaches k u (after s e)) (sym stay)
         (moved (ordinary t) (entry-leaves n k s e x legal own (sent-keeps x.call sent)) g.owns g.files)
     turn-reach (goes_on y like next now) =

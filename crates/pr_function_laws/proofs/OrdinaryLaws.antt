@@ -42,12 +42,13 @@ use Rattle.pr_truss_laws.proofs.ReleaseLemmas.{none-left, was-last}
 use Rattle.pr_truss_laws.specs.Exchanges.{Exchange, exchange_of}
 use Rattle.pr_truss_laws.specs.Handles.{ClosesFreely, HasNothingOpen}
 use Rattle.pr_truss_laws.specs.Sent.{sends}
-use Rattle.pr_function_laws.proofs.OrdinaryExchanges.{Turn, beside-is, call-ordinary, goes_on, goes_out, patch-is, turn}
+use Rattle.pr_function_laws.proofs.OrdinaryCalls.{call-ordinary, patch-is, sees-sends, stands-sends}
+use Rattle.pr_function_laws.proofs.OrdinaryExchanges.{Turn, beside-is, goes_on, goes_out, turn}
 use Rattle.pr_function_laws.proofs.OrdinaryFiles.{Follows, MakesOwn, entry-calm, own-next, run-halfway}
 use Rattle.pr_function_laws.proofs.OrdinaryReplies.{at-ordinary}
-use Rattle.pr_function_laws.proofs.OrdinaryStops.{FitsAside, IsLookedAt, IsOpenedAt}
+use Rattle.pr_function_laws.proofs.OrdinaryStops.{FitsAside, IsLookedAt, IsOpenedAt, patch-looked}
 use Rattle.pr_function_laws.specs.Opened.{IsFunctionRun, functions_at}
-use Rattle.pr_function_laws.specs.Ordinary.{IsLike, ended, ordinary, other_message, own_fault, same}
+use Rattle.pr_function_laws.specs.Ordinary.{IsLike, in_place, ordinary, own_fault, refused, same}
 use Rattle.pr_function_laws.specs.OrdinaryRuns.{ClosesFreelyThroughout}
 use Rattle.pr_function_laws.specs.Soon.{IsCalm}
 
@@ -66,10 +67,10 @@ plain-unsent (call.Close handle) sent plain = false≢true sent
 plain-unsent (call.Poll handles) sent plain = false≢true sent
 plain-unsent _ sent plain = false≢true plain
 
-like-same : {o : Options} {x y : Exchange} → IsLike o x y → is_plain x.call ≡ true → x ≡ y
-like-same same plain = refl
-like-same other_message plain = absurd (false≢true plain)
-like-same (ended {c = c} sent) plain = absurd (plain-unsent c sent plain)
+like-same : {s : TrussState} {x y : Exchange} → IsLike s x y → is_plain x.call ≡ true → x ≡ y
+like-same (same unsent none_own) plain = refl
+like-same (in_place {c = c} stands) plain = absurd (let it = stands-sends stands in plain-unsent c it.0 plain)
+like-same {s} (refused {c = c} sees may is) plain = absurd (plain-unsent c (sees-sends s s.stage c sees) plain)
 like-same (own_fault own) plain = absurd (false≢true plain)
 
 -- ---- one entry
@@ -97,7 +98,7 @@ module _ (n k : ℕ) (o : Options) (s : TracedState) (before later : List Entry)
   calm : IsCalm x
   calm = let half = run-halfway n k o s before (e ∷ later) run in entry-calm n k v e x half.legal.0 own
 
-  turns : Turn o t x
+  turns : Turn t x
   turns = let f = follows in turn o run.has run.follows_none t x f.fit made calm
 
   -- ---- its files
@@ -154,7 +155,8 @@ module _ (n k : ℕ) (o : Options) (s : TracedState) (before later : List Entry)
       subst (NamesItsOwn k v) (same_Some _ c is) (control-open place (opened-within place t.stage fit fits))
   names (Patching place plants lifts clear) c fit is =
       let m = patch-is t.options (traced_at t place).control (first_function plants) (first_function lifts) in
-      subst (NamesItsOwn k v) (sym m.is ∙ same_Some _ c is) (control-open place (looked-within place t.stage fit fits))
+      subst (NamesItsOwn k v) (sym m.is ∙ same_Some _ c is)
+      (control-open place (looked-within place t.stage (patch-looked place plants clear t.stage fit.0) fits))
   names (AwaitingStop until) c fit is =
       subst (NamesItsOwn k v) (same_Some _ c is) (control-open 0 (subst (Fits (ordinary t).traced) fit fits))
   names Asking c fit is =
@@ -170,8 +172,9 @@ module _ (n k : ℕ) (o : Options) (s : TracedState) (before later : List Entry)
 
   -- ---- calls that are the same
 
-  same-next : Turn o t x → is_plain x.call ≡ true → next_call_of (ordinary t) ≡ Some x.call
-  same-next (goes_out sent still) plain = absurd (plain-unsent x.call sent plain)
+  same-next : Turn t x → is_plain x.call ≡ true → next_call_of (ordinary t) ≡ Some x.call
+  same-next (goes_out sees over still) plain =
+      absurd (plain-unsent x.call (sees-sends t t.stage x.call sees) plain)
   same-next (goes_on y like called now) plain =
       subst (λ (z : Exchange). next_call_of (ordinary t) ≡ Some z.call) (sym (like-same like plain)) called
 
@@ -280,7 +283,7 @@ module _ (t : TrussState) where
   beside-ends Asking none = absurd (none-some _ (sym none))
   beside-ends (AwaitingAgain until) none = absurd (none-some _ (sym none))
 
-  function-ends : has_functions t.options ≡ true → next_function_call_of t ≡ None → next_call_of (ordinary t) ≡ None
+  pub function-ends : has_functions t.options ≡ true → next_function_call_of t ≡ None → next_call_of (ordinary t) ≡ None
   unfolding next_function_call_of next_call_of
   function-ends has none =
       beside-ends t.aside

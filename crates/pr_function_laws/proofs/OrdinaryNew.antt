@@ -1,12 +1,14 @@
 use Rattle.std.proofs.Common.{◌≡◌, ◌<◌, ◌++◌, ℕ, true, cond, Option, Some, List, [], ◌∷◌, length, refl, sym, subst, ap, ◌∙◌}
 use Rattle.std.proofs.lemmas.Bool.{false≢true}
 use Rattle.std.proofs.lemmas.List.{length-map}
+use Rattle.std.specs.List.{slice_get}
 use Rattle.pr_line.specs.Selections.{is_selected}
 use Rattle.pr_line.specs.declared.options.Options.{Options}
 use Rattle.pr_model.specs.Legal.{state_after}
 use Rattle.pr_model.specs.Replies.{bytes_in}
 use Rattle.pr_model.specs.State.{TracedState}
 use Rattle.pr_model.specs.declared.calls.Call.TheVariants as call
+use Rattle.pr_model.specs.declared.calls.File.{File}
 use Rattle.pr_model.specs.declared.calls.File.TheVariants as file
 use Rattle.pr_model.specs.declared.calls.Reply.TheVariants as reply
 use Rattle.pr_model.specs.declared.events.Entry.{Entry}
@@ -19,32 +21,33 @@ use Rattle.pr_report_laws.proofs.Invariant.Tallies.{told_in}
 use Rattle.pr_report_laws.proofs.Replies.NewStops.{new-event, new-own, new_of, read-is, read_now}
 use Rattle.pr_report_laws.proofs.ToldForks.OldHolds.{status-stage}
 use Rattle.pr_report_laws.specs.Attachments.{ReadsFile}
-use Rattle.pr_report_laws.specs.Reads.{ReadsStatusOf}
+use Rattle.pr_report_laws.specs.Reads.{ReadsLwpsOf, ReadsStatusOf}
 use Rattle.pr_report_laws.specs.Shown.{LwpEvent, shown}
 use Rattle.pr_truss.specs.NextCalls.{next_call_of}
-use Rattle.pr_truss.specs.Records.{status_lwp}
+use Rattle.pr_truss.specs.Records.{event_stops, status_lwp}
 use Rattle.pr_truss.specs.Trusses.{TrussState, traced_at}
 use Rattle.pr_truss.specs.declared.processes.Traced.{Traced}
-use Rattle.pr_truss.specs.declared.stages.Stage.TheVariants.{ReadingStatus}
+use Rattle.pr_truss.specs.declared.stages.Stage.TheVariants.{ReadingLwps, ReadingStatus}
 use Rattle.pr_truss_laws.proofs.HeldLemmas.{Fits}
 use Rattle.pr_truss_laws.proofs.OwnLemmas.{Owns}
 use Rattle.pr_truss_laws.specs.Exchanges.{Exchange, exchange_of}
 use Rattle.pr_truss_laws.specs.Sent.{sends}
+use Rattle.pr_function_laws.proofs.OrdinaryCalls.{sees-sends, stands-sends}
 use Rattle.pr_function_laws.proofs.OrdinaryExchanges.{Turn, goes_on, goes_out, turn}
 use Rattle.pr_function_laws.proofs.OrdinaryFiles.{Follows, MakesOwn, entry-calm, own-next, run-halfway}
 use Rattle.pr_function_laws.proofs.OrdinaryReplies.{at-ordinary}
 use Rattle.pr_function_laws.proofs.OrdinaryShown.{shown-told}
 use Rattle.pr_function_laws.specs.Opened.{IsFunctionRun, functions_at}
-use Rattle.pr_function_laws.specs.Ordinary.{IsLike, TellsOfOwnFault, ended, ordinary, other_message, own_fault, same, unmarked}
-use Rattle.pr_function_laws.specs.OrdinaryRuns.{HasNoOldLeft, ShowsOneMore, ShowsWhatIsNewOf}
+use Rattle.pr_function_laws.specs.Ordinary.{IsLike, TellsOfOwnFault, in_place, ordinary, own_fault, refused, same, unmarked}
+use Rattle.pr_function_laws.specs.OrdinaryRuns.{HasNoOldLeft, LooksLast, ReadsNoOwnFault, ShowsOneMore, ShowsWhatIsNewOf}
 
--- Each new event that truss with calls of functions reads in its loop, that the options select and that is no fault of
--- its own, it shows.
+-- Each new event that truss with calls of functions reads, that the options select and that is no fault of its own, it
+-- shows.
 
+-- a read of a file of a process that got bytes
 module _ (n k : ℕ) (o : Options) (s : TracedState) (before later : List Entry) (e : Entry) (pid : ℕ)
-    (run : IsFunctionRun n k o s (before ++ e ∷ later)) (none_old : HasNoOldLeft k o pid before) (event : LwpEvent)
-    (w : ReadsStatusOf k pid (state_after s before) e event)
-    (not_own : TellsOfOwnFault o (let r = w.read in reply.Bytes r.bytes) → ⊥) where
+    (run : IsFunctionRun n k o s (before ++ e ∷ later)) (event : LwpEvent) (f : File)
+    (r : ReadsFile k pid f (state_after s before) e) (not_own : ReadsNoOwnFault k (functions_at k o before) e) where
   abbrev t : TrussState
   t = functions_at k o before
 
@@ -61,10 +64,10 @@ module _ (n k : ℕ) (o : Options) (s : TracedState) (before later : List Entry)
   files = let g = reached in g.files
 
   abbrev x : Exchange
-  x = let r = w.read in record { call = call.Read r.handle r.from r.len; reply = reply.Bytes r.bytes }
+  x = record { call = call.Read r.handle r.from r.len; reply = reply.Bytes r.bytes }
 
   own : exchange_of k e ≡ Some x
-  own = let r = w.read in r.is
+  own = r.is
 
   made : MakesOwn t (Some x)
   made =
@@ -73,13 +76,15 @@ module _ (n k : ℕ) (o : Options) (s : TracedState) (before later : List Entry)
       subst (MakesOwn t) own m.0
 
   -- it is an exchange of truss as it stands
-  like-same : {y z : Exchange} → IsLike o y z → y ≡ x → y ≡ z
-  like-same same is = refl
-  like-same other_message is = absurd (false≢true (sym (ap (λ (z : Exchange). sends z.call) is)))
-  like-same (ended {c = c} sent) is =
-      absurd (false≢true (sym (ap (λ (z : Exchange). sends z.call) is) ∙ sent))
+  like-same : {y z : Exchange} → IsLike t y z → y ≡ x → y ≡ z
+  like-same (same unsent none_own) is = refl
+  like-same (in_place stands) is =
+      let sent = stands-sends stands in
+      absurd (false≢true (sym (ap (λ (z : Exchange). sends z.call) is) ∙ sent.0))
+  like-same (refused {c = c} sees may called) is =
+      absurd (false≢true (sym (ap (λ (z : Exchange). sends z.call) is) ∙ sees-sends t t.stage c sees))
   like-same (own_fault tells) is =
-      absurd (not_own (subst (TellsOfOwnFault o) (ap (λ (z : Exchange). z.reply) is) tells))
+      absurd (not_own.none x own (subst (TellsOfOwnFault t) (ap (λ (z : Exchange). z.reply) is) tells))
 
   -- what it shows then
   abbrev IsTold : Type 0
@@ -88,8 +93,8 @@ module _ (n k : ℕ) (o : Options) (s : TracedState) (before later : List Entry)
       × (shown pid (functions_at k o (before ++ e ∷ []))
       ≡ shown pid t ++ told_in (is_selected o) (read_now pid (ordinary t) x.reply))
 
-  told : Turn o t x → IsTold
-  told (goes_out sent still) = absurd (false≢true sent)
+  told : Turn t x → IsTold
+  told (goes_out sees over still) = absurd (false≢true (sees-sends t t.stage x.call sees))
   told (goes_on y like called now) =
       let f = follows in
       let fit = f.fit in
@@ -110,45 +115,92 @@ module _ (n k : ℕ) (o : Options) (s : TracedState) (before later : List Entry)
   next : MakesNext (ordinary t) (exchange_of k e)
   next = let all = is-told in subst (MakesNext (ordinary t)) (sym own) all.0
 
-  -- the event is new
-  read-it : read_now pid (ordinary t) x.reply ≡ Some event
-  unfolding bytes_in
-  read-it =
-      let r : ReadsFile k pid file.Status v e = w.read in
-      let g = reached in
-      let owns : Owns k (ordinary t) v = g.owns in
-      let at = status-stage k pid (ordinary t) v reached e next file.Status r refl in
-      let place = at.0 in
-      let z : Traced = traced_at (ordinary t) place in
-      let within : place < length (ordinary t).traced = subst (Fits (ordinary t).traced) at.1.0 owns.fits in
-      let stands : Stands (ordinary t).traced t.leaving (ReadingStatus place) =
-      standing k (ordinary t) v (ReadingStatus place) files at.1.0 in
-      let on : IsAttached z = rest-stays t.leaving z (stands.rests place within) stands.leaves in
-      let mine : (traced_at t place).pid ≡ pid = sym (ap (λ (u : Traced). u.pid) (at-ordinary t place)) ∙ at.1.1 in
-      let old : z.old ≡ 0 =
-      ap (λ (u : Traced). u.old) (at-ordinary t place)
-      ∙ none_old place (subst (λ m. place < m) (length-map t.traced unmarked) within) mine in
-      read-is pid (ordinary t) x.reply (ReadingStatus place) at.1.0
-      ∙ new-own pid z (status_lwp r.bytes) at.1.1
-      ∙ ap (new_of z) w.tells ∙ new-event z w.lwp old on.unseen ∙ w.on
-
-  pub shows-new : is_selected o event.event ≡ true → (more : ShowsOneMore k o pid before e) × (more.event ≡ event)
-  shows-new chosen =
+  shows-read : read_now pid (ordinary t) (reply.Bytes r.bytes) ≡ Some event → is_selected o event.event ≡ true
+      → (more : ShowsOneMore k o pid before e) × (more.event ≡ event)
+  shows-read read chosen =
       let all = is-told in (
         record {
           event = event;
           is = all.1
-              ∙ ap (λ (q : Option LwpEvent). shown pid t ++ told_in (is_selected o) q) read-it
+              ∙ ap (λ (q : Option LwpEvent). shown pid t ++ told_in (is_selected o) q) read
               ∙ ap (λ b. shown pid t ++ cond {A = List LwpEvent} b (event ∷ []) []) chosen;
         },
         refl,
       )
+
+-- ---- in the loop
+
+module _ (n k : ℕ) (o : Options) (s : TracedState) (before later : List Entry) (e : Entry) (pid : ℕ)
+    (run : IsFunctionRun n k o s (before ++ e ∷ later)) (none_old : HasNoOldLeft k o pid before) (event : LwpEvent)
+    (w : ReadsStatusOf k pid (state_after s before) e event)
+    (not_own : ReadsNoOwnFault k (functions_at k o before) e) where
+  abbrev u : TrussState
+  u = functions_at k o before
+
+  abbrev read : ReadsFile k pid file.Status (state_after s before) e
+  read = w.read
+
+  -- the event is new
+  read-it : read_now pid (ordinary u) (reply.Bytes read.bytes) ≡ Some event
+  unfolding bytes_in
+  read-it =
+      let r : ReadsFile k pid file.Status (state_after s before) e = w.read in
+      let g = reached n k o s before later e pid run event file.Status read not_own in
+      let owns : Owns k (ordinary u) (state_after s before) = g.owns in
+      let at =
+      status-stage k pid (ordinary u) (state_after s before) g e
+      (next n k o s before later e pid run event file.Status read not_own) file.Status r refl in
+      let place = at.0 in
+      let z : Traced = traced_at (ordinary u) place in
+      let within : place < length (ordinary u).traced = subst (Fits (ordinary u).traced) at.1.0 owns.fits in
+      let stands : Stands (ordinary u).traced u.leaving (ReadingStatus place) =
+      standing k (ordinary u) (state_after s before) (ReadingStatus place) g.files at.1.0 in
+      let on : IsAttached z = rest-stays u.leaving z (stands.rests place within) stands.leaves in
+      let mine : (traced_at u place).pid ≡ pid = sym (ap (λ (v : Traced). v.pid) (at-ordinary u place)) ∙ at.1.1 in
+      let old : z.old ≡ 0 =
+      ap (λ (v : Traced). v.old) (at-ordinary u place)
+      ∙ none_old place (subst (λ m. place < m) (length-map u.traced unmarked) within) mine in
+      read-is pid (ordinary u) (reply.Bytes read.bytes) (ReadingStatus place) at.1.0
+      ∙ new-own pid z (status_lwp r.bytes) at.1.1
+      ∙ ap (new_of z) w.tells ∙ new-event z w.lwp old on.unseen ∙ w.on
+
+  shows-new : is_selected o event.event ≡ true → (more : ShowsOneMore k o pid before e) × (more.event ≡ event)
+  shows-new chosen = shows-read n k o s before later e pid run event file.Status read not_own read-it chosen
+
+-- ---- where truss leaves the process
+
+module _ (n k : ℕ) (o : Options) (s : TracedState) (before later : List Entry) (e : Entry) (pid : ℕ)
+    (run : IsFunctionRun n k o s (before ++ e ∷ later)) (looks : LooksLast (functions_at k o before) pid)
+    (event : LwpEvent) (w : ReadsLwpsOf k pid (state_after s before) e event)
+    (not_own : ReadsNoOwnFault k (functions_at k o before) e) where
+  abbrev q : TrussState
+  q = functions_at k o before
+
+  abbrev lwps : ReadsFile k pid file.Lstatus (state_after s before) e
+  lwps = w.read
+
+  last-read : read_now pid (ordinary q) (reply.Bytes lwps.bytes) ≡ Some event
+  unfolding bytes_in
+  last-read =
+      let z : Traced = traced_at (ordinary q) 0 in
+      let same = at-ordinary q 0 in
+      read-is pid (ordinary q) (reply.Bytes lwps.bytes) ReadingLwps looks.looks
+      ∙ new-own pid z (slice_get (event_stops (Some lwps.bytes)) 0) (ap (λ (v : Traced). v.pid) same ∙ looks.its)
+      ∙ ap (new_of z) w.first
+      ∙ new-event z w.lwp (ap (λ (v : Traced). v.old) same ∙ looks.none_old)
+      (ap (λ (v : Traced). v.seen) same ∙ looks.unseen)
+      ∙ w.on
+
+  shows-last : is_selected o event.event ≡ true → (more : ShowsOneMore k o pid before e) × (more.event ≡ event)
+  shows-last chosen = shows-read n k o s before later e pid run event file.Lstatus lwps not_own last-read chosen
 
 pub shows-what-is-new : (n k : ℕ) (o : Options) (s : TracedState) (h : List Entry) → IsFunctionRun n k o s h
     → ShowsWhatIsNewOf k o s h
 shows-what-is-new n k o s h run = record {
   each = λ before later e pid event is none_old reads not_own chosen.
       shows-new n k o s before later e pid (subst (IsFunctionRun n k o s) is run) none_old event reads not_own chosen;
+  last = λ before later e pid event is looks reads not_own chosen.
+      shows-last n k o s before later e pid (subst (IsFunctionRun n k o s) is run) looks event reads not_own chosen;
 }
 
 pub ruleset new_shown = (shows-what-is-new)

@@ -1,6 +1,7 @@
 use Rattle.std.proofs.Common.{◌≡◌, ◌++◌, ℕ, Bool, true, false, cond, Option, Some, None, List, [], ◌∷◌, append-nil, refl, sym, subst, ap, ◌∙◌}
+use Rattle.std.proofs.lemmas.Bool.{false≢true}
 use Rattle.std.proofs.lemmas.List.Elements.{filter_map-append}
-use Rattle.std.proofs.lemmas.Option.{none-some}
+use Rattle.std.proofs.lemmas.Option.{none-some, same_Some}
 use Rattle.std.specs.List.{cons_option, filter_map, slice_get}
 use Rattle.std.specs.Option.{option_and_then}
 use Rattle.pr_line.specs.Selections.{is_selected}
@@ -8,11 +9,11 @@ use Rattle.pr_line.specs.declared.options.Options.{Options}
 use Rattle.pr_model.specs.Legal.{state_after}
 use Rattle.pr_model.specs.Replies.{bytes_in}
 use Rattle.pr_model.specs.State.{TracedState}
-use Rattle.pr_model.specs.declared.calls.Call.TheVariants as call
+use Rattle.pr_model.specs.declared.calls.Call.{Call}
 use Rattle.pr_model.specs.declared.calls.Reply.{Reply}
 use Rattle.pr_model.specs.declared.calls.Reply.TheVariants as reply
 use Rattle.pr_model.specs.declared.events.Entry.{Entry}
-use Rattle.pr_num.specs.declared.errnos.Errno.TheVariants.{Noent}
+use Rattle.pr_num.specs.declared.errnos.Errno.{Errno}
 use Rattle.pr_report_laws.proofs.Files.WatchHistories.{Reaches, exchanges-push}
 use Rattle.pr_report_laws.proofs.Invariant.Tallies.{told_in}
 use Rattle.pr_report_laws.proofs.Reading.NewReads.{new-event, new-stop}
@@ -32,13 +33,15 @@ use Rattle.pr_truss.specs.declared.reports.Report.TheVariants.{CannotStart, Cann
 use Rattle.pr_truss.specs.declared.stages.Stage.{Stage}
 use Rattle.pr_truss.specs.declared.stages.Stage.TheVariants.{ReadingStatus, ReadingText, ReadingLwps}
 use Rattle.pr_truss_laws.specs.Exchanges.{Exchange, exchange_of, exchanges}
+use Rattle.pr_truss_laws.specs.Sent.{sends}
+use Rattle.pr_function_laws.proofs.OrdinaryCalls.{stands-sends}
 use Rattle.pr_function_laws.proofs.OrdinaryExchanges.{Turn, goes_on, goes_out, turn}
 use Rattle.pr_function_laws.proofs.OrdinaryFiles.{Follows, MakesOwn, entry-calm, own-next, run-halfway, with_own}
 use Rattle.pr_function_laws.proofs.OrdinaryReplies.{at-ordinary}
 use Rattle.pr_function_laws.proofs.OrdinaryRows.{no-lwps, no-status}
 use Rattle.pr_function_laws.specs.Opened.{IsFunctionRun, functions_at}
-use Rattle.pr_function_laws.specs.Ordinary.{IsLike, ended, ordinary, ordinary_among, other_message, own_fault, same}
-use Rattle.pr_function_laws.specs.OrdinaryRuns.{ShowsInEntry, ShowsWhatItReadsOf, nothing_new, one_more}
+use Rattle.pr_function_laws.specs.Ordinary.{IsLike, TellsOfOwnFault, in_place, ordinary, ordinary_among, own_fault, refused, same}
+use Rattle.pr_function_laws.specs.OrdinaryRuns.{ReadsNoOwnFault, ShowsInEntry, ShowsWhatItReadsOf, nothing_new, one_more}
 use Rattle.pr_function_laws.specs.Runs.{functions_after}
 
 -- Truss with calls of functions shows each event that it shows in the entry in which it reads it.
@@ -90,19 +93,22 @@ functions_at-push k o h e =
 
 -- an event is read by the same exchange alone
 module _ (pid : ℕ) (u : TrussState) (event : LwpEvent) where
-  message-reads : {A : Type 0} (handle : ℕ) (bytes : List ℕ) (r : Reply) (stage : Stage)
-      → call_of u stage ≡ Some (call.Ctl handle bytes) → read_at pid u r stage ≡ Some event → A
+  message-reads : {A : Type 0} (d : Call) (r : Reply) (stage : Stage) → sends d ≡ true
+      → call_of u stage ≡ Some d → read_at pid u r stage ≡ Some event → A
   unfolding call_of
-  message-reads handle bytes r (ReadingStatus place) next reads = cc
-  message-reads handle bytes r ReadingLwps next reads = cc
-  message-reads handle bytes r _ next reads = absurd (none-some event reads)
+  message-reads d r (ReadingStatus place) sent next reads =
+      absurd (false≢true (ap sends (same_Some _ d next) ∙ sent))
+  message-reads d r ReadingLwps sent next reads = absurd (false≢true (ap sends (same_Some _ d next) ∙ sent))
+  message-reads d r _ sent next reads = absurd (none-some event reads)
 
-  gone-reads : {A : Type 0} (stage : Stage) → read_at pid u (reply.Fail Noent) stage ≡ Some event → A
+  refused-reads : {A : Type 0} (errno : Errno) (stage : Stage) → read_at pid u (reply.Fail errno) stage ≡ Some event
+      → A
   unfolding bytes_in event_stops
-  gone-reads (ReadingStatus place) reads =
+  refused-reads errno (ReadingStatus place) reads =
       let n = new-stop pid (traced_at u place) None event reads in absurd (none-some n.lwp n.is)
-  gone-reads ReadingLwps reads = let n = new-stop pid (traced_at u 0) None event reads in absurd (none-some n.lwp n.is)
-  gone-reads _ reads = absurd (none-some event reads)
+  refused-reads errno ReadingLwps reads =
+      let n = new-stop pid (traced_at u 0) None event reads in absurd (none-some n.lwp n.is)
+  refused-reads errno _ reads = absurd (none-some event reads)
 
   empty-reads : {A : Type 0} (stage : Stage) → read_at pid u (reply.Bytes []) stage ≡ Some event → A
   empty-reads (ReadingStatus place) reads =
@@ -115,14 +121,15 @@ module _ (pid : ℕ) (u : TrussState) (event : LwpEvent) where
       absurd (none-some n.lwp (sym no-lwps ∙ n.is))
   empty-reads _ reads = absurd (none-some event reads)
 
-  like-reads : (o : Options) (x y : Exchange) → IsLike o x y → next_call_of u ≡ Some y.call
-      → read_now pid u y.reply ≡ Some event → x ≡ y
+  -- and it tells of no fault of truss's own
+  like-reads : {t : TrussState} (x y : Exchange) → IsLike t x y → next_call_of u ≡ Some y.call
+      → read_now pid u y.reply ≡ Some event → (x ≡ y) × (TellsOfOwnFault t x.reply → ⊥)
   unfolding next_call_of read_now
-  like-reads o x y same next reads = refl
-  like-reads o x y (other_message {handle = handle} {others = others} {r = r}) next reads =
-      message-reads handle others r u.stage next reads
-  like-reads o x y (ended sent) next reads = gone-reads u.stage reads
-  like-reads o x y (own_fault own) next reads = empty-reads u.stage reads
+  like-reads x y (same unsent none_own) next reads = (refl, none_own)
+  like-reads x y (in_place {d = d} {r = r} stands) next reads =
+      let sent = stands-sends stands in message-reads d r u.stage sent.1 next reads
+  like-reads x y (refused {errno = errno} sees may is) next reads = refused-reads errno u.stage reads
+  like-reads x y (own_fault own) next reads = empty-reads u.stage reads
 
 -- what is shown after an exchange that is like one of truss
 pub shown-told : (k : ℕ) (o : Options) (before : List Entry) (e : Entry) (pid : ℕ) (x : Exchange)
@@ -167,7 +174,7 @@ module _ (n k : ℕ) (o : Options) (s : TracedState) (before later : List Entry)
       (ap (shown pid) (functions_at-push k o before e)
       ∙ sym (shown-ordinary pid (with_own t (exchange_of k e))) ∙ ap (shown pid) still ∙ shown-ordinary pid t)
 
-  module _ (x : Exchange) (own : exchange_of k e ≡ Some x) (y : Exchange) (like : IsLike o x y)
+  module _ (x : Exchange) (own : exchange_of k e ≡ Some x) (y : Exchange) (like : IsLike t x y)
       (called : next_call_of (ordinary t) ≡ Some y.call)
       (now : ordinary (fed_functions t x.reply) ≡ fed (ordinary t) y.reply) (options : t.options ≡ o) where
     shown-now : shown pid (functions_at k o (before ++ e ∷ []))
@@ -180,10 +187,20 @@ module _ (n k : ℕ) (o : Options) (s : TracedState) (before later : List Entry)
 
     reads-it : (event : LwpEvent) → read_now pid (ordinary t) y.reply ≡ Some event → ReadsEvent k pid v e event
     reads-it event read =
-        let is : x ≡ y = like-reads pid (ordinary t) event o x y like called read in
+        let it = like-reads pid (ordinary t) event x y like called read in
+        let is : x ≡ y = it.0 in
         new-event k pid (ordinary t) v e reached x own
         (subst (λ (z : Exchange). next_call_of (ordinary t) ≡ Some z.call) (sym is) called) event
         (subst (λ (z : Exchange). read_now pid (ordinary t) z.reply ≡ Some event) (sym is) read)
+
+    -- no fault of truss's own
+    none-own : (event : LwpEvent) → read_now pid (ordinary t) y.reply ≡ Some event → ReadsNoOwnFault k t e
+    none-own event read =
+        let it = like-reads pid (ordinary t) event x y like called read in
+        record {
+          none = λ z of tells. it.1
+              (subst (λ (q : Exchange). TellsOfOwnFault t q.reply) (same_Some z x (sym of ∙ own)) tells);
+        }
 
     shows-or : (read : Option LwpEvent) → read_now pid (ordinary t) y.reply ≡ read → ShowsInEntry k o pid s before e
     shows-or None read = none-new (ap (told_in (is_selected o)) read)
@@ -196,13 +213,13 @@ module _ (n k : ℕ) (o : Options) (s : TracedState) (before later : List Entry)
               is = shown-now
                   ∙ ap (λ (q : Option LwpEvent). shown pid t ++ told_in (is_selected o) q) read
                   ∙ ap (λ b. shown pid t ++ cond {A = List LwpEvent} b (event ∷ []) []) is;
-            }) (reads-it event read) is
+            }) (reads-it event read) is (none-own event read)
         chosen false is =
             none-new
             (ap (told_in (is_selected o)) read ∙ ap (λ b. cond {A = List LwpEvent} b (event ∷ []) []) is)
 
-  turned : (x : Exchange) → exchange_of k e ≡ Some x → Turn o t x → ShowsInEntry k o pid s before e
-  turned x own (goes_out sent still) = stays (ap (λ q. ordinary (with_own t q)) own ∙ still)
+  turned : (x : Exchange) → exchange_of k e ≡ Some x → Turn t x → ShowsInEntry k o pid s before e
+  turned x own (goes_out sees over still) = stays (ap (λ q. ordinary (with_own t q)) own ∙ still)
   turned x own (goes_on y like called now) =
       let f = follows in
       let fit = f.fit in

@@ -1,5 +1,6 @@
-use Rattle.std.proofs.Common.{◌≡◌, ◌||◌, ◌&&◌, ◌-◌, ℕ, Bool, true, false, cond, is_some, nat_lt, not, Option, Some, None, List, refl, sym, subst, ap, ◌∙◌}
-use Rattle.std.proofs.lemmas.Bool.{false≢true}
+use Rattle.std.proofs.Common.{◌≡◌, ◌==◌, ◌||◌, ◌&&◌, ◌-◌, ℕ, Bool, true, false, cond, is_some, nat_lt, not, zero, suc, Option, Some, None, List, refl, sym, subst, ap, ◌∙◌, arith, lt-ltb}
+use Rattle.std.proofs.lemmas.Bool.{eq-eqb, false≢true}
+use Rattle.std.proofs.lemmas.Option.{none-some, same_Some}
 use Rattle.pr_line.specs.Events.{event_of}
 use Rattle.pr_line.specs.Selections.{is_selected}
 use Rattle.pr_line.specs.declared.events.Event.{Event}
@@ -10,11 +11,11 @@ use Rattle.pr_num.specs.Sets.{union_word}
 use Rattle.pr_num.specs.declared.faults.Flt.{Flt}
 use Rattle.pr_num.specs.declared.faults.Flt.TheVariants.{Bpt, Trace}
 use Rattle.pr_rec.specs.declared.lwps.LwpStatus.{LwpStatus}
-use Rattle.pr_truss.specs.Asides.{has_fault_to_clear, lifts_at, marks_at, patching, with_lifts, with_lifts_before_closing, with_marks, with_patches}
+use Rattle.pr_truss.specs.Asides.{has_fault_to_clear, lifts_at, marks_at, patching, with_aside, with_lifts, with_lifts_before_closing, with_marks, with_patches}
 use Rattle.pr_truss.specs.Closings.{with_closing}
-use Rattle.pr_truss.specs.FunctionEvents.{breakpoint_event, copies_memory, fault_event, fresh_event, function_at, function_event, keeps_memory, left_event, step_of}
+use Rattle.pr_truss.specs.FunctionEvents.{breakpoint_event, copies_memory, fault_event, fresh_event, function_at, function_event, keeps_memory, left_event, step_of, trap_event}
 use Rattle.pr_truss.specs.FunctionStops.{with_call_shown, with_copy_begun, with_copy_ended, with_fresh_event, with_function_event, with_function_stop, with_last_event, with_last_stop, with_memory_replaced, with_other_event, with_step_begun, with_step_completed, with_trap_over}
-use Rattle.pr_truss.specs.Marks.{first_function, no_functions, no_marks, put_back, standing, with_function, with_step}
+use Rattle.pr_truss.specs.Marks.{first_function, no_functions, no_marks, put_back, standing, with_function, with_step, without_function}
 use Rattle.pr_truss.specs.Records.{child_of, is_on_event}
 use Rattle.pr_truss.specs.Stops.{asked_range, followed_child, with_child_or, with_event, with_event_over, with_event_shown, with_old_stop_over, with_stop, with_stop_over, with_text_or_shown}
 use Rattle.pr_truss.specs.Trusses.{TrussState, traced_at, with_stage, with_traced}
@@ -24,17 +25,18 @@ use Rattle.pr_truss.specs.declared.function_events.FunctionEvent.{FunctionEvent}
 use Rattle.pr_truss.specs.declared.function_events.FunctionEvent.TheVariants.{Other, AtBreakpoint, Completed, TraceTrap, BeforeCopy, AfterCopy, Replaced}
 use Rattle.pr_truss.specs.declared.marks.Marks.{Marks}
 use Rattle.pr_truss.specs.declared.marks.Stepped.{Stepped}
+use Rattle.pr_truss.specs.declared.processes.Traced.{Traced}
 use Rattle.pr_truss.specs.declared.reports.Report.TheVariants.{Called}
 use Rattle.pr_truss.specs.declared.stages.AfterClosing.TheVariants.{OpenNext, GoOn}
 use Rattle.pr_truss.specs.declared.stages.OpeningStep.TheVariants as opening
 use Rattle.pr_truss.specs.declared.stages.Stage.{Stage}
 use Rattle.pr_truss.specs.declared.stages.Stage.TheVariants.{Opening, ReadingText, Running, Closing, ReadingLwps}
-use Rattle.pr_function_laws.proofs.MetLemmas.{completes, event-breaks, event-completes, found-function, fresh-stands}
+use Rattle.pr_truss_laws.proofs.HeldLemmas.{Grown, grown-all, grown-one, grown-same}
 use Rattle.pr_function_laws.proofs.OrdinaryReplies.{called, marked, stop, stop_over}
-use Rattle.pr_function_laws.specs.Ordinary.{IsAtOwnFault, at_breakpoint, at_trap, ordinary}
+use Rattle.pr_function_laws.specs.Ordinary.{IsAtOwnFault, IsOwnFault, at_breakpoint, at_trap, ordinary}
 
--- What truss makes of a stop, without its breakpoints: it does as always, or passes the stop over where an lwp stands at
--- a fault of truss's own.
+-- What truss makes of a stop, without its breakpoints: it does as always, or passes the stop over where an lwp stands
+-- at a fault of truss's own.
 
 -- ---- what comes beside a stage
 
@@ -49,37 +51,109 @@ IsLookedAt place (Closing at OpenNext) = at ≡ place
 IsLookedAt place (Closing at GoOn) = at ≡ place
 IsLookedAt place _ = ⊥
 
+-- Before a process is run, or its memory is read, no fault is cleared; before its files are closed nothing is planted.
+abbrev pub PatchFits : ℕ → List Bool → Bool → Stage → Type 0
+PatchFits place plants clear (Running at) = (at ≡ place) × (clear ≡ false)
+PatchFits place plants clear (ReadingText at l from len) = (at ≡ place) × (clear ≡ false)
+PatchFits place plants clear (Closing at OpenNext) = (at ≡ place) × (first_function plants ≡ None)
+PatchFits place plants clear (Closing at GoOn) = (at ≡ place) × (first_function plants ≡ None)
+PatchFits place plants clear _ = ⊥
+
+-- something is left to do
+abbrev pub IsToDo : List Bool → List Bool → Bool → Type 0
+IsToDo plants lifts clear = (is_some (first_function plants) || is_some (first_function lifts) || clear) ≡ true
+
 -- Functions are read and planted before the last call of an opening; breakpoints are patched before a process is run,
 -- its memory is read, or its files are closed; and truss waits for a stop before it looks at the lwps that it leaves.
 abbrev pub FitsAside : Aside → Stage → Type 0
 FitsAside Nothing stage = Unit {0}
 FitsAside (Reading place function) stage = IsOpenedAt place stage
 FitsAside (Planting place function) stage = IsOpenedAt place stage
-FitsAside (Patching place plants lifts clear) stage = IsLookedAt place stage
+FitsAside (Patching place plants lifts clear) stage = PatchFits place plants clear stage × IsToDo plants lifts clear
 FitsAside _ stage = stage ≡ ReadingLwps
 
-pub patch-fits : (place : ℕ) (plants lifts : List Bool) (clear : Bool) (stage : Stage) → IsLookedAt place stage
-    → FitsAside (patching place plants lifts clear) stage
+pub patch-fits : (place : ℕ) (plants lifts : List Bool) (clear : Bool) (stage : Stage)
+    → PatchFits place plants clear stage → FitsAside (patching place plants lifts clear) stage
 unfolding patching
-patch-fits place plants lifts clear stage looked =
-    elim (is_some (first_function plants) || is_some (first_function lifts) || clear)
-    as (λ b. FitsAside (cond b (Patching place plants lifts clear) Nothing) stage) [ true ↦ looked | false ↦ tt ]
+patch-fits place plants lifts clear stage fits =
+    by (is_some (first_function plants) || is_some (first_function lifts) || clear) refl
+  where
+    by : (b : Bool) → (is_some (first_function plants) || is_some (first_function lifts) || clear) ≡ b
+        → FitsAside (cond b (Patching place plants lifts clear) Nothing) stage
+    by true todo = (fits, todo)
+    by false none = tt
+
+pub patch-looked : (place : ℕ) (plants : List Bool) (clear : Bool) (stage : Stage)
+    → PatchFits place plants clear stage → IsLookedAt place stage
+patch-looked place plants clear (Running at) fits = fits.0
+patch-looked place plants clear (ReadingText at l from len) fits = fits.0
+patch-looked place plants clear (Closing at OpenNext) fits = fits.0
+patch-looked place plants clear (Closing at GoOn) fits = fits.0
+patch-looked place plants clear _ fits = absurd fits
+
+-- the first one is planted
+pub next-fits : (place function : ℕ) (plants : List Bool) (clear : Bool) (stage : Stage)
+    → PatchFits place plants clear stage → first_function plants ≡ Some function
+    → PatchFits place (without_function plants function) clear stage
+next-fits place function plants clear (Running at) fits first = fits
+next-fits place function plants clear (ReadingText at l from len) fits first = fits
+next-fits place function plants clear (Closing at OpenNext) fits first =
+    absurd (none-some function (sym fits.1 ∙ first))
+next-fits place function plants clear (Closing at GoOn) fits first =
+    absurd (none-some function (sym fits.1 ∙ first))
+next-fits place function plants clear _ fits first = absurd fits
+
+nothing-first : first_function no_functions ≡ None
+nothing-first = refl
+
+-- nothing is planted, and no fault is cleared
+pub lift-fits : (place : ℕ) (stage : Stage) → IsLookedAt place stage → PatchFits place no_functions false stage
+lift-fits place (Running at) looked = (looked, refl)
+lift-fits place (ReadingText at l from len) looked = (looked, refl)
+lift-fits place (Closing at OpenNext) looked = (looked, nothing-first)
+lift-fits place (Closing at GoOn) looked = (looked, nothing-first)
+lift-fits place _ looked = absurd looked
 
 pub none-fits : (v : TrussState) → v.aside ≡ Nothing → FitsAside v.aside v.stage
 none-fits v none = subst (λ a. FitsAside a v.stage) (sym none) tt
 
 -- ---- a stop that was looked at
 
+-- where truss goes from it: it runs the process, or closes its files where it leaves
+abbrev pub GoesBy : Stage → Bool → Type 0
+GoesBy (Running at) leaving = leaving ≡ false
+GoesBy (ReadingText at l from len) leaving = Unit {0}
+GoesBy (Closing at GoOn) leaving = leaving ≡ true
+GoesBy _ leaving = ⊥
+
 -- it changed nothing beside the stage
 pub record IsOver (u : TrussState) (place : ℕ) (v : TrussState) : Type 0 where
   pub aside : v.aside ≡ u.aside
   pub looked : IsLookedAt place v.stage
+  pub goes : GoesBy v.stage u.leaving
+  pub grows : Grown u.reports v.reports
+
+stage-loops : (place : ℕ) (plants : List Bool) (leaving : Bool) (stage : Stage) → leaving ≡ false
+    → IsLookedAt place stage → GoesBy stage leaving → PatchFits place plants false stage
+stage-loops place plants leaving (Running at) stays looked goes = (looked, refl)
+stage-loops place plants leaving (ReadingText at l from len) stays looked goes = (looked, refl)
+stage-loops place plants leaving (Closing at GoOn) stays looked goes = absurd (false≢true (sym stays ∙ goes))
+stage-loops place plants leaving (Closing at OpenNext) stays looked goes = absurd goes
+stage-loops place plants leaving _ stays looked goes = absurd looked
+
+-- as long as truss stays, functions may be planted then
+over-loops : (u : TrussState) (place : ℕ) (v : TrussState) (plants : List Bool) → IsOver u place v
+    → u.leaving ≡ false → PatchFits place plants false v.stage
+over-loops u place v plants over stays =
+    stage-loops place plants u.leaving v.stage stays over.looked over.goes
 
 pub over-over : (u : TrussState) (place : ℕ) → IsOver u place (with_stop_over u place)
 unfolding with_stop_over
-over-over u place =
-    elim u.leaving as (λ b. IsOver u place (cond b (with_closing u place) (with_stage u (Running place))))
-    [ true ↦ record { aside = refl; looked = refl } | false ↦ record { aside = refl; looked = refl } ]
+over-over u place = by u.leaving refl
+  where
+    by : (b : Bool) → u.leaving ≡ b → IsOver u place (cond b (with_closing u place) (with_stage u (Running place)))
+    by true leaves = record { aside = refl; looked = refl; goes = leaves; grows = grown-same u.reports }
+    by false stays = record { aside = refl; looked = refl; goes = stays; grows = grown-same u.reports }
 
 pub event-over : (u : TrussState) (place : ℕ) (l : LwpStatus) → u.options.follow ≡ false
     → IsOver u place (with_event_over u place l)
@@ -92,8 +166,14 @@ text_or-over : (u : TrussState) (place : ℕ) (l : LwpStatus) (range : Option (�
 unfolding with_event_shown
 text_or-over u place l None off =
     let over = event-over (with_event_shown u place l None) place l off in
-    record { aside = over.aside; looked = over.looked }
-text_or-over u place l (Some range) off = record { aside = refl; looked = refl }
+    record {
+      aside = over.aside;
+      looked = over.looked;
+      goes = over.goes;
+      grows = grown-all u.reports _ _ (grown-one u.reports _) over.grows;
+    }
+text_or-over u place l (Some range) off =
+    record { aside = refl; looked = refl; goes = tt; grows = grown-same u.reports }
 
 either-over : (u : TrussState) (place : ℕ) (b : Bool) (v w : TrussState) → IsOver u place v → IsOver u place w
     → IsOver u place (cond b v w)
@@ -112,7 +192,7 @@ unfolding with_old_stop_over
 old-over u place =
     let v : TrussState = with_traced u place (record (traced_at u place) { old = (traced_at u place).old - 1 }) in
     let over = over-over v place in
-    record { aside = over.aside; looked = over.looked }
+    record { aside = over.aside; looked = over.looked; goes = over.goes; grows = over.grows }
 
 pub stop-looked : (u : TrussState) (place : ℕ) (l : LwpStatus) → u.options.follow ≡ false
     → IsOver u place (with_stop u place l)
@@ -122,43 +202,106 @@ stop-looked u place l off =
     (either-over u place (nat_lt 0 (traced_at u place).old) _ _ (old-over u place)
     (either-over u place (traced_at u place).seen _ _ (over-over u place) (event-looked u place l (event_of l) off)))
 
+-- ---- where truss leaves
+
+-- it closes the files
+abbrev ClosesAt : ℕ → Bool → TrussState → Type 0
+ClosesAt place clear v = PatchFits place no_functions clear v.stage
+
+over-closes : (u : TrussState) (place : ℕ) (clear : Bool) → u.leaving ≡ true
+    → ClosesAt place clear (with_stop_over u place)
+unfolding with_stop_over
+over-closes u place clear leaves =
+    subst (λ b. ClosesAt place clear (cond b (with_closing u place) (with_stage u (Running place)))) (sym leaves)
+    (refl, nothing-first)
+
+none-before : (n : ℕ) → nat_lt 0 n ≡ false → n ≡ 0
+none-before zero none = refl
+none-before (suc n) none = absurd (false≢true (sym none ∙ lt-ltb 0 (suc n) (omega arith)))
+
+old-closes : (u : TrussState) (place : ℕ) (clear : Bool) → u.leaving ≡ true
+    → ClosesAt place clear (with_old_stop_over u place)
+unfolding with_old_stop_over
+old-closes u place clear leaves =
+    over-closes (with_traced u place (record (traced_at u place) { old = (traced_at u place).old - 1 })) place clear
+    leaves
+
+no-event : (t : Traced) (l : LwpStatus) → fresh_event t l ≡ None → t.old ≡ 0 → t.seen ≡ false → event_of l ≡ None
+unfolding fresh_event
+no-event t l none old unseen =
+    sym (ap (λ b. cond b (cond t.seen None (event_of l)) None) (eq-eqb t.old 0 old)
+    ∙ ap (λ b. cond b None (event_of l)) unseen)
+    ∙ none
+
+-- also at a stop of which truss makes nothing
+stop-closes : (u : TrussState) (place : ℕ) (l : LwpStatus) (clear : Bool) → u.leaving ≡ true
+    → fresh_event (traced_at u place) l ≡ None → ClosesAt place clear (with_stop u place l)
+unfolding with_stop
+stop-closes u place l clear leaves none =
+    either (not (is_on_event l)) _ _ (over-closes u place clear leaves)
+    (by (nat_lt 0 (traced_at u place).old) refl (traced_at u place).seen refl)
+  where
+    either : (b : Bool) (v w : TrussState) → ClosesAt place clear v → ClosesAt place clear w
+        → ClosesAt place clear (cond b v w)
+    either true v w p q = p
+    either false v w p q = q
+
+    by : (a : Bool) → nat_lt 0 (traced_at u place).old ≡ a → (b : Bool) → (traced_at u place).seen ≡ b
+        → ClosesAt place clear
+        (cond a (with_old_stop_over u place) (cond b (with_stop_over u place) (with_event u place l (event_of l))))
+    by true older b seen = old-closes u place clear leaves
+    by false old true seen = over-closes u place clear leaves
+    by false old false unseen =
+        subst (λ e. ClosesAt place clear (with_event u place l e))
+        (sym (no-event (traced_at u place) l none (none-before (traced_at u place).old old) unseen))
+        (over-closes u place clear leaves)
+
 -- ---- faults of truss's own
 
-abbrev is_trap : FunctionEvent → Bool
-is_trap TraceTrap = true
-is_trap _ = false
+-- whether an event is to the breakpoints a fault of truss's own
+abbrev is_own : FunctionEvent → Bool
+is_own (AtBreakpoint function) = true
+is_own (Completed step) = true
+is_own TraceTrap = true
+is_own _ = false
 
-choice-trap : (b : Bool) (u v : FunctionEvent) → is_trap u ≡ false → is_trap v ≡ false → is_trap (cond b u v) ≡ false
-choice-trap true u v p q = p
-choice-trap false u v p q = q
-
-breakpoint-trap : (function : Option ℕ) → is_trap (breakpoint_event function) ≡ false
-breakpoint-trap None = refl
-breakpoint-trap (Some function) = refl
+choice-own : (b : Bool) (u v : FunctionEvent) → is_own u ≡ false → is_own v ≡ false → is_own (cond b u v) ≡ false
+choice-own true u v p q = p
+choice-own false u v p q = q
 
 module _ (o : Options) (m : Marks) (id : ℕ) where
-  -- the event is FLTTRACE
-  record Traps (e : Event) : Type 0 where
-    pc : ℕ
-    is : e ≡ event.Incurred Trace pc
+  no-own : (e : Event) (b : Bool) → b ≡ false → b ≡ true → IsOwnFault o m e
+  no-own e b off on = absurd (false≢true (sym off ∙ on))
 
-  no-trap : (e : Event) (b : Bool) → b ≡ false → b ≡ true → Traps e
-  no-trap e b off on = absurd (false≢true (sym off ∙ on))
+  breakpoint-own : (pc : ℕ) (found : Option ℕ) → function_at o m pc ≡ found → is_own (breakpoint_event found) ≡ true
+      → IsOwnFault o m (event.Incurred Bpt pc)
+  breakpoint-own pc None found is = absurd (false≢true is)
+  breakpoint-own pc (Some function) found is = at_breakpoint found
 
-  fault-traps : (f : Flt) (pc : ℕ) → is_trap (fault_event o m id f pc) ≡ true → Traps (event.Incurred f pc)
-  fault-traps Trace pc is = record { pc = pc; is = refl }
-  fault-traps Bpt pc is = no-trap _ _ (breakpoint-trap (function_at o m pc)) is
-  fault-traps _ pc is = no-trap _ false refl is
+  fault-own : (f : Flt) (pc : ℕ) → is_own (fault_event o m id f pc) ≡ true → IsOwnFault o m (event.Incurred f pc)
+  fault-own Trace pc is = at_trap
+  fault-own Bpt pc is = breakpoint-own pc (function_at o m pc) refl is
+  fault-own _ pc is = absurd (false≢true is)
 
-  event-traps : (e : Event) → is_trap (function_event o m id e) ≡ true → Traps e
+  own-is : (e : Event) → is_own (function_event o m id e) ≡ true → IsOwnFault o m e
   unfolding function_event
-  event-traps (event.Entered call arguments) is =
-      no-trap _ _ (choice-trap (copies_memory call) BeforeCopy Other refl refl) is
-  event-traps (event.Left call arguments result) is =
-      no-trap _ _ (choice-trap (copies_memory call) (left_event call result) Other
-      (choice-trap (keeps_memory call result) AfterCopy Replaced refl refl) refl) is
-  event-traps (event.Received signal disposition info) is = no-trap _ false refl is
-  event-traps (event.Incurred f pc) is = fault-traps f pc is
+  own-is (event.Entered call arguments) is =
+      no-own _ _ (choice-own (copies_memory call) BeforeCopy Other refl refl) is
+  own-is (event.Left call arguments result) is =
+      no-own _ _ (choice-own (copies_memory call) (left_event call result) Other
+      (choice-own (keeps_memory call result) AfterCopy Replaced refl refl) refl) is
+  own-is (event.Received signal disposition info) is = no-own _ false refl is
+  own-is (event.Incurred f pc) is = fault-own f pc is
+
+  trap-own : (step : Option Stepped) → is_own (trap_event step id) ≡ true
+  trap-own None = refl
+  trap-own (Some step) =
+      elim (step.lwp == id) as (λ b. is_own (cond b (Completed step) TraceTrap) ≡ true) [ true ↦ refl | false ↦ refl ]
+
+  is-own : {e : Event} → IsOwnFault o m e → is_own (function_event o m id e) ≡ true
+  unfolding function_event
+  is-own (at_breakpoint found) = ap (λ x. is_own (breakpoint_event x)) found
+  is-own at_trap = trap-own m.stepped
 
 -- ---- a stop
 
@@ -166,14 +309,16 @@ module _ (s : TrussState) (place : ℕ) (l : LwpStatus) (off : s.options.follow 
   where
     -- it was looked at as always, or passed over
     pub data Passes (v : TrussState) : Type 0 where
-      as_always : ordinary v ≡ with_stop (ordinary s) place l → Passes v
-      own_fault : IsAtOwnFault s.options l → ordinary v ≡ with_stop_over (ordinary s) place → Passes v
+      as_always : (IsAtOwnFault s place l → ⊥) → ordinary v ≡ with_stop (ordinary s) place l → Passes v
+      own_fault : IsAtOwnFault s place l → ordinary v ≡ with_stop_over (ordinary s) place → Passes v
 
     pub record IsStopped (v : TrussState) : Type 0 where
       pub passes : Passes v
       pub fits : FitsAside v.aside v.stage
+      pub grows : Grown s.reports v.reports
 
-    over-marked : (m : Marks) → ordinary (with_stop_over (with_marks s place m) place) ≡ with_stop_over (ordinary s) place
+    over-marked : (m : Marks)
+        → ordinary (with_stop_over (with_marks s place m) place) ≡ with_stop_over (ordinary s) place
     over-marked m = stop_over (with_marks s place m) place ∙ ap (λ u. with_stop_over u place) (marked s place m)
 
     stop-marked : (m : Marks) → ordinary (with_stop (with_marks s place m) place l) ≡ with_stop (ordinary s) place l
@@ -188,139 +333,173 @@ module _ (s : TrussState) (place : ℕ) (l : LwpStatus) (off : s.options.follow 
         (called u (Called (traced_at u place).pid step.lwp step.function step.arguments) refl ∙ same)
 
     -- breakpoints are patched then
-    patched : (plants lifts : List Bool) (u : TrussState) → Passes u → IsLookedAt place u.stage
-        → IsStopped (with_patches u place plants lifts)
+    patched : (plants lifts : List Bool) (u : TrussState) → Grown s.reports u.reports → Passes u
+        → PatchFits place plants false u.stage → IsStopped (with_patches u place plants lifts)
     unfolding with_patches
-    patched plants lifts u (as_always is) looked =
-        record { passes = as_always is; fits = patch-fits place plants lifts false u.stage looked }
-    patched plants lifts u (own_fault own is) looked =
-        record { passes = own_fault own is; fits = patch-fits place plants lifts false u.stage looked }
+    patched plants lifts u grows passes fits =
+        record { passes = beside passes; fits = patch-fits place plants lifts false u.stage fits; grows = grows }
+      where
+        beside : Passes u → Passes (with_aside u (patching place plants lifts false))
+        beside (as_always none_own is) = as_always none_own is
+        beside (own_fault own is) = own_fault own is
 
-    lifted : (clear : Bool) (u : TrussState) → Passes u → IsLookedAt place u.stage → IsStopped (with_lifts u place clear)
+    lifted : (clear : Bool) (u : TrussState) → Grown s.reports u.reports → Passes u
+        → PatchFits place no_functions clear u.stage → IsStopped (with_lifts u place clear)
     unfolding with_lifts
-    lifted clear u (as_always is) looked =
-        record { passes = as_always is; fits = patch-fits place no_functions (marks_at u place).planted clear u.stage looked }
-    lifted clear u (own_fault own is) looked = record {
-      passes = own_fault own is;
-      fits = patch-fits place no_functions (marks_at u place).planted clear u.stage looked;
+    lifted clear u grows passes fits = record {
+      passes = beside passes;
+      grows = grows;
+      fits = patch-fits place no_functions (marks_at u place).planted clear u.stage fits;
     }
+      where
+        beside : Passes u → Passes (with_aside u (patching place no_functions (marks_at u place).planted clear))
+        beside (as_always none_own is) = as_always none_own is
+        beside (own_fault own is) = own_fault own is
 
-    plain-stopped : (u v : TrussState) → IsOver u place v → u.aside ≡ s.aside → Passes v → IsStopped v
-    plain-stopped u v over aside passes =
-        record { passes = passes; fits = none-fits v (over.aside ∙ aside ∙ none) }
+    plain-stopped : (u v : TrussState) → IsOver u place v → u.aside ≡ s.aside → Grown s.reports v.reports → Passes v
+        → IsStopped v
+    plain-stopped u v over aside grows passes =
+        record { passes = passes; fits = none-fits v (over.aside ∙ aside ∙ none); grows = grows }
 
     -- lifted before the files are closed
-    closing-lifted : (u : TrussState) → u.aside ≡ Nothing → IsLookedAt place u.stage → Passes u
-        → IsStopped (with_lifts_before_closing u place)
+    closing-lifted : (u : TrussState) → u.aside ≡ Nothing → IsLookedAt place u.stage → Grown s.reports u.reports
+        → Passes u → IsStopped (with_lifts_before_closing u place)
     unfolding with_lifts_before_closing
-    closing-lifted u free looked passes = by u.stage looked
+    closing-lifted u free looked grows passes = by u.stage looked
       where
         by : (stage : Stage) → IsLookedAt place u.stage → IsStopped (lifts_at u place stage)
-        by (Closing at next) same = lifted false u passes same
-        by _ same = record { passes = passes; fits = none-fits u free }
+        by (Closing at next) same = lifted false u grows passes (lift-fits place u.stage same)
+        by _ same = record { passes = passes; fits = none-fits u free; grows = grows }
 
-    module _ (e : Event) (stands : event_of l ≡ Some e) where
-      at-breakpoint : (function : ℕ) → function_event s.options (marks_at s place) l.id e ≡ AtBreakpoint function
-          → IsAtOwnFault s.options l
-      at-breakpoint function at =
-          let b = event-breaks s.options (marks_at s place) l.id e function at in
-          let f = found-function s.options b.pc function b.found in
-          at_breakpoint function (record {
-            f = f.0;
-            named = f.1.0;
-            stands = stands ∙ ap (λ x. Some x) b.is ∙ ap (λ pc. Some (event.Incurred Bpt pc)) (sym f.1.1);
-          })
+    module _ (e : Event) (fresh : fresh_event (traced_at s place) l ≡ Some e) where
+      own-here : (fe : FunctionEvent) → function_event s.options (marks_at s place) l.id e ≡ fe → is_own fe ≡ true
+          → IsAtOwnFault s place l
+      own-here fe at own = record {
+        event = e;
+        fresh = fresh;
+        own = own-is s.options (marks_at s place) l.id e (ap is_own at ∙ own);
+      }
 
-      at-completed : (step : Stepped) → function_event s.options (marks_at s place) l.id e ≡ Completed step
-          → IsAtOwnFault s.options l
-      at-completed step at =
-          let c = event-completes s.options (marks_at s place) l.id e step (ap completes at) in
-          at_trap (record { pc = c.pc; stands = stands ∙ ap (λ x. Some x) c.is })
-
-      at-trap : function_event s.options (marks_at s place) l.id e ≡ TraceTrap → IsAtOwnFault s.options l
-      at-trap at =
-          let t = event-traps s.options (marks_at s place) l.id e (ap is_trap at) in
-          at_trap (record { pc = t.pc; stands = stands ∙ ap (λ x. Some x) t.is })
+      not-own : (fe : FunctionEvent) → function_event s.options (marks_at s place) l.id e ≡ fe → is_own fe ≡ false
+          → IsAtOwnFault s place l → ⊥
+      not-own fe at other own =
+          let same : own.event ≡ e = same_Some own.event e (sym own.fresh ∙ fresh) in
+          false≢true
+          (sym other ∙ ap is_own (sym at)
+          ∙ is-own s.options (marks_at s place) l.id
+          (subst (IsOwnFault s.options (marks_at s place)) same own.own))
 
       -- in the loop
-      loop : (fe : FunctionEvent) → function_event s.options (marks_at s place) l.id e ≡ fe
-          → IsStopped (with_function_event s place l fe)
-      unfolding with_function_event with_step_begun with_step_completed with_trap_over with_copy_begun with_copy_ended with_other_event with_memory_replaced with_call_shown
-      loop (AtBreakpoint function) at =
+      loop : s.leaving ≡ false → (fe : FunctionEvent)
+          → function_event s.options (marks_at s place) l.id e ≡ fe → IsStopped (with_function_event s place l fe)
+      unfolding with_function_event with_step_begun with_step_completed with_trap_over with_copy_begun with_copy_ended
+          with_other_event with_memory_replaced with_call_shown
+      loop stays (AtBreakpoint function) at =
           let m = marks_at s place in
           let stepping : Marks = record m {
             stepped = Some (step_of l function);
             flags = union_word clear_fault single_step;
           } in
           let over = over-over (with_marks s place stepping) place in
-          patched (put_back m) (with_function no_functions function) (with_stop_over (with_marks s place stepping) place)
-          (own_fault (at-breakpoint function at) (over-marked stepping)) over.looked
-      loop (Completed step) at =
+          patched (put_back m) (with_function no_functions function)
+          (with_stop_over (with_marks s place stepping) place) over.grows
+          (own_fault (own-here (AtBreakpoint function) at refl) (over-marked stepping))
+          (over-loops _ place _ (put_back m) over stays)
+      loop stays (Completed step) at =
           let m = marks_at s place in
           let stepped : Marks = record m { stepped = None; flags = clear_fault } in
           let u : TrussState = with_call_shown (with_marks s place stepped) place step in
           let over = over-over u place in
           patched (put_back m) no_functions (with_stop_over u place)
-          (own_fault (at-completed step at) (over-called (with_marks s place stepped) step (marked s place stepped)))
-          over.looked
-      loop TraceTrap at =
+          (grown-all s.reports _ _ (grown-one s.reports _) over.grows)
+          (own_fault (own-here (Completed step) at refl)
+          (over-called (with_marks s place stepped) step (marked s place stepped)))
+          (over-loops _ place _ (put_back m) over stays)
+      loop stays TraceTrap at =
           let m : Marks = record (marks_at s place) { flags = clear_fault } in
-          plain-stopped (with_marks s place m) _ (over-over (with_marks s place m) place) refl
-          (own_fault (at-trap at) (over-marked m))
-      loop BeforeCopy at =
+          let over = over-over (with_marks s place m) place in
+          plain-stopped (with_marks s place m) _ over refl over.grows
+          (own_fault (own-here TraceTrap at refl) (over-marked m))
+      loop stays BeforeCopy at =
           let m = marks_at s place in
           let lifting : Marks = record m { lifted = standing m; stepped = None; flags = single_step } in
           let over = stop-looked (with_marks s place lifting) place l off in
-          patched no_functions m.planted _ (as_always (stop-marked lifting)) over.looked
-      loop AfterCopy at =
+          patched no_functions m.planted _ over.grows
+          (as_always (not-own BeforeCopy at refl) (stop-marked lifting))
+          (over-loops _ place _ no_functions over stays)
+      loop stays AfterCopy at =
           let m = marks_at s place in
           let back : Marks = record m { lifted = no_functions; stepped = None } in
           let over = stop-looked (with_marks s place back) place l off in
-          patched (with_step m.stepped m.lifted) no_functions _ (as_always (stop-marked back)) over.looked
-      loop Replaced at =
-          plain-stopped (with_marks s place no_marks) _ (stop-looked (with_marks s place no_marks) place l off) refl
-          (as_always (stop-marked no_marks))
-      loop Other at =
+          patched (with_step m.stepped m.lifted) no_functions _ over.grows
+          (as_always (not-own AfterCopy at refl) (stop-marked back))
+          (over-loops _ place _ (with_step m.stepped m.lifted) over stays)
+      loop stays Replaced at =
+          let over = stop-looked (with_marks s place no_marks) place l off in
+          plain-stopped (with_marks s place no_marks) _ over refl over.grows
+          (as_always (not-own Replaced at refl) (stop-marked no_marks))
+      loop stays Other at =
           let m = marks_at s place in
           let over_step : Marks = record m { stepped = None } in
           let over = stop-looked (with_marks s place over_step) place l off in
-          patched (put_back m) no_functions _ (as_always (stop-marked over_step)) over.looked
+          patched (put_back m) no_functions _ over.grows
+          (as_always (not-own Other at refl) (stop-marked over_step))
+          (over-loops _ place _ (put_back m) over stays)
 
       -- while truss leaves
-      last : (fe : FunctionEvent) → function_event s.options (marks_at s place) l.id e ≡ fe
-          → IsStopped (with_last_event s place l fe)
-      unfolding with_last_event with_memory_replaced
-      last (AtBreakpoint function) at =
-          let over = over-over s place in
-          lifted true _ (own_fault (at-breakpoint function at) (stop_over s place)) over.looked
-      last (Completed step) at =
-          let over = over-over (with_call_shown s place step) place in
-          lifted true _ (own_fault (at-completed step at) (over-called s step refl)) over.looked
-      last TraceTrap at =
-          let over = over-over s place in
-          lifted true _ (own_fault (at-trap at) (stop_over s place)) over.looked
-      last Replaced at =
-          let over = stop-looked (with_marks s place no_marks) place l off in
-          closing-lifted _ (over.aside ∙ none) over.looked (as_always (stop-marked no_marks))
-      last _ at =
+      last-plain : (fe : FunctionEvent) → function_event s.options (marks_at s place) l.id e ≡ fe → is_own fe ≡ false
+          → IsStopped (with_lifts_before_closing (with_stop s place l) place)
+      last-plain fe at other =
           let over = stop-looked s place l off in
-          closing-lifted _ (over.aside ∙ none) over.looked (as_always (stop s place l))
+          closing-lifted _ (over.aside ∙ none) over.looked over.grows
+          (as_always (not-own fe at other) (stop s place l))
 
-    either-stopped : (b : Bool) (u v : TrussState) → IsStopped u → IsStopped v → IsStopped (cond b u v)
-    either-stopped true u v p q = p
-    either-stopped false u v p q = q
+      last : s.leaving ≡ true → (fe : FunctionEvent)
+          → function_event s.options (marks_at s place) l.id e ≡ fe → IsStopped (with_last_event s place l fe)
+      unfolding with_last_event with_memory_replaced with_call_shown
+      last leaves (AtBreakpoint function) at =
+          let over = over-over s place in
+          lifted true _ over.grows (own_fault (own-here (AtBreakpoint function) at refl) (stop_over s place))
+          (over-closes s place true leaves)
+      last leaves (Completed step) at =
+          let over = over-over (with_call_shown s place step) place in
+          lifted true _ (grown-all s.reports _ _ (grown-one s.reports _) over.grows)
+          (own_fault (own-here (Completed step) at refl) (over-called s step refl))
+          (over-closes (with_call_shown s place step) place true leaves)
+      last leaves TraceTrap at =
+          let over = over-over s place in
+          lifted true _ over.grows (own_fault (own-here TraceTrap at refl) (stop_over s place))
+          (over-closes s place true leaves)
+      last leaves Replaced at =
+          let over = stop-looked (with_marks s place no_marks) place l off in
+          closing-lifted _ (over.aside ∙ none) over.looked over.grows
+          (as_always (not-own Replaced at refl) (stop-marked no_marks))
+      last leaves BeforeCopy at = last-plain BeforeCopy at refl
+      last leaves AfterCopy at = last-plain AfterCopy at refl
+      last leaves Other at = last-plain Other at refl
+
+    none-fresh : fresh_event (traced_at s place) l ≡ None → IsAtOwnFault s place l → ⊥
+    none-fresh is own = none-some own.event (sym is ∙ own.fresh)
 
     fresh : (e : Option Event) → fresh_event (traced_at s place) l ≡ e → IsStopped (with_fresh_event s place l e)
     unfolding with_last_stop
-    fresh None is =
-        let over = stop-looked s place l off in
-        either-stopped s.leaving _ _
-        (lifted (is_on_event l && has_fault_to_clear (marks_at s place)) _ (as_always (stop s place l)) over.looked)
-        (plain-stopped s _ over refl (as_always (stop s place l)))
-    fresh (Some e) is =
-        let stands = fresh-stands (traced_at s place) l e is in
-        let fe = function_event s.options (marks_at s place) l.id e in
-        either-stopped s.leaving _ _ (last e stands fe refl) (loop e stands fe refl)
+    fresh None is = by s.leaving refl
+      where
+        by : (b : Bool) → s.leaving ≡ b → IsStopped (cond b (with_last_stop s place l) (with_stop s place l))
+        by true leaves =
+            let clear = is_on_event l && has_fault_to_clear (marks_at s place) in
+            let over = stop-looked s place l off in
+            lifted clear _ over.grows (as_always (none-fresh is) (stop s place l))
+            (stop-closes s place l clear leaves is)
+        by false stays =
+            let over = stop-looked s place l off in
+            plain-stopped s _ over refl over.grows (as_always (none-fresh is) (stop s place l))
+    fresh (Some e) is = by (function_event s.options (marks_at s place) l.id e) refl s.leaving refl
+      where
+        by : (fe : FunctionEvent) → function_event s.options (marks_at s place) l.id e ≡ fe → (b : Bool)
+            → s.leaving ≡ b → IsStopped (cond b (with_last_event s place l fe) (with_function_event s place l fe))
+        by fe at true leaves = last e is leaves fe at
+        by fe at false stays = loop e is stays fe at
 
     pub function-stop : IsStopped (with_function_stop s place l)
     unfolding with_function_stop

@@ -90,7 +90,7 @@ none-read : (status : ℕ) (xs : List Exchange) → AreNoReads status xs → Rea
 none-read status [] quiet = tt
 none-read status (x ∷ xs) quiet = inl (quiet.0, none-read status xs quiet.1)
 
-quiet-both : (status : ℕ) (xs ys : List Exchange) → AreNoReads status xs → All (IsNoRead status) ys
+pub quiet-both : (status : ℕ) (xs ys : List Exchange) → AreNoReads status xs → All (IsNoRead status) ys
     → AreNoReads status (xs ++ ys)
 quiet-both status [] [] quiet more = tt
 quiet-both status [] (y ∷ ys) quiet more =
@@ -126,7 +126,7 @@ module _ (n k : ℕ) (o : Options) (s : TracedState) (h : List Entry) (run : IsF
         let it = turn-taken now.system pid id (record { system = it_is.0; turned = t }) it_is.1 in
         (it.process, it.live)
 
-    its-step : WasBegun k o front pid (traced_at tr place).status step
+    pub its-step : WasBegun k o front pid (traced_at tr place).status step
     its-step =
         let w : Kept (StepsAt k o s front) tr =
         kept-front n k o s h run reached bytes able front (e ∷ later) is under.calm in

@@ -1,4 +1,4 @@
-use Rattle.std.proofs.Common.{◌≡◌, ◌==◌, ◌||◌, ◌<◌, ◌+◌, ℕ, Bool, true, false, cond, is_some, nat_lt, Option, Some, None, List, [], length, position, refl, sym, subst, ap, ◌∙◌}
+use Rattle.std.proofs.Common.{◌≡◌, ◌==◌, ◌||◌, ◌<◌, ◌+◌, ℕ, Bool, true, false, cond, is_some, nat_lt, Option, Some, None, List, [], length, position, refl, sym, subst, ap, ◌∙◌, inl, inr}
 use Rattle.std.proofs.lemmas.Bool.{false≢true, ltb-true}
 use Rattle.std.proofs.lemmas.Option.{none-some, same_Some}
 use Rattle.std.specs.List.{slice_get}
@@ -11,6 +11,8 @@ use Rattle.pr_line.specs.declared.options.Options.{Options}
 use Rattle.pr_model.specs.Replies.{bytes_in, handle_in, until_in}
 use Rattle.pr_model.specs.declared.calls.Reply.{Reply}
 use Rattle.pr_num.proofs.TableLemmas.{position-within}
+use Rattle.pr_num.specs.Control.{clear_fault, single_step}
+use Rattle.pr_num.specs.Sets.{union_word}
 use Rattle.pr_num.specs.declared.errnos.Errno.{Errno}
 use Rattle.pr_num.specs.declared.errnos.Errno.TheVariants.{Noent}
 use Rattle.pr_num.specs.declared.faults.Flt.{Flt}
@@ -52,7 +54,7 @@ use Rattle.pr_truss_laws.proofs.FedSteps.{event-over, fed-step, interrupt-on, op
 use Rattle.pr_truss_laws.proofs.ReplySteps as row
 use Rattle.pr_truss_laws.proofs.ReplySteps.{Closes, GoesOn, Learns, Looks, ReplyStep, Returns, Settles, StopOver, Turns, leaving_now, old_less, seen_at}
 use Rattle.pr_truss_laws.specs.Business.{TellsOf, in_lstatus, in_status}
-use Rattle.pr_function_laws.proofs.MarkLemmas.{AreBelow, Everywhere, MarksAreBelow, StepIsBelow, every-append, every-remove, every-set, first-below, less-below, more-below, no-marks-below, none-below, step-below}
+use Rattle.pr_function_laws.proofs.MarkLemmas.{AreBelow, Everywhere, MarksAreBelow, StepIsBelow, every-append, every-remove, every-set, first-below, less-below, more-below, no-marks-below, none-below, step-below, stepping-flags}
 use Rattle.pr_line.specs.Functions.{function_limit}
 
 -- Wherever truss has come to, its marks and what it does beside its stage name functions of its options alone, and it
@@ -96,6 +98,7 @@ sound-weaker o Q R s weaker w = record {
       planted = m.planted;
       lifted = m.lifted;
       stepped = by (marks_at s place).stepped m.stepped;
+      flags = m.flags;
     };
     aside = names.aside;
   };
@@ -441,35 +444,51 @@ module _ (o : Options) (Q : Stepped → Type 0) where
       let m = marks-here u place w in
       patched _ place _ _ (back-marks (marks_at u place) m)
       (more-below n no_functions function below (none-below n function_limit))
-      (over-sound _ place (marked u place (record (marks_at u place) { stepped = Some (step_of l function); flags = _ })
-      (record { planted = m.planted; lifted = m.lifted; stepped = (below, met function refl) }) w))
+      (over-sound _ place (marked u place (record (marks_at u place) {
+        stepped = Some (step_of l function);
+        flags = union_word clear_fault single_step;
+      }) (record {
+        planted = m.planted;
+        lifted = m.lifted;
+        stepped = (below, met function refl);
+        flags = stepping-flags;
+      }) w))
   function-event-sound u place l (Completed step) w below met =
       let m = marks-here u place w in
       patched _ place _ _ (back-marks (marks_at u place) m) (none-below n function_limit)
-      (over-sound _ place (reported _ _ (marked u place (record (marks_at u place) { stepped = _; flags = _ })
-      (record { planted = m.planted; lifted = m.lifted; stepped = tt }) w)))
+      (over-sound _ place
+      (reported _ _ (marked u place (record (marks_at u place) { stepped = None; flags = clear_fault })
+      (record { planted = m.planted; lifted = m.lifted; stepped = tt; flags = inr refl }) w)))
   function-event-sound u place l TraceTrap w below met =
       let m = marks-here u place w in
-      over-sound _ place (marked u place (record (marks_at u place) { flags = _ })
-      (record { planted = m.planted; lifted = m.lifted; stepped = m.stepped }) w)
+      over-sound _ place (marked u place (record (marks_at u place) { flags = clear_fault })
+      (record { planted = m.planted; lifted = m.lifted; stepped = m.stepped; flags = inr refl }) w)
   function-event-sound u place l BeforeCopy w below met =
       let m = marks-here u place w in
       patched _ place _ _ (none-below n function_limit) m.planted
-      (stop-sound _ place l (marked u place (record (marks_at u place) { lifted = _; stepped = _; flags = _ })
-      (record { planted = m.planted; lifted = standing-marks (marks_at u place) m; stepped = tt }) w))
+      (stop-sound _ place l (marked u place (record (marks_at u place) {
+        lifted = standing (marks_at u place);
+        stepped = None;
+        flags = single_step;
+      }) (record {
+        planted = m.planted;
+        lifted = standing-marks (marks_at u place) m;
+        stepped = tt;
+        flags = inr refl;
+      }) w))
   function-event-sound u place l AfterCopy w below met =
       let m = marks-here u place w in
       patched _ place _ _ (step-below n Q (marks_at u place).stepped (marks_at u place).lifted m.stepped m.lifted)
       (none-below n function_limit)
-      (stop-sound _ place l (marked u place (record (marks_at u place) { lifted = _; stepped = _ })
-      (record { planted = m.planted; lifted = none-below n function_limit; stepped = tt }) w))
+      (stop-sound _ place l (marked u place (record (marks_at u place) { lifted = no_functions; stepped = None })
+      (record { planted = m.planted; lifted = none-below n function_limit; stepped = tt; flags = m.flags }) w))
   function-event-sound u place l Replaced w below met =
       stop-sound _ place l (marked u place no_marks (no-marks-below n Q) w)
   function-event-sound u place l Other w below met =
       let m = marks-here u place w in
       patched _ place _ _ (back-marks (marks_at u place) m) (none-below n function_limit)
-      (stop-sound _ place l (marked u place (record (marks_at u place) { stepped = _ })
-      (record { planted = m.planted; lifted = m.lifted; stepped = tt }) w))
+      (stop-sound _ place l (marked u place (record (marks_at u place) { stepped = None })
+      (record { planted = m.planted; lifted = m.lifted; stepped = tt; flags = m.flags }) w))
 
   last-event-sound : (u : TrussState) (place : ℕ) (l : LwpStatus) (e : FunctionEvent) → Names o Q u
       → IsSound o Q (with_last_event u place l e)
@@ -588,6 +607,7 @@ module _ (o : Options) (Q : Stepped → Type 0) where
         planted = more-below n (marks_at u place).planted function below m.planted;
         lifted = m.lifted;
         stepped = m.stepped;
+        flags = m.flags;
       }) w
 
   unplanted-names : (u : TrussState) (place function : ℕ) → Names o Q u → Names o Q (without_planted u place function)
@@ -597,6 +617,7 @@ module _ (o : Options) (Q : Stepped → Type 0) where
         planted = less-below n (marks_at u place).planted function m.planted;
         lifted = m.lifted;
         stepped = m.stepped;
+        flags = m.flags;
       }) w
 
   planted-sound : (u : TrussState) (place function : ℕ) → function < n → IsSound o Q u
@@ -705,7 +726,7 @@ module _ (o : Options) (Q : Stepped → Type 0) where
         let m = marks-here s place w.names in
         run-answered (with_marks s place (record (marks_at s place) { flags = 0 })) r place a is at_stage (record {
           names = marked s place (record (marks_at s place) { flags = 0 })
-              (record { planted = m.planted; lifted = m.lifted; stepped = m.stepped }) w.names;
+              (record { planted = m.planted; lifted = m.lifted; stepped = m.stepped; flags = inl refl }) w.names;
           polls = w.polls;
         })
 

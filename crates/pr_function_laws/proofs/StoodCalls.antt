@@ -16,6 +16,7 @@ use Rattle.pr_model.specs.Messages.{at_process, message_answer, read_of, refused
 use Rattle.pr_model.specs.Replies.{bytes_in, handle_in, until_in}
 use Rattle.pr_model.specs.Running.{run_refused, runs_one, with_all_run, with_one_run, with_run}
 use Rattle.pr_model.specs.State.{TracedControl, TracedLwp, TracedProcess, TracedState, TracedSystem, has_agent, live_process, with_lwp}
+use Rattle.pr_model.specs.Statuses.{lwpstatus_of}
 use Rattle.pr_model.specs.Readers.{has_lent}
 use Rattle.pr_model.specs.Stops.{representative}
 use Rattle.pr_model.specs.Handles.{handle_of}
@@ -95,7 +96,7 @@ run-stood flags old p rises none frozen few unset = by (met_in p) refl
         let later = run-waits p rises none stopped m is in
         waits (record { frozen = later.frozen; few = omega (arith, later.count, few, is) }) unset
 
-run-ended : (flags : ℕ) (p : TracedProcess) → (with_run flags p).ended ≡ p.ended
+pub run-ended : (flags : ℕ) (p : TracedProcess) → (with_run flags p).ended ≡ p.ended
 unfolding with_run with_all_run with_lwp
 run-ended flags p =
     choice (λ (x : TracedProcess). x.ended ≡ p.ended) (runs_one flags) _ _ (λ one. by (representative p)) (λ many. refl)
@@ -105,7 +106,7 @@ run-ended flags p =
     by (Some e) = refl
 
 -- PCRUN, as it is read
-run-as : (flags : ℕ) → (word : ℕ) × ReadsAs (message.Run word) (first_message (spelling (message.Run flags) []))
+pub run-as : (flags : ℕ) → (word : ℕ) × ReadsAs (message.Run word) (first_message (spelling (message.Run flags) []))
 unfolding message_code operands nth_word word_bytes word_of message_read one_word
 run-as flags =
     let bytes : List ℕ = spelling (message.Run flags) [] in
@@ -132,10 +133,11 @@ pub leaves-as : (m : Message) (r : Parsed) → leaves_lwps m ≡ true → ReadsA
 leaves-as m (Ok first) leaves same = ap leaves_lwps same ∙ leaves
 leaves-as m (Err fault) leaves same = tt
 
--- a process whose lwps stay, and what it has lent
+-- a process whose lwps stay, with what their statuses tell, and what it has lent
 pub record KeepsLwps (p q : TracedProcess) : Type 0 where
   pub lwps : q.lwps ≡ p.lwps
   pub loan : q.borrower ≡ p.borrower
+  pub told : (id : ℕ) (l : TracedLwp) → lwpstatus_of q id l ≡ lwpstatus_of p id l
 
 module _ (n k : ℕ) (o : Options) (s : TracedState) (lawful : IsLawful s) (c : Call) (a : Answer)
     (answer : answer_to s k c ≡ Some a)
@@ -161,6 +163,7 @@ module _ (n k : ℕ) (o : Options) (s : TracedState) (lawful : IsLawful s) (c : 
         same-lwps same = record {
           lwps = ap (λ (x : TracedProcess). x.lwps) (sym (same-system same));
           loan = ap (λ (x : TracedProcess). x.borrower) (sym (same-system same));
+          told = λ id l. ap (λ (x : TracedProcess). lwpstatus_of x id l) (sym (same-system same));
         }
 
         changed-lwps : (f : TracedProcess → TracedProcess) (len : ℕ)
@@ -173,8 +176,10 @@ module _ (n k : ℕ) (o : Options) (s : TracedState) (lawful : IsLawful s) (c : 
 
         set-lwps : (change : TracedControl → TracedControl) (len : ℕ)
             → a ≡ controlled s (with_set s.system u.pid p len change) → KeepsLwps p q
-        unfolding with_control
-        set-lwps change len it = changed-lwps (with_control change) len it refl (record { lwps = refl; loan = refl })
+        unfolding with_control lwpstatus_of
+        set-lwps change len it =
+            changed-lwps (with_control change) len it refl
+            (record { lwps = refl; loan = refl; told = λ id l. refl })
 
         read-lwps : (r : Result (List ℕ) BadByte) → a ≡ controlled s (read_of s.system u.pid p r) → KeepsLwps p q
         read-lwps (Ok read) it = same-lwps (ap (λ (x : Answer). x.state.system) it)
@@ -185,11 +190,12 @@ module _ (n k : ℕ) (o : Options) (s : TracedState) (lawful : IsLawful s) (c : 
             (cond lent (refused s.system Busy)
             (cond fits (with_process_changed s.system u.pid p len (with_space (with_bytes at code p.space)))
             (refused s.system Io))) → KeepsLwps p q
-        unfolding with_space
+        unfolding with_space lwpstatus_of
         written-lwps at code len true fits it = same-lwps (ap (λ (x : Answer). x.state.system) it)
         written-lwps at code len false false it = same-lwps (ap (λ (x : Answer). x.state.system) it)
         written-lwps at code len false true it =
-            changed-lwps (with_space (with_bytes at code p.space)) len it refl (record { lwps = refl; loan = refl })
+            changed-lwps (with_space (with_bytes at code p.space)) len it refl
+            (record { lwps = refl; loan = refl; told = λ id l. refl })
 
         by-message : (m : Message) (len : ℕ) → leaves_lwps m ≡ true
             → a ≡ controlled s (message_answer s.system u.pid p at_process m (tail_of m bytes) len) → KeepsLwps p q
@@ -227,7 +233,7 @@ module _ (n k : ℕ) (o : Options) (s : TracedState) (lawful : IsLawful s) (c : 
             ∙ live-changed s.system u.pid (with_run flags) p live (run-ended flags p) in
             subst E (same_Some (with_run flags p) q (sym now ∙ later)) runs_so
 
-        run-all : (E : TracedProcess → Type 0) (flags : ℕ) → ReadsAs (message.Run flags) (first_message bytes) → E p
+        pub run-all : (E : TracedProcess → Type 0) (flags : ℕ) → ReadsAs (message.Run flags) (first_message bytes) → E p
             → E (with_run flags p) → E q
         unfolding message_answer run_answer
         run-all E flags reads stays runs_so =

@@ -22,7 +22,7 @@ use Rattle.pr_truss.specs.declared.stages.OpeningStep.TheVariants as opening
 use Rattle.pr_truss_laws.proofs.AloneLemmas.{alone-frozen, alone-halting}
 use Rattle.pr_truss_laws.proofs.StillLemmas.{frozen-turns, halting-leaves, halting-stays}
 use Rattle.pr_truss_laws.specs.Stills.{IsFrozen, IsHalting, IsUndisturbed, with_lwp_stopped, stopped_lwp}
-use Rattle.pr_function_laws.proofs.KeptPlaces.{Position, closes, looks, opens, planted_as, rests, runs}
+use Rattle.pr_function_laws.proofs.KeptPlaces.{Position, closes, looks, opens, planted_as, rests, runs, to_read}
 use Rattle.pr_function_laws.proofs.OneEventLemmas.{alone-few, lwps-few, none-unmet}
 use Rattle.pr_function_laws.proofs.OneEventTurns.{turn-few}
 use Rattle.pr_function_laws.proofs.OpenedLemmas.{one-agent}
@@ -68,6 +68,7 @@ StoodOpening _ old p = Unit {0}
 abbrev pub StoodAt : Position → Traced → TracedProcess → Type 0
 StoodAt (opens step) u p = StoodOpening step u.old p
 StoodAt rests u p = Stood u.marks.flags u.old p
+StoodAt to_read u p = IsFrozen p
 StoodAt looks u p = IsFrozen p
 StoodAt runs u p = Stood u.marks.flags (suc u.old) p × IsFrozen p
 StoodAt closes u p = Unit {0}
@@ -134,6 +135,7 @@ pub stood-plants : (at : Position) (u : Traced) (set : List Bool) (p : TracedPro
     → StoodAt at (planted_as u set) p
 stood-plants (opens step) u set p h = h
 stood-plants rests u set p h = h
+stood-plants to_read u set p h = h
 stood-plants looks u set p h = h
 stood-plants runs u set p h = h
 stood-plants closes u set p h = tt
@@ -146,6 +148,7 @@ prepared-plants (opens step) u set h = (h.0, by step h.1)
     by opening.OpenLstatus h = tt
     by _ h = h
 prepared-plants rests u set h = tt
+prepared-plants to_read u set h = tt
 prepared-plants looks u set h = tt
 prepared-plants runs u set h = tt
 prepared-plants closes u set h = tt
@@ -173,6 +176,7 @@ module _ (p q : TracedProcess) (halting : IsHalting p → IsHalting q) (has : Ha
       (u : Traced) → StoodAt at u p → StoodAt at u q
   at-kept stood still (opens step) u h = opening-kept step u.old h
   at-kept stood still rests u h = stood u.marks.flags u.old h
+  at-kept stood still to_read u h = still h
   at-kept stood still looks u h = still h
   at-kept stood still runs u h = (stood u.marks.flags (suc u.old) h.0, still h.1)
   at-kept stood still closes u h = tt
@@ -291,6 +295,7 @@ module _ (s : TracedSystem) (pid : ℕ) (p : TracedProcess) (own : ℕ) (t : Lwp
   turn-at (opens step) u directs h =
       opening-kept p q turn-halting turn-has turn-counted step u.old h
   turn-at rests u directs h = turn-stood directs u.marks.flags u.old h
+  turn-at to_read u directs h = no-turn h
   turn-at looks u directs h = no-turn h
   turn-at runs u directs h = no-turn h.1
   turn-at closes u directs h = tt

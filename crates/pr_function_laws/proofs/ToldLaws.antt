@@ -8,7 +8,7 @@ use Rattle.pr_line.specs.declared.events.Event.{Event}
 use Rattle.pr_line.specs.declared.functions.Function.{Function}
 use Rattle.pr_line.specs.declared.options.Options.{Options}
 use Rattle.pr_model.specs.Calls.{answer_to}
-use Rattle.pr_model.specs.Legal.{IsLegal, IsLegalEntry, state_after}
+use Rattle.pr_model.specs.Legal.{IsLegalEntry, state_after}
 use Rattle.pr_model.specs.Replies.{bytes_in}
 use Rattle.pr_model.specs.State.{TracedProcess, TracedState, live_process}
 use Rattle.pr_model.specs.declared.calls.File.TheVariants.{Status}
@@ -23,7 +23,7 @@ use Rattle.pr_report_laws.proofs.Files.WatchHistories.{cons-exchanges, exchanges
 use Rattle.pr_report_laws.proofs.Invariant.StandLemmas.{Each}
 use Rattle.pr_report_laws.proofs.Machine.RecordLaws.{status-ended}
 use Rattle.pr_report_laws.proofs.SeenChildren.Splits.{state_after-both}
-use Rattle.pr_report_laws.proofs.Watching.HistoryParts.{all-front, all-rest, legal-rest}
+use Rattle.pr_report_laws.proofs.Watching.HistoryParts.{all-front, all-rest}
 use Rattle.pr_truss.specs.Asides.{marks_at}
 use Rattle.pr_truss.specs.FunctionCalls.{next_function_call_of}
 use Rattle.pr_truss.specs.FunctionEvents.{fresh_event, step_of}
@@ -41,18 +41,17 @@ use Rattle.pr_truss.specs.declared.replies.Answer.TheVariants.{Accepted, Interru
 use Rattle.pr_truss.specs.declared.reports.Report.{Report}
 use Rattle.pr_truss.specs.declared.stages.Stage.{Stage}
 use Rattle.pr_truss.specs.declared.stages.Stage.TheVariants.{OpeningControl, ReadingLwps, ReadingStatus}
-use Rattle.pr_truss_laws.proofs.AnswerLemmas.{IsAnswer, answer-is}
 use Rattle.pr_truss_laws.proofs.HeldLemmas.{at_place}
 use Rattle.pr_truss_laws.proofs.OpensLemmas.{held_by}
 use Rattle.pr_truss_laws.proofs.OverLemmas.{stays-over}
 use Rattle.pr_truss_laws.specs.Exchanges.{Exchange, exchange_of, exchanges}
 use Rattle.pr_function_laws.proofs.BegunSteps.{IsUnderWay, Steps, StepsAt, WasBegun, begun, each-found, ended, only-last, other-kept, quiet-push, read-kept, reading-at, reading-is, reading_now}
 use Rattle.pr_function_laws.proofs.BreakpointLemmas.{IsOwnEntry, own-entry, read-is}
-use Rattle.pr_function_laws.proofs.CalledLaws.{calls-are-turns, functions-both, step-there, tells-there}
-use Rattle.pr_function_laws.proofs.KeptPlaces.{AtStage, Kept, Position, apart-at, closes, first-kept, kept-weaker, looks, opens, rests, runs}
+use Rattle.pr_function_laws.proofs.CalledLaws.{calls-are-turns, step-there, tells-there}
+use Rattle.pr_function_laws.proofs.KeptPlaces.{AtStage, Kept, Position, apart-at, closes, first-kept, kept-weaker, looks, opens, rests, runs, to_read}
 use Rattle.pr_function_laws.proofs.MetLemmas.{event-breaks, found-function}
 use Rattle.pr_function_laws.proofs.OpenedCalls.{control-fresh, lowest}
-use Rattle.pr_function_laws.proofs.OpenedLaws.{Goes, before-goes, calls-rest, holds-opened}
+use Rattle.pr_function_laws.proofs.OpenedLaws.{Goes, before-goes, holds-opened}
 use Rattle.pr_function_laws.proofs.OpenedLemmas.{control-made}
 use Rattle.pr_function_laws.proofs.StepMarks.{AreLike, EndsNoStep, IsRead, Leaves, begins, clears, keeps, no-other-trap, status-read}
 use Rattle.pr_function_laws.proofs.TurnReads.{shows-call}
@@ -61,20 +60,14 @@ use Rattle.pr_function_laws.specs.CalledTurns.{ReadsTwice}
 use Rattle.pr_function_laws.specs.Calls.{call_beside, call_of_lwp, call_read, call_told}
 use Rattle.pr_function_laws.specs.Lifted.{IsNoRead, ReadsOnlyLast}
 use Rattle.pr_function_laws.specs.Opened.{IsFunctionRun, OwnsAndTraces, ReadsBreakpoint, WasNotInterrupted, functions_at, is_opened}
-use Rattle.pr_function_laws.specs.Runs.{MakesCalls, functions_after, functions_on}
+use Rattle.pr_function_laws.specs.Runs.{functions_after, functions_on}
 use Rattle.pr_function_laws.specs.Steppable.{IsSteppable}
 use Rattle.pr_function_laws.specs.ToldTurns.{AreSteppable, TellsATurn, TellsTurnsAlone}
+use Rattle.pr_function_laws.proofs.FrontLemmas as fronts
+use Rattle.pr_function_laws.proofs.FrontLemmas.{calm-answer}
 
 -- Each call that truss tells in a history, until it is interrupted, is told by the second read of a stop at a
 -- breakpoint.
-
-calm-answer : (x : Exchange) → WasNotInterrupted x → answer_of x.reply ≢ Interrupted
-unfolding IsAnswer
-calm-answer x calm interrupted = calm.unbroken (subst (IsAnswer x.reply) interrupted (answer-is x.reply))
-
-one-more : (t : TrussState) (x : Option Exchange) → functions_after t (cons_option x []) ≡ functions_on t x
-one-more t None = refl
-one-more t (Some x) = refl
 
 same-place : (a b : ℕ) → ReadingStatus a ≡ ReadingStatus b → a ≡ b
 same-place a b is = cc
@@ -119,14 +112,13 @@ module _ (n k : ℕ) (o : Options) (s : TracedState) (h : List Entry) (run : IsF
     next = front ++ e ∷ []
 
     here : Goes ⊥ k o t now
-    here = goes front (e ∷ later) is calm
+    here = fronts.here n k o s h run front e later is calm
 
     pub legal : IsLegalEntry n now e
-    legal =
-        let rest = legal-rest n s front (e ∷ later) (subst (IsLegal n s) is run.legal) in rest.0
+    legal = fronts.legal n k o s h run front e later is calm
 
     has : has_functions t.options ≡ true
-    has = let g = here in ap has_functions g.options ∙ run.has
+    has = fronts.has n k o s h run front e later is calm
 
     made-at : (q : ℕ) → q < length t.traced → (traced_at t q).pid < now.system.made
     made-at q within =
@@ -323,6 +315,7 @@ module _ (n k : ℕ) (o : Options) (s : TracedState) (h : List Entry) (run : IsF
     each-later j inside alone (opens step) w = w
     each-later j inside alone rests w =
         λ step there. under-later _ _ step (made-at j inside) alone (w step there)
+    each-later j inside alone to_read w = tt
     each-later j inside alone looks w = tt
     each-later j inside alone runs w =
         λ step there. under-later _ _ step (made-at j inside) alone (w step there)
@@ -331,14 +324,7 @@ module _ (n k : ℕ) (o : Options) (s : TracedState) (h : List Entry) (run : IsF
     -- ---- an entry
 
     makes-next : (x : Exchange) → exchange_of k e ≡ Some x → next_function_call_of t ≡ Some x.call
-    makes-next x own =
-        let makes : MakesCalls t (exchanges k (e ∷ later)) =
-        calls-rest (first_truss o) (exchanges k front) (exchanges k (e ∷ later))
-        (subst (MakesCalls (first_truss o)) (ap (exchanges k) is ∙ exchanges-both k front (e ∷ later)) run.makes) in
-        let first : MakesCalls t (x ∷ exchanges k later) =
-        subst (λ y. MakesCalls t (cons_option y (exchanges k later))) own
-        (subst (MakesCalls t) (cons-exchanges k e later) makes) in
-        first.0
+    makes-next = fronts.makes-next n k o s h run front e later is calm
 
     owns : (q : ℕ) → q < length t.traced → t.stage ≡ ReadingStatus q → OwnsAndTraces k o t q now
     owns q within at =
@@ -468,10 +454,7 @@ module _ (n k : ℕ) (o : Options) (s : TracedState) (h : List Entry) (run : IsF
               let it = reading-is t.aside t.stage q reading in reads-status q reading it.0 it.1
 
     pushed : functions_at k o next ≡ functions_on t (exchange_of k e)
-    pushed =
-        ap (functions_after (first_truss o)) (exchanges-push k front e)
-        ∙ functions-both (first_truss o) (exchanges k front) (cons_option (exchange_of k e) [])
-        ∙ one-more t (exchange_of k e)
+    pushed = fronts.pushed n k o s h run front e later is calm
 
     entry-kept : Kept (StepsAt k o s front) t → ((x : Exchange) → exchange_of k e ≡ Some x → WasNotInterrupted x)
         → Kept (StepsAt k o s next) (functions_at k o next)

@@ -57,7 +57,7 @@ use Rattle.pr_truss.specs.declared.stages.Stage.TheVariants.{ReadingStatus}
 use Rattle.pr_truss_laws.specs.Exchanges.{Exchange, exchanges}
 use Rattle.pr_truss_laws.specs.Stills.{IsFrozen, stands_still}
 use Rattle.pr_function_laws.proofs.AwayLemmas.{Away, IsKnownAs, Own, ReadsOwn, reads-own}
-use Rattle.pr_function_laws.proofs.BreakpointLemmas.{makes, own-entry, stands}
+use Rattle.pr_function_laws.proofs.BreakpointLemmas.{makes, own-entry}
 use Rattle.pr_function_laws.proofs.LiftLemmas.{LookCall, Looks, call-looks, met_at, patches, steps}
 use Rattle.pr_function_laws.proofs.OneEventLemmas.{met-leads, stands-alone}
 use Rattle.pr_function_laws.proofs.OneEventTurns.{point-met}

@@ -22,7 +22,6 @@ use Rattle.pr_model.specs.State.{TracedLwp, TracedProcess, TracedState, lwp_of, 
 use Rattle.pr_model.specs.Statuses.{lwpstatus_of}
 use Rattle.pr_model.specs.declared.events.Act.TheVariants.{Turn}
 use Rattle.pr_model.specs.declared.events.Actor.TheVariants.{Lwp}
-use Rattle.pr_model.specs.declared.events.Did.TheVariants.{Faulted}
 use Rattle.pr_model.specs.declared.events.Entry.{Entry}
 use Rattle.pr_model.specs.declared.events.Turned.{Turned}
 use Rattle.pr_model.specs.declared.stops.Stop.TheVariants as stop

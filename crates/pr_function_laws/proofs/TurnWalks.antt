@@ -78,7 +78,7 @@ lwp-same : (pid a b : ℕ) → Lwp pid a ≡ Lwp pid b → a ≡ b
 lwp-same pid a b is = cc
 
 -- an entry of the controller is no turn
-own-in : (k pid id : ℕ) (actor : Actor) (it : Act) (x : Exchange) → exchange_in k actor it ≡ Some x
+pub own-in : (k pid id : ℕ) (actor : Actor) (it : Act) (x : Exchange) → exchange_in k actor it ≡ Some x
     → actor ≢ Lwp pid id
 own-in k pid id (Controller by) it x is same = cc
 own-in k pid id (Lwp acting own) it x is same = none-some x is

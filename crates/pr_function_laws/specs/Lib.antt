@@ -1,12 +1,18 @@
 pub mod CalledTurns
 pub mod Calls
+pub mod EventKinds
+pub mod EventsRead
+pub mod Coming
 pub mod FunctionTurns
+pub mod Handled
+pub mod Leaving
 pub mod Lifted
 pub mod Met
 pub mod OneEvent
 pub mod Opened
 pub mod Ordinary
 pub mod OrdinaryRuns
+pub mod Planted
 pub mod Returns
 pub mod Runs
 pub mod Soon
@@ -14,4 +20,5 @@ pub mod Steppable
 pub mod Steps
 pub mod Stretches
 pub mod ToldTurns
+pub mod Treated
 pub mod Turns

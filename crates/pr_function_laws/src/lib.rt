@@ -4,20 +4,28 @@
 
 mod called;
 mod events;
+mod handled;
+mod kinds;
+mod leaving;
 mod lifted;
 mod lines;
 mod met;
 mod opened;
 mod ordinary;
+mod planted;
 mod returns;
 mod soon;
 mod steps;
 mod stretches;
 mod told;
+mod treated;
 mod turns;
 
 pub use called::in_each_history_calls_are_turns;
-pub use events::at_most_one_event_is_unread;
+pub use events::{at_most_one_event_is_unread, each_event_is_told_by_the_next_read};
+pub use handled::beside_its_breakpoints_it_handles_what_it_was_given;
+pub use kinds::what_each_event_is_to_breakpoints;
+pub use leaving::an_interrupted_truss_lifts_clears_and_closes;
 pub use lifted::a_breakpoint_is_lifted_for_one_lwp_alone;
 pub use lines::{each_reply_tells_at_most_one_call, the_calls_reported_are_those_told};
 pub use met::{each_call_told_was_met_at_its_breakpoint, the_calls_reported_were_met};
@@ -26,6 +34,7 @@ pub use ordinary::{
     beside_its_breakpoints_it_is_a_truss, it_calls_closes_and_leaves_its_files_as_truss_does,
     it_shows_what_is_new, it_shows_what_it_reads_right_then,
 };
+pub use planted::what_truss_plants_it_has_read;
 pub use returns::a_breakpoint_is_planted_again_first;
 pub use soon::what_a_poll_named_is_soon_run_or_closed;
 pub use steps::{
@@ -37,6 +46,7 @@ pub use stretches::{
     a_process_that_is_stopped_on_an_event_is_frozen, no_other_lwp_begins_an_instruction,
 };
 pub use told::{in_each_history_each_step_is_told, in_each_history_only_turns_are_told};
+pub use treated::what_an_event_asks_for_comes_before_the_run;
 pub use turns::{
     a_call_told_is_the_one_turn_of_its_lwp, a_turn_whose_trap_is_read_is_told,
     calls_have_their_turns_in_order,

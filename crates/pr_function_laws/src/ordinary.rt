@@ -15,11 +15,14 @@ ghost use Rattle.pr_function_laws.specs.OrdinaryRuns.{ClosesFreelyThroughout, Sh
 ghost use Rattle.pr_function_laws.specs.Runs.{MakesCalls};
 ghost use Rattle.pr_function_laws.specs.Soon.{IsCalm};
 
-/// Beside its business on breakpoints truss with calls of functions is a truss: without some of its messages and waits,
-/// which are such by which it sees to its breakpoints, and without what it reads of faults of its own, its exchanges
-/// are like those of a truss, which has reported what this one has, but for the calls. So that truss does its own
-/// business in these exchanges, and nothing else. This is so whatever it was replied, as long as only waits are
-/// interrupted.
+/// Beside its business on breakpoints truss with calls of functions is a truss. Some messages and waits are left out:
+/// the PCREAD, PCWRITE and PCCFAULT by which it sees to its breakpoints, and the wait for the stop of a process that it
+/// leaves, with PCWSTOP. Some stand in place of others: it traces all signals and faults, and fork, vfork and exec
+/// besides, runs a process with PRCFAULT or PRSTEP, and begins to leave one by PCSTOP. What it reads of faults of its
+/// own counts as nothing. Then its exchanges are those of a truss, which has reported what this one has, but for the
+/// calls. So that truss does its own business in these exchanges, and nothing else. All that it has reported, calls
+/// too, stands in the order in which it learnt it, a line for each. This is so whatever it was replied, as long as only
+/// waits are interrupted.
 #[tactic(auto, using(crate::proofs::OrdinaryExchanges::ordinaries))]
 pub fn beside_its_breakpoints_it_is_a_truss()
     ensures { (o : Options) (xs : List Exchange) → has_functions o ≡ true → o.follow ≡ false
@@ -27,7 +30,7 @@ pub fn beside_its_breakpoints_it_is_a_truss()
 {}
 
 /// In each legal history of truss with functions, in each entry and of each process: it shows nothing new, or one event
-/// more, which it reads in this entry and the options select.
+/// more, which it reads in this entry, the options select, and is no fault of its own.
 #[tactic(auto, using(crate::proofs::OrdinaryShown::shown_now))]
 pub fn it_shows_what_it_reads_right_then()
     ensures { (n k : ℕ) (o : Options) (s : TracedState) (h : List Entry) → IsFunctionRun n k o s h
@@ -36,7 +39,8 @@ pub fn it_shows_what_it_reads_right_then()
 
 /// In each legal history of truss with functions: where it reads in the status of a process an event that the options
 /// select, and that is no fault of its own, it shows this event in that entry, once no stop is left that stood before
-/// truss came.
+/// truss came. The same of the statuses of the lwps of a process that it leaves, if it has not looked at the event
+/// before.
 #[tactic(auto, using(crate::proofs::OrdinaryNew::new_shown))]
 pub fn it_shows_what_is_new()
     ensures { (n k : ℕ) (o : Options) (s : TracedState) (h : List Entry) → IsFunctionRun n k o s h

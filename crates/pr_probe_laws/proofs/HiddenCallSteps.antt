@@ -48,7 +48,7 @@ use Rattle.pr_probe_laws.proofs.DeathLemmas.{dead-none, generated-dead}
 use Rattle.pr_probe_laws.proofs.HiddenPassive.{All-there}
 use Rattle.pr_probe_laws.proofs.HiddenPlain.{is_special}
 use Rattle.pr_probe_laws.proofs.HiddenStages.{Hides, small-at}
-use Rattle.pr_probe_laws.proofs.StepCalls.{called-unstepped}
+use Rattle.pr_probe_laws.proofs.MarkCalls.{called-unstepped}
 use Rattle.pr_probe_laws.specs.StepMarks.{IsUnstepped}
 use Rattle.pr_probe_laws.specs.HiddenProbes.{is_hiding}
 use Rattle.pr_probe_laws.proofs.HiddenWork.{hides-hiding, refused-plain, special-hides, ctl-control}

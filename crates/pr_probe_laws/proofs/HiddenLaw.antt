@@ -39,7 +39,7 @@ use Rattle.pr_probe_laws.proofs.ReasonStages.{passed-poll}
 use Rattle.pr_probe_laws.specs.Reasons.{IsInterruptedPoll}
 use Rattle.pr_probe_laws.proofs.HiddenFacts.{Facts, facts, next-is, own-there, probe-at}
 use Rattle.pr_probe_laws.proofs.HiddenStages.{Hides}
-use Rattle.pr_probe_laws.proofs.StepCalls.{untouched-unstepped}
+use Rattle.pr_probe_laws.proofs.MarkCalls.{untouched-unstepped}
 use Rattle.pr_probe_laws.specs.StepMarks.{IsUnstepped}
 use Rattle.pr_probe_laws.specs.HiddenProbes.{AreLeftAlone, IsHidingAfter, is_hiding}
 use Rattle.pr_tool_laws.specs.Leaving.{SendsTo}

@@ -32,6 +32,8 @@ pub mod HiddenTurns
 pub mod HiddenWork
 pub mod LeavingRows
 pub mod LetsBe
+pub mod MarkCalls
+pub mod MarkTurns
 pub mod MemoryMessages
 pub mod OwnCallRows
 pub mod OwnFiles
@@ -52,8 +54,6 @@ pub mod SetLaw
 pub mod SetMessages
 pub mod SetStages
 pub mod StatusSets
-pub mod StepCalls
-pub mod StepLemmas
 pub mod StepTurns
 pub mod TakesBack
 pub mod TextCalls

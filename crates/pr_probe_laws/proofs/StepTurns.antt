@@ -27,7 +27,7 @@ use Rattle.pr_num.specs.declared.mappings.BadByte.{BadByte}
 use Rattle.pr_num.specs.declared.mappings.BadByte.TheVariants.{Hole, NotAllowed}
 use Rattle.pr_num.specs.declared.syscalls.Sysno.{Sysno}
 use Rattle.pr_parts.specs.WatchedAreas.{hit_in}
-use Rattle.pr_probe_laws.proofs.StepLemmas.{settled-keeps}
+use Rattle.pr_probe_laws.proofs.MarkTurns.{IsAny, all-unmarked, turn-unmarked, unmarked-all}
 use Rattle.pr_probe_laws.specs.StepMarks.{IsUnstepped, IsUnsteppedLwp, IsUnsteppedProcess}
 
 -- FLTTRACE comes of a step mark alone, and no turn makes one.
@@ -206,6 +206,4 @@ module _ (s : TracedSystem) (pid id : ℕ) (t : LwpTurn) (turn : turn_of s pid i
       (row-kind s pid it.process id it.lwp) (sym (ap (λ (x : LwpTurn). x.turned.did) it.is) ∙ e)
 
   pub turn-unstepped : IsUnstepped t.system
-  turn-unstepped =
-      subst (λ (x : LwpTurn). IsUnstepped x.system) (sym it.is)
-      (settled-keeps pid it.process id it.lwp unmarked s u (row_for s pid it.process id it.lwp))
+  turn-unstepped = unmarked-all t.system (turn-unmarked IsAny s pid id t turn (all-unmarked s u))

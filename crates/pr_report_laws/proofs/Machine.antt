@@ -22,4 +22,5 @@ pub mod SettingLaws
 pub mod StayingLwps
 pub mod StoppedLaws
 pub mod TracedPoints
+pub mod TurnEvents
 pub mod TurnSettings

@@ -12,21 +12,23 @@ use Rattle.pr_erasure.proofs.HistoryLemmas.{transparent-first}
 use Rattle.pr_erasure.specs.Transparency.{IsTransparent}
 use Rattle.pr_line.specs.declared.functions.Function.{Function}
 use Rattle.pr_line.specs.declared.options.Options.{Options}
-use Rattle.pr_model.specs.FirstState.{first_state}
 use Rattle.pr_model.specs.Legal.{IsLegal}
 use Rattle.pr_model.specs.declared.events.Entry.{Entry}
 use Rattle.pr_model.specs.declared.tools.ToolKind.{ToolKind}
 use Rattle.pr_model.specs.declared.tools.ToolKind.TheVariants.{Prun, Pstack, Pstop}
 use Rattle.pr_probe.specs.Probes.{first_probe}
 use Rattle.pr_function_hides.proofs.ClearingLaw.{clears-running}
+use Rattle.pr_function_hides.proofs.CleanLaw.{leaves-no-fault}
 use Rattle.pr_function_hides.proofs.ClosingLaw.{leaves-none}
+use Rattle.pr_function_hides.proofs.ListedLaw.{fetched-turns, listed-turns}
+use Rattle.pr_function_hides.proofs.PostedLaw.{posts-none}
 use Rattle.pr_function_hides.proofs.HiddenTruss.{truss-hidden, truss-tidy}
 use Rattle.pr_function_hides.proofs.StepLaw.{own-steps}
-use Rattle.pr_function_hides.proofs.TidyLaw.{writes-tidily}
+use Rattle.pr_function_hides.proofs.WritesLaw.{writes-tidily}
 use Rattle.pr_hidden.proofs.FirstLemmas.{first-untouched}
 use Rattle.pr_hidden.proofs.HistoryFollows.{hidden-first}
 use Rattle.pr_probe_laws.proofs.HiddenLaw.{alone-accepted, alone-gone, alone-hidden, alone-tidy}
-use Rattle.pr_probe_laws.proofs.StepCalls.{untouched-unstepped}
+use Rattle.pr_probe_laws.proofs.MarkCalls.{untouched-unstepped}
 use Rattle.pr_probe_laws.proofs.TakesBack.{probe-takes-back}
 use Rattle.pr_probe_laws.specs.StepMarks.{IsUnstepped}
 use Rattle.pr_probe_laws.proofs.OwnCallRows.{makes-its-calls, probe-closes, probe-holds}
@@ -42,7 +44,6 @@ use Rattle.pr_scen.specs.Scenarios.{Scenario, probe_in, probes_of, script_in, sc
 use Rattle.pr_scen.specs.declared.plans.Plan.{Plan}
 use Rattle.pr_scen.specs.declared.plans.Plan.TheVariants as plan
 use Rattle.pr_truss.specs.Marks.{has_functions}
-use Rattle.pr_truss_laws.specs.Handles.{HasNothingOpen}
 use Rattle.pr_world.proofs.RunLemmas.{moves-led}
 use Rattle.pr_tool_laws.proofs.HandleLemmas.{tool-holds}
 use Rattle.pr_tool_laws.proofs.ProtocolLemmas.{follows-own}
@@ -69,11 +70,11 @@ use Rattle.pr_run_laws.specs.ToolRuns.{IsToolKept}
 use Rattle.pr_run_laws.specs.Tracers.{IsTracer}
 use Rattle.pr_run_laws.specs.TrussRuns.{IsTrussKept}
 use Rattle.pr_run_laws.proofs.ByteLemmas.{follows-bytes}
-use Rattle.pr_run_laws.proofs.FunctionLemmas.{function-kept}
+use Rattle.pr_run_laws.proofs.FunctionLemmas.{all-steppable, function-kept, function-run}
 use Rattle.pr_run_laws.proofs.TracerLemmas.{tracers-passive}
-use Rattle.pr_run_laws.proofs.TrussHiders.{hide-trusses, plan-named}
+use Rattle.pr_run_laws.proofs.TrussHiders.{first-held, hide-trusses, plan-named, shown-truss}
 use Rattle.pr_run_laws.proofs.TrussOptions.{bare-truss, full-truss}
-use Rattle.pr_run_laws.proofs.TrussLemmas.{nothing-held, truss-kept}
+use Rattle.pr_run_laws.proofs.TrussLemmas.{truss-kept}
 
 -- What runs of scenarios keep.
 
@@ -129,10 +130,6 @@ state-reached : (s : Scenario) → IsScenarioInRange s → IsReached (first_stat
 state-reached s range = first-reached s.programs (files_of s) s.spawns range.start range.range
 
 -- ---- trusses
-
-first-held : (s : Scenario) (k : ℕ) → HasNothingOpen k (first_state_of s)
-unfolding first_state
-first-held s k = nothing-held k (first_state_of s) refl
 
 -- the controller of a truss, which shows calls of functions or does not
 truss-plan : (s : Scenario) (k : ℕ) (o : Options) (b : Bool) → slice_get s.controllers k ≡ Some (plan.Truss o)
@@ -314,28 +311,48 @@ hidden-kept s n h range bytes legal own = record {
 }
 
 -- what truss with calls of functions writes, and what programs see of it
-pub writes-kept : (s : Scenario) (n : ℕ) (h : List Entry) → IsScenarioInRange s → IsLegal n (first_state_of s) h
-    → AreOwnCalls (controllers_of s) h → WriteUnseen (controllers_of s) (first_state_of s) h
-writes-kept s n h range legal own =
+pub writes-kept : (s : Scenario) (n : ℕ) (h : List Entry) → IsScenarioInRange s → HasBytes h
+    → IsLegal n (first_state_of s) h → AreOwnCalls (controllers_of s) h → WriteUnseen (controllers_of s) (first_state_of s) h
+writes-kept s n h range bytes legal own =
     let reached = state-reached s range in
     record {
       tidily = λ who hide.
-          writes-tidily n who (controllers_of s) (first_state_of s) h reached.lawful reached.lending legal own
+          writes-tidily n who (controllers_of s) (first_state_of s) h reached bytes legal own
           (hide-trusses s range who hide);
       leaves_none = λ who hide.
-          leaves-none n who (controllers_of s) (first_state_of s) h reached.lawful reached.lending legal own
+          leaves-none n who (controllers_of s) (first_state_of s) h reached bytes legal own
           (hide-trusses s range who hide);
       clears = λ who hide.
-          clears-running n who (controllers_of s) (first_state_of s) h reached.lawful reached.lending legal own
+          clears-running n who (controllers_of s) (first_state_of s) h reached bytes legal own
           (hide-trusses s range who hide);
+      lists = λ who hide undisturbed sparing k pid o hider starts.
+          let named = shown-truss s range k o starts in
+          let run =
+          function-run (controllers_of s) n (first_state_of s) h k o reached (first-held s k) starts named.0 named.1
+          legal own in
+          listed-turns n k who (controllers_of s) o (first_state_of s) h run reached bytes (all-steppable o named.1) own
+          (hide-trusses s range who hide) hider starts undisturbed sparing pid;
+      lists_fetched = λ who hide undisturbed k pid o hider starts fetches.
+          let named = shown-truss s range k o starts in
+          let run =
+          function-run (controllers_of s) n (first_state_of s) h k o reached (first-held s k) starts named.0 named.1
+          legal own in
+          fetched-turns n k who (controllers_of s) o (first_state_of s) h run reached bytes (all-steppable o named.1) own
+          (hide-trusses s range who hide) hider starts undisturbed fetches pid;
       own_steps = λ who hide undisturbed passive.
-          own-steps n who (controllers_of s) (first_state_of s) h reached.lawful reached.lending legal own
+          own-steps n who (controllers_of s) (first_state_of s) h reached bytes legal own
+          (hide-trusses s range who hide) undisturbed passive (first-unstepped s);
+      leaves_no_fault = λ who hide undisturbed passive.
+          leaves-no-fault n who (controllers_of s) (first_state_of s) h reached bytes legal own
+          (hide-trusses s range who hide) undisturbed passive (first-unstepped s);
+      posts_none = λ who hide undisturbed passive.
+          posts-none n who (controllers_of s) (first_state_of s) h reached bytes legal own
           (hide-trusses s range who hide) undisturbed passive (first-unstepped s);
       tidy = λ who hide undisturbed passive faults.
-          truss-tidy n who (controllers_of s) (first_state_of s) h reached.lawful reached.lending legal own
+          truss-tidy n who (controllers_of s) (first_state_of s) h reached bytes legal own
           (hide-trusses s range who hide) undisturbed passive faults (first-unstepped s);
       hidden = λ who hide undisturbed passive faults.
-          truss-hidden n who (controllers_of s) (first_state_of s) h reached.lawful reached.lending legal own
+          truss-hidden n who (controllers_of s) (first_state_of s) h reached bytes legal own
           (hide-trusses s range who hide) undisturbed passive faults
           (first-untouched s.programs (files_of s) s.spawns);
     }
@@ -370,7 +387,7 @@ led-kept s w range led =
       cores = gcores-kept s n h range bytes run.legal own;
       probes = probes-kept s n h range bytes run.legal own;
       hides = hidden-kept s n h range bytes run.legal own;
-      writes = writes-kept s n h range run.legal own;
+      writes = writes-kept s n h range bytes run.legal own;
       programs = first-same n s.programs (files_of s) s.spawns h range.start run.legal;
     } in
     subst (IsKept s) (sym (led-history s w led)) kept

@@ -9,17 +9,20 @@ use Rattle.std.proofs.lemmas.Option.{slice_get-map}
 use Rattle.pr_function_hides.specs.FunctionHiders.{AreTrusses, IsPatchable}
 use Rattle.pr_hidden.specs.Hiders.{Hiders}
 use Rattle.pr_line.specs.declared.options.Options.{Options}
+use Rattle.pr_model.specs.FirstState.{first_state}
 use Rattle.pr_num.proofs.SearchLemmas.{All-at}
+use Rattle.pr_run_laws.proofs.TrussLemmas.{nothing-held}
 use Rattle.pr_run_laws.proofs.TrussOptions.{bare-truss, first-options}
 use Rattle.pr_run_laws.specs.FunctionRuns.{HideBreakpoints}
 use Rattle.pr_run_laws.specs.NamedFunctions.{AreShowable, IsShowable, NamesShowable}
 use Rattle.pr_run_laws.specs.ScenarioRanges.{IsScenarioInRange}
-use Rattle.pr_run_laws.specs.ScenarioRuns.{controller_of, controllers_of, truss_of}
+use Rattle.pr_run_laws.specs.ScenarioRuns.{controller_of, controllers_of, first_state_of, truss_of}
 use Rattle.pr_scen.specs.Scenarios.{Scenario}
 use Rattle.pr_scen.specs.declared.plans.Plan.{Plan}
 use Rattle.pr_scen.specs.declared.plans.Plan.TheVariants as plan
 use Rattle.pr_truss.specs.Marks.{has_functions}
 use Rattle.pr_truss.specs.Trusses.{TrussState, first_truss}
+use Rattle.pr_truss_laws.specs.Handles.{HasNothingOpen}
 use Rattle.pr_world.specs.ControllerStates.{FnTruss}
 
 -- the functions that a truss of a scenario names
@@ -65,13 +68,27 @@ was-planned plans k o is = by (slice_get plans k) refl (sym (slice_get-map contr
 has-some : (o : Options) → has_functions o ≡ true → o.functions ≢ []
 has-some o has none = false≢true (sym (bare-truss o none) ∙ has)
 
+-- so it has functions, as they are asked for
+pub shown-truss : (s : Scenario) → IsScenarioInRange s → (k : ℕ) (o : Options)
+    → slice_get (controllers_of s) k ≡ Some (FnTruss (first_truss o)) → (o.functions ≢ []) × AreShowable o
+shown-truss s range k o starts =
+    let planned = was-planned s.controllers k o starts in
+    (has-some o planned.has, plan-named s range k o planned.at)
+
+-- ---- the first state
+
+pub first-held : (s : Scenario) (k : ℕ) → HasNothingOpen k (first_state_of s)
+unfolding first_state
+first-held s k = nothing-held k (first_state_of s) refl
+
 -- ---- who hides
 
 -- each who hides breakpoints at places of their own is such a truss as its laws speak of
 pub hide-trusses : (s : Scenario) → IsScenarioInRange s → (who : Hiders) → HideBreakpoints who (controllers_of s)
-    → AreTrusses who (controllers_of s)
+    → AreTrusses who (controllers_of s) (first_state_of s)
 hide-trusses s range who hide = record {
   no_probes = hide.no_probes;
+  begins = λ k hides_it. first-held s k;
   trusses = λ k hides_it.
       let it = hide.trusses k hides_it in
       let planned = was-planned s.controllers k it.options it.starts in

@@ -2,23 +2,32 @@
 use Rattle.std.specs.Prelude.{◌≡◌, ℕ, true, false, List, None, Some, map, slice_get}
 use Rattle.pr_function_hides.specs.ClearedFaults.{ClearByRunning}
 use Rattle.pr_function_hides.specs.FunctionHiders.{patch_of}
+use Rattle.pr_function_hides.specs.LiftedCopies.{CopiesFindNone, OpensOutOfCopies}
+use Rattle.pr_function_hides.specs.ListedCalls.{FetchesBreakpoints, ListsItsTurns}
 use Rattle.pr_function_hides.specs.OwnSteps.{AreStepsOwn}
-use Rattle.pr_function_hides.specs.TidyCloses.{LeavesNoBreakpoint}
-use Rattle.pr_function_hides.specs.TidyFaults.{AreFaultsTidy}
+use Rattle.pr_function_hides.specs.PassiveOthers.{AreOthersPassive}
+use Rattle.pr_function_hides.specs.TidyCloses.{LeavesNoBreakpoint, LeavesNoFault}
+use Rattle.pr_function_hides.specs.TidyFaults.{AreFaultsTidy, PostsNoOwnFault}
 use Rattle.pr_function_hides.specs.TidyWrites.{AreUndisturbed, WritesTidily}
 use Rattle.pr_function_laws.specs.CalledTurns.{CallsAreTurns}
+use Rattle.pr_function_laws.specs.EventKinds.{AreEventKinds}
+use Rattle.pr_function_laws.specs.EventsRead.{EventsAreRead}
+use Rattle.pr_function_laws.specs.Handled.{HandlesItsGiven}
+use Rattle.pr_function_laws.specs.Leaving.{LeavesItsProcesses}
 use Rattle.pr_function_laws.specs.Lifted.{MeetsBreakpoint, ReadsOnlyLast}
 use Rattle.pr_function_laws.specs.Met.{TellsItsCalls}
 use Rattle.pr_function_laws.specs.OneEvent.{HasOneEventEach}
 use Rattle.pr_function_laws.specs.Opened.{HoldsWhatItOpened, LiftsForOneAlone, ReadsBreakpoint, functions_at}
 use Rattle.pr_function_laws.specs.Ordinary.{IsTrussBeside}
 use Rattle.pr_function_laws.specs.OrdinaryRuns.{ClosesFreelyThroughout, ShowsWhatIsNewOf, ShowsWhatItReadsOf}
+use Rattle.pr_function_laws.specs.Planted.{PlantsWhatItRead}
 use Rattle.pr_function_laws.specs.Runs.{MakesCalls, functions_after, replies_in}
 use Rattle.pr_function_laws.specs.Soon.{IsSoonDone}
 use Rattle.pr_function_laws.specs.ToldTurns.{StepsAreRead, TellsTurnsAlone}
+use Rattle.pr_function_laws.specs.Treated.{TreatsItsEvents}
 use Rattle.pr_hidden.specs.HiddenSteps.{IsHidden}
 use Rattle.pr_hidden.specs.Hiders.{Hiders, hides}
-use Rattle.pr_hidden.specs.Tidiness.{IsPassiveBut, IsSparing, IsTidy}
+use Rattle.pr_hidden.specs.Tidiness.{IsSparing, IsTidy}
 use Rattle.pr_line.specs.declared.options.Options.{Options}
 use Rattle.pr_model.specs.Legal.{state_after}
 use Rattle.pr_model.specs.State.{TracedState}
@@ -27,6 +36,7 @@ use Rattle.pr_run_laws.specs.NamedFunctions.{AreAtOwnPlaces, AreShowable}
 use Rattle.pr_report_laws.specs.OwnFiles.{CallsItsFiles, ClosesControlsLast}
 use Rattle.pr_truss.specs.FunctionCalls.{next_function_call_of}
 use Rattle.pr_truss.specs.Trusses.{first_truss, traced_at}
+use Rattle.pr_truss.specs.declared.marks.Marks.{Marks}
 use Rattle.pr_truss_laws.specs.Exchanges.{Exchange, exchange_of, exchanges}
 use Rattle.pr_truss_laws.specs.Handles.{HasNothingOpen}
 use Rattle.pr_world.specs.ControllerStates.{ControllerState, FnTruss}
@@ -43,41 +53,59 @@ pub record MeetsWhatWasNamed (k : ℕ) (o : Options) (first : TracedState) : Typ
       → ReadsBreakpoint k (functions_at k o before) place id (state_after first before) e between
 
 -- The controller of a number is a truss with these options, which name functions as they are asked for, and follow no
--- children: its calls are those that it makes after the replies that it got, and what it has learnt is a function of
--- them. The calls of functions that it reports are those of which its replies told, each of an lwp that a reply before
--- had told of at the breakpoint of the function. At most twelve of its calls, and two more for each function, come
--- after a poll that named a process before it runs that process or closes a file of it. Until it is interrupted, of
--- each process that it has opened it has its own files, alone, and traces all signals and faults; at most one event of
--- such a process is unread; each breakpoint that it meets is that of a function which it was given, and is lifted for
--- one lwp alone; and the calls that it tells are turns of the machine: each that it tells in its loop is the one turn
--- of its lwp between two of its reads, and while it steps an lwp no other one runs, and the trap of a step is told by
--- the next read, if one comes. And for all the rest it is a truss without calls of functions. Without some messages
--- and waits, with other messages in place of some, and with its reads of faults of its own counted as reads that gave
--- no bytes, its exchanges are like those of such a truss, which does its own business in them: what it calls, opens,
--- tells of refusals and polls, what it does after an interrupt, and that the events in its lines are selected. Which
--- messages these are its calls alone say. What it shows of a process it reads right then; and what it reads in the
--- status of a process, the options select and is neither FLTTRACE nor FLTBPT at an address of its functions it shows,
--- once no stop is left that stood before truss came. It calls no file but those that it has open; of the files of a
--- process it closes the control file last, and leaves the process free then, where PR_RLC is set without PR_KLC; and
--- once it has finished it has nothing open.
+-- children. Each field has its law in pr_function_laws or pr_function_hides, where its definition says more.
 pub record IsFunctionTrussKept (controllers : List ControllerState) (first : TracedState) (h : List Entry) (k : ℕ)
     (o : Options) : Type 0 where
+  -- its calls are those that it makes after the replies that it got, and what it has learnt is a function of them
   pub makes : MakesCalls (first_truss o) (exchanges k h)
   pub truss : slice_get (controllers_at controllers h) k
       ≡ Some (FnTruss (functions_after (first_truss o) (exchanges k h)))
+  -- the calls of functions that it reports are those of which its replies told, each of an lwp that a reply before had
+  -- told of at the breakpoint of the function
   pub calls : TellsItsCalls o (replies_in (exchanges k h))
+  -- after a poll that named a process at most twelve of its calls, and two more for each function, come before it runs
+  -- that process or closes a file of it
   pub soon : IsSoonDone o (exchanges k h)
+  -- its functions are as a scenario names them, and each breakpoint that it meets is that of one of them
   pub names : AreShowable o
   pub meets : MeetsWhatWasNamed k o first
+  -- Until it is interrupted, of each process that it has opened: it has its own files, alone, and traces all signals
+  -- and faults; at most one event is unread, and each that the options select is told by the next read, if the process
+  -- lives then, truss has closed no file of it, and no stop is left that stood before truss came.
   pub opens : HoldsWhatItOpened k o first h
   pub events : HasOneEventEach k o first h
+  pub reads : EventsAreRead k o first h
+  -- A breakpoint is lifted for one lwp alone; the read after that of a breakpoint tells of the one turn that its lwp
+  -- had since; each call that it tells in its loop is such a turn; and the trap of a step is told by the next read, if
+  -- one comes.
   pub lifts : LiftsForOneAlone k o first h
   pub turns : CallsAreTurns k o first h
   pub told : TellsTurnsAlone k o first h
   pub steps : StepsAreRead k o first h
+  -- In a process that it opens it plants just the functions whose code it reads there. What each event is to the
+  -- breakpoints; and what it asks truss to plant and to lift, which comes before it runs the process. Where no lwp was
+  -- at a fork, a vfork or an exec when the wait of the opening was answered, such a call that is granted finds none
+  -- that it has marked as planted.
+  pub plants : PlantsWhatItRead o (exchanges k h)
+  pub kinds : (m : Marks) (id : ℕ) → AreEventKinds o m id
+  pub treats : TreatsItsEvents o (exchanges k h)
+  pub copies : OpensOutOfCopies k first h → CopiesFindNone k o first h
+  -- once it is interrupted it leaves its processes one after another, and lifts all that it has marked as planted
+  pub leaves : LeavesItsProcesses k o h
+  -- Beside its breakpoints it is a truss: without the messages and waits by which it sees to them, with those of its
+  -- own in place of some, which the definition lists, and with its reads of faults of its own counted as reads that
+  -- gave no bytes, its exchanges are like those of a truss, which does its own business in them. In these it opens each
+  -- process that it was given, or tells the refusal of it, in their order.
   pub ordinary : IsTrussBeside o (exchanges k h)
+  pub handled : HandlesItsGiven o (exchanges k h) ordinary
+  -- What it shows of a process it reads right then, and it is no fault of its own. And what it reads in the status of a
+  -- process, the options select and is no fault of its own it shows, once no stop is left that stood before truss came;
+  -- so too at its last look at the process, if it has not looked at the event before.
   pub shows : ShowsWhatItReadsOf k o first h
   pub new : ShowsWhatIsNewOf k o first h
+  -- It calls no file but those that it has open. Of the files of a process it closes the control file last, and nobody
+  -- has the process open for writing then; and where PR_RLC is set without PR_KLC, nothing is traced in it any more,
+  -- and none of its lwps stands. Once it has finished it has nothing open.
   pub files : CallsItsFiles k first h
   pub controls_last : ClosesControlsLast k first h
   pub releases : ClosesFreelyThroughout k first h
@@ -99,23 +127,38 @@ pub record HideBreakpoints (who : Hiders) (controllers : List ControllerState) :
   pub trusses : (k : ℕ) → hides who k ≡ true → HidesAt who controllers k
 
 -- Where those who hide what they do in a history are each a truss that shows calls of functions, on the conditions of
--- AreUndisturbed: each PCWRITE of such a truss is tidy, so that programs have the memory after it that they had before;
--- what each turn changes is tidy, and whom controllers kill; the breakpoints that stand in a process that it traces are
--- those that it has marked; none stands where it closes a file of a process that lives; and it sends no PCCFAULT. Where
--- each call is passive too, but for messages that hiding asks for, FLTTRACE comes only where such a truss has the
--- control file open; and where the faults that it brings about are kept tidily, it is tidy; and if programs leave its
--- breakpoints alone, they see nothing of it: the steps that are not hidden are a run of the machine without
--- controllers, and its trace is that of the history without what is hidden.
+-- AreUndisturbed, none of them interrupted.
 pub record WriteUnseen (controllers : List ControllerState) (first : TracedState) (h : List Entry) : Type 0 where
+  -- Each PCWRITE of such a truss is tidy, so that programs have the memory after it that they had before; what each
+  -- turn changes is tidy, and whom controllers kill; and the breakpoints that stand in a process that it traces are
+  -- those that it has marked. None stands where it closes a file of a process that lives; and it sends no PCCFAULT.
   pub tidily : (who : Hiders) → HideBreakpoints who controllers → AreUndisturbed who controllers first h
       → WritesTidily who controllers first h
   pub leaves_none : (who : Hiders) → HideBreakpoints who controllers → AreUndisturbed who controllers first h
       → LeavesNoBreakpoint who first h
   pub clears : (who : Hiders) → HideBreakpoints who controllers → AreUndisturbed who controllers first h
       → ClearByRunning who h
+  -- If programs leave its breakpoints alone, or what can be fetched where one is planted is its instruction, then the
+  -- calls of functions that it has shown are the turns that are such calls, each once and in their order, and it lacks
+  -- the last one at most.
+  pub lists : (who : Hiders) → HideBreakpoints who controllers → AreUndisturbed who controllers first h
+      → IsSparing who first h → (k pid : ℕ) (o : Options) → hides who k ≡ true
+      → slice_get controllers k ≡ Some (FnTruss (first_truss o)) → ListsItsTurns k o first h pid
+  pub lists_fetched : (who : Hiders) → HideBreakpoints who controllers → AreUndisturbed who controllers first h
+      → (k pid : ℕ) (o : Options) → hides who k ≡ true → slice_get controllers k ≡ Some (FnTruss (first_truss o))
+      → FetchesBreakpoints k o first h → ListsItsTurns k o first h pid
+  -- Where each call of all others is passive, FLTTRACE comes only where such a truss has the control file open; no lwp
+  -- stands at a fault of its own where it closes a file of a process that lives; and no such fault is posted.
   pub own_steps : (who : Hiders) → HideBreakpoints who controllers → AreUndisturbed who controllers first h
-      → IsPassiveBut who h → AreStepsOwn who first h
+      → AreOthersPassive who h → AreStepsOwn who first h
+  pub leaves_no_fault : (who : Hiders) → HideBreakpoints who controllers → AreUndisturbed who controllers first h
+      → AreOthersPassive who h → LeavesNoFault who first h
+  pub posts_none : (who : Hiders) → HideBreakpoints who controllers → AreUndisturbed who controllers first h
+      → AreOthersPassive who h → PostsNoOwnFault who first h
+  -- Where the PCRUN by which it clears a fault or steps an lwp finds no other fault, it is tidy. If programs leave its
+  -- breakpoints alone then, they see nothing of it: the steps that are not hidden are a run of the machine without
+  -- controllers, and its trace is that of the history without what is hidden.
   pub tidy : (who : Hiders) → HideBreakpoints who controllers → AreUndisturbed who controllers first h
-      → IsPassiveBut who h → AreFaultsTidy who first h → IsTidy who first h
+      → AreOthersPassive who h → AreFaultsTidy who first h → IsTidy who first h
   pub hidden : (who : Hiders) → HideBreakpoints who controllers → AreUndisturbed who controllers first h
-      → IsPassiveBut who h → AreFaultsTidy who first h → IsSparing who first h → IsHidden who first h
+      → AreOthersPassive who h → AreFaultsTidy who first h → IsSparing who first h → IsHidden who first h

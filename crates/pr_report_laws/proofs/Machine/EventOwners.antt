@@ -27,7 +27,7 @@ use Rattle.pr_truss_laws.proofs.OwnMemoryLemmas.{turn-owns}
 use Rattle.pr_truss_laws.proofs.StoresLemmas.{is_lending_call, may_have_lent}
 use Rattle.pr_truss_laws.specs.Told.{told}
 use Rattle.pr_report_laws.proofs.Machine.FrameLaws.{no-events}
-use Rattle.pr_report_laws.proofs.Machine.OwnTurnLaws.{state-after}
+use Rattle.pr_report_laws.proofs.Machine.TurnEvents.{state-after}
 use Rattle.pr_report_laws.proofs.Machine.TracedPoints.{listed, told_of, turn-picks}
 use Rattle.pr_report_laws.proofs.FollowedChildren.FollowForks.{fork-text}
 use Rattle.pr_report_laws.specs.Shown.{LwpEvent, if_picked, picked}

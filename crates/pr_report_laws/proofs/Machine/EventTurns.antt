@@ -20,7 +20,8 @@ use Rattle.pr_report_laws.proofs.Invariant.Tallies.{Tally}
 use Rattle.pr_report_laws.proofs.Machine.FrameLaws.{no-events}
 use Rattle.pr_report_laws.proofs.Invariant.HistorySteps.{Holds}
 use Rattle.pr_report_laws.proofs.Machine.OwnTurnLaws as own
-use Rattle.pr_report_laws.proofs.Machine.OwnTurnLaws.{AfterTurn, event-picks, quiet-turn, state-after}
+use Rattle.pr_report_laws.proofs.Machine.OwnTurnLaws.{AfterTurn, event-picks, quiet-turn}
+use Rattle.pr_report_laws.proofs.Machine.TurnEvents.{state-after}
 use Rattle.pr_report_laws.proofs.Invariant.Standing as st
 use Rattle.pr_report_laws.proofs.Invariant.Standing.{Position, Standing}
 use Rattle.pr_report_laws.specs.Shown.{LwpEvent, picked}

@@ -46,10 +46,11 @@ use Rattle.pr_truss_laws.specs.Told.{has_ended, told}
 use Rattle.pr_report_laws.proofs.Machine.ForkRows.{MakesOne, birth-makes, row-makes, told-made}
 use Rattle.pr_report_laws.proofs.Machine.NewBorn.{IsLeftTo, IsNew, IsNewBorn, stands_new}
 use Rattle.pr_report_laws.proofs.Machine.OwnTurnLaws as own
-use Rattle.pr_report_laws.proofs.Machine.OwnTurnLaws.{AfterTurn, quiet-turn, state-after}
+use Rattle.pr_report_laws.proofs.Machine.OwnTurnLaws.{AfterTurn, quiet-turn}
+use Rattle.pr_report_laws.proofs.Machine.TurnEvents.{state-after}
 use Rattle.pr_report_laws.proofs.Machine.StayingLwps.{live-by}
 use Rattle.pr_report_laws.proofs.Machine.StoppedLaws.{count-cons}
-use Rattle.pr_report_laws.proofs.Machine.TracedPoints.{fit-row, picks-traced}
+use Rattle.pr_report_laws.proofs.Machine.TracedPoints.{fit-row, picks-traced, traced-picked}
 use Rattle.pr_report_laws.specs.Reads.{traces}
 use Rattle.pr_report_laws.specs.Births.{child_made}
 use Rattle.pr_reached.specs.Fits.{IsFitSystem}
@@ -284,7 +285,8 @@ module _ (o : Options) (s : TracedState) (pid id : ℕ) (p : TracedProcess) (t :
         at None none =
             absurd (false≢true (sym (ap (meets p.control) none) ∙ ap (λ (v : LwpTurn). v.turned.stop) (sym is) ∙ stops))
         at (Some pt) met =
-            let goes = fit-row o s.system pid id p l by (traces o) (picks-traced o) fit live there in
+            let goes =
+            fit-row s.system pid id p l (traces o) (traced-picked o p by (traces o) (picks-traced o)) fit live there in
             ap has_ended did-is ∙ goes.not_ended pt met
 
     made-it : child_made t.turned.did ≡ Some c

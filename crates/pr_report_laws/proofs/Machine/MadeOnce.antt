@@ -24,7 +24,7 @@ use Rattle.pr_truss_laws.proofs.OverLemmas.{stays-made}
 use Rattle.pr_report_laws.proofs.Files.FileSteps.{entry-lawful}
 use Rattle.pr_report_laws.proofs.Machine.ForkRows.{row-makes}
 use Rattle.pr_report_laws.proofs.Machine.ForkTurns.{child-found}
-use Rattle.pr_report_laws.proofs.Machine.OwnTurnLaws.{state-after}
+use Rattle.pr_report_laws.proofs.Machine.TurnEvents.{state-after}
 use Rattle.pr_report_laws.specs.Births.{child_made}
 use Rattle.pr_report_laws.specs.Newborn.{WasForked, WasSpawned}
 

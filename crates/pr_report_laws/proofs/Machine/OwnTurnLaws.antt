@@ -1,48 +1,43 @@
-use Rattle.std.proofs.Common.{◌≡◌, ◌≢◌, ◌==◌, ◌||◌, ℕ, Bool, true, false, cond, is_some, None, Some, Option, List, [], ◌∷◌, Ok, Err, refl, sym, subst, ap, ◌∙◌, inl, inr}
+use Rattle.std.proofs.Common.{◌≡◌, ◌≢◌, ◌==◌, ◌||◌, ℕ, Bool, true, false, cond, is_some, None, Some, Option, List, [], ◌∷◌, refl, sym, subst, ap, ◌∙◌, inl, inr}
 use Rattle.std.specs.Prelude.{if◌then◌else◌}
 use Rattle.std.proofs.lemmas.Bool.{false≢true, cases_Bool, eqb-true, eqb-false, or_left}
 use Rattle.std.proofs.lemmas.Option.{same_Some}
-use Rattle.std.specs.Option.{option_and_then}
 use Rattle.pr_line.specs.Events.{event_of as event_shown}
 use Rattle.pr_line.specs.declared.events.Event.{Event}
-use Rattle.pr_line.specs.declared.events.Event.TheVariants.{Entered, Left, Received, Incurred}
 use Rattle.pr_line.specs.declared.options.Options.{Options}
 use Rattle.pr_num.proofs.ByIdLaws.{under-change_under, under-change_under_other, under-map_each}
 use Rattle.pr_num.specs.Agents.{agent_id}
 use Rattle.pr_num.specs.ById.{under}
 use Rattle.pr_num.specs.Control.{async_mode, has_flags, klc_mode}
-use Rattle.pr_rec.specs.Fields.{disposition_of as class_of}
 use Rattle.pr_lawful.proofs.EndLemmas.{found-live}
 use Rattle.pr_lawful.proofs.SuitingLemmas.{is_stop}
 use Rattle.pr_model.proofs.TurnLemmas.{TakesTurn, turn-taken}
-use Rattle.pr_model.specs.Events.{Event as MachineEvent, entry, event_of, events_of, exit, fault, gone, lwp_alone, lwp_in_state, signal}
+use Rattle.pr_model.specs.Events.{event_of, events_of, lwp_alone, lwp_in_state}
 use Rattle.pr_model.specs.Lawful.{IsLawfulSystem}
-use Rattle.pr_model.specs.Legal.{after, after_turn}
+use Rattle.pr_model.specs.Legal.{after}
 use Rattle.pr_model.specs.LwpTurns.{LwpTurn, is_held_back, settled, turn_of, with_counted}
 use Rattle.pr_model.specs.Machines.{stopped_as_directed}
 use Rattle.pr_model.specs.Points.{after_meeting, is_traced, meets, stopped_at, with_others_directed, with_stop_at}
 use Rattle.pr_model.specs.Rows.{Row, row_for}
-use Rattle.pr_model.specs.State.{TracedControl, TracedLwp, TracedProcess, TracedState, TracedSystem, has_agent, live_process, lwp_of, process_of, with_lwp}
+use Rattle.pr_model.specs.State.{TracedControl, TracedLwp, TracedProcess, TracedState, TracedSystem, has_agent, live_process, lwp_of, with_lwp}
 use Rattle.pr_model.specs.Statuses.{lwpstatus_of}
 use Rattle.pr_model.specs.Stops.{directed, has_event_stop, with_all_directed}
 use Rattle.pr_model.specs.declared.events.Act.TheVariants.{Turn}
 use Rattle.pr_model.specs.declared.events.Actor.TheVariants.{Lwp}
-use Rattle.pr_model.specs.declared.events.Did.{Did}
 use Rattle.pr_model.specs.declared.events.Did.TheVariants as did
-use Rattle.pr_model.specs.declared.events.Res.TheVariants.{Value, Error, Ended}
 use Rattle.pr_model.specs.declared.events.Turned.{Turned}
 use Rattle.pr_model.specs.declared.stops.Point.{Point}
 use Rattle.pr_model.specs.declared.stops.Stop.{Stop}
-use Rattle.pr_truss_laws.proofs.BridgeLemmas.{mapped-some, turn-tells}
+use Rattle.pr_truss_laws.proofs.BridgeLemmas.{mapped-some}
 use Rattle.pr_truss_laws.proofs.OwnTurnLemmas.{Carries, GoesOn, new, old, quiet-halts, quiet-settings, quiet-stands, quiet-stays, row-carries}
 use Rattle.pr_truss_laws.proofs.StillLemmas.{halting-did, halting-leaves, halting-stays}
 use Rattle.pr_truss_laws.specs.Stills.{HasSameSettings, IsHalting, IsQuiet, stopped_lwp, will_stop, with_lwp_stopped}
-use Rattle.pr_truss_laws.specs.Told.{has_ended, told}
-use Rattle.pr_report_laws.proofs.Machine.StayingLwps.{changed-ids, keeps-meeting, live-by, row-leaves, settled-to, suits-row, turn-no-agent}
-use Rattle.pr_report_laws.proofs.Machine.TracedPoints.{PicksTraced, fit-row, listed, lwp-found, picked-is-traced, told_of, turn-picks}
+use Rattle.pr_report_laws.proofs.Machine.StayingLwps.{changed-ids, suits-row, turn-no-agent}
+use Rattle.pr_report_laws.proofs.Machine.TracedPoints.{PicksTraced, StopsAtPicked, listed, picked-is-traced, told_of, traced-picked, turn-picks}
+use Rattle.pr_report_laws.proofs.Machine.TurnEvents.{event-after, stands-after}
 use Rattle.pr_reached.specs.Fits.{IsFitSystem}
 use Rattle.pr_report_laws.proofs.Invariant.Positions.{HasEvent, IsHeld, IsTracedBy, is_met_if}
-use Rattle.pr_report_laws.specs.Shown.{LwpEvent, if_picked, picked}
+use Rattle.pr_report_laws.specs.Shown.{LwpEvent, picked}
 
 -- What a turn of one of its own lwps makes of a process that truss traces, and what is picked of its events.
 
@@ -59,46 +54,6 @@ traced-on o p q same none t = record {
   spares = ap (λ (c : TracedControl). has_flags c.modes klc_mode) same.control ∙ t.spares;
   no_agent = none;
 }
-
--- ---- what a turn logs is told, where no call ended its lwp
-
-abbrev pub is_told : MachineEvent → Bool
-is_told (entry c args) = true
-is_told (exit c args (Value v)) = true
-is_told (exit c args (Error e)) = true
-is_told (exit c args Ended) = false
-is_told (gone c args) = false
-is_told (signal g d info) = true
-is_told (fault f pc) = true
-
-abbrev pub is_told_if : Option MachineEvent → Bool
-is_told_if None = true
-is_told_if (Some e) = is_told e
-
-logged-told : (p : TracedProcess) (l : TracedLwp) (k : Option TracedLwp) (d : Did) → has_ended d ≡ false
-    → is_told_if (event_of p l k d) ≡ true
-unfolding event_of
-logged-told p l k did.Stopped lives = refl
-logged-told p l k did.Ran lives = refl
-logged-told p l k (did.Entered c) lives = refl
-logged-told p l k (did.Made c (Value v)) lives = refl
-logged-told p l k (did.Made c (Error e)) lives = refl
-logged-told p l k (did.Made c Ended) lives = sym lives
-logged-told p l k (did.Slept c) lives = refl
-logged-told p l k (did.Woke c (Value v)) lives = refl
-logged-told p l k (did.Woke c (Error e)) lives = refl
-logged-told p l k (did.Woke c Ended) lives = sym lives
-logged-told p l k _ lives = refl
-
-told-is : (e : MachineEvent) → is_told e ≡ true → (ev : Event) × (told e ≡ Some ev)
-unfolding told
-told-is (entry c args) is = (Entered c args, refl)
-told-is (exit c args (Value v)) is = (Left c args (Ok v), refl)
-told-is (exit c args (Error e)) is = (Left c args (Err e), refl)
-told-is (exit c args Ended) is = absurd (false≢true is)
-told-is (gone c args) is = absurd (false≢true is)
-told-is (signal g d info) is = (Received g (class_of d) info, refl)
-told-is (fault f pc) is = (Incurred f pc, refl)
 
 -- ---- the other lwps, where one stops
 
@@ -161,14 +116,6 @@ pub data AfterTurn (o : Options) (picks : Event → Bool) (pid id : ℕ) (s : Tr
       → sel ≡ (if picks ev then record { id = id; event = ev } ∷ [] else []) → AfterTurn o picks pid id s sel
   over : live_process s pid ≡ None → sel ≡ [] → AfterTurn o picks pid id s sel
 
--- an event that is told, as it is listed
-told-listed : (picks : Event → Bool) (id : ℕ) (ev : Event)
-    → listed id (if_picked picks ev) ≡ cond (picks ev) (record { id = id; event = ev } ∷ []) []
-told-listed picks id ev =
-    elim (picks ev) as
-    (λ b. listed id (cond b (Some ev) None) ≡ cond b
-    (record { id = id; event = ev } ∷ []) []) [ true ↦ refl | false ↦ refl ]
-
 -- a process and an lwp of it that stand, while its other lwps are on no event
 record Standing (pid id : ℕ) (s : TracedSystem) : Type 0 where
   pub process : TracedProcess
@@ -177,16 +124,13 @@ record Standing (pid id : ℕ) (s : TracedSystem) : Type 0 where
   pub there : lwp_of process id ≡ Some lwp
   pub others : OthersGoOn id process
 
--- the state after the entry of a turn
-pub state-after : (s : TracedState) (pid id : ℕ) (t : LwpTurn) → turn_of s.system pid id ≡ Some t
-    → after s (record { actor = Lwp pid id; act = Turn t.turned }) ≡ record s { system = t.system }
-unfolding after
-state-after s pid id t turn = ap (after_turn s) turn
-
 module _ (o : Options) (s : TracedState) (pid id : ℕ) (p : TracedProcess) (t : LwpTurn) (h : IsLawfulSystem s.system)
     (fit : IsFitSystem s.system) (live : live_process s.system pid ≡ Some p) (traced_by : IsTracedBy o p)
     (still : IsQuiet p) (turn : turn_of s.system pid id ≡ Some t) (picks : Event → Bool)
     (within : PicksTraced o picks) where
+  at_picked : StopsAtPicked p.control picks
+  at_picked = traced-picked o p traced_by picks within
+
   left-traced : (q : TracedProcess) → live_process t.system pid ≡ Some q → IsTracedBy o q
   left-traced q at =
       traced-on o p q (quiet-settings s.system pid p id t h live still traced_by.directs turn q at)
@@ -200,7 +144,7 @@ module _ (o : Options) (s : TracedState) (pid id : ℕ) (p : TracedProcess) (t :
   unmet stop = by (live_process t.system pid) refl
     where
       nothing : picked picks pid (events_of s (record { actor = Lwp pid id; act = Turn t.turned })) ≡ []
-      nothing = picked-is-traced o picks within s pid id p t fit live traced_by turn stop
+      nothing = picked-is-traced picks s pid id p at_picked t fit live turn stop
 
       by : (q : Option TracedProcess) → live_process t.system pid ≡ q
           → AfterTurn o picks pid id t.system (picked picks pid (events_of s (record {
@@ -220,44 +164,29 @@ module _ (o : Options) (s : TracedState) (pid id : ℕ) (p : TracedProcess) (t :
     abbrev row : Row
     row = row_for s.system pid p id l
 
-    row-lives : (row.transition.ending ≡ None) × (has_ended row.did ≡ false)
-    row-lives =
-        let goes = fit-row o s.system pid id p l traced_by picks within fit live there in
-        (goes.ends_nothing pt met, goes.not_ended pt met)
-
-    turn-lives : has_ended t.turned.did ≡ false
-    unfolding settled
-    turn-lives = ap (λ (v : LwpTurn). has_ended v.turned.did) is ∙ row-lives.1
-
-    some-lwp : (q : TracedProcess) → live_process t.system pid ≡ Some q → OthersGoOn id q → (k : Option TracedLwp)
-        → lwp_of q id ≡ k → is_some k ≡ true → Standing pid id t.system
-    some-lwp q at go (Some k) own some = record { process = q; live = at; lwp = k; there = own; others = go }
-    some-lwp q at go None own some = absurd (false≢true some)
-
     standing : Standing pid id t.system
     standing =
         let was = found-live s.system pid p live in
-        let x = row-leaves s.system pid p id l h live there row-lives.0 in
-        let kept = x.1.1 in
+        let st = stands-after s pid id p t h fit live picks at_picked l there is pt met in
         let suits = suits-row s.system pid p id l h live there in
         let none = still.each id l there in
         let not_stop : is_stop row.transition.move ≡ false =
         elim (cases_Bool (is_stop row.transition.move)) [
-          | inl stops ↦ absurd (false≢true (sym none.not_directed
-              ∙ (suits.stop stops).0))
+          | inl stops ↦ absurd
+              (false≢true (sym none.not_directed ∙ (suits.stop stops).0))
           | inr goes ↦ goes
         ] in
         let carried = row-carries pid p id l row s.system h not_stop suits in
-        let from = carried.from x.0 x.1.0 (kept.ended ∙ was.1) in
-        let g : GoesOn p x.0 =
-        subst (λ (y : TracedProcess). GoesOn y x.0) (same_Some from.0 p (sym from.1.0 ∙ was.0)) from.1.1 in
-        let q : TracedProcess = after_meeting row.point id x.0 in
-        let meeting = keeps-meeting id row.point x.0 in
-        let found : process_of t.system pid ≡ Some q =
-        ap (λ (v : LwpTurn). process_of v.system pid) is ∙ settled-to s.system pid p id l h live there x.0 x.1.0 in
-        some-lwp q (live-by t.system pid q found (meeting.ended ∙ kept.ended
-        ∙ was.1)) (meeting-others id row.point x.0 (carried-others id p x.0 g still)) (lwp_of q id) refl
-        (meeting.own (kept.own (ap (λ (k : Option TracedLwp). is_some k) there)))
+        let from = carried.from st.before st.counted st.living in
+        let g : GoesOn p st.before =
+        subst (λ (y : TracedProcess). GoesOn y st.before) (same_Some from.0 p (sym from.1.0 ∙ was.0)) from.1.1 in
+        record {
+          process = after_meeting row.point id st.before;
+          live = st.live;
+          lwp = st.lwp;
+          there = st.there;
+          others = meeting-others id row.point st.before (carried-others id p st.before g still);
+        }
 
     met-event : AfterTurn o picks pid id t.system (picked picks pid (events_of s (record {
       actor = Lwp pid id;
@@ -267,33 +196,23 @@ module _ (o : Options) (s : TracedState) (pid id : ℕ) (p : TracedProcess) (t :
     met-event =
         let st = standing in
         let q : TracedProcess = st.process in
-        let k : TracedLwp = st.lwp in
         let halting = quiet-halts s.system pid p id t h live still traced_by.directs turn q st.live stop in
         let others = st.others in
-        let tells = turn-tells s.system pid p id l h live there t turn stop turn-lives q k st.live st.there in
         let ev =
-        told-is tells.event (ap is_told_if (sym tells.logged) ∙ logged-told p l (Some k) t.turned.did turn-lives) in
-        halts q ev.0 st.live
+        event-after s pid id p t h fit live picks at_picked l there is pt met turn stop q st.lwp st.live st.there in
+        halts q ev.event st.live
         (record {
-          lwp = k;
+          lwp = st.lwp;
           there = st.there;
-          stands = quiet-stands s.system pid p id t h live still traced_by.directs turn q k st.live stop st.there;
-          tells = tells.tells ∙ ev.1;
+          stands = quiet-stands s.system pid p id t h live still traced_by.directs turn q st.lwp st.live stop st.there;
+          tells = ev.tells;
           others =
               λ other m apart at. record {
                 stops = halting.each other m at;
                 met_nothing = ap is_met_if (others other m apart at);
               };
         })
-        (left-traced q st.live)
-        (turn-picks picks s pid id p l live there t.turned
-        ∙ ap (λ (v : TracedState). listed id
-        (told_of picks (event_of p l (lwp_alone (lwp_in_state v pid id)) t.turned.did))) (state-after s pid id t turn)
-        ∙ ap (λ f. listed id (told_of picks (event_of p l (lwp_alone f) t.turned.did)))
-        (lwp-found (record s { system = t.system }) pid id q k st.live st.there)
-        ∙ ap (λ a. listed id (told_of picks a)) tells.logged
-        ∙ ap (λ a. listed id (option_and_then (if_picked picks) a)) ev.1
-        ∙ told-listed picks id ev.0)
+        (left-traced q st.live) ev.lists
 
 -- After a turn of an own lwp a quiet process is quiet, or stands on the event that the turn logged, or has ended.
 pub quiet-turn : (o : Options) (picks : Event → Bool) → PicksTraced o picks → (s : TracedState) (pid id : ℕ)
@@ -426,7 +345,7 @@ module _ (p : TracedProcess) (id : ℕ) (ev : Event) (event : HasEvent p id ev) 
       held other l apart there = let it = event.others other l apart there in it.stops
 
   -- the lwp on the event has no turn
-  event-waits : (s : TracedSystem) (pid : ℕ) (t : LwpTurn) → live_process s pid ≡ Some p → turn_of s pid id ≡ Some t → ⊥
+  pub event-waits : (s : TracedSystem) (pid : ℕ) (t : LwpTurn) → live_process s pid ≡ Some p → turn_of s pid id ≡ Some t → ⊥
   unfolding is_held_back
   event-waits s pid t live turn =
       let it = turn-taken s pid id t turn in
@@ -436,7 +355,7 @@ module _ (p : TracedProcess) (id : ℕ) (ev : Event) (event : HasEvent p id ev) 
       false≢true (sym it.free ∙ or_left (has_event_stop it.lwp) _ (event-stands it.lwp there))
 
   -- another lwp stops as it was directed to
-  stopped-event : (other : ℕ) → other ≢ id → HasEvent (with_lwp_stopped other p) id ev
+  pub stopped-event : (other : ℕ) → other ≢ id → HasEvent (with_lwp_stopped other p) id ev
   unfolding with_lwp with_counted
   stopped-event other differs = record {
     lwp = event.lwp;

@@ -370,9 +370,9 @@ module _ (p : TracedProcess) (rises : IsRising p.lwps) (no_agent : has_agent p �
     event-waits stopped = record { frozen = stopped-frozen stopped; count = one-met }
 
     -- the representative is that lwp
-    pub event-first : is_stopped p ≡ true → representative p ≡ Some (id, has.lwp)
-    event-first stopped =
-        let f = waits-first 0 (event-waits stopped) in
+    pub frozen-first : IsFrozen p → representative p ≡ Some (id, has.lwp)
+    frozen-first frozen =
+        let f = waits-first 0 (record { frozen = frozen; count = one-met }) in
         let there = (leads f.lwp f.is).stands in
         f.is ∙ ap (λ (e : ℕ × TracedLwp). Some e) (same f.lwp there f.met)
       where
@@ -386,3 +386,6 @@ module _ (p : TracedProcess) (rises : IsRising p.lwps) (no_agent : has_agent p �
               | inr other ↦ absurd (false≢true (sym (has.others e.0 e.1 (eqb-false e.0 id other) there).met_nothing
                   ∙ met))
             ]
+
+    pub event-first : is_stopped p ≡ true → representative p ≡ Some (id, has.lwp)
+    event-first stopped = frozen-first (stopped-frozen stopped)

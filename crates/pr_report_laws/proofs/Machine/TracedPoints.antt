@@ -39,7 +39,7 @@ use Rattle.pr_model.specs.Points.{is_traced, meets}
 use Rattle.pr_model.specs.Registers.{arguments, pc_of}
 use Rattle.pr_model.specs.Rows.{Row, entered_row, executed_row, finished, handler_row, incurred_row, instruction_row, interrupted_row, own_taken_row, performed_row, point_row, posted_row, quiet_row, ran_row, requested_row, returned_row, row_for, shared_taken_row, watched_row}
 use Rattle.pr_model.specs.Signals.{own_takeable, shared_takeable}
-use Rattle.pr_model.specs.State.{TracedLwp, TracedProcess, TracedState, TracedSystem, live_process, lwp_of}
+use Rattle.pr_model.specs.State.{TracedControl, TracedLwp, TracedProcess, TracedState, TracedSystem, live_process, lwp_of}
 use Rattle.pr_model.specs.Transitions.{entered, incurred, interrupted, own_taken, performed, ran, returned, shared_taken, trapped}
 use Rattle.pr_model.specs.declared.events.Act.TheVariants.{Turn}
 use Rattle.pr_model.specs.declared.events.Actor.TheVariants.{Lwp}
@@ -132,48 +132,65 @@ pub record PicksTraced (o : Options) (picks : Event → Bool) : Type 0 where
 pub picks-traced : (o : Options) → PicksTraced o (traces o)
 picks-traced o = record { untraced = λ e off. off }
 
-module _ (o : Options) (p : TracedProcess) (traced_by : IsTracedBy o p) (picks : Event → Bool)
-    (within : PicksTraced o picks) where
-  unpicked : (e : Event) → traces o e ≡ false → if_picked picks e ≡ None
-  unpicked e off = ap (λ b. cond b (Some e) None) (within.untraced e off)
+-- Only events are picked at which a process with these settings stops: an entry or an exit of a call, a fault, or a
+-- signal other than SIGKILL.
+pub record StopsAtPicked (c : TracedControl) (picks : Event → Bool) : Type 0 where
+  pub entry : (call : Sysno) (args : List ℕ) → is_traced c (point.Entry call) ≡ false
+      → picks (Entered call args) ≡ false
+  pub exit : (call : Sysno) (args : List ℕ) (r : Result ℕ Errno) → is_traced c (point.Exit call) ≡ false
+      → picks (Left call args r) ≡ false
+  pub signal : (g : Sig) (d : Disposition) (info : Info) → (signal_number g == signal_number Kill) ≡ false
+      → is_traced c (point.Signal g) ≡ false → picks (Received g d info) ≡ false
+  pub fault : (f : Flt) (pc : ℕ) → is_traced c (point.Fault f) ≡ false → picks (Incurred f pc) ≡ false
 
-  entry-unpicked : (c : Sysno) (args : List ℕ) → is_traced p.control (point.Entry c) ≡ false
-      → if_picked picks (Entered c args) ≡ None
-  unfolding is_traced traces
-  entry-unpicked c args off =
-      unpicked (Entered c args) (ap (λ w. has_number w (syscall_number c)) (sym traced_by.entries) ∙ off)
+pub fault_number-range : (f : Flt) → (1 ≤ fault_number f) × (fault_number f ≤ 8)
+fault_number-range f = (fault_numbers-range (fault_number f)).0 (ap is_some (fault_of_number-number f))
 
-  exit-unpicked : (c : Sysno) (args : List ℕ) (r : Result ℕ Errno) → is_traced p.control (point.Exit c) ≡ false
-      → if_picked picks (Left c args r) ≡ None
-  unfolding is_traced traces
-  exit-unpicked c args r off =
-      unpicked (Left c args r) (ap (λ w. has_number w (syscall_number c)) (sym traced_by.exits) ∙ off)
-
-  signal-unpicked : (g : Sig) (d : Disposition) (info : Info) → (signal_number g == signal_number Kill) ≡ false
-      → is_traced p.control (point.Signal g) ≡ false → if_picked picks (Received g d info) ≡ None
-  unfolding is_traced traces
-  signal-unpicked g d info not_kill off =
+-- what truss has set lets a process stop at all that truss traces
+pub traced-picked : (o : Options) (p : TracedProcess) → IsTracedBy o p → (picks : Event → Bool) → PicksTraced o picks
+    → StopsAtPicked p.control picks
+unfolding is_traced traces
+traced-picked o p traced_by picks within = record {
+  entry = λ c args off.
+      within.untraced (Entered c args) (ap (λ w. has_number w (syscall_number c)) (sym traced_by.entries) ∙ off);
+  exit = λ c args r off.
+      within.untraced (Left c args r) (ap (λ w. has_number w (syscall_number c)) (sym traced_by.exits) ∙ off);
+  signal = λ g d info not_kill off.
       let range = signal_number-range g in
       let kill = signal_number-range Kill in
       let has =
       sym (has_number-without (traced_signals o) (signal_number Kill) (signal_number g) (omega arith) (omega arith)
       (omega arith) (omega arith))
       ∙ ap (λ w. has_number w (signal_number g)) (sym traced_by.signals) ∙ off in
-      unpicked (Received g d info)
+      within.untraced (Received g d info)
       (without-not (has_number (traced_signals o) (signal_number g)) (signal_number g == signal_number Kill) not_kill
-      has)
+      has);
+  fault = λ f pc off.
+      let range = fault_number-range f in
+      within.untraced (Incurred f pc)
+      (sym (wrapped-has (traced_faults o) (fault_number f) (omega arith) (omega arith))
+      ∙ ap (λ w. has_number w (fault_number f)) (sym traced_by.faults) ∙ off);
+}
 
-  fault_number-range : (f : Flt) → (1 ≤ fault_number f) × (fault_number f ≤ 8)
-  fault_number-range f = (fault_numbers-range (fault_number f)).0 (ap is_some (fault_of_number-number f))
+module _ (p : TracedProcess) (picks : Event → Bool) (stops : StopsAtPicked p.control picks) where
+  unpicked : (e : Event) → picks e ≡ false → if_picked picks e ≡ None
+  unpicked e off = ap (λ b. cond b (Some e) None) off
+
+  entry-unpicked : (c : Sysno) (args : List ℕ) → is_traced p.control (point.Entry c) ≡ false
+      → if_picked picks (Entered c args) ≡ None
+  entry-unpicked c args off = unpicked (Entered c args) (stops.entry c args off)
+
+  exit-unpicked : (c : Sysno) (args : List ℕ) (r : Result ℕ Errno) → is_traced p.control (point.Exit c) ≡ false
+      → if_picked picks (Left c args r) ≡ None
+  exit-unpicked c args r off = unpicked (Left c args r) (stops.exit c args r off)
+
+  signal-unpicked : (g : Sig) (d : Disposition) (info : Info) → (signal_number g == signal_number Kill) ≡ false
+      → is_traced p.control (point.Signal g) ≡ false → if_picked picks (Received g d info) ≡ None
+  signal-unpicked g d info not_kill off = unpicked (Received g d info) (stops.signal g d info not_kill off)
 
   fault-unpicked : (f : Flt) (pc : ℕ) → is_traced p.control (point.Fault f) ≡ false
       → if_picked picks (Incurred f pc) ≡ None
-  unfolding is_traced traces
-  fault-unpicked f pc off =
-      let range = fault_number-range f in
-      unpicked (Incurred f pc)
-      (sym (wrapped-has (traced_faults o) (fault_number f) (omega arith) (omega arith))
-      ∙ ap (λ w. has_number w (fault_number f)) (sym traced_by.faults) ∙ off)
+  fault-unpicked f pc off = unpicked (Incurred f pc) (stops.fault f pc off)
 
   -- ---- the row of a turn
 
@@ -343,28 +360,27 @@ pub fit-lwp : (p : TracedProcess) (id : ℕ) (l : TracedLwp) → IsFitProcess p 
 fit-lwp p id l fit there = All-under (λ (e : ℕ × TracedLwp). IsFitLwp e.1) id l p.lwps fit.lwps there
 
 -- the row of the turn of such an lwp, in a process that truss traces
-pub fit-row : (o : Options) (s : TracedSystem) (pid id : ℕ) (p : TracedProcess) (l : TracedLwp)
-    (traced_by : IsTracedBy o p) (picks : Event → Bool) (within : PicksTraced o picks) → IsFitSystem s
-    → live_process s pid ≡ Some p → lwp_of p id ≡ Some l
-    → GoesWithPoint o p traced_by picks within l (row_for s pid p id l)
-fit-row o s pid id p l traced_by picks within fit live there =
+pub fit-row : (s : TracedSystem) (pid id : ℕ) (p : TracedProcess) (l : TracedLwp) (picks : Event → Bool)
+    (stops : StopsAtPicked p.control picks) → IsFitSystem s → live_process s pid ≡ Some p → lwp_of p id ≡ Some l
+    → GoesWithPoint p picks stops l (row_for s pid p id l)
+fit-row s pid id p l picks stops fit live there =
     let own = fit-process s pid p fit live in
     let lwp = fit-lwp p id l own there in
-    row-goes o p traced_by picks within l lwp.pending own.pending s pid id
+    row-goes p picks stops l lwp.pending own.pending s pid id
 
 -- A turn in which its lwp did not stop on what it met logs nothing that is picked.
-pub picked-is-traced : (o : Options) (picks : Event → Bool) → PicksTraced o picks → (s : TracedState) (pid id : ℕ)
-    (p : TracedProcess) (t : LwpTurn) → IsFitSystem s.system → live_process s.system pid ≡ Some p → IsTracedBy o p
+pub picked-is-traced : (picks : Event → Bool) (s : TracedState) (pid id : ℕ) (p : TracedProcess)
+    (stops : StopsAtPicked p.control picks) (t : LwpTurn) → IsFitSystem s.system → live_process s.system pid ≡ Some p
     → turn_of s.system pid id ≡ Some t → t.turned.stop ≡ false
     → picked picks pid (events_of s (record { actor = Lwp pid id; act = Turn t.turned })) ≡ []
 unfolding settled
-picked-is-traced o picks within s pid id p t fit live traced_by turn stop =
+picked-is-traced picks s pid id p stops t fit live turn stop =
     let it = turn-taken s.system pid id t turn in
     let same : it.process ≡ p = same_Some it.process p (sym it.live ∙ live) in
     let there : lwp_of p id ≡ Some it.lwp = subst (λ (y : TracedProcess). lwp_of y id ≡ Some it.lwp) same it.there in
     let is : t ≡ settled s.system pid p id it.lwp (row_for s.system pid p id it.lwp) =
     it.is ∙ ap (λ (y : TracedProcess). settled s.system pid y id it.lwp (row_for s.system pid y id it.lwp)) same in
-    let goes = fit-row o s.system pid id p it.lwp traced_by picks within fit live there in
+    let goes = fit-row s.system pid id p it.lwp picks stops fit live there in
     let new : Option TracedLwp =
     lwp_alone (lwp_in_state (after s (record { actor = Lwp pid id; act = Turn t.turned })) pid id) in
     turn-picks picks s pid id p it.lwp live there t.turned

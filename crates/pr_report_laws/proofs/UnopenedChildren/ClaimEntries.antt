@@ -42,7 +42,8 @@ use Rattle.pr_report_laws.proofs.Machine.FrameLaws.{alone-control}
 use Rattle.pr_report_laws.proofs.Machine.NewBorn.{IsBegun, IsLeftTo, IsNeverGranted, IsNew, IsNewBorn, Stands, is_begun, is_never, left-later, never-later, new-alone, stands_new, untouched-on}
 use Rattle.pr_report_laws.proofs.Invariant.OtherSteps.{lives-later}
 use Rattle.pr_truss_laws.proofs.OverLemmas.{stays-made, stays-over}
-use Rattle.pr_report_laws.proofs.Machine.OwnTurnLaws.{event-halts, state-after}
+use Rattle.pr_report_laws.proofs.Machine.OwnTurnLaws.{event-halts}
+use Rattle.pr_report_laws.proofs.Machine.TurnEvents.{state-after}
 use Rattle.pr_report_laws.proofs.Invariant.Standing as st
 use Rattle.pr_report_laws.proofs.Invariant.Standing.{Position}
 use Rattle.pr_report_laws.proofs.Machine.TurnSettings.{turn-settings}

@@ -1,0 +1,43 @@
+use Rattle.std.proofs.Common.{ℕ, List}
+use Rattle.pr_function_hides.proofs.PassiveHiders.{passive-but}
+use Rattle.pr_function_hides.proofs.PostedWalk.{never-posted}
+use Rattle.pr_function_hides.proofs.TidyKept.{IsRunOfTrusses}
+use Rattle.pr_function_hides.specs.FunctionHiders.{AreTrusses}
+use Rattle.pr_function_hides.specs.PassiveOthers.{AreOthersPassive}
+use Rattle.pr_function_hides.specs.TidyFaults.{PostsNoOwnFault}
+use Rattle.pr_function_hides.specs.TidyWrites.{AreUndisturbed}
+use Rattle.pr_hidden.specs.Hiders.{Hiders}
+use Rattle.pr_model.specs.Legal.{IsLegal}
+use Rattle.pr_model.specs.State.{TracedState}
+use Rattle.pr_model.specs.declared.events.Entry.{Entry}
+use Rattle.pr_probe_laws.specs.StepMarks.{IsUnstepped}
+use Rattle.pr_reached.specs.ByteHistories.{HasBytes}
+use Rattle.pr_reached.specs.Reached.{IsReached}
+use Rattle.pr_tool_laws.specs.OwnCalls.{AreOwnCalls}
+use Rattle.pr_world.specs.ControllerStates.{ControllerState}
+
+-- Such trusses post no fault of their own.
+
+module _ (n : ℕ) (who : Hiders) (controllers : List ControllerState) (first : TracedState) (h : List Entry)
+    (reached : IsReached first) (bytes : HasBytes h) (legal : IsLegal n first h)
+    (own_calls : AreOwnCalls controllers h) (are : AreTrusses who controllers first)
+    (und : AreUndisturbed who controllers first h) (others : AreOthersPassive who h)
+    (unstepped : IsUnstepped first.system) where
+  run : IsRunOfTrusses n who controllers first h
+  run = record {
+    reached = reached;
+    bytes = bytes;
+    legal = legal;
+    own_calls = own_calls;
+    are = are;
+    und = und;
+  }
+
+  pub posts-none : PostsNoOwnFault who first h
+  posts-none = record {
+    none = λ front back pid id turned p l f address place live there own phase.
+        never-posted run (passive-but run others) unstepped front back pid id turned p l f address place live there
+        own phase;
+  }
+
+pub ruleset posts = (posts-none)

@@ -1,0 +1,155 @@
+use Rattle.std.proofs.Common.{◌≡◌, ◌<◌, ◌^◌, ℕ, true, cond, IfOk, Option, Some, None, Result, Ok, Err, List, All, length, refl, sym, subst, ap, ◌∙◌, arith, inl, inr}
+use Rattle.std.proofs.lemmas.Bool.{cases_eq, false≢true}
+use Rattle.std.proofs.lemmas.Option.{same_Some}
+use Rattle.std.specs.List.{slice_get}
+use Rattle.pr_function_hides.proofs.CountedWalk.{AsideIn}
+use Rattle.pr_function_hides.proofs.FunctionSets.{first-has}
+use Rattle.pr_function_hides.proofs.OwnFiles.{HoldsItsFiles, IsBeside}
+use Rattle.pr_function_hides.proofs.OwnTidy.{Quiet, stage-kind}
+use Rattle.pr_function_hides.proofs.OwnWrites.{breakpoint-size, code-is, named-at, write-is, write-read}
+use Rattle.pr_function_hides.proofs.StillMessages.{BeginStill, cfault-still, is_still, read-still}
+use Rattle.pr_function_hides.specs.FunctionHiders.{ArePatchable, IsPatchable}
+use Rattle.pr_function_laws.proofs.MarkLemmas.{first-below}
+use Rattle.pr_function_laws.proofs.SoundLemmas.{AsideIsBelow}
+use Rattle.pr_line.specs.declared.functions.Function.{Function}
+use Rattle.pr_line.specs.declared.options.Options.{Options}
+use Rattle.pr_model.specs.Handles.{handle_of}
+use Rattle.pr_model.specs.State.{TracedState}
+use Rattle.pr_model.specs.declared.calls.Call.{Call}
+use Rattle.pr_model.specs.declared.calls.Call.TheVariants as call
+use Rattle.pr_model.specs.declared.calls.File.TheVariants as file
+use Rattle.pr_model.specs.declared.calls.Mode.TheVariants.{WriteExcl}
+use Rattle.pr_model.specs.declared.handles.Held.{Held}
+use Rattle.pr_num.proofs.SearchLemmas.{All-at}
+use Rattle.pr_num.specs.Messages.{first_message, spelling}
+use Rattle.pr_num.specs.Words.{IsByte}
+use Rattle.pr_num.specs.declared.instructions.Instruction.TheVariants.{Bpt}
+use Rattle.pr_num.specs.declared.messages.Message.{Message}
+use Rattle.pr_num.specs.declared.messages.Message.TheVariants as message
+use Rattle.pr_num.specs.declared.messages.MsgFault.{MsgFault}
+use Rattle.pr_reached.proofs.MemoryRanges.{instruction-bytes}
+use Rattle.pr_truss.specs.FunctionCalls.{call_beside, lift_call, next_function_call_of, patch_call, plant_call}
+use Rattle.pr_truss.specs.Marks.{breakpoint, code_of, first_function, has_functions}
+use Rattle.pr_truss.specs.NextCalls.{next_call_of}
+use Rattle.pr_truss.specs.Trusses.{TrussState, traced_at}
+use Rattle.pr_truss.specs.declared.asides.Aside.{Aside}
+use Rattle.pr_truss.specs.declared.asides.Aside.TheVariants.{Nothing, Reading, Planting, Patching}
+
+-- Truss writes to no function but those that it is to plant or to lift: what is so of each of these is so of the one to
+-- which a call writes.
+
+-- the address of PCWRITE
+abbrev address-of : Message → ℕ
+address-of (message.Write at size) = at
+address-of m = 0
+
+abbrev address-in : Result (Message × ℕ) MsgFault → ℕ
+address-in (Ok first) = address-of first.0
+address-in (Err fault) = 0
+
+module _ (k : ℕ) (s : TracedState) (c : Call) (t : TrussState) (fit : ArePatchable t.options)
+    (holds : HoldsItsFiles k t s) (below : AsideIsBelow (length t.options.functions) t.aside)
+    (next : next_function_call_of t ≡ Some c) (has : has_functions t.options ≡ true) (P : ℕ → ℕ → Type 0)
+    (known : AsideIn P t.traced t.aside) (m : ℕ) (inside : m < length t.traced) (i : ℕ) (f : Function)
+    (named : slice_get t.options.functions i ≡ Some f) (code : List ℕ) (size : length code ≡ 16)
+    (are : All IsByte code)
+    (is : c ≡ call.Ctl (traced_at t m).control (spelling (message.Write f.at 16) code)) where
+  abbrev o : Options
+  o = t.options
+
+  abbrev Goal : Type 0
+  Goal = P (traced_at t m).pid i
+
+  patchable : (j : ℕ) (g : Function) → slice_get o.functions j ≡ Some g → IsPatchable g
+  patchable j g its = All-at IsPatchable o.functions j g its fit.each
+
+  low : (g : Function) → IsPatchable g → g.at < 2 ^ 64
+  low g p = let w = p.within in omega (arith, w)
+
+  read : first_message (spelling (message.Write f.at 16) code)
+      ≡ Ok (message.Write f.at 16, length (spelling (message.Write f.at 16) code))
+  read = write-read f.at code (low f (patchable i f named)) size are
+
+  ctl-same : {a b : ℕ} {xs ys : List ℕ} → call.Ctl a xs ≡ call.Ctl b ys → (a ≡ b) × (xs ≡ ys)
+  ctl-same same = (cc, cc)
+
+  -- the function of another write that is the same call
+  found : (q : ℕ) → q < length t.traced → (j : ℕ) (g : Function) → slice_get o.functions j ≡ Some g → (bs : List ℕ)
+      → length bs ≡ 16 → All IsByte bs
+      → c ≡ call.Ctl (traced_at t q).control (spelling (message.Write g.at 16) bs) → P (traced_at t q).pid j → Goal
+  found q within j g its bs long bytes same it =
+      let both = ctl-same (sym same ∙ is) in
+      subst (λ n. P (traced_at t n).pid i) (place-is both.0) (subst (P (traced_at t q).pid) (function-is both.1) it)
+    where
+      held-of : ℕ → Held
+      held-of n = record { controller = k; pid = (traced_at t n).pid; lwp = 0; file = file.Ctl; mode = WriteExcl }
+
+      place-is : (traced_at t q).control ≡ (traced_at t m).control → q ≡ m
+      place-is controls = elim (cases_eq q m) [
+        | inl is_it ↦ is_it
+        | inr apart ↦
+            absurd (holds.apart q m within inside apart
+            (ap (λ (x : Held). x.pid)
+            (same_Some (held-of q) (held-of m)
+            (sym (holds.control q within) ∙ ap (handle_of s.opens k) controls ∙ holds.control m inside))))
+      ]
+
+      function-is : spelling (message.Write g.at 16) bs ≡ spelling (message.Write f.at 16) code → j ≡ i
+      function-is spelt = elim (cases_eq j i) [
+        | inl is_it ↦ is_it
+        | inr apart ↦
+            absurd (fit.apart j i g f apart its named
+            (ap address-in
+            (sym (write-read g.at bs (low g (patchable j g its)) long bytes) ∙ ap first_message spelt ∙ read)))
+      ]
+
+  still-not : (handle : ℕ) (bytes : List ℕ) → c ≡ call.Ctl handle bytes → BeginStill bytes → Goal
+  still-not handle bytes same still =
+      absurd (false≢true
+      (subst (λ (x : Result (Message × ℕ) MsgFault). IfOk x (λ first. is_still first.0 ≡ true)) read
+      (subst BeginStill (ctl-same (sym same ∙ is)).1 still)))
+
+  quiet-not : Quiet k s c t fit holds below → Goal
+  quiet-not (inl (q, (within, (bytes, (same, still))))) = still-not (traced_at t q).control bytes same still
+  quiet-not (inr never) = absurd (never (traced_at t m).control _ is)
+
+  plant-found : (q j : ℕ) → q < length t.traced → j < length o.functions
+      → Some (plant_call o (traced_at t q).control j) ≡ Some c → P (traced_at t q).pid j → Goal
+  plant-found q j within small same it =
+      let g = named-at o j small in
+      found q within j g.0 g.1 breakpoint breakpoint-size (instruction-bytes Bpt)
+      (write-is o c (traced_at t q).control j g.0 breakpoint breakpoint g.1 refl same) it
+
+  lift-found : (q j : ℕ) → q < length t.traced → j < length o.functions
+      → Some (lift_call o (traced_at t q).control j) ≡ Some c → P (traced_at t q).pid j → Goal
+  lift-found q j within small same it =
+      let g = named-at o j small in
+      let x : Function = g.0 in
+      let p : IsPatchable x = patchable j x g.1 in
+      found q within j x g.1 x.code p.size p.bytes
+      (write-is o c (traced_at t q).control j x x.code (code_of o j) g.1 (code-is o j x g.1) same) it
+
+  aside-found : (aside : Aside) → IsBeside (length t.traced) aside → AsideIsBelow (length o.functions) aside
+      → call_beside t t.stage aside ≡ Some c → AsideIn P t.traced aside → Goal
+  unfolding call_beside
+  aside-found Nothing within small same it =
+      quiet-not (stage-kind k s c t fit holds below t.stage holds.stage same)
+  aside-found (Reading q j) within small same it = still-not _ _ (sym (same_Some _ c same)) (read-still _ _)
+  aside-found (Planting q j) within small same it = plant-found q j within small same it
+  aside-found (Patching q plants lifts clear) within small same it =
+      by (first_function plants) (first_function lifts) refl refl same
+    where
+      by : (plant lift : Option ℕ) → first_function plants ≡ plant → first_function lifts ≡ lift
+          → Some (patch_call o (traced_at t q).control plant lift) ≡ Some c → Goal
+      by (Some j) lift first second its =
+          plant-found q j within (first-below _ plants j small.0 first) its (it.0 j (first-has plants j first))
+      by None (Some j) first second its =
+          lift-found q j within (first-below _ lifts j small.1 second) its (it.1 j (first-has lifts j second))
+      by None None first second its = still-not _ _ (sym (same_Some _ c its)) cfault-still
+  aside-found _ within small same it = absurd within
+
+  pub written-known : Goal
+  unfolding next_function_call_of
+  written-known =
+      aside-found t.aside holds.beside below
+      (sym (ap (λ b. cond b (call_beside t t.stage t.aside) (next_call_of t)) has) ∙ next) known
