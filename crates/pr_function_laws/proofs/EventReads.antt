@@ -274,7 +274,8 @@ module _ (n k : ℕ) (o : Options) (s : TracedState) (h : List Entry) (run : IsF
         let owns = holds.each front (e ∷ (between ++ again ∷ later)) place is whole.calm whole.within whole.opened in
         let all = owns.traces p live in
         let stops = all.stops in
-        let at = later-reached n s front reached (bytes-front front (e ∷ (between ++ again ∷ later)) (subst HasBytes is bytes))
+        let at = later-reached n s front reached
+        (bytes-front front (e ∷ (between ++ again ∷ later)) (subst HasBytes is bytes))
         (legal-front n s front (e ∷ (between ++ again ∷ later)) (subst (IsLegal n s) is run.legal)) in
         turn-leaves now was.pid own p turn g.lawful.system at.fit live taken stops.directs (is_selected o)
         (all-picked o p.control all) event

@@ -111,7 +111,8 @@ module _ (s : TracedState) (pid own : ℕ) (p : TracedProcess) (t : LwpTurn) (h 
     (directs : has_flags p.control.modes async_mode ≡ false) (picks : Event → Bool)
     (stops : StopsAtPicked p.control picks) (event : LwpEvent)
     (came : picked picks pid (events_of s (record { actor = Lwp pid own; act = Turn t.turned })) ≡ event ∷ []) where
-  none-came : {A : Type 0} → picked picks pid (events_of s (record { actor = Lwp pid own; act = Turn t.turned })) ≡ [] → A
+  none-came : {A : Type 0}
+      → picked picks pid (events_of s (record { actor = Lwp pid own; act = Turn t.turned })) ≡ [] → A
   none-came none = let both : [] ≡ event ∷ [] = sym none ∙ came in absurd (cc)
 
   module _ (none : HasMetNothing p) where

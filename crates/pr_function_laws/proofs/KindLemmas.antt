@@ -47,7 +47,8 @@ module _ (o : Options) (m : Marks) (id : ℕ) where
   Enters call = (arguments : List ℕ) → function_event o m id (Entered call arguments) ≡ BeforeCopy
 
   abbrev Fails : Sysno → Type 0
-  Fails call = (arguments : List ℕ) (errno : Errno) → function_event o m id (Left call arguments (Err errno)) ≡ AfterCopy
+  Fails call = (arguments : List ℕ) (errno : Errno)
+      → function_event o m id (Left call arguments (Err errno)) ≡ AfterCopy
 
   abbrev Replaces : Sysno → Type 0
   Replaces call = (arguments : List ℕ) (value : ℕ) → function_event o m id (Left call arguments (Ok value)) ≡ Replaced

@@ -53,7 +53,8 @@ module _ (n k : ℕ) (o : Options) (s : TracedState) (h : List Entry) (run : IsF
         ∙ stays-over n (state_after s front) e pid g.lawful legal made none in
         known-fed t x.reply (calm-answer x quiet) w
         (λ pid at idle accepted.
-        control-fresh ⊥ n k (state_after s front) g.lawful x.call it.answer it.is over t g.kept (λ none. absurd none) pid
+        control-fresh ⊥ n k (state_after s front) g.lawful x.call it.answer it.is over t g.kept
+        (λ none. absurd none) pid
         at idle has next (ap answer_of it.replied ∙ accepted)) has
 
     entry-known : ((x : Exchange) → exchange_of k e ≡ Some x → WasNotInterrupted x) → Known (front ++ e ∷ [])
@@ -83,4 +84,5 @@ module _ (n k : ℕ) (o : Options) (s : TracedState) (h : List Entry) (run : IsF
       → Known front
   known-at front later is calm =
       walk front [] later is calm
-      (subst (λ xs. Kept Knows (functions_after (first_truss o) xs)) (sym (no-exchanges k)) (known-first o run.follows_none))
+      (subst (λ xs. Kept Knows (functions_after (first_truss o) xs))
+      (sym (no-exchanges k)) (known-first o run.follows_none))

@@ -1,5 +1,6 @@
 pub mod AwayLemmas
 pub mod BegunSteps
+pub mod BreakpointCallLemmas
 pub mod BreakpointLemmas
 pub mod CallLemmas
 pub mod CalledLaws

@@ -169,7 +169,10 @@ module _ (Reached : Type 0) (k : ℕ) (o : Options) (s : TracedState) where
   pub so-lasting : IsLasting (IsSo Reached k o s)
   so-lasting = record {
     may_close = so-closes;
-    reads = λ u h g. record { holds = g.holds; stands = λ r. let w = g.stands r in record { prepared = tt; stood = w.stood } };
+    reads = λ u h g. record {
+      holds = g.holds;
+      stands = λ r. let w = g.stands r in record { prepared = tt; stood = w.stood };
+    };
     may_run = λ u h g. record {
       holds = h.holds;
       stands = λ r.

@@ -124,7 +124,8 @@ module _ (n k : ℕ) (s : TracedState) (lawful : IsLawful s) (e : Entry) (legal 
       (let f = foreign in f.other) live)
       over-now q later
 
-pub turn-later : (s : TracedState) (acting own : ℕ) (turned : Turned) (t : LwpTurn) → turn_of s.system acting own ≡ Some t
+pub turn-later : (s : TracedState) (acting own : ℕ) (turned : Turned) (t : LwpTurn)
+    → turn_of s.system acting own ≡ Some t
     → (after s (record { actor = Lwp acting own; act = act.Turn turned })).system ≡ t.system
 unfolding after
 turn-later s acting own turned t is = ap (λ (o : Option LwpTurn). (after_turn s o).system) is

@@ -309,7 +309,8 @@ module _ (o : Options) (has : has_functions o ≡ true) (off : o.follow ≡ fals
         subst (λ u. Reaches k u (after s e)) (sym now)
         (like-reach y next (like-quiet like (answered-calm k s x (exchange-answered n k s e x legal own))))
 
-  pub entry-follows : (x : Option Exchange) → exchange_of k e ≡ x → MakesOwn t x → Follows k o (with_own t x) (after s e)
+  pub entry-follows : (x : Option Exchange) → exchange_of k e ≡ x → MakesOwn t x
+      → Follows k o (with_own t x) (after s e)
   entry-follows None none next = record { reaches = others-reach none; fit = f.fit }
   entry-follows (Some x) own next =
       let calm = entry-calm n k s e x legal own in

@@ -85,7 +85,8 @@ position-unmarked : (ts : List Traced) (handle : ℕ)
     → position (has_control handle) (map unmarked ts) ≡ position (has_control handle) ts
 position-unmarked ts handle =
     ap (λ n. cond (ltb n (length (map unmarked ts))) (Some n) None) (place-unmarked ts handle)
-    ∙ ap (λ n. cond (ltb (position_or_len (has_control handle) ts) n) (Some (position_or_len (has_control handle) ts)) None)
+    ∙ ap (λ n. cond (ltb (position_or_len (has_control handle) ts) n)
+    (Some (position_or_len (has_control handle) ts)) None)
     (length-map ts unmarked)
 
 last-unmarked : (t : Traced) → without_last (unmarked t) ≡ option_map unmarked (without_last t)
@@ -237,7 +238,8 @@ closed s place next =
     (sym (ap without_last (at-ordinary s place) ∙ last-unmarked (traced_at s place)))
   where
     by : (t : Option Traced)
-        → ordinary (closed_or_removed s place next t) ≡ closed_or_removed (ordinary s) place next (option_map unmarked t)
+        → ordinary (closed_or_removed s place next t)
+        ≡ closed_or_removed (ordinary s) place next (option_map unmarked t)
     by None = after (without_traced s place) next ∙ ap (λ u. after_closing u next) (dropped s place)
     by (Some t) = set s place t
 
@@ -307,7 +309,8 @@ refused_start : (s : TrussState) (program : List ℕ) (errno : Errno)
     → ordinary (with_refused_start s program errno) ≡ with_refused_start (ordinary s) program errno
 unfolding with_refused_start
 refused_start s program errno =
-    going_on (with_report s (CannotStart program errno)) ∙ ap with_going_on (reported s (CannotStart program errno) refl)
+    going_on (with_report s (CannotStart program errno))
+    ∙ ap with_going_on (reported s (CannotStart program errno) refl)
 
 start : (s : TrussState) (program : List ℕ) (r : Reply) (a : Answer)
     → ordinary (with_start_answered s program r a) ≡ with_start_answered (ordinary s) program r a
@@ -330,7 +333,8 @@ refused_control : (s : TrussState) (pid : ℕ) (errno : Errno)
     → ordinary (with_refused_control s pid errno) ≡ with_refused_control (ordinary s) pid errno
 unfolding with_refused_control
 refused_control s pid errno =
-    next_opening (with_report s (CannotTrace pid errno)) ∙ ap with_next_opening (reported s (CannotTrace pid errno) refl)
+    next_opening (with_report s (CannotTrace pid errno))
+    ∙ ap with_next_opening (reported s (CannotTrace pid errno) refl)
 
 control : (s : TrussState) (pid : ℕ) (r : Reply) (a : Answer)
     → ordinary (with_control_answered s pid r a) ≡ with_control_answered (ordinary s) pid r a

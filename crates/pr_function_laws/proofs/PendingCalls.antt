@@ -154,12 +154,14 @@ module _ (n k : ℕ) (s : TracedState) (lawful : IsLawful s) (c : Call) (a : Ans
               (here.has p live)
 
   -- a file of another process is closed
-  closed : (q : ℕ) → q < length ts → (at_place ts q).pid ≢ was.pid → c ≡ call.Close (last_handle (at_place ts q)) → Later
+  closed : (q : ℕ) → q < length ts → (at_place ts q).pid ≢ was.pid
+      → c ≡ call.Close (last_handle (at_place ts q)) → Later
   closed q within other is =
       let w = kept in
       let low = lowest ⊥ k o s ts t.stage w.stage q within in
       let last = last-own n k o s lawful c a answer over (at_place ts q) low.holds in
-      apart (at_place ts q).pid (last_handle (at_place ts q)) last.its_file last.its_mode other (ap acts_by is) last.there
+      apart (at_place ts q).pid (last_handle (at_place ts q)) last.its_file last.its_mode other
+      (ap acts_by is) last.there
 
   -- ---- the call of a stage
 

@@ -133,8 +133,10 @@ module _ (pid : ℕ) (was : Traced) where
     stage-after idle (ReadingText q l from len) is all = all
     stage-after idle (Running q) is all =
         (all.0, (all.1.0, ((λ same. absurd (all.1.1 same)), λ lives same. absurd (all.1.1 same))))
-    stage-after idle (Closing q OpenNext) is all =
-        (all.0, (all.1.0, left (without_last (at_place t.traced q)) (at_place t.traced q) refl (shut q OpenNext is idle)))
+    stage-after idle (Closing q OpenNext) is all = (
+      all.0,
+      (all.1.0, left (without_last (at_place t.traced q)) (at_place t.traced q) refl (shut q OpenNext is idle)),
+    )
     stage-after idle (Closing q GoOn) is all =
         (all.0, (all.1.0, left (without_last (at_place t.traced q)) (at_place t.traced q) refl (shut q GoOn is idle)))
     stage-after idle Finished is all = all

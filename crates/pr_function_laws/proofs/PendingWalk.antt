@@ -214,7 +214,8 @@ module _ (n k : ℕ) (o : Options) (s : TracedState) (h : List Entry) (run : IsF
         → IsLegalEntry n now (record { actor = actor; act = it }) → IsForeign k now e → Has (after now e).system
     unfolding IsLegalEntry after
     foreign-stands (Controller j) (act.Call c r) same legal_here f =
-        elsewhere f (λ own is. let it : Controller j ≡ Lwp was.pid own = ap (λ (x : Entry). x.actor) (sym same) ∙ is in cc)
+        elsewhere f
+        (λ own is. let it : Controller j ≡ Lwp was.pid own = ap (λ (x : Entry). x.actor) (sym same) ∙ is in cc)
     foreign-stands (Lwp acting own) (act.Turn turned) same legal_here f = elim (cases_eq acting was.pid) [
       | inl one ↦ turn-stands own (record { system = legal_here.0; turned = turned }) (after now e).system
           (subst (λ i. turn_of now.system i own ≡ Some (record { system = legal_here.0; turned = turned })) one
@@ -272,7 +273,8 @@ module _ (n k : ℕ) (o : Options) (s : TracedState) (h : List Entry) (run : IsF
           ap (function_call_of t) (sym is) ∙ ap (call_beside t t.stage) (sym idle)
           ∙ sym (ap (λ b. cond b (call_beside t t.stage t.aside) (next_call_of t)) has) ∙ next
 
-      closes-so : (q : ℕ) (after_it : AfterClosing) → t.stage ≡ Closing q after_it → function_call_of t (Closing q after_it) ≡ Some x.call
+      closes-so : (q : ℕ) (after_it : AfterClosing) → t.stage ≡ Closing q after_it
+          → function_call_of t (Closing q after_it) ≡ Some x.call
           → call.Close (last_handle (at_place t.traced q)) ≡ x.call
       unfolding function_call_of call_of
       closes-so q after_it is sent = same_Some _ x.call sent
@@ -311,10 +313,10 @@ module _ (n k : ℕ) (o : Options) (s : TracedState) (h : List Entry) (run : IsF
           → (number ≢ was.pid) × Each (λ (u : Traced). u.pid ≢ number) t.traced
       fresh number is idle accepted =
           let granted = ap answer_of it.replied ∙ accepted in (
-            opens-other n k now lawful x.call it.answer it.is over-answer t kept was w.pends id event pending shut number
+            opens-other n k now lawful x.call it.answer it.is over-answer t kept was w.pends id event pending shut
+                number is idle has next granted,
+            control-fresh ⊥ n k now lawful x.call it.answer it.is over-answer t kept (λ none. absurd none) number
                 is idle has next granted,
-            control-fresh ⊥ n k now lawful x.call it.answer it.is over-answer t kept (λ none. absurd none) number is idle
-                has next granted,
           )
 
       own-next : Stands (front ++ e ∷ [])

@@ -189,7 +189,8 @@ patch-beside k plants lifts clear =
 abbrev pub any_step : Stepped → Type 0
 any_step step = Unit {0}
 
-pub any-sound : (o : Options) (s : TrussState) (r : Reply) → IsSound o any_step s → IsSound o any_step (fed_functions s r)
+pub any-sound : (o : Options) (s : TrussState) (r : Reply) → IsSound o any_step s
+    → IsSound o any_step (fed_functions s r)
 any-sound o s r w = function-sound o any_step s r w (λ place l told e function fresh at. tt)
 
 module _ (o : Options) (has : has_functions o ≡ true) (p : Traced) (k : ℕ) where

@@ -33,8 +33,8 @@ no-event s true job = refl
 no-event s false None = refl
 no-event s false (Some g) = refl
 
-pub told-stands : (p : TracedProcess) (id : ℕ) (l : TracedLwp) (event : Event) → event_of (lwpstatus_of p id l) ≡ Some event
-    → StandsOnEvent l
+pub told-stands : (p : TracedProcess) (id : ℕ) (l : TracedLwp) (event : Event)
+    → event_of (lwpstatus_of p id l) ≡ Some event → StandsOnEvent l
 unfolding event_of lwpstatus_of shown reason_shown
 told-stands p id l event is = by l.control.stop refl is
   where

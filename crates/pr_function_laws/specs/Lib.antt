@@ -1,3 +1,4 @@
+pub mod BreakpointCalls
 pub mod CalledTurns
 pub mod Calls
 pub mod EventKinds

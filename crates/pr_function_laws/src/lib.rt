@@ -9,6 +9,7 @@ mod kinds;
 mod leaving;
 mod lifted;
 mod lines;
+mod messages;
 mod met;
 mod opened;
 mod ordinary;
@@ -28,6 +29,7 @@ pub use kinds::what_each_event_is_to_breakpoints;
 pub use leaving::an_interrupted_truss_lifts_clears_and_closes;
 pub use lifted::a_breakpoint_is_lifted_for_one_lwp_alone;
 pub use lines::{each_reply_tells_at_most_one_call, the_calls_reported_are_those_told};
+pub use messages::what_truss_reads_plants_and_lifts;
 pub use met::{each_call_told_was_met_at_its_breakpoint, the_calls_reported_were_met};
 pub use opened::{each_breakpoint_is_lifted_for_one_lwp_alone, what_truss_opened_it_traces_alone};
 pub use ordinary::{

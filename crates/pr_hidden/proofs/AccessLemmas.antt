@@ -19,7 +19,8 @@ use Rattle.pr_hidden.proofs.ByteLemmas.{length-over, over, over_bytes, over_mapp
 -- What is read of a space with patches: where an access spares them, what stands there.
 
 module _ (f : ℕ → ℕ → ℕ) where
-  slice-over : (a i : ℕ) (bs : List ℕ) → i < length bs → slice_index (over_bytes f a bs) i ≡ f (a + i) (slice_index bs i)
+  slice-over : (a i : ℕ) (bs : List ℕ) → i < length bs
+      → slice_index (over_bytes f a bs) i ≡ f (a + i) (slice_index bs i)
   unfolding over_bytes
   slice-over a i [] less = absurd (omega arith)
   slice-over a zero (b ∷ bs) less = let same : a + 0 ≡ a = omega arith in rw same refl

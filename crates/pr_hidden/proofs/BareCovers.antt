@@ -76,7 +76,8 @@ process-bare c p =
 pub process-by-bare : (c : Cover) (p q : TracedProcess) → uncontrolled_process q ≡ uncontrolled_process p
     → erased_process (uncovered_process c q) ≡ erased_process (uncovered_process c p)
 process-by-bare c p q same =
-    sym (process-bare c q) ∙ ap (λ (u : UncontrolledProcess). erased_process (uncovered_process c (bare_process u))) same
+    sym (process-bare c q)
+    ∙ ap (λ (u : UncontrolledProcess). erased_process (uncovered_process c (bare_process u))) same
     ∙ process-bare c p
 
 seen-bare : (covers : Covers) (s : TracedSystem) → seen covers (bare_system (uncontrolled_system s)) ≡ seen covers s

@@ -22,7 +22,8 @@ unfoldable pub over : (ℕ → ℕ → ℕ) → Space → Space
 over f [] = []
 over f (m ∷ ms) = over_mapping f m ∷ over f ms
 
-bytes-same : (f g : ℕ → ℕ → ℕ) → ((a b : ℕ) → f a b ≡ g a b) → (a : ℕ) (bs : List ℕ) → over_bytes f a bs ≡ over_bytes g a bs
+bytes-same : (f g : ℕ → ℕ → ℕ) → ((a b : ℕ) → f a b ≡ g a b) → (a : ℕ) (bs : List ℕ)
+    → over_bytes f a bs ≡ over_bytes g a bs
 unfolding over_bytes
 bytes-same f g agree a [] = refl
 bytes-same f g agree a (b ∷ bs) = rw (agree a b, bytes-same f g agree (a + 1) bs) refl
@@ -32,7 +33,8 @@ unfolding over over_mapping
 over-same f g agree [] = refl
 over-same f g agree (m ∷ ms) = rw (bytes-same f g agree m.at m.bytes, over-same f g agree ms) refl
 
-bytes-over : (f g : ℕ → ℕ → ℕ) (a : ℕ) (bs : List ℕ) → over_bytes f a (over_bytes g a bs) ≡ over_bytes (λ x b. f x (g x b)) a bs
+bytes-over : (f g : ℕ → ℕ → ℕ) (a : ℕ) (bs : List ℕ)
+    → over_bytes f a (over_bytes g a bs) ≡ over_bytes (λ x b. f x (g x b)) a bs
 unfolding over_bytes
 bytes-over f g a [] = refl
 bytes-over f g a (b ∷ bs) = rw (bytes-over f g (a + 1) bs) refl
@@ -59,7 +61,8 @@ length-over f a (b ∷ bs) = ap suc (length-over f (a + 1) bs)
 
 -- ---- writes
 
-bytes-written : (at : ℕ) (xs : List ℕ) (a : ℕ) (bs : List ℕ) → written_bytes at xs a bs ≡ over_bytes (written_byte at xs) a bs
+bytes-written : (at : ℕ) (xs : List ℕ) (a : ℕ) (bs : List ℕ)
+    → written_bytes at xs a bs ≡ over_bytes (written_byte at xs) a bs
 unfolding over_bytes
 bytes-written at xs a [] = refl
 bytes-written at xs a (b ∷ bs) = rw (bytes-written at xs (a + 1) bs) refl
@@ -93,7 +96,8 @@ true-false e = absurd (no e)
 outside-patch : (p : Patch) (a b : ℕ) → has_byte a p ≡ false → written_byte p.at p.bytes a b ≡ b
 outside-patch p a b out = rw out refl
 
-inside-patch : (p : Patch) (a b c : ℕ) → has_byte a p ≡ true → written_byte p.at p.bytes a b ≡ written_byte p.at p.bytes a c
+inside-patch : (p : Patch) (a b c : ℕ) → has_byte a p ≡ true
+    → written_byte p.at p.bytes a b ≡ written_byte p.at p.bytes a c
 inside-patch p a b c has = rw has refl
 
 not_false : (b : Bool) → not b ≡ true → b ≡ false
@@ -104,7 +108,8 @@ unfolding patched_byte
 spared-byte [] a b spared = refl
 spared-byte (p ∷ ps) a b spared =
     let parts = and_parts (not (has_byte a p)) (is_spared ps a) spared in
-    ap (written_byte p.at p.bytes a) (spared-byte ps a b parts.1) ∙ outside-patch p a b (not_false (has_byte a p) parts.0)
+    ap (written_byte p.at p.bytes a) (spared-byte ps a b parts.1)
+    ∙ outside-patch p a b (not_false (has_byte a p) parts.0)
 
 -- where a patch has the byte, it does not matter which stands there
 pub covered-byte : (ps : List Patch) (a b c : ℕ) → is_spared ps a ≡ false → patched_byte ps a b ≡ patched_byte ps a c
@@ -123,7 +128,8 @@ abbrev pub Spares : List Patch → ℕ → ℕ → Type 0
 Spares ps at n = (a : ℕ) → at ≤ a → a < at + n → is_spared ps a ≡ true
 
 -- an access spares its bytes up to the last address
-spared-below : (ps : List Patch) (n at i : ℕ) → are_spared ps at n ≡ true → i < n → at + i < 2 ^ 64 → is_spared ps (at + i) ≡ true
+spared-below : (ps : List Patch) (n at i : ℕ) → are_spared ps at n ≡ true → i < n → at + i < 2 ^ 64
+    → is_spared ps (at + i) ≡ true
 spared-below ps zero at i spared less below = absurd (omega arith)
 spared-below ps (suc n) at zero spared less below =
     let same : at + 0 ≡ at = omega arith in
@@ -131,7 +137,8 @@ spared-below ps (suc n) at zero spared less below =
 spared-below ps (suc n) at (suc i) spared less below =
     let rest = (and_parts (is_spared ps at) (are_spared ps ((at + 1) % 2 ^ 64) n) spared).1 in
     let next : (at + 1) % 2 ^ 64 ≡ at + 1 = unwrapped (at + 1) (omega arith) in
-    let it : is_spared ps (at + 1 + i) ≡ true = spared-below ps n (at + 1) i (rw next at rest) (omega arith) (omega arith) in
+    let it : is_spared ps (at + 1 + i) ≡ true =
+    spared-below ps n (at + 1) i (rw next at rest) (omega arith) (omega arith) in
     let same : at + 1 + i ≡ at + suc i = omega arith in
     rw same at it
 

@@ -52,7 +52,8 @@ unfolding uncovered_process
 children-seen covers pid [] = refl
 children-seen covers pid (e ∷ es) = rw (children-seen covers pid es) refl
 
-children-uncovered : (covers : Covers) (s : TracedSystem) (pid : ℕ) → children_of (uncovered covers s) pid ≡ children_of s pid
+children-uncovered : (covers : Covers) (s : TracedSystem) (pid : ℕ)
+    → children_of (uncovered covers s) pid ≡ children_of s pid
 unfolding uncovered children_of
 children-uncovered covers s pid = children-seen covers pid s.processes
 
@@ -236,7 +237,8 @@ exec-uncovered covers s c p id at spared = path (eqb id agent_id) refl (path_at 
         )
         (fits program (total_has_room s (mapped_size (first_space program)) (given_up s p id)))
 
-    path : (b : Bool) → eqb id agent_id ≡ b → (r : Result (List ℕ) Errno) → path_at p.space at ≡ r → exec_effect (uncovered covers s) (uncovered_process c p) id at
+    path : (b : Bool) → eqb id agent_id ≡ b → (r : Result (List ℕ) Errno) → path_at p.space at ≡ r
+        → exec_effect (uncovered covers s) (uncovered_process c p) id at
         ≡ patched_effect c.patches (exec_effect s p id at)
     path true agent r is = rw agent refl
     path false other (Err e) is = rw (other, same_path ∙ is, is) refl
@@ -336,12 +338,16 @@ munmap-uncovered : (covers : Covers) (s : TracedSystem) (c : Cover) (p : TracedP
     ≡ patched_effect c.patches (munmap_effect s p at len)
 unfolding munmap_effect uncovered_process
 munmap-uncovered covers s c p at len =
-    rw (mapped_range-patched c.patches at (rounded len) p.space, without_range-patched c.patches at (rounded len) p.space)
+    rw (
+      mapped_range-patched c.patches at (rounded len) p.space,
+      without_range-patched c.patches at (rounded len) p.space,
+    )
     (by (list_any (is_mapped_range at (rounded len)) p.space))
   where
     by : (b : Bool)
         → cond b (gives 0 (space_is (patched c.patches (without_range at (rounded len) p.space)) ∷ [])) (fails Inval)
-        ≡ patched_effect c.patches (cond b (gives 0 (space_is (without_range at (rounded len) p.space) ∷ [])) (fails Inval))
+        ≡ patched_effect c.patches
+        (cond b (gives 0 (space_is (without_range at (rounded len) p.space) ∷ [])) (fails Inval))
     by true = refl
     by false = refl
 
@@ -354,7 +360,8 @@ mprotect-uncovered covers s c p at len prot =
     (by (has_range at (rounded len) p.space && leb prot prot_limit))
   where
     by : (b : Bool)
-        → cond b (gives 0 (space_is (patched c.patches (with_protected at (rounded len) prot p.space)) ∷ [])) (fails Inval)
+        → cond b (gives 0 (space_is (patched c.patches (with_protected at (rounded len) prot p.space)) ∷ []))
+        (fails Inval)
         ≡ patched_effect c.patches
         (cond b (gives 0 (space_is (with_protected at (rounded len) prot p.space) ∷ [])) (fails Inval))
     by true = refl
@@ -373,15 +380,16 @@ module _ (covers : Covers) (s : TracedSystem) (pid : ℕ) (p : TracedProcess) (i
       → Follows since call args
   unfolding call_effect spares_call uncovered uncovered_process uncovered_lwp dup_effect lseek_effect
   call-uncovered since sys.Exit args spared = sym (exit-left c.patches (slice_index args 0)).same
-  call-uncovered since sys.Fork args spared = fork-uncovered covers s c p id args ∙ sym (fork-left c.patches s p id args).same
+  call-uncovered since sys.Fork args spared =
+      fork-uncovered covers s c p id args ∙ sym (fork-left c.patches s p id args).same
   call-uncovered since sys.Vfork args spared =
       vfork-uncovered covers s c p id args none ∙ sym (vfork-left c.patches s p id args).same
   call-uncovered since sys.Read args spared =
       read-patched c.patches within s.files p.fds p.space (slice_index args 0) (slice_index args 1) (slice_index args 2)
       spared
   call-uncovered since sys.Write args spared =
-      write-patched c.patches within s.files p.fds p.space (slice_index args 0) (slice_index args 1) (slice_index args 2)
-      spared
+      write-patched c.patches within s.files p.fds p.space
+      (slice_index args 0) (slice_index args 1) (slice_index args 2) spared
   call-uncovered since sys.Open args spared =
       open-patched c.patches within s.files p.fds p.space (slice_index args 0) (slice_index args 1) spared
   call-uncovered since sys.Close args spared = close-patched c.patches within s.files p.fds p.space (slice_index args 0)
@@ -393,7 +401,8 @@ module _ (covers : Covers) (s : TracedSystem) (pid : ℕ) (p : TracedProcess) (i
   call-uncovered since sys.Exec args spared = exec-uncovered covers s c p id (slice_index args 0) spared
   call-uncovered since sys.Pipe args spared =
       pipe-patched c.patches within s.files p.fds p.space (slice_index args 0) spared
-  call-uncovered since sys.Dup args spared = sym (file-patched c.patches (duplicated s.files p.fds (slice_index args 0)))
+  call-uncovered since sys.Dup args spared =
+      sym (file-patched c.patches (duplicated s.files p.fds (slice_index args 0)))
   call-uncovered since sys.Lseek args spared =
       sym (file-patched c.patches (sought s.files p.fds (slice_index args 0) (slice_index args 1)))
   call-uncovered since sys.Kill args spared =

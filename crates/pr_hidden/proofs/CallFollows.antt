@@ -82,7 +82,8 @@ target-live : (s : TracedSystem) (h : Held) (p : TracedProcess) → target_of s 
 unfolding target_of
 target-live s h p target = by (live_process s h.pid) refl target
   where
-    by : (o : Option TracedProcess) → live_process s h.pid ≡ o → still_there h o ≡ Some p → live_process s h.pid ≡ Some p
+    by : (o : Option TracedProcess) → live_process s h.pid ≡ o → still_there h o ≡ Some p
+        → live_process s h.pid ≡ Some p
     by None live is = absurd (none is)
       where
         none : (let o : Option TracedProcess = None in o) ≡ Some p → ⊥
@@ -141,7 +142,8 @@ module _ (who : Hiders) (covers : Covers) (s : TracedState) (k : ℕ) (lawful : 
     refused e = stays
 
     module _ (h : Held) (held : handle_of s.opens k handle ≡ Some h) where
-      module _ (p : TracedProcess) (target : target_of s.system h ≡ Some p) (live : live_process s.system h.pid ≡ Some p)
+      module _ (p : TracedProcess) (target : target_of s.system h ≡ Some p)
+          (live : live_process s.system h.pid ≡ Some p)
           (m : Message) (len : ℕ) (read : first_message bytes ≡ Ok (m, len)) where
         abbrev tail : List ℕ
         tail = tail_of m bytes
@@ -202,7 +204,8 @@ module _ (who : Hiders) (covers : Covers) (s : TracedState) (k : ℕ) (lawful : 
 
     by-held : (o : Option Held) → handle_of s.opens k handle ≡ o
         → (is_passive_write (first_message bytes) || is_hider_write who k (first_message bytes)) ≡ true → IfTaken
-        → answer ≡ held_answer s.system (control_handle o) bytes → Answers (held_answer s.system (control_handle o) bytes)
+        → answer ≡ held_answer s.system (control_handle o) bytes
+        → Answers (held_answer s.system (control_handle o) bytes)
     by-held None held allowed tidy is = refused Badf
     by-held (Some h) held allowed tidy is =
         by-control h held (is_control h.file) refl allowed tidy is
@@ -216,7 +219,8 @@ module _ (who : Hiders) (covers : Covers) (s : TracedState) (k : ℕ) (lawful : 
     unfolding covers_called
     ctl-follows (reply.Fail e) is allowed tidy =
         let same = refused-system s.system answer e (control-leaves s.system s.opens k handle bytes) is in
-        subst (λ (r : Reply). CallFollows covers (covers_called who covers s k ctl r) s.system answer.system []) (sym is)
+        subst (λ (r : Reply). CallFollows covers (covers_called who covers s k ctl r) s.system answer.system [])
+        (sym is)
         (subst (λ (t : TracedSystem). CallFollows covers covers s.system t []) (sym same) stays)
     ctl-follows _ is allowed tidy =
         subst Answers (sym answer-held) (by-held (handle_of s.opens k handle) refl allowed tidy answer-held)
@@ -256,7 +260,8 @@ module _ (who : Hiders) (covers : Covers) (s : TracedState) (k : ℕ) (lawful : 
             (looks-same s.system pid p released found (released-hidden p)) ∙ ap erased_system same)
             (tame-found new pid released p s.system found (released-tame new pid p)
             (beneath-tame covers new s.system s.system same tame));
-        in_order = order-later new s.system (with_process pid released s.system) ordered (process-grows s.system pid released);
+        in_order =
+            order-later new s.system (with_process pid released s.system) ordered (process-grows s.system pid released);
       }
 
   -- a hider that closes "ctl" has finished
@@ -290,7 +295,8 @@ module _ (who : Hiders) (covers : Covers) (s : TracedState) (k : ℕ) (lawful : 
           by true same = ap finished (ap covers (sym (eqb-true n pid same)) ∙ order.fresh n later)
           by false other = order.fresh n later
 
-  close-follows : (handle : ℕ) → ((h : Held) → handle_of s.opens k handle ≡ Some h → IsTidyClose who k covers s.system (Some h))
+  close-follows : (handle : ℕ)
+      → ((h : Held) → handle_of s.opens k handle ≡ Some h → IsTidyClose who k covers s.system (Some h))
       → Goes (call.Close handle) (close_held s handle (handle_of s.opens k handle))
   unfolding covers_called
   close-follows handle tidy = by (handle_of s.opens k handle) refl
@@ -303,8 +309,10 @@ module _ (who : Hiders) (covers : Covers) (s : TracedState) (k : ℕ) (lawful : 
           let e = close-edit s handle h in
           let all = hides who k && is_ctl h.file in
           subst (λ o. CallFollows covers (covers_closed who k o covers) s.system t []) (sym is)
-          (choice (λ (n : Covers). CallFollows covers n s.system t []) all (with_cover h.pid (finished (covers h.pid)) covers) covers
-          (λ it. closed-follows (with_cover h.pid (finished (covers h.pid)) covers) h.pid t (finished-same h (tidy h is it))
+          (choice (λ (n : Covers). CallFollows covers n s.system t []) all
+          (with_cover h.pid (finished (covers h.pid)) covers) covers
+          (λ it. closed-follows (with_cover h.pid (finished (covers h.pid)) covers) h.pid t
+          (finished-same h (tidy h is it))
           (finished-order h.pid) e)
           (λ other. closed-follows covers h.pid t refl order e))
 
@@ -321,11 +329,14 @@ module _ (who : Hiders) (covers : Covers) (s : TracedState) (k : ℕ) (lawful : 
       ∙ new-same program held
     where
       new-same : (program : Program) (held : Bool)
-          → with_made (uncovered_process no_cover (new_process traced program s.system.clock held)) (uncovered covers s.system)
+          → with_made (uncovered_process no_cover (new_process traced program s.system.clock held))
+          (uncovered covers s.system)
           ≡ with_made (new_process traced program (uncovered covers s.system).clock held) (uncovered covers s.system)
-      new-same program held = ap (λ q. with_made q (uncovered covers s.system)) (new-process-same program s.system.clock held)
+      new-same program held =
+          ap (λ q. with_made q (uncovered covers s.system)) (new-process-same program s.system.clock held)
 
-  refusal-same : (program : Program) → spawn_refusal (uncovered covers s.system) program ≡ spawn_refusal s.system program
+  refusal-same : (program : Program)
+      → spawn_refusal (uncovered covers s.system) program ≡ spawn_refusal s.system program
   unfolding spawn_refusal uncovered
   refusal-same program =
       ap (λ b. cond (leb process_limit s.system.made) (Some Again) (cond b None (Some Nomem)))
@@ -395,7 +406,8 @@ module _ (who : Hiders) (covers : Covers) (s : TracedState) (k : ℕ) (lawful : 
       record {
         follows = record {
           run =
-              subst (λ (v : TracedSystem). UntracedRun (seen covers s.system) (step.Kill pid number ∷ []) (erased_system v))
+              subst (λ (v : TracedSystem). UntracedRun
+              (seen covers s.system) (step.Kill pid number ∷ []) (erased_system v))
               (sym same) done.run;
           tame = untouched-tame covers t (subst IsUntouched (sym same) done.untouched);
         };
@@ -448,7 +460,8 @@ module _ (who : Hiders) (covers : Covers) (s : TracedState) (k : ℕ) (lawful : 
       subst (λ (x : Answer). CallFollows covers (covers_called who covers s k (call.Ctl handle bytes) x.reply) s.system
       x.state.system []) same
       (ctl-follows handle bytes (answer handle bytes).reply refl
-      (ap (λ (x : Answer). is_passive_call (call.Ctl handle bytes) x.reply || is_hider_write who k (first_message bytes)) same
+      (ap (λ (x : Answer). is_passive_call (call.Ctl handle bytes) x.reply
+      || is_hider_write who k (first_message bytes)) same
       ∙ allowed)
       (λ used taken. subst (λ r. IsTidyCall who covers s k (call.Ctl handle bytes) r)
       (sym (ap (λ (x : Answer). x.reply) same) ∙ taken) tidy))

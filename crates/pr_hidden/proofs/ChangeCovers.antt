@@ -54,7 +54,8 @@ module _ (covers : Covers) (pid : ℕ) (p : TracedProcess) (id : ℕ) (l : Trace
 
   own_lwp : (s : TracedSystem) (other : ℕ) (f : TracedLwp → TracedLwp)
       → ((own : Bool) (x : TracedLwp) → uncovered_lwp own (f x) ≡ f (uncovered_lwp own x))
-      → uncovered covers (with_process pid (with_lwp other f) s) ≡ with_process pid (with_lwp other f) (uncovered covers s)
+      → uncovered covers (with_process pid (with_lwp other f) s)
+      ≡ with_process pid (with_lwp other f) (uncovered covers s)
   own_lwp s other f agree =
       with_process-uncovered covers s pid (with_lwp other f) (with_lwp other f)
       (λ x. with_lwp-uncovered (covers pid) x other f f (agree ((covers pid).faulted other)))
@@ -78,7 +79,8 @@ module _ (covers : Covers) (pid : ℕ) (p : TracedProcess) (id : ℕ) (l : Trace
   changed-uncovered (files_are files fds) s allows =
       with_process-uncovered covers (record s { files = files }) pid (with_fds fds) (with_fds fds) (λ x. refl)
   changed-uncovered (space_is space) s allows =
-      with_process-uncovered covers s pid (with_space space) (with_space (patched (covers pid).patches space)) (λ x. refl)
+      with_process-uncovered covers s pid (with_space space)
+      (with_space (patched (covers pid).patches space)) (λ x. refl)
   changed-uncovered (signals target g info) s allows =
       unless (is_kill g && eqb target pid) s _ _ (generated-uncovered covers target None g info s allows)
   changed-uncovered (signals_itself g info) s allows = itself g info s

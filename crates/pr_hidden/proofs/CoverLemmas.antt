@@ -50,7 +50,8 @@ cond-twice true x y z = refl
 cond-twice false x y z = refl
 
 -- the last one counts
-pub cover-twice : (pid : ℕ) (c d : Cover) (covers : Covers) → with_cover pid c (with_cover pid d covers) ≡ with_cover pid c covers
+pub cover-twice : (pid : ℕ) (c d : Cover) (covers : Covers)
+    → with_cover pid c (with_cover pid d covers) ≡ with_cover pid c covers
 cover-twice pid c d covers = fun_ext (λ n. cond-twice (eqb n pid) c d (covers n))
 
 pub fault-twice : (id : ℕ) (at was : Bool) (c : Cover) → with_fault id at (with_fault id was c) ≡ with_fault id at c
@@ -132,7 +133,8 @@ covers-alike covers s pid c rising same =
     agree n other x = ap (λ (d : Cover). uncovered_process d x) (cover-other pid c covers n other)
 
     by : (o : Option TracedProcess) → under pid s.processes ≡ o
-        → seen_under all_kept (process_beneath new) s.processes ≡ seen_under all_kept (process_beneath covers) s.processes
+        → seen_under all_kept (process_beneath new) s.processes
+        ≡ seen_under all_kept (process_beneath covers) s.processes
     by None is = none-same all_kept (process_beneath covers) (process_beneath new) pid agree s.processes is
     by (Some p) is =
         one-same all_kept (process_beneath covers) (process_beneath new) pid agree p
@@ -163,7 +165,8 @@ fault-reset c p id l rising there none =
     ap (λ ls. record (uncovered_process c p) { lwps = ls })
     (one-same (keeps_lwp c) (lwp_beneath c) (lwp_beneath (with_fault id false c)) id
     (λ n other x. ap (λ (b : Bool). uncovered_lwp b x) (rw (ne_eqb n id other) refl)) l
-    (ap (λ (b : Bool). uncovered_lwp b l) (own-at (eq-eqb id id refl)) ∙ clear-lwp (c.faulted id) l none) 0 p.lwps rising there)
+    (ap (λ (b : Bool). uncovered_lwp b l) (own-at (eq-eqb id id refl)) ∙ clear-lwp (c.faulted id) l none)
+    0 p.lwps rising there)
   where
     own-at : eqb id id ≡ true → (with_fault id false c).faulted id ≡ false
     own-at is = rw is refl
@@ -194,7 +197,8 @@ pub clear-same : (c : Cover) (p : TracedProcess) → IsClear c p → uncovered_p
 unfolding uncovered_process
 clear-same c p clear =
     ap (λ ls. record p { lwps = ls }) (clear-lwps c clear.no_agent p.lwps clear.lwps)
-    ∙ ap (λ (ps : List Patch). record p { space = patched ps p.space; lwps = seen_under (keeps_lwp c) (lwp_beneath c) p.lwps })
+    ∙ ap (λ (ps : List Patch).
+    record p { space = patched ps p.space; lwps = seen_under (keeps_lwp c) (lwp_beneath c) p.lwps })
     (sym clear.no_patches)
 
 -- nothing can be hidden of a zombie

@@ -54,7 +54,8 @@ module _ (s : TracedSystem) (pid : ℕ) (p : TracedProcess) (id : ℕ) (l : Trac
     on_its_way : (call : Sysno) (args : List ℕ) (result : Res) → l.phase ≡ Exiting call args result → l.current ≡ None
         → Faulting
 
-  interrupted-no : (woken : Bool) (call : Sysno) (args : List ℕ) → is_fault (interrupted_row woken call args).did ≡ false
+  interrupted-no : (woken : Bool) (call : Sysno) (args : List ℕ)
+      → is_fault (interrupted_row woken call args).did ≡ false
   unfolding is_fault interrupted_row
   interrupted-no false call args = refl
   interrupted-no true call args = refl
@@ -113,8 +114,10 @@ module _ (s : TracedSystem) (pid : ℕ) (p : TracedProcess) (id : ℕ) (l : Trac
       let row = executed_row p l (instruction_effect p.space p.control.areas l.regs) in
       let first : row_for s pid p id l ≡ taken_or s pid p id l (own_takeable l) (shared_takeable p l) row =
       ap (λ b. cond b requested_row (rest l.phase)) goes ∙ ap rest at
-      ∙ ap (λ o. current_row_or s pid p id l o (taken_or s pid p id l (own_takeable l) (shared_takeable p l) row)) none in
-      let free = none-taken (own_takeable l) (shared_takeable p l) row (ap (λ (r : Row). is_fault r.did) (sym first) ∙ is) in
+      ∙ ap (λ o. current_row_or s pid p id l o
+      (taken_or s pid p id l (own_takeable l) (shared_takeable p l) row)) none in
+      let free =
+      none-taken (own_takeable l) (shared_takeable p l) row (ap (λ (r : Row). is_fault r.did) (sym first) ∙ is) in
       by_instruction (record {
         not_directed = goes;
         in_program = at;
@@ -129,8 +132,10 @@ module _ (s : TracedSystem) (pid : ℕ) (p : TracedProcess) (id : ℕ) (l : Trac
       let row = returned_row p l call in
       let first : row_for s pid p id l ≡ taken_or s pid p id l (own_takeable l) (shared_takeable p l) row =
       ap (λ b. cond b requested_row (rest l.phase)) goes ∙ ap rest at
-      ∙ ap (λ o. current_row_or s pid p id l o (taken_or s pid p id l (own_takeable l) (shared_takeable p l) row)) none in
-      let free = none-taken (own_takeable l) (shared_takeable p l) row (ap (λ (r : Row). is_fault r.did) (sym first) ∙ is) in
+      ∙ ap (λ o. current_row_or s pid p id l o
+      (taken_or s pid p id l (own_takeable l) (shared_takeable p l) row)) none in
+      let free =
+      none-taken (own_takeable l) (shared_takeable p l) row (ap (λ (r : Row). is_fault r.did) (sym first) ∙ is) in
       by_return call (record {
         not_directed = goes;
         args = args;
@@ -151,7 +156,8 @@ module _ (s : TracedSystem) (pid : ℕ) (p : TracedProcess) (id : ℕ) (l : Trac
 
 -- ---- which fault it is
 
-either-did : (P : Did → Type 0) (b : Bool) (x y : Row) → (b ≡ true → P x.did) → (b ≡ false → P y.did) → P (cond b x y).did
+either-did : (P : Did → Type 0) (b : Bool) (x y : Row) → (b ≡ true → P x.did) → (b ≡ false → P y.did)
+    → P (cond b x y).did
 either-did P true x y one other = one refl
 either-did P false x y one other = other refl
 
@@ -187,7 +193,8 @@ module _ (p : TracedProcess) (l : TracedLwp) where
     store = store;
     effect = refl;
     marked =
-        either-did (λ d. d ≡ Faulted Trace → l.control.step ≡ true) l.control.step _ _ (λ b e. b) (λ b e. absurd (clash e)) did;
+        either-did (λ d. d ≡ Faulted Trace → l.control.step ≡ true) l.control.step _ _
+        (λ b e. b) (λ b e. absurd (clash e)) did;
   }
     where
       clash : Ran ≡ Faulted Trace → ⊥
@@ -205,7 +212,8 @@ module _ (p : TracedProcess) (l : TracedLwp) where
   pub return-marked : (call : Sysno) → (returned_row p l call).did ≡ Faulted Trace → l.control.step ≡ true
   unfolding returned_row
   return-marked call did =
-      either-did (λ d. d ≡ Faulted Trace → l.control.step ≡ true) l.control.step _ _ (λ b e. b) (λ b e. absurd (clash e)) did
+      either-did (λ d. d ≡ Faulted Trace → l.control.step ≡ true) l.control.step _ _
+      (λ b e. b) (λ b e. absurd (clash e)) did
     where
       clash : Returned call ≡ Faulted Trace → ⊥
       clash e = cc

@@ -41,7 +41,8 @@ same_Ok x y e = cc
 take-most : (n : ℕ) (xs : List ℕ) → length (take n xs) ≤ n
 take-most n xs = omega (arith, length-take n xs)
 
-pipe-most : (t : FileTable) (pipe most : ℕ) (bytes : List ℕ) → (read_pipe t pipe most).bytes ≡ Ok bytes → length bytes ≤ most
+pipe-most : (t : FileTable) (pipe most : ℕ) (bytes : List ℕ) → (read_pipe t pipe most).bytes ≡ Ok bytes
+    → length bytes ≤ most
 unfolding read_pipe
 pipe-most t pipe most bytes is = by (eqb (length (pipe_bytes t pipe)) 0) refl (has_writer t pipe) refl
   where
@@ -144,7 +145,8 @@ module _ (ps : List Patch) (within : AreWithin ps) (t : FileTable) (fds : Descri
           → read_effect t fds (patched ps space) fd at size ≡ patched_effect ps (read_effect t fds space fd at size)
       by true shut b long w can r is = rw shut refl
       by false may true long w can r is = rw (may, long) refl
-      by false may false short false can r is = rw (may, short, can-spared ps within space at size spared ∙ can, can) refl
+      by false may false short false can r is =
+          rw (may, short, can-spared ps within space at size spared ∙ can, can) refl
       by false may false short true can (Err why) is =
           rw (may, short, can-spared ps within space at size spared ∙ can, can, is) (sym (refused-patched ps why))
       by false may false short true can (Ok bytes) is =
@@ -156,7 +158,8 @@ module _ (ps : List Patch) (within : AreWithin ps) (t : FileTable) (fds : Descri
       → write_effect t fds (patched ps space) fd at size ≡ patched_effect ps (write_effect t fds space fd at size)
   unfolding write_effect
   write-patched fd at size spared =
-      by (is_none (open_for_writing t fds fd)) refl (ltb transfer_limit size) refl (bytes_for prot_read space at size) refl
+      by (is_none (open_for_writing t fds fd)) refl
+      (ltb transfer_limit size) refl (bytes_for prot_read space at size) refl
     where
       by : (a : Bool) → is_none (open_for_writing t fds fd) ≡ a → (b : Bool) → ltb transfer_limit size ≡ b
           → (r : Result (List ℕ) BadByte) → bytes_for prot_read space at size ≡ r
@@ -200,11 +203,13 @@ module _ (ps : List Patch) (within : AreWithin ps) (t : FileTable) (fds : Descri
           → (piped t fds).answer ≡ r
           → pipe_effect t fds (patched ps space) at ≡ patched_effect ps (pipe_effect t fds space at)
       by false can r is = rw (can-spared ps within space at (2 * word_size) spared ∙ can, can) refl
-      by true can (Err why) is = rw (can-spared ps within space at (2 * word_size) spared ∙ can, can, is) (sym (refused-patched ps why))
+      by true can (Err why) is =
+          rw (can-spared ps within space at (2 * word_size) spared ∙ can, can, is) (sym (refused-patched ps why))
       by true can (Ok pair) is =
           rw (can-spared ps within space at (2 * word_size) spared ∙ can, can, is)
           (ap (λ (sp : Space). gives 0 (files_are (piped t fds).files (piped t fds).fds ∷ space_is sp ∷ []))
-          (store-spared ps within space at (2 * word_size) (word_bytes pair.0 ++ word_bytes pair.1) spared (two_words pair.0 pair.1)))
+          (store-spared ps within space at (2 * word_size)
+          (word_bytes pair.0 ++ word_bytes pair.1) spared (two_words pair.0 pair.1)))
 
   pub fstat-patched : (fd at : ℕ) → are_spared ps at (3 * word_size) ≡ true
       → fstat_effect t fds (patched ps space) fd at ≡ patched_effect ps (fstat_effect t fds space fd at)
@@ -218,5 +223,6 @@ module _ (ps : List Patch) (within : AreWithin ps) (t : FileTable) (fds : Descri
       by (Ok stat) is true can =
           rw (is, can-spared ps within space at (3 * word_size) spared ∙ can, can)
           (ap (λ (sp : Space). gives 0 (space_is sp ∷ []))
-          (store-spared ps within space at (3 * word_size) (word_bytes stat.kind ++ word_bytes stat.size ++ word_bytes stat.offset)
+          (store-spared ps within space at (3 * word_size)
+          (word_bytes stat.kind ++ word_bytes stat.size ++ word_bytes stat.offset)
           spared (three_words stat.kind stat.size stat.offset)))

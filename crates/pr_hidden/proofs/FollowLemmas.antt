@@ -79,7 +79,8 @@ met-tame covers pid (Some point) id x tame =
     }))
     tame
 
-pub settled-tame : (covers : Covers) (s : TracedSystem) (pid : ℕ) (p : TracedProcess) (id : ℕ) (l : TracedLwp) (row : Row)
+pub settled-tame : (covers : Covers) (s : TracedSystem) (pid : ℕ) (p : TracedProcess) (id : ℕ)
+    (l : TracedLwp) (row : Row)
     → IsTame covers (after_transition traced pid p id l row.transition s)
     → IsTame covers (settled s pid p id l row).system
 unfolding settled with_counted
@@ -94,7 +95,8 @@ map-same : {X : Type 0} (es : List (ℕ × X)) → map_each (λ x. x) es ≡ es
 map-same [] = refl
 map-same (e ∷ es) = ap (λ ds. e ∷ ds) (map-same es)
 
-pub change-same : {X : Type 0} (id : ℕ) (f : X → X) → ((x : X) → f x ≡ x) → (es : List (ℕ × X)) → change_under id f es ≡ es
+pub change-same : {X : Type 0} (id : ℕ) (f : X → X) → ((x : X) → f x ≡ x) → (es : List (ℕ × X))
+    → change_under id f es ≡ es
 change-same id f same [] = refl
 change-same id f same (e ∷ es) =
     elim (eqb e.0 id) as (λ b. cond b ((e.0, f e.1) ∷ es) (e ∷ change_under id f es) ≡ e ∷ es) [

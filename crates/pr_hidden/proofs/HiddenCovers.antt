@@ -51,8 +51,8 @@ unfolding erased_system uncovered with_process
 followed covers new s pid p f g agree rising found same =
     ap (λ ps. record (erased_system s) { processes = ps })
     (one-followed all_kept (process_beneath covers) (process_beneath new) erased_process pid
-    (λ n other x. ap (λ (d : Cover). erased_process (uncovered_process d x)) (agree n other)) f g p refl same 0 s.processes
-    rising found)
+    (λ n other x. ap (λ (d : Cover). erased_process (uncovered_process d x)) (agree n other))
+    f g p refl same 0 s.processes rising found)
 
 pub process-followed : (covers : Covers) (s : TracedSystem) (pid : ℕ) (p : TracedProcess) (c : Cover)
     (f g : TracedProcess → TracedProcess) → IsRising s.processes → process_of s pid ≡ Some p
@@ -78,7 +78,8 @@ process-hidden covers s pid p c f rising found same =
     process-followed covers s pid p c f kept-process rising found same ∙ unchanged (uncovered covers s) pid
 
 -- the same under the cover that was
-pub same_cover-hidden : (covers : Covers) (s : TracedSystem) (pid : ℕ) (p : TracedProcess) (f : TracedProcess → TracedProcess)
+pub same_cover-hidden : (covers : Covers) (s : TracedSystem) (pid : ℕ) (p : TracedProcess)
+    (f : TracedProcess → TracedProcess)
     → IsRising s.processes → process_of s pid ≡ Some p
     → erased_process (uncovered_process (covers pid) (f p)) ≡ erased_process (uncovered_process (covers pid) p)
     → seen covers (with_process pid f s) ≡ seen covers s
@@ -148,7 +149,8 @@ peeled covers s pid f agree hides =
     (with_process-hidden (uncovered covers s) pid f hides)
 
 -- what a turn leaves is seen as what its transition leaves
-pub settled-seen : (covers : Covers) (s : TracedSystem) (pid : ℕ) (p : TracedProcess) (id : ℕ) (l : TracedLwp) (row : Row)
+pub settled-seen : (covers : Covers) (s : TracedSystem) (pid : ℕ) (p : TracedProcess) (id : ℕ)
+    (l : TracedLwp) (row : Row)
     → seen covers (settled s pid p id l row).system ≡ seen covers (after_transition traced pid p id l row.transition s)
 unfolding settled
 settled-seen covers s pid p id l row =
@@ -162,13 +164,16 @@ settled-seen covers s pid p id l row =
 
 other_patches : (c : Cover) (p : TracedProcess) (ps : List Patch) (space : Space)
     → IsSeenAlike ps space c.patches p.space
-    → erased_process (uncovered_process (with_patches ps c) (with_space space p)) ≡ erased_process (uncovered_process c p)
+    → erased_process (uncovered_process (with_patches ps c) (with_space space p))
+    ≡ erased_process (uncovered_process c p)
 unfolding erased_process uncovered_process with_space
 other_patches c p ps space alike = ap (λ sp. record (erased_process (uncovered_process c p)) { space = sp }) alike.same
 
-pub patches-hidden : (covers : Covers) (s : TracedSystem) (pid : ℕ) (p : TracedProcess) (ps : List Patch) (space : Space)
+pub patches-hidden : (covers : Covers) (s : TracedSystem) (pid : ℕ) (p : TracedProcess) (ps : List Patch)
+    (space : Space)
     → IsRising s.processes → live_process s pid ≡ Some p → IsSeenAlike ps space (covers pid).patches p.space
-    → seen (with_cover pid (with_patches ps (covers pid)) covers) (with_process pid (with_space space) s) ≡ seen covers s
+    → seen (with_cover pid (with_patches ps (covers pid)) covers) (with_process pid (with_space space) s)
+    ≡ seen covers s
 patches-hidden covers s pid p ps space rising live alike =
     process-hidden covers s pid p (with_patches ps (covers pid)) (with_space space) rising
     (live_process-found s pid p live) (other_patches (covers pid) p ps space alike)
@@ -180,10 +185,12 @@ cleared : (l : TracedLwp) (f : Flt) (address : ℕ) → l.phase ≡ Faulted f ad
 unfolding uncovered_lwp without_fault
 cleared l f address is = rw is refl
 
-pub cleared-hidden : (covers : Covers) (s : TracedSystem) (pid : ℕ) (p : TracedProcess) (id : ℕ) (l : TracedLwp) (f : Flt)
+pub cleared-hidden : (covers : Covers) (s : TracedSystem) (pid : ℕ) (p : TracedProcess) (id : ℕ)
+    (l : TracedLwp) (f : Flt)
     (address : ℕ) → Stands s pid p id l → keeps_lwp (covers pid) id ≡ true → (covers pid).faulted id ≡ true
     → l.phase ≡ Faulted f address
-    → seen (with_cover pid (with_fault id false (covers pid)) covers) (with_lwp_of pid id without_fault s) ≡ seen covers s
+    → seen (with_cover pid (with_fault id false (covers pid)) covers) (with_lwp_of pid id without_fault s)
+    ≡ seen covers s
 cleared-hidden covers s pid p id l f address st kept own is =
     fault-hidden covers s pid p id l false without_fault st kept
     (ap erased_lwp (cleared l f address is) ∙ ap (λ (b : Bool). erased_lwp (uncovered_lwp b l)) (sym own))
@@ -200,7 +207,8 @@ agent_made c regs p none free =
 
 pub agent-made : (covers : Covers) (s : TracedSystem) (pid : ℕ) (p : TracedProcess) (regs : List ℕ)
     → IsRising s.processes → live_process s pid ≡ Some p → (covers pid).agent ≡ false → lwp_of p agent_id ≡ None
-    → seen (with_cover pid (with_own_agent true (covers pid)) covers) (with_process pid (with_agent regs) s) ≡ seen covers s
+    → seen (with_cover pid (with_own_agent true (covers pid)) covers) (with_process pid (with_agent regs) s)
+    ≡ seen covers s
 agent-made covers s pid p regs rising live none free =
     process-hidden covers s pid p (with_own_agent true (covers pid)) (with_agent regs) rising
     (live_process-found s pid p live) (ap erased_process (agent_made (covers pid) regs p none free))
@@ -245,7 +253,8 @@ covered_store c p at bytes covered =
     ap (λ sp. record (erased_process (uncovered_process c p)) { space = sp })
     (hidden-store c.patches at bytes covered p.space)
 
-pub agent-unseen : (covers : Covers) (s : TracedSystem) (pid : ℕ) (p : TracedProcess) (id : ℕ) (l : TracedLwp) (m : Move)
+pub agent-unseen : (covers : Covers) (s : TracedSystem) (pid : ℕ) (p : TracedProcess) (id : ℕ)
+    (l : TracedLwp) (m : Move)
     (cs : List Change) → IsRising s.processes → live_process s pid ≡ Some p → keeps_lwp (covers pid) id ≡ false
     → ChangesOwn (covers pid).patches p.space cs
     → seen covers (with_lwp_of pid id (moved traced m) (all_changed traced pid p id l cs s)) ≡ seen covers s

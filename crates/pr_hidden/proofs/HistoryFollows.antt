@@ -59,18 +59,19 @@ use Rattle.pr_hidden.proofs.WrittenCovers.{none-sound}
 -- ---- entries
 
 -- a turn leaves the patches of its process in order
-turned-sound : (who : Hiders) (covers : Covers) (s : TracedState) (pid id : ℕ) (did : Did) → AreSound (covers pid).patches
-    → AreSound (cover_turned who covers s pid id did (covers pid)).patches
+turned-sound : (who : Hiders) (covers : Covers) (s : TracedState) (pid id : ℕ) (did : Did)
+    → AreSound (covers pid).patches → AreSound (cover_turned who covers s pid id did (covers pid)).patches
 turned-sound who covers s pid id did sound =
     let c = covers pid in
     let own = is_own who covers s pid id did in
     either (λ (d : Cover). AreSound d.patches) (not (keeps_lwp c id)) _ _
     (either (λ (d : Cover). AreSound d.patches) (exits did) (with_own_agent false c) c sound sound)
     (either (λ (d : Cover). AreSound d.patches) (replaces_memory did) _ _ none-sound
-    (either (λ (d : Cover). AreSound d.patches) (is_directed (lwp_at s.system pid id)) c (with_fault id own c) sound sound))
+    (either (λ (d : Cover). AreSound d.patches)
+    (is_directed (lwp_at s.system pid id)) c (with_fault id own c) sound sound))
 
-turn-order : (who : Hiders) (covers : Covers) (s : TracedState) (pid id : ℕ) (t : LwpTurn) → turn_of s.system pid id ≡ Some t
-    → IsLawfulSystem s.system → AreInOrder covers s.system
+turn-order : (who : Hiders) (covers : Covers) (s : TracedState) (pid id : ℕ) (t : LwpTurn)
+    → turn_of s.system pid id ≡ Some t → IsLawfulSystem s.system → AreInOrder covers s.system
     → AreInOrder (covers_turned who covers s pid id t.turned.did) t.system
 unfolding covers_turned
 turn-order who covers s pid id t turn lawful order =
@@ -122,7 +123,8 @@ history-follows : (n : ℕ) (who : Hiders) (covers : Covers) (s : TracedState) (
     → AreInOrder covers s.system → IsTame covers s.system → IsLegal n s h → IsPassiveBut who h
     → HoldsFrom (IsSparingEntry who) who covers s h → HoldsFrom (IsTidyEntry who) who covers s h
     → Follows covers (covers_from who covers s h) s.system (state_after s h).system (hidden_steps_from who covers s m h)
-history-follows n who covers s m [] lawful order tame legal passive sparing tidy = record { run = ends_here; tame = tame }
+history-follows n who covers s m [] lawful order tame legal passive sparing tidy =
+    record { run = ends_here; tame = tame }
 history-follows n who covers s m (e ∷ h) lawful order tame legal passive sparing tidy =
     let P : Entry → Type 0 = λ x. IsTrue (is_passive_act x.act || is_hider_act who x.actor x.act) in
     let first =
@@ -130,8 +132,8 @@ history-follows n who covers s m (e ∷ h) lawful order tame legal passive spari
     let follows = first.follows in
     let rest =
     history-follows n who (covers_after who covers s e) (after s e) (remembered m e) h
-    (history-state n s (e ∷ []) lawful (legal.0, tt)) first.in_order follows.tame legal.1 (All-tail P e h passive) sparing.1
-    tidy.1 in
+    (history-state n s (e ∷ []) lawful (legal.0, tt)) first.in_order follows.tame legal.1
+    (All-tail P e h passive) sparing.1 tidy.1 in
     record { run = UntracedRun-append follows.run rest.run; tame = rest.tame }
 
 -- ---- the trace
@@ -147,7 +149,8 @@ fault-trace out p l flt.Bounds = refl
 fault-trace out p l flt.Stack = refl
 fault-trace out p l flt.Izdiv = refl
 
-turn-trace : (out : Bool) (p l : ℕ) (did : Did) → flat_map traced_step (steps_of_turn out p l did) ≡ trace_of_turn p l did
+turn-trace : (out : Bool) (p l : ℕ) (did : Did)
+    → flat_map traced_step (steps_of_turn out p l did) ≡ trace_of_turn p l did
 turn-trace out p l Stopped = refl
 turn-trace out p l Ran = refl
 turn-trace out p l (Entered c) = refl
@@ -181,7 +184,8 @@ entry-trace : (who : Hiders) (covers : Covers) (s : TracedState) (m : Memory) (a
     → flat_map traced_step (hidden_steps_of who covers s m (record { actor = actor; act = it }))
     ≡ hidden_trace_of who covers s (record { actor = actor; act = it })
 unfolding hidden_steps_of hidden_trace_of turn_seen steps_of
-entry-trace who covers s m (Lwp pid id) (act.Turn t) = by (not (keeps_lwp (covers pid) id)) (is_own who covers s pid id t.did)
+entry-trace who covers s m (Lwp pid id) (act.Turn t) =
+    by (not (keeps_lwp (covers pid) id)) (is_own who covers s pid id t.did)
   where
     by : (hidden own : Bool)
         → flat_map traced_step

@@ -51,7 +51,8 @@ loans_passed-uncovered : (covers : Covers) (pid : ℕ) (p : TracedProcess) (s : 
 unfolding with_loans_passed uncovered_process
 loans_passed-uncovered covers pid p s returnable =
     let beneath = uncovered_process (covers pid) p in
-    with_process_if-uncovered covers (with_process_if p.borrower (with_lender_of pid p) s) p.lender (with_loan_back pid p)
+    with_process_if-uncovered covers (with_process_if p.borrower (with_lender_of pid p) s) p.lender
+    (with_loan_back pid p)
     (with_loan_back pid beneath)
     (λ lender is q. loan_back-uncovered (covers pid) (covers lender) pid p q (returnable.alike lender is))
     ∙ ap (with_process_if p.lender (with_loan_back pid beneath))
@@ -130,7 +131,8 @@ pub ended-uncovered : (covers : Covers) (pid status : ℕ) (s : TracedSystem) �
     → uncovered covers (with_ended traced pid status s) ≡ with_ended traced pid status (uncovered covers s)
 unfolding with_ended
 ended-uncovered covers pid status s may =
-    by (live_process s pid) refl ∙ ap (ended_if_live traced pid status (uncovered covers s)) (sym (live-uncovered covers s pid))
+    by (live_process s pid) refl
+    ∙ ap (ended_if_live traced pid status (uncovered covers s)) (sym (live-uncovered covers s pid))
   where
     by : (o : Option TracedProcess) → live_process s pid ≡ o
         → uncovered covers (ended_if_live traced pid status s o)
@@ -186,8 +188,8 @@ child_lwp-uncovered : (birth : Birth) (args : List ℕ) (set : _) (own : Bool) (
 unfolding uncovered_lwp forked_lwp traced birth_marks no_marks step_taken
 child_lwp-uncovered birth args set own l = refl
 
-forked-uncovered : (c : Cover) (birth : Birth) (pid : ℕ) (p : TracedProcess) (own : Bool) (l : TracedLwp) (args : List ℕ)
-    (clock : ℕ) → c.patches ≡ []
+forked-uncovered : (c : Cover) (birth : Birth) (pid : ℕ) (p : TracedProcess) (own : Bool) (l : TracedLwp)
+    (args : List ℕ) (clock : ℕ) → c.patches ≡ []
     → uncovered_process no_cover (forked traced birth pid p l args clock)
     ≡ forked traced birth pid (uncovered_process c p) (uncovered_lwp own l) args clock
 unfolding uncovered_process forked
@@ -201,7 +203,9 @@ forked-uncovered c birth pid p own l args clock none =
 
 shared-uncovered : (covers : Covers) (pid : ℕ) (p : TracedProcess) (s : TracedSystem)
     → uncovered covers (record s { files = with_all_shared s.files p.fds })
-    ≡ record (uncovered covers s) { files = with_all_shared (uncovered covers s).files (uncovered_process (covers pid) p).fds }
+    ≡ record (uncovered covers s) {
+      files = with_all_shared (uncovered covers s).files (uncovered_process (covers pid) p).fds;
+    }
 unfolding uncovered uncovered_process
 shared-uncovered covers pid p s = refl
 
@@ -229,7 +233,8 @@ child-uncovered covers birth pid p own l args s may =
     let lent = with_lent birth pid s.made shared in
     let child = forked traced birth pid p l args s.clock in
     made-uncovered covers child lent
-    ∙ ap (λ n. with_made (uncovered_process (covers n) child) (uncovered covers lent)) (lent-made birth pid s.made shared)
+    ∙ ap (λ n. with_made (uncovered_process (covers n) child) (uncovered covers lent))
+    (lent-made birth pid s.made shared)
     ∙ ap (λ (c : Cover). with_made (uncovered_process c child) (uncovered covers lent)) may.fresh
     ∙ ap (λ q. with_made q (uncovered covers lent))
     (forked-uncovered (covers pid) birth pid p own l args s.clock may.unpatched)
@@ -270,7 +275,8 @@ one_more-uncovered c id regs held p may =
     (new_lwp-uncovered (c.faulted id) regs held))
 
 pub with_new_lwp-uncovered : (c : Cover) (id : ℕ) (regs : List ℕ) (held : ℕ) (p : TracedProcess) → MayMakeLwp c
-    → uncovered_process c (with_new_lwp traced id regs held p) ≡ with_new_lwp traced id regs held (uncovered_process c p)
+    → uncovered_process c (with_new_lwp traced id regs held p)
+    ≡ with_new_lwp traced id regs held (uncovered_process c p)
 unfolding with_new_lwp traced
 with_new_lwp-uncovered c id regs held p may =
     let old = record p { next_lwp = id + 1; lwps = inserted id (new_lwp traced regs held (no_marks false)) p.lwps } in

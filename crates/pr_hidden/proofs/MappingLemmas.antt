@@ -45,7 +45,8 @@ module _ (f : ℕ → ℕ → ℕ) where
   unfolding over_mapping
   range-over at size m = ap (λ n. eqb m.at at && eqb n size) (length-over f m.at m.bytes)
 
-  mapped_range-over : (at size : ℕ) (m : Mapping) → is_mapped_range at size (over_mapping f m) ≡ is_mapped_range at size m
+  mapped_range-over : (at size : ℕ) (m : Mapping)
+      → is_mapped_range at size (over_mapping f m) ≡ is_mapped_range at size m
   unfolding over_mapping
   mapped_range-over at size m =
       ap (λ n. (eqb m.at at && eqb n size) && is_mapped_kind m.kind) (length-over f m.at m.bytes)
@@ -90,7 +91,8 @@ module _ (f : ℕ → ℕ → ℕ) where
   change-over test change same agree (m ∷ ms) =
       elim (cases_Bool (test m)) [
         | inl here ↦ rw (same m ∙ here, here) (ap (λ x. x ∷ over f ms) (agree m here))
-        | inr other ↦ rw (same m ∙ other, other) (ap (λ x. over_mapping f m ∷ x) (change-over test change same agree ms))
+        | inr other ↦
+            rw (same m ∙ other, other) (ap (λ x. over_mapping f m ∷ x) (change-over test change same agree ms))
       ]
 
   prot-over : (prot : ℕ) (m : Mapping) → with_prot prot (over_mapping f m) ≡ over_mapping f (with_prot prot m)
@@ -118,7 +120,8 @@ module _ (f : ℕ → ℕ → ℕ) where
   placed-over m same [] = ap (λ x. x ∷ []) (sym same)
   placed-over m same (n ∷ ns) =
       elim (cases_Bool (ltb m.at n.at)) [
-        | inl behind ↦ rw (ap (ltb m.at) (at-over n) ∙ behind, behind) (ap (λ x. x ∷ over_mapping f n ∷ over f ns) (sym same))
+        | inl behind ↦
+            rw (ap (ltb m.at) (at-over n) ∙ behind, behind) (ap (λ x. x ∷ over_mapping f n ∷ over f ns) (sym same))
         | inr before ↦
             rw (ap (ltb m.at) (at-over n) ∙ before, before) (ap (λ x. over_mapping f n ∷ x) (placed-over m same ns))
       ]
@@ -180,7 +183,8 @@ module _ (f : ℕ → ℕ → ℕ) where
 
       by : (o : Option Mapping) → find is_break_heap space ≡ o → (eqb size 0 ≡ true) ⊎ (eqb size 0 ≡ false)
           → with_heap size (over f space) ≡ over f (with_heap size space)
-      by None is (inl nothing) = rw (found-over is_break_heap heap-over space ∙ ap (option_map (over_mapping f)) is, is, nothing) refl
+      by None is (inl nothing) =
+          rw (found-over is_break_heap heap-over space ∙ ap (option_map (over_mapping f)) is, is, nothing) refl
       by None is (inr some) =
           rw (found-over is_break_heap heap-over space ∙ ap (option_map (over_mapping f)) is, is, some)
           (placed-over (zeros_at heap_base size read_write Heap) fresh space)

@@ -240,8 +240,8 @@ module _ (who : Hiders) (k : ℕ) (covers : Covers) (s : TracedSystem) (pid : �
       (refused-sent (message.Agent regs) _)
       (busy (has_agent p || not (list_all (lets_agent p.job_stop) p.lwps)) refl)
     where
-      none : (o : Option TracedLwp) → lwp_of p agent_id ≡ o → (is_some o || not (list_all (lets_agent p.job_stop) p.lwps)) ≡ false
-          → lwp_of p agent_id ≡ None
+      none : (o : Option TracedLwp) → lwp_of p agent_id ≡ o
+          → (is_some o || not (list_all (lets_agent p.job_stop) p.lwps)) ≡ false → lwp_of p agent_id ≡ None
       none None is idle = is
       none (Some l) is idle = no-way (sym idle)
 
@@ -265,7 +265,9 @@ module _ (who : Hiders) (k : ℕ) (covers : Covers) (s : TracedSystem) (pid : �
           }
 
       full : lwp_of p agent_id ≡ None
-          → Sends (message.Agent regs) (cond (leb lwp_limit (length p.lwps)) (answered.refused s Nomem) (with_process_changed s pid p len (with_agent regs)))
+          → Sends (message.Agent regs)
+          (cond (leb lwp_limit (length p.lwps)) (answered.refused s Nomem)
+          (with_process_changed s pid p len (with_agent regs)))
       full free =
           either (Sends (message.Agent regs)) (leb lwp_limit (length p.lwps)) (answered.refused s Nomem)
           (with_process_changed s pid p len (with_agent regs))
@@ -273,7 +275,9 @@ module _ (who : Hiders) (k : ℕ) (covers : Covers) (s : TracedSystem) (pid : �
 
       busy : (b : Bool) → (has_agent p || not (list_all (lets_agent p.job_stop) p.lwps)) ≡ b
           → Sends (message.Agent regs)
-          (cond b (answered.refused s Busy) (cond (leb lwp_limit (length p.lwps)) (answered.refused s Nomem) (with_process_changed s pid p len (with_agent regs))))
+          (cond b (answered.refused s Busy)
+          (cond (leb lwp_limit (length p.lwps)) (answered.refused s Nomem)
+          (with_process_changed s pid p len (with_agent regs))))
       busy true is = refused-sent (message.Agent regs) Busy
       busy false is = full (none (lwp_of p agent_id) refl is)
 

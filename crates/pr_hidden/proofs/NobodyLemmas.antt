@@ -39,7 +39,8 @@ use Rattle.pr_hidden.proofs.NoneLemmas.{none-same}
 abbrev NoAgents : Covers → Type 0
 NoAgents covers = (pid : ℕ) → (covers pid).agent ≡ false
 
-with-none : (covers : Covers) (pid : ℕ) (c : Cover) → NoAgents covers → c.agent ≡ false → NoAgents (with_cover pid c covers)
+with-none : (covers : Covers) (pid : ℕ) (c : Cover) → NoAgents covers → c.agent ≡ false
+    → NoAgents (with_cover pid c covers)
 with-none covers pid c none one = each-cover (λ (d : Cover). d.agent ≡ false) pid c covers one none
 
 sent-none : (k : ℕ) (p : TracedProcess) (m : Message) (tail : List ℕ) (c : Cover) → c.agent ≡ false
@@ -140,16 +141,19 @@ module _ (covers : Covers) (none : NoAgents covers) (s : TracedState) where
   steps-seen m (Lwp pid id) (act.Turn t) =
       let steps = steps_of_turn (m.returning pid id) pid id t.did in
       let own = steps_of_own (is_leaving (lwp_at s.system pid id)) pid id t.did in
-      ap (λ b. cond b [] (cond (is_own nobody covers s pid id t.did) own steps)) (none-left_out (covers pid) id (none pid))
+      ap (λ b. cond b [] (cond (is_own nobody covers s pid id t.did) own steps))
+      (none-left_out (covers pid) id (none pid))
       ∙ ap (λ b. cond b own steps) (none-own covers s pid id t.did)
   steps-seen m _ _ = refl
 
   trace-seen : (actor : Actor) (it : Act)
-      → hidden_trace_of nobody covers s (record { actor = actor; act = it }) ≡ trace_of (record { actor = actor; act = it })
+      → hidden_trace_of nobody covers s (record { actor = actor; act = it })
+      ≡ trace_of (record { actor = actor; act = it })
   unfolding hidden_trace_of trace_of
   trace-seen (Lwp pid id) (act.Turn t) =
       let traced = trace_of_turn pid id t.did in
-      ap (λ b. cond b [] (cond (is_own nobody covers s pid id t.did) [] traced)) (none-left_out (covers pid) id (none pid))
+      ap (λ b. cond b [] (cond (is_own nobody covers s pid id t.did) [] traced))
+      (none-left_out (covers pid) id (none pid))
       ∙ ap (λ b. cond b [] traced) (none-own covers s pid id t.did)
   trace-seen _ _ = refl
 

@@ -38,7 +38,8 @@ patched-store ps at xs spares space =
     ∙ over-over (patched_byte ps) (written_byte at xs) space
     ∙ over-same (λ a b. patched_byte ps a (written_byte at xs a b)) (λ a b. written_byte at xs a (patched_byte ps a b))
     (stored-byte ps at xs spares) space
-    ∙ sym (over-over (written_byte at xs) (patched_byte ps) space) ∙ sym (written-over at xs (over (patched_byte ps) space))
+    ∙ sym (over-over (written_byte at xs) (patched_byte ps) space)
+    ∙ sym (written-over at xs (over (patched_byte ps) space))
     ∙ ap (with_bytes at xs) (sym (patched-over ps space))
 
 -- ---- a store into the patches is nothing to programs
@@ -61,7 +62,8 @@ pub hidden-store : (ps : List Patch) (at : ℕ) (xs : List ℕ) → Covered ps a
 hidden-store ps at xs covered space =
     patched-over ps (with_bytes at xs space) ∙ ap (over (patched_byte ps)) (written-over at xs space)
     ∙ over-over (patched_byte ps) (written_byte at xs) space
-    ∙ over-same (λ a b. patched_byte ps a (written_byte at xs a b)) (patched_byte ps) (hidden-byte ps at xs covered) space
+    ∙ over-same (λ a b. patched_byte ps a (written_byte at xs a b))
+    (patched_byte ps) (hidden-byte ps at xs covered) space
     ∙ sym (patched-over ps space)
 
 -- ---- patches that are apart

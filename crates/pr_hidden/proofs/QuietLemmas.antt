@@ -105,7 +105,8 @@ record IsQuietControl (c d : TracedControl) : Type 0 where
   areas : d.areas ≡ c.areas
   no_kill : has_flags c.modes klc_mode ≡ false → has_flags d.modes klc_mode ≡ false
 
-control-quiet : (m : Message) (c d : TracedControl) → ControlEdit m c d → is_passive_message m ≡ true → IsQuietControl c d
+control-quiet : (m : Message) (c d : TracedControl) → ControlEdit m c d → is_passive_message m ≡ true
+    → IsQuietControl c d
 unfolding is_passive_message tracing_signals tracing_faults tracing_entries tracing_exits with_modes without_modes
 control-quiet m c d process.signals passive = record { areas = refl; no_kill = λ none. none }
 control-quiet m c d process.faults passive = record { areas = refl; no_kill = λ none. none }
@@ -134,7 +135,8 @@ module _ (covers : Covers) (pid : ℕ) where
   process-quiet m tail x y (process.each_lwp f edits) passive = record {
     seen =
         ap (λ ls. record (uncontrolled_process x) { lwps = ls })
-        (map_each-all_hidden uncontrolled_lwp f x.lwps (λ l. let q = edits-quiet m passive l (f l) (edits l) in q.seen));
+        (map_each-all_hidden uncontrolled_lwp f x.lwps
+        (λ l. let q = edits-quiet m passive l (f l) (edits l) in q.seen));
     tame = λ it. record {
       no_kill = it.no_kill;
       unwatched = it.unwatched;

@@ -152,7 +152,8 @@ module _ (covers : Covers) (s : TracedSystem) (pid : ℕ) (p : TracedProcess) (i
   unfolding requested_row posted_row handler_row own_taken_row shared_taken_row
   kind-finds row (kind.returns {call = call} {args = args} {result = result} at none) = returned-finds call
   kind-finds row (kind.executes at none) = executed-finds (instruction_effect p.space p.control.areas l.regs)
-  kind-finds row (kind.interrupts {woken = woken} {call = call} {args = args} it why) = interrupted-finds woken call args
+  kind-finds row (kind.interrupts {woken = woken} {call = call} {args = args} it why) =
+      interrupted-finds woken call args
   kind-finds row (kind.performs {woken = woken} {call = call} {args = args} {since = since} it goes none) =
       performed-finds woken call args since
   kind-finds row _ = λ is tidy. no-way is

@@ -103,7 +103,8 @@ module _ (covers : Covers) (s : TracedSystem) (pid : ℕ) (p : TracedProcess) (i
   executed-row within (calls call regs) spares other = refl
   executed-row within (faults f address) spares other = refl
   executed-row within (runs_into_watch address regs store) spares other =
-      ap (λ cs. instruction_row (DidFault Watch) (Some (point.Fault Watch)) (changing cs (move.traps Watch address regs)))
+      ap (λ cs. instruction_row (DidFault Watch)
+      (Some (point.Fault Watch)) (changing cs (move.traps Watch address regs)))
       (stored-patched c.patches within p.space store spares)
 
   returned-row : (call : Sysno) → Follows (returned_row q m call) (returned_row p l call)
@@ -141,11 +142,13 @@ module _ (covers : Covers) (s : TracedSystem) (pid : ℕ) (p : TracedProcess) (i
   -- a call, made or made anew
   called-row : c.agent ≡ false → AreWithin c.patches → (woken : Bool) (call : Sysno) (args : List ℕ) (since : ℕ)
       → spares_call c.patches p.space call args ≡ true
-      → call_row u pid q id m woken call args since ≡ patched_row c.patches (call_row s pid p id l woken call args since)
+      → call_row u pid q id m woken call args since
+      ≡ patched_row c.patches (call_row s pid p id l woken call args since)
   unfolding call_row interrupted_row interrupted uncovered_lwp step_taken
   called-row none within woken call args since spared =
       ap (cond l.control.abort (interrupted_row woken call args))
-      (ap (performed_row woken call args since) (call-uncovered covers s pid p id false l c none within since call args spared)
+      (ap (performed_row woken call args since)
+      (call-uncovered covers s pid p id false l c none within since call args spared)
       ∙ effect-row c.patches woken call args since (call_effect s pid p id l since call args))
       ∙ by l.control.abort (performed_row woken call args since (call_effect s pid p id l since call args))
     where
@@ -167,7 +170,8 @@ module _ (covers : Covers) (s : TracedSystem) (pid : ℕ) (p : TracedProcess) (i
 
   phase-row : c.agent ≡ false → AreWithin c.patches → SparesPatches c.patches p l → l.control.directed ≡ false
       → (phase : Phase) → l.phase ≡ phase → Follows (rest_beneath phase) (rest phase)
-  unfolding signal_row_or row_in uncovered uncovered_process uncovered_lwp own_takeable shared_takeable posted_row posted
+  unfolding signal_row_or row_in uncovered uncovered_process uncovered_lwp own_takeable shared_takeable
+      posted_row posted
   phase-row none within spares going User is =
       current-row l.current _ _ (λ current.
       taken-row (own_takeable l) (shared_takeable p l) _ _ (λ own shared.

@@ -120,7 +120,8 @@ incurred-after : (s : TracedSystem) (pid : ℕ) (p : TracedProcess) (id : ℕ) (
 unfolding after_transition incurred all_changed
 incurred-after s pid p id l f address = refl
 
-faulted-row : (p : TracedProcess) (l : TracedLwp) (f : Flt) (address : ℕ) → executed_row p l (faults f address) ≡ incurred_row f address
+faulted-row : (p : TracedProcess) (l : TracedLwp) (f : Flt) (address : ℕ)
+    → executed_row p l (faults f address) ≡ incurred_row f address
 unfolding executed_row
 faulted-row p l f address = refl
 
@@ -168,7 +169,8 @@ stepped-return : (p : TracedProcess) (l : TracedLwp) (call : Sysno) → l.contro
 unfolding returned_row
 stepped-return p l call marked = rw marked refl
 
-out-of-call : (b : Bool) (l : TracedLwp) (call : Sysno) (args : List ℕ) (result : _) → l.phase ≡ Exiting call args result
+out-of-call : (b : Bool) (l : TracedLwp) (call : Sysno) (args : List ℕ) (result : _)
+    → l.phase ≡ Exiting call args result
     → erased_lwp (moved traced move.returns (uncovered_lwp false l)) ≡ erased_lwp (uncovered_lwp b l)
 unfolding erased_lwp erased_phase erased_pending moved traced uncovered_lwp
 out-of-call true l call args result is = rw is refl
@@ -240,7 +242,8 @@ ran-after u pid q id m regs store = refl
 
 -- what a turn leaves is seen as what its transition leaves, where nothing is hidden
 settled-erased : (s : TracedSystem) (pid : ℕ) (p : TracedProcess) (id : ℕ) (l : TracedLwp) (row : Row)
-    → erased_system (settled s pid p id l row).system ≡ erased_system (after_transition traced pid p id l row.transition s)
+    → erased_system (settled s pid p id l row).system
+    ≡ erased_system (after_transition traced pid p id l row.transition s)
 unfolding settled
 settled-erased s pid p id l row =
     let after = after_transition traced pid p id l row.transition s in
@@ -269,7 +272,8 @@ beneath-instruction c p l r = record {
 }
 
 beneath-effect : (c : Cover) (p : TracedProcess) (l : TracedLwp)
-    → instruction_effect (uncovered_process c p).space (uncovered_process c p).control.areas (uncovered_lwp false l).regs
+    → instruction_effect (uncovered_process c p).space
+    (uncovered_process c p).control.areas (uncovered_lwp false l).regs
     ≡ instruction_effect (patched c.patches p.space) p.control.areas l.regs
 unfolding uncovered_process uncovered_lwp
 beneath-effect c p l = refl
@@ -280,7 +284,8 @@ beneath-space c p = refl
 
 -- Both machines leave the same of an instruction over which a controller steps.
 module _ (covers : Covers) (s : TracedSystem) (pid id : ℕ) (p : TracedProcess) (l : TracedLwp)
-    (st : Stands s pid p id l) (no_agent : (covers pid).agent ≡ false) (no_fault : (covers pid).faulted id ≡ false) where
+    (st : Stands s pid p id l) (no_agent : (covers pid).agent ≡ false)
+    (no_fault : (covers pid).faulted id ≡ false) where
   abbrev new : Covers
   new = with_cover pid (with_fault id true (covers pid)) covers
 
@@ -322,7 +327,8 @@ module _ (covers : Covers) (s : TracedSystem) (pid id : ℕ) (p : TracedProcess)
   step-left : (t : LwpTurn) (regs : List ℕ) (store : Option Store) → turn_of s pid id ≡ Some t → RunsInstruction p l
       → instruction_effect p.space p.control.areas l.regs ≡ runs regs store → l.control.step ≡ true
       → AreWithin (covers pid).patches → StoreSpares (covers pid).patches store
-      → seen new t.system ≡ erased_system (settled u pid q id m (instruction_row Ran None (ran q.space regs store))).system
+      → seen new t.system
+      ≡ erased_system (settled u pid q id m (instruction_row Ran None (ran q.space regs store))).system
   step-left t regs store turn r effect marked within spares =
       let here = turn-here s pid id t p l st.live st.there turn in
       let row = instruction-row s pid p id l r ∙ ap (executed_row p l) effect in

@@ -37,7 +37,8 @@ use Rattle.pr_hidden.proofs.TameLemmas.{IsTameLwp, IsTameProcess, tame-each, tam
 abbrev pub NoOther : Bool → TracedLwp → Type 0
 NoOther own l = (f : Flt) (address : ℕ) → l.phase ≡ phase.Faulted f address → own ≡ true
 
-pub clears-same : (own : Bool) (l : TracedLwp) → NoOther own l → uncovered_lwp own (without_fault l) ≡ uncovered_lwp own l
+pub clears-same : (own : Bool) (l : TracedLwp) → NoOther own l
+    → uncovered_lwp own (without_fault l) ≡ uncovered_lwp own l
 unfolding uncovered_lwp without_fault
 clears-same own l none = by l.phase refl
   where
@@ -52,7 +53,8 @@ goes-same : (own : Bool) (l : TracedLwp) → erased_lwp (uncovered_lwp own (let_
 unfolding erased_lwp uncovered_lwp let_go step_taken
 goes-same own l = refl
 
-steps-same : (own : Bool) (l : TracedLwp) → erased_lwp (uncovered_lwp own (with_step l)) ≡ erased_lwp (uncovered_lwp own l)
+steps-same : (own : Bool) (l : TracedLwp)
+    → erased_lwp (uncovered_lwp own (with_step l)) ≡ erased_lwp (uncovered_lwp own l)
 unfolding erased_lwp uncovered_lwp with_step step_taken
 steps-same own l = refl
 
@@ -130,7 +132,8 @@ module _ (covers : Covers) (pid : ℕ) where
           → erased_process (uncovered_process c (with_lwp id f x)) ≡ erased_process (uncovered_process c x)
       by true kept =
           ap (λ ls. record (erased_process (uncovered_process c x)) { lwps = ls })
-          (one-followed (keeps_lwp c) view view erased_lwp id (λ n other y. refl) f (λ y. y) l kept same 0 x.lwps rising there
+          (one-followed (keeps_lwp c) view view erased_lwp id
+          (λ n other y. refl) f (λ y. y) l kept same 0 x.lwps rising there
           ∙ ap (map_each erased_lwp) (change-same id (λ y. y) (λ y. refl) (seen_under (keeps_lwp c) view x.lwps)))
       by false hidden = ap erased_process (hidden_lwp c id f x hidden)
 
@@ -216,7 +219,8 @@ module _ (covers : Covers) (pid : ℕ) where
       either (IsQuietList ls) (list_all (shows_run job) ls) (map_each without_request ls) ls
       (each-quiet without_request same-end abort-end ls) (record { seen = refl; tame = λ it. it })
 
-  list-unseen : (x : TracedProcess) (ls : List (ℕ × TracedLwp)) → IsQuietList x.lwps ls → IsUnseen x (record x { lwps = ls })
+  list-unseen : (x : TracedProcess) (ls : List (ℕ × TracedLwp)) → IsQuietList x.lwps ls
+      → IsUnseen x (record x { lwps = ls })
   unfolding uncontrolled_process
   list-unseen x ls q =
       bare-unseen x (record x { lwps = ls }) (ap (λ ks. record (uncontrolled_process x) { lwps = ks }) q.seen)
@@ -235,7 +239,8 @@ module _ (covers : Covers) (pid : ℕ) where
           let undirected = map_each without_directive p.lwps in
           list-unseen p (if_all_requested p.job_stop undirected)
           (next-quiet p.lwps undirected (if_all_requested p.job_stop undirected)
-          (each-quiet without_directive same-undirected abort-undirected p.lwps) (requested-quiet p.job_stop undirected))
+          (each-quiet without_directive same-undirected abort-undirected p.lwps)
+          (requested-quiet p.job_stop undirected))
       by (Some e) is =
           let found = aim e is in
           let cleared = change_under e.0 without_fault p.lwps in
@@ -257,7 +262,8 @@ module _ (covers : Covers) (pid : ℕ) where
   one_run-unseen flags ask p rising None aim = record { seen = refl; tame = λ it. it }
   one_run-unseen flags ask p rising (Some e) aim =
       let found = aim e refl in
-      lwp-unseen p e.0 e.1 (run_lwp flags) rising found.0 (run-same flags ask (c.faulted e.0) e.1 found.1) (run-abort flags ask)
+      lwp-unseen p e.0 e.1 (run_lwp flags) rising found.0
+      (run-same flags ask (c.faulted e.0) e.1 found.1) (run-abort flags ask)
 
   pub run-unseen : (flags : ℕ) → StepFlags flags → (p : TracedProcess) → IsRising p.lwps
       → ((e : ℕ × TracedLwp) → representative p ≡ Some e → (lwp_of p e.0 ≡ Some e.1) × NoOther (c.faulted e.0) e.1)
@@ -277,7 +283,8 @@ agent_came c regs p none =
     ap (λ ls. record p { space = patched c.patches p.space; lwps = ls })
     (come-hidden (lwp_beneath c) agent_id (agent_lwp regs) p.lwps none ∙ by c.agent refl)
   where
-    by : (b : Bool) → c.agent ≡ b → seen_under all_kept (lwp_beneath c) p.lwps ≡ seen_under (keeps_lwp c) (lwp_beneath c) p.lwps
+    by : (b : Bool) → c.agent ≡ b
+        → seen_under all_kept (lwp_beneath c) p.lwps ≡ seen_under (keeps_lwp c) (lwp_beneath c) p.lwps
     by false is = seen-alike all_kept (keeps_lwp c) (lwp_beneath c) (λ id. rw is refl) p.lwps
     by true is =
         sym (absent (lwp_beneath c) agent_id p.lwps none)

@@ -15,7 +15,8 @@ unfolding uncovered_process with_pending uncovered_lwp lwp_with_pending
 pending-uncovered c None s info p = refl
 pending-uncovered c (Some id) s info p =
     ap (λ ls. record (uncovered_process c p) { lwps = ls })
-    (seen-change (keeps_lwp c) (lwp_beneath c) id (lwp_with_pending s info) (lwp_with_pending s info) (λ x. refl) p.lwps)
+    (seen-change (keeps_lwp c) (lwp_beneath c) id
+    (lwp_with_pending s info) (lwp_with_pending s info) (λ x. refl) p.lwps)
 
 without_pending-uncovered : (c : Cover) (set : ℕ) (p : TracedProcess)
     → uncovered_process c (without_pending set p) ≡ without_pending set (uncovered_process c p)
@@ -30,7 +31,8 @@ unfolding uncovered_process without_job_stop
 job-uncovered c s p =
     elim (ends_job_stop s) as
     (λ b. uncovered_process c (cond b (record p { job_stop = None }) p)
-    ≡ cond b (record (uncovered_process c p) { job_stop = None }) (uncovered_process c p)) [ true ↦ refl | false ↦ refl ]
+    ≡ cond b (record (uncovered_process c p) { job_stop = None }) (uncovered_process c p))
+    [ true ↦ refl | false ↦ refl ]
 
 deletions-uncovered : (c : Cover) (s : Sig) (p : TracedProcess)
     → uncovered_process c (with_deletions s p) ≡ with_deletions s (uncovered_process c p)

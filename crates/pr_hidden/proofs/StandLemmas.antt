@@ -59,7 +59,10 @@ mappings-stand : (at : ℕ) (bytes : List ℕ) (space : Space) → AllPairs IsBe
 unfolding over over_mapping
 mappings-stand at bytes [] apart reads = refl
 mappings-stand at bytes (m ∷ ms) apart reads =
-    rw (bytes-stand at bytes m.at m.bytes here, mappings-stand at bytes ms (AllPairs-tail IsBefore m ms apart) behind) refl
+    rw (
+      bytes-stand at bytes m.at m.bytes here,
+      mappings-stand at bytes ms (AllPairs-tail IsBefore m ms apart) behind,
+    ) refl
   where
     here : (i : ℕ) → i < length m.bytes → at ≤ m.at + i → m.at + i < at + length bytes
         → slice_index m.bytes i ≡ slice_index bytes (m.at + i - at)

@@ -16,7 +16,8 @@ pub process-uncovered : (covers : Covers) (s : TracedSystem) (pid : ℕ)
 unfolding uncovered
 process-uncovered covers s pid = under-kept all_kept (process_beneath covers) pid refl s.processes
 
-live-one : (c : Cover) (p : TracedProcess) → if_live (uncovered_process c p) ≡ option_map (uncovered_process c) (if_live p)
+live-one : (c : Cover) (p : TracedProcess)
+    → if_live (uncovered_process c p) ≡ option_map (uncovered_process c) (if_live p)
 unfolding uncovered_process
 live-one c p =
     elim (is_none p.ended) as
@@ -72,7 +73,8 @@ with_process-uncovered covers s pid f g agree =
     ap (λ ps. record (uncovered covers s) { processes = ps })
     (seen-change all_kept (process_beneath covers) pid f g agree s.processes)
 
-pub with_process_if-uncovered : (covers : Covers) (s : TracedSystem) (o : Option ℕ) (f g : TracedProcess → TracedProcess)
+pub with_process_if-uncovered : (covers : Covers) (s : TracedSystem) (o : Option ℕ)
+    (f g : TracedProcess → TracedProcess)
     → ((pid : ℕ) → o ≡ Some pid → (x : TracedProcess)
     → uncovered_process (covers pid) (f x) ≡ g (uncovered_process (covers pid) x))
     → uncovered covers (with_process_if o f s) ≡ with_process_if o g (uncovered covers s)

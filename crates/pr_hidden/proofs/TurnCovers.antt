@@ -46,7 +46,8 @@ transition-uncovered covers s pid p id l t none allows =
     ∙ ap (ended_if traced pid q id m t.ending)
     (with_process-uncovered covers changed pid (with_lwp id (moved traced t.move)) (with_lwp id (moved traced t.move))
     (λ x. with_lwp-uncovered (covers pid) x id (moved traced t.move) (moved traced t.move) moves)
-    ∙ ap (with_lwp_of pid id (moved traced t.move)) (all_changed-uncovered covers pid p id l t.changes s allows.changes))
+    ∙ ap (with_lwp_of pid id (moved traced t.move))
+    (all_changed-uncovered covers pid p id l t.changes s allows.changes))
   where
     moves : (y : TracedLwp)
         → uncovered_lwp ((covers pid).faulted id) (moved traced t.move y)
@@ -73,7 +74,8 @@ pub settled-uncovered : (covers : Covers) (s : TracedSystem) (pid : ℕ) (p : Tr
 unfolding settled uncovered_process
 settled-uncovered covers s pid p id l row none allows =
     ap (λ (after : TracedSystem). turn (met (counts after)))
-    (ap (λ (b : Bool). beneath b) (sym none) ∙ sym (transition-uncovered covers s pid p id l row.transition none allows))
+    (ap (λ (b : Bool). beneath b) (sym none)
+    ∙ sym (transition-uncovered covers s pid p id l row.transition none allows))
     ∙ ap (λ (after : TracedSystem). turn (met after)) (sym
     (with_process-uncovered covers (after_transition traced pid p id l row.transition s) pid
     (with_counted row.did row.begun) (with_counted row.did row.begun)
@@ -156,7 +158,8 @@ held-same c p id own l = refl
 -- ---- a turn
 
 -- what a turn is of the lwp that has it
-pub record TurnHere (s : TracedSystem) (pid : ℕ) (p : TracedProcess) (id : ℕ) (l : TracedLwp) (t : LwpTurn) : Type 0 where
+pub record TurnHere (s : TracedSystem) (pid : ℕ) (p : TracedProcess) (id : ℕ) (l : TracedLwp)
+    (t : LwpTurn) : Type 0 where
   pub free : is_held_back p id l ≡ false
   pub goes : may_go_on s pid p id l l.phase ≡ true
   pub is : t ≡ settled s pid p id l (row_for s pid p id l)
@@ -191,7 +194,8 @@ lwp-beneath c p id l no_agent no_fault there =
     ∙ ap (λ (b : Bool). Some (uncovered_lwp b l)) no_fault
 
 -- the turn of an lwp, and what it leaves, without what is hidden
-pub record TurnBeneath (covers : Covers) (s : TracedSystem) (pid : ℕ) (p : TracedProcess) (id : ℕ) (l : TracedLwp) (t : LwpTurn) : Type 0 where
+pub record TurnBeneath (covers : Covers) (s : TracedSystem) (pid : ℕ) (p : TracedProcess) (id : ℕ) (l : TracedLwp)
+    (t : LwpTurn) : Type 0 where
   pub goes :
       may_go_on (uncovered covers s) pid (uncovered_process (covers pid) p) id (uncovered_lwp false l)
       (uncovered_lwp false l).phase ≡ true
@@ -200,7 +204,8 @@ pub record TurnBeneath (covers : Covers) (s : TracedSystem) (pid : ℕ) (p : Tra
       (row_for (uncovered covers s) pid (uncovered_process (covers pid) p) id (uncovered_lwp false l))
       ≡ record { system = uncovered covers t.system; turned = t.turned }
 
-pub turn-beneath : (covers : Covers) (s : TracedSystem) (pid : ℕ) (p : TracedProcess) (id : ℕ) (l : TracedLwp) (t : LwpTurn)
+pub turn-beneath : (covers : Covers) (s : TracedSystem) (pid : ℕ) (p : TracedProcess) (id : ℕ)
+    (l : TracedLwp) (t : LwpTurn)
     → TurnHere s pid p id l t → IsOpenTurn covers s pid p id l → TurnBeneath covers s pid p id l t
 turn-beneath covers s pid p id l t here it =
     let c = covers pid in
@@ -215,7 +220,8 @@ turn-beneath covers s pid p id l t here it =
           ap (λ (r : Row). settled u pid q id m r)
           (row-uncovered covers s pid p id l c it.no_agent it.within it.spares it.not_stepped)
           ∙ settled-uncovered covers s pid p id l (row_for s pid p id l) it.no_fault it.allows
-          ∙ ap (λ (x : LwpTurn). let r : LwpTurn = record { system = uncovered covers x.system; turned = x.turned } in r)
+          ∙ ap (λ (x : LwpTurn).
+          let r : LwpTurn = record { system = uncovered covers x.system; turned = x.turned } in r)
           (sym here.is);
     }
 

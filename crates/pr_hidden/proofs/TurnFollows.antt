@@ -135,7 +135,8 @@ module _ (who : Hiders) (covers : Covers) (s : TracedState) (pid id : ℕ) (t : 
         (without_replaced did (cond (is_directed (lwp_at s.system pid id)) c (with_fault id own c)))) covers) hidden
 
     -- it ends
-    module _ (exit : exits did ≡ true) (is : row.transition ≡ ending ends_lwp) (more : eqb (length p.lwps) 1 ≡ false) where
+    module _ (exit : exits did ≡ true) (is : row.transition ≡ ending ends_lwp)
+        (more : eqb (length p.lwps) 1 ≡ false) where
       abbrev gone : Covers
       gone = with_cover pid (with_own_agent false c) covers
 
@@ -189,7 +190,8 @@ module _ (who : Hiders) (covers : Covers) (s : TracedState) (pid id : ℕ) (t : 
       unfolding after_transition
       after-work = ap (λ o. ended_if traced pid p id l o worked) none
 
-      lwp-tame : (x : TracedSystem) → IsTame covers x → IsTame covers (with_lwp_of pid id (moved traced row.transition.move) x)
+      lwp-tame : (x : TracedSystem) → IsTame covers x
+          → IsTame covers (with_lwp_of pid id (moved traced row.transition.move) x)
       unfolding with_lwp_of with_lwp
       lwp-tame x it =
           tame-process covers pid (with_lwp id (moved traced row.transition.move))
@@ -268,7 +270,8 @@ module _ (who : Hiders) (covers : Covers) (s : TracedState) (pid id : ℕ) (t : 
         ap (λ k. cond (not k) [] (cond own (steps_of_own (is_leaving (lwp_at s.system pid id)) pid id did)
         (steps_of_turn (m.returning pid id) pid id did))) kept
         ∙ ap (λ o. cond own (steps_of_own (is_leaving o) pid id did) (steps_of_turn (m.returning pid id) pid id did)) at
-        ∙ ap (λ o. cond o (steps_of_own (is_way_out l.phase) pid id did) (steps_of_turn (m.returning pid id) pid id did)) is
+        ∙ ap (λ o. cond o (steps_of_own (is_way_out l.phase) pid id did)
+        (steps_of_turn (m.returning pid id) pid id did)) is
 
     -- ---- that stops as directed
 
@@ -295,7 +298,8 @@ module _ (who : Hiders) (covers : Covers) (s : TracedState) (pid id : ℕ) (t : 
       not-own : own ≡ false
       unfolding is_own
       not-own =
-          ap (λ d. is_own_fault (has_hold who s.opens pid) (is_at_patch c.patches (lwp_at s.system pid id)) d) stopped-did
+          ap (λ d. is_own_fault (has_hold who s.opens pid)
+          (is_at_patch c.patches (lwp_at s.system pid id)) d) stopped-did
 
       stop-seen : (m : Memory) → turn_seen who covers s m pid id did ≡ []
       stop-seen m = kept-seen m false not-own ∙ ap (λ d. steps_of_turn (m.returning pid id) pid id d) stopped-did
@@ -336,7 +340,8 @@ module _ (who : Hiders) (covers : Covers) (s : TracedState) (pid id : ℕ) (t : 
           (λ q is. let same : p ≡ q = same_Some p q (sym found ∙ is) in
           subst (λ (x : TracedProcess). uncovered_process (with_fault id false c) x ≡ uncovered_process c x) same
           (fault-reset c p id l of.rising there
-          (λ noted f address faulted. no-fault (apart-bools l.control.directed (tidy.never_posted noted f address faulted) goes))))
+          (λ noted f address faulted. no-fault
+          (apart-bools l.control.directed (tidy.never_posted noted f address faulted) goes))))
         where
           no-fault : ⊥ → ⊥
           no-fault e = e
@@ -361,7 +366,8 @@ module _ (who : Hiders) (covers : Covers) (s : TracedState) (pid id : ℕ) (t : 
       cleared-agents = agent-of-one covers pid (with_fault id false c) refl
 
       -- to note a fault after that is to note it
-      again : (b : Bool) → with_cover pid (with_fault id b (cleared pid)) cleared ≡ with_cover pid (with_fault id b c) covers
+      again : (b : Bool)
+          → with_cover pid (with_fault id b (cleared pid)) cleared ≡ with_cover pid (with_fault id b c) covers
       again b =
           ap (λ (d : Cover). with_cover pid (with_fault id b d) cleared) cleared-is
           ∙ ap (λ (d : Cover). with_cover pid d cleared) (fault-twice id b false c)
@@ -373,12 +379,15 @@ module _ (who : Hiders) (covers : Covers) (s : TracedState) (pid id : ℕ) (t : 
       tame-cleared : IsTame cleared s.system
       tame-cleared = agents-same covers cleared cleared-agents s.system tame
 
-      noted-tame : (x : TracedSystem) (b : Bool) → IsTame covers x → IsTame (with_cover pid (with_fault id b c) covers) x
+      noted-tame : (x : TracedSystem) (b : Bool) → IsTame covers x
+          → IsTame (with_cover pid (with_fault id b c) covers) x
       noted-tame x b it =
-          agents-same covers (with_cover pid (with_fault id b c) covers) (agent-of-one covers pid (with_fault id b c) refl) x it
+          agents-same covers (with_cover pid (with_fault id b c) covers)
+          (agent-of-one covers pid (with_fault id b c) refl) x it
 
       -- what a turn leaves that changes a space at most, and moves its lwp
-      store-tame : (store : Option Store) → IsTame covers (all_changed traced pid p id l (stored_in p.space store) s.system)
+      store-tame : (store : Option Store)
+          → IsTame covers (all_changed traced pid p id l (stored_in p.space store) s.system)
       unfolding all_changed changed stored_in with_space
       store-tame None = tame
       store-tame (Some store) =
@@ -422,7 +431,8 @@ module _ (who : Hiders) (covers : Covers) (s : TracedState) (pid id : ℕ) (t : 
           none-seen : turn_seen who covers s m pid id did ≡ []
           none-seen = kept-seen m true is ∙ ap (λ d. steps_of_own (is_way_out l.phase) pid id d) fault
 
-          by : HowFaulted s.system pid p id l → Follows covers new s.system t.system (turn_seen who covers s m pid id did)
+          by : HowFaulted s.system pid p id l
+              → Follows covers new s.system t.system (turn_seen who covers s m pid id did)
           by (by_return call back is_row) =
               absurd (return-no-breakpoint p l call (ap (λ (r : Row). r.did) (sym is_row) ∙ sym did-is ∙ fault))
           by (by_instruction runs is_row) =
@@ -433,9 +443,11 @@ module _ (who : Hiders) (covers : Covers) (s : TracedState) (pid id : ℕ) (t : 
               (subst (λ (n : Covers). Follows covers n s.system t.system []) (sym (goes-cover true is))
               (follows-unseen covers noted s.system t.system
               (ap (λ (n : Covers). seen n t.system) (sym (again true))
-              ∙ breakpoint-hidden cleared s.system pid id t p l effect.0 turn stands runs effect.1 cleared-agent fault-cleared
+              ∙ breakpoint-hidden cleared s.system pid id t p l
+              effect.0 turn stands runs effect.1 cleared-agent fault-cleared
               ∙ ap erased_system cleared-same)
-              (left-tame (incurred_row flt.Bpt effect.0) (is_row ∙ ap (executed_row p l) effect.1) (incurred-tame effect.0))))
+              (left-tame (incurred_row flt.Bpt effect.0)
+              (is_row ∙ ap (executed_row p l) effect.1) (incurred-tame effect.0))))
 
       -- ---- at FLTTRACE
 
@@ -466,7 +478,8 @@ module _ (who : Hiders) (covers : Covers) (s : TracedState) (pid id : ℕ) (t : 
           steps : turn_seen who covers s m pid id did ≡ cond (is_way_out l.phase) [] (Exec pid id ∷ [])
           steps = kept-seen m true is ∙ ap (λ d. steps_of_own (is_way_out l.phase) pid id d) fault
 
-          by : HowFaulted s.system pid p id l → Follows covers new s.system t.system (turn_seen who covers s m pid id did)
+          by : HowFaulted s.system pid p id l
+              → Follows covers new s.system t.system (turn_seen who covers s m pid id did)
           by (by_return call back is_row) =
               let marked =
               return-marked p l call (ap (λ (r : Row). r.did) (sym is_row) ∙ sym did-is ∙ fault) in
@@ -502,8 +515,10 @@ module _ (who : Hiders) (covers : Covers) (s : TracedState) (pid id : ℕ) (t : 
                 run =
                     subst (λ u. UntracedRun u (Exec pid id ∷ []) (seen noted t.system))
                     (ap erased_system cleared-same)
-                    (subst (λ (n : Covers). UntracedRun (seen cleared s.system) (Exec pid id ∷ []) (seen n t.system)) (again true)
-                    (step-runs cleared s.system pid id p l stands cleared-agent fault-cleared t it.regs it.store turn runs
+                    (subst (λ (n : Covers). UntracedRun (seen cleared s.system) (Exec pid id ∷ []) (seen n t.system))
+                    (again true)
+                    (step-runs cleared s.system pid id p l
+                    stands cleared-agent fault-cleared t it.regs it.store turn runs
                     it.effect it.marked within spared unhampered));
                 tame =
                     left-tame row refl
@@ -524,7 +539,8 @@ module _ (who : Hiders) (covers : Covers) (s : TracedState) (pid id : ℕ) (t : 
         not-stepped is =
             let held = tidy.own_steps (did-is ∙ is) in
             apart-bools own
-            (ap (λ d. is_own_fault (has_hold who s.opens pid) (is_at_patch c.patches (lwp_at s.system pid id)) d) (did-is ∙ is)
+            (ap (λ d. is_own_fault (has_hold who s.opens pid) (is_at_patch c.patches (lwp_at s.system pid id)) d)
+            (did-is ∙ is)
             ∙ held) other
 
         later : s.system.made ≤ s.system.made
@@ -544,7 +560,8 @@ module _ (who : Hiders) (covers : Covers) (s : TracedState) (pid id : ℕ) (t : 
           within = within;
           spares = subst (λ (ps : List Patch). SparesPatches ps p l) (sym own-patches) spares;
           allows =
-              transition-allowed covers cleared cleared-patches s.system.made fresh pid cleared-agent p id l row.transition
+              transition-allowed covers cleared cleared-patches
+              s.system.made fresh pid cleared-agent p id l row.transition
               s.system later tidy.changes tidy.returns;
         }
 
@@ -560,7 +577,8 @@ module _ (who : Hiders) (covers : Covers) (s : TracedState) (pid id : ℕ) (t : 
             All-under IsUntouchedProcess pid q u.processes untouched.processes
             (live_process-found u pid q (live-beneath cleared s.system pid p live)) in
             let it : IsUntouchedLwp (id, m) =
-            All-under IsUntouchedLwp id m q.lwps of.lwps (lwp-beneath (cleared pid) p id l cleared-agent fault-cleared there) in
+            All-under IsUntouchedLwp id m q.lwps of.lwps
+            (lwp-beneath (cleared pid) p id l cleared-agent fault-cleared there) in
             untouched-tame cleared t.system
             (subst (λ (x : LwpTurn). IsUntouched x.system) beneath.is
             (settled-keeps pid q id m it u untouched (row_for u pid q id m) (row-proper u pid q id m)))

@@ -53,7 +53,8 @@ over-patch : (at : ℕ) (ps : List Patch) (f : Patch) (bytes : List ℕ) (space 
     → length bytes ≡ length f.bytes → patched ps (with_bytes at bytes space) ≡ patched ps space
 over-patch at ps f bytes space found size =
     hidden-store ps at bytes
-    (λ a low high. found-covers at ps f found a (omega (arith, found-at at ps f found, low)) (omega (arith, found-at at ps f found, high, size)))
+    (λ a low high. found-covers at ps f found a (omega (arith, found-at at ps f found, low))
+    (omega (arith, found-at at ps f found, high, size)))
     space
 
 -- ---- it is lifted
@@ -158,8 +159,8 @@ module _ (ps : List Patch) (space : Space) (sound : AreSound ps) where
 
   -- where a function's code stands: it is written again, or a breakpoint is planted
   planted-written : (f : Patch) (bytes : List ℕ) → IsPlantable f ps space → length bytes ≡ length f.bytes
-      → IsWritten (cond (bytes_eq bytes f.bytes) (without_patch f.at ps) (with_patch f ps)) (with_bytes f.at bytes space)
-      ps space
+      → IsWritten (cond (bytes_eq bytes f.bytes) (without_patch f.at ps) (with_patch f ps))
+      (with_bytes f.at bytes space) ps space
   planted-written f bytes may size =
       elim (cases_Bool (bytes_eq bytes f.bytes)) [
         | inl same ↦
@@ -180,8 +181,8 @@ module _ (ps : List Patch) (space : Space) (sound : AreSound ps) where
   function-written f bytes it =
       elim it.place [
         | inl found ↦
-            subst (λ qs. IsWritten (cond (bytes_eq bytes f.bytes) (without_patch f.at ps) qs) (with_bytes f.at bytes space)
-            ps space) (sym (stays found)) (stands-written f.at f bytes found it.size)
+            subst (λ qs. IsWritten (cond (bytes_eq bytes f.bytes) (without_patch f.at ps) qs)
+            (with_bytes f.at bytes space) ps space) (sym (stays found)) (stands-written f.at f bytes found it.size)
         | inr may ↦ planted-written f bytes may it.size
       ]
     where

@@ -87,7 +87,8 @@ pub record MayLeave (covers : Covers) (pid : ℕ) (p : TracedProcess) : Type 0 w
   pub no_agent : (covers pid).agent ≡ false
   pub returnable : IsReturnable covers pid p
 
-pub record AllowsTransition (covers : Covers) (pid : ℕ) (p : TracedProcess) (id : ℕ) (l : TracedLwp) (t : Transition) (s : TracedSystem) : Type 0 where
+pub record AllowsTransition (covers : Covers) (pid : ℕ) (p : TracedProcess) (id : ℕ) (l : TracedLwp) (t : Transition)
+    (s : TracedSystem) : Type 0 where
   pub changes : AllowsAll covers pid p id l t.changes s
   pub leaves : (how : Ending) → t.ending ≡ Some how → MayLeave covers pid p
 
@@ -111,7 +112,8 @@ pub record SparesPatches (ps : List Patch) (p : TracedProcess) (l : TracedLwp) :
 
 -- The turn of an lwp, in a process of which no agent is hidden, is nothing of a controller's: the lwp stands at no
 -- fault that is hidden and incurs no FLTTRACE, touches no patch, and may change what it changes.
-pub record IsOpenTurn (covers : Covers) (s : TracedSystem) (pid : ℕ) (p : TracedProcess) (id : ℕ) (l : TracedLwp) : Type 0 where
+pub record IsOpenTurn (covers : Covers) (s : TracedSystem) (pid : ℕ) (p : TracedProcess) (id : ℕ)
+    (l : TracedLwp) : Type 0 where
   pub no_agent : (covers pid).agent ≡ false
   pub no_fault : (covers pid).faulted id ≡ false
   pub not_stepped : (row_for s pid p id l).did ≢ Faulted Trace

@@ -114,7 +114,8 @@ saved_in space =
     as_patch text_base (bytes_for 0 space text_base instructions_size)
     ++ as_patch stack_base (bytes_for 0 space stack_base answer_size)
 
--- PCWRITE of a probe: what stands at both places is saved before its first one, and is a patch until it is written back.
+-- PCWRITE of a probe: what stands at both places is saved before its first one, and is a patch until it is written
+-- back.
 abbrev pub probe_written : Option Patch → Space → ℕ → List ℕ → List Patch → List Patch
 probe_written None space at bytes ps = saved_in space
 probe_written (Some p) space at bytes ps = if bytes_eq bytes p.bytes then without_patch at ps else ps
@@ -152,7 +153,8 @@ finished c = with_own_agent c.agent no_cover
 
 abbrev pub covers_closed : Hiders → ℕ → Option Held → Covers → Covers
 covers_closed who k None covers = covers
-covers_closed who k (Some h) covers = if hides who k && is_ctl h.file then with_cover h.pid (finished (covers h.pid)) covers else covers
+covers_closed who k (Some h) covers =
+    if hides who k && is_ctl h.file then with_cover h.pid (finished (covers h.pid)) covers else covers
 
 unfoldable pub covers_called : Hiders → Covers → TracedState → ℕ → calls.Call → Reply → Covers
 covers_called who covers s k (call.Ctl handle bytes) (reply.Used used) =

@@ -132,8 +132,8 @@ pub record IsPlantable (f : Patch) (ps : List Patch) (space : Space) : Type 0 wh
   pub within : f.at + length f.bytes ≤ 2 ^ 64
   pub code : with_bytes f.at f.bytes space ≡ space
 
--- A controller with functions writes where one of them begins, as many bytes as its code has: where that code stands, or
--- where its breakpoint does.
+-- A controller with functions writes where one of them begins, as many bytes as its code has: where that code stands,
+-- or where its breakpoint does.
 pub record IsFunctionWrite (f : Patch) (ps : List Patch) (space : Space) (bytes : List ℕ) : Type 0 where
   pub size : length bytes ≡ length f.bytes
   pub place : (patch_at f.at ps ≡ Some f) ⊎ IsPlantable f ps space
@@ -223,7 +223,8 @@ MayKill covers s pid number =
 abbrev pub IsTidyCall : Hiders → Covers → TracedState → ℕ → calls.Call → Reply → Type 0
 IsTidyCall who covers s k (call.Ctl handle bytes) (reply.Used used) =
     IsTidyControl who k covers s.system (handle_of s.opens k handle) bytes
-IsTidyCall who covers s k (call.Close handle) reply.Done = IsTidyClose who k covers s.system (handle_of s.opens k handle)
+IsTidyCall who covers s k (call.Close handle) reply.Done =
+    IsTidyClose who k covers s.system (handle_of s.opens k handle)
 IsTidyCall who covers s k (call.Kill pid number) reply.Done = MayKill covers s.system pid number
 IsTidyCall who covers s k c r = Unit {0}
 
@@ -245,7 +246,8 @@ AreTidyChanges covers pid p id l (c ∷ cs) s =
 -- The turn of an lwp that is no hidden agent. Beside one, and at a fault of a controller's, it moves only to stop as it
 -- is directed to: such a fault is cleared, and never posted. FLTTRACE comes only where a controller with functions has
 -- "ctl" open: no step mark outlives that. And what the turn changes is tidy, as is the end of the process.
-pub record IsTidyMove (who : Hiders) (covers : Covers) (s : TracedState) (pid : ℕ) (p : TracedProcess) (id : ℕ) (l : TracedLwp) (did : Did) : Type 0 where
+pub record IsTidyMove (who : Hiders) (covers : Covers) (s : TracedState) (pid : ℕ) (p : TracedProcess) (id : ℕ)
+    (l : TracedLwp) (did : Did) : Type 0 where
   pub beside_agent : (covers pid).agent ≡ true → l.control.directed ≡ true
   pub never_posted : (covers pid).faulted id ≡ true → (f : Flt) (address : ℕ) → l.phase ≡ Faulted f address
       → l.control.directed ≡ true

@@ -303,7 +303,8 @@ module _ (Which : ℕ → Type 0) where
     unfolding without_lwp
     without_lwp-keeps x u = All-without_id IsUnsteppedLwp id x.lwps u
 
-    ended-keeps : (how : Ending) (s : TracedSystem) → AreUnmarked Which s → AreUnmarked Which (ended traced acting p id how s)
+    ended-keeps : (how : Ending) (s : TracedSystem) → AreUnmarked Which s
+        → AreUnmarked Which (ended traced acting p id how s)
     unfolding ended with_lwp_ended
     ended-keeps (ends_process status) s u = with_this_ended-keeps acting p status s u
     ended-keeps ends_lwp s u =

@@ -20,7 +20,8 @@ use Rattle.pr_model.specs.Machines.{no_marks, traced}
 use Rattle.pr_model.specs.Signals.{generated, is_kill}
 use Rattle.pr_model.specs.State.{TracedLwp, TracedProcess, TracedSystem, live_process, lwp_of, process_of, with_lwp, with_process}
 
--- An lwp that stands on no event stands on none after the changes that a turn makes beside its lwp, whoever they are of.
+-- An lwp that stands on no event stands on none after the changes that a turn makes beside its lwp, whoever they are
+-- of.
 
 -- ---- what holds of the thing under an id, where there is one
 
@@ -44,8 +45,8 @@ module _ {X : Type 0} (P : X → Type 0) (id : ℕ) where
     | inr apart ↦ subst (There P) (sym (under-change_under_other other id f (eqb-false other id apart) es)) h
   ]
 
-  pub each-there : (f : X → X) (es : List (ℕ × X)) → ((x : X) → P x → P (f x)) → There P (under id es) → There P (under id
-      (map_each f es))
+  pub each-there : (f : X → X) (es : List (ℕ × X)) → ((x : X) → P x → P (f x)) → There P (under id es)
+      → There P (under id (map_each f es))
   each-there f es keeps h = subst (There P) (sym (under-map_each id f es)) (mapped-there P f (under id es)
       (λ x is. keeps x (h.holds x is)))
 
@@ -205,7 +206,8 @@ module _ (id : ℕ) where
       change-calm (forks birth args) s h =
           choice AreCalm (s.made == pid) _ _ (λ own. h) (λ apart. made-calm birth s (eqb-false s.made pid apart) h)
         where
-          grown-calm : (child : TracedProcess) (t : TracedSystem) → t.made ≢ pid → AreCalm t → AreCalm (with_made child t)
+          grown-calm : (child : TracedProcess) (t : TracedSystem) → t.made ≢ pid → AreCalm t
+              → AreCalm (with_made child t)
           grown-calm child t apart it = record {
             process = subst (There (HasLwp IsStopless id)) (sym (under-inserted_other t.made pid child apart
                 t.processes)) it.process;

@@ -16,8 +16,8 @@ use Rattle.pr_reached.specs.ByteHistories.{HasBytes}
 use Rattle.pr_reached.specs.InRange.{IsInRange, IsMappingInRange, IsProcessInRange, IsStartInRange}
 use Rattle.pr_reached.specs.Mapped.{HasAPage, HasFewMappings, HaveAddressSpaces, HaveFewMappings}
 
--- The processes of a system in range have few mappings, which are an address space, and so have those of each state that
--- is reached.
+-- The processes of a system in range have few mappings, which are an address space, and so have those of each state
+-- that is reached.
 
 pub few-mappings : (p : TracedProcess) → IsProcessInRange p → HasFewMappings p
 few-mappings p h = record {

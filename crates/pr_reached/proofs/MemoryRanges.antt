@@ -39,8 +39,8 @@ use Rattle.pr_model.specs.MemoryCalls.{path_at}
 use Rattle.pr_reached.proofs.RegisterRanges.{byte_at, wraps}
 use Rattle.pr_reached.specs.InRange.{IsMappingInRange, IsShortName, IsProgramInRange, IsSpaceInRange}
 
--- The bytes of address spaces stay bytes, and what is read of them are bytes. The mappings stay apart, by rising address,
--- and each keeps a page at least, so there are never more of them than a process can map pages.
+-- The bytes of address spaces stay bytes, and what is read of them are bytes. The mappings stay apart, by rising
+-- address, and each keeps a page at least, so there are never more of them than a process can map pages.
 
 -- ---- lists
 

@@ -7,8 +7,8 @@ use Rattle.pr_model.specs.declared.events.Act.{Act}
 use Rattle.pr_model.specs.declared.events.Act.TheVariants.{Call as ACall}
 use Rattle.pr_model.specs.declared.events.Entry.{Entry}
 
--- The messages that a controller writes are bytes. Types say so in the program; the definitions of the machine do not ask
--- for it.
+-- The messages that a controller writes are bytes. Types say so in the program; the definitions of the machine do not
+-- ask for it.
 
 -- The messages of Ctl are bytes. Of other calls nothing is asked: what CtlWait names is read, and not written.
 abbrev pub IsOfBytes : Call → Type 0

@@ -23,9 +23,9 @@ use Rattle.pr_model.specs.declared.lwps.Phase.{Phase}
 use Rattle.pr_model.specs.declared.lwps.Phase.TheVariants.{User, Entered, Asleep, Exiting, Faulted}
 use Rattle.pr_reached.specs.Mapped.{most_mappings}
 
--- The ranges of the numbers of a system, beside what makes it lawful. Registers and addresses are words, bytes are below
--- 256, a set has no number outside its table, and the mappings of a process are an address space, have a page at least
--- and are few. What processes have used is left out: it grows with every turn.
+-- The ranges of the numbers of a system, beside what makes it lawful. Registers and addresses are words, bytes are
+-- below 256, a set has no number outside its table, and the mappings of a process are an address space, have a page at
+-- least and are few. What processes have used is left out: it grows with every turn.
 
 -- a name of a program or a file
 pub record IsShortName (name : List ℕ) : Type 0 where

@@ -22,9 +22,9 @@ pub fn processes_have_few_mappings()
         → HaveFewMappings (state_after (first_state programs files spawns) h).system }
 {}
 
-/// What each process has mapped is an address space, and so is what it shows of its memory: the mappings stand by rising
-/// address and apart from each other. It is so in every system in range, and so in each state that a legal history leads
-/// to, from a lawful state in range or from a first state, where controllers write bytes.
+/// What each process has mapped is an address space, and so is what it shows of its memory: the mappings stand by
+/// rising address and apart from each other. It is so in every system in range, and so in each state that a legal
+/// history leads to, from a lawful state in range or from a first state, where controllers write bytes.
 pub fn processes_have_address_spaces()
     ensures each { (s : TracedSystem) → IsInRange s → HaveAddressSpaces s }
     ensures later { (n : ℕ) (s : TracedState) (h : List Entry) → IsLawful s → IsInRange s.system → HasBytes h

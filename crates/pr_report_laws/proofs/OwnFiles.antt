@@ -1,6 +1,6 @@
 -- That truss calls just files that it has open, opens each file in its place, closes nothing that it has hold of, and
--- all that it has of what has ended or of what it has looked at for the last time, the control file last, polls soon, by
--- the control files that it has open, and what it sends once it has polled, or was interrupted.
+-- all that it has of what has ended or of what it has looked at for the last time, the control file last, polls soon,
+-- by the control files that it has open, and what it sends once it has polled, or was interrupted.
 pub mod CalledFiles
 pub mod ControlsLast
 pub mod EndedFiles

@@ -49,9 +49,9 @@ calls_without_return = with_number (with_number 0 (syscall_number Exit)) (syscal
 abbrev pub and_forks : ℕ → ℕ
 and_forks calls = with_number (with_number calls (syscall_number Fork)) (syscall_number Vfork)
 
--- The sets that truss has traced have just what is asked for, and nothing beside: they are the words of the options, but
--- for the calls. Of these the ones that never return are traced at their entry, the others at their exit, and with -f
--- fork and vfork at their exit too.
+-- The sets that truss has traced have just what is asked for, and nothing beside: they are the words of the options,
+-- but for the calls. Of these the ones that never return are traced at their entry, the others at their exit, and with
+-- -f fork and vfork at their exit too.
 pub record TracesWhatIsAsked (o : Options) : Type 0 where
   pub each : (e : Event) → traces o e ≡ is_asked o e
   pub signals : traced_signals o ≡ o.signals

@@ -35,8 +35,8 @@ child_calls pid control =
     call.Open pid 0 file.Ctl WriteExcl ∷ message_call control (message.Set rlc_mode) ∷ call.Open pid 0 file.Status Read
     ∷ call.Open pid 0 file.Lstatus Read ∷ call.Open pid 0 file.Mem Read ∷ message_call control (message.Run 0) ∷ []
 
--- The last calls of truss are those by which it opens the child of a fork. None of them was refused before the last one,
--- by which the child runs; that one may be, but not because the child has ended.
+-- The last calls of truss are those by which it opens the child of a fork. None of them was refused before the last
+-- one, by which the child runs; that one may be, but not because the child has ended.
 pub record HasFollowed (k : ℕ) (pid : ℕ) (h : List Entry) : Type 0 where
   pub earlier : List Exchange
   pub opening : List Exchange

@@ -25,9 +25,9 @@ use Rattle.pr_report_laws.specs.Follows.{ComeNext}
 
 -- ---- the fork
 
--- Truss leaves its first process and reads the statuses of its lwps, and this reply tells that the first lwp on an event
--- stands on the return of a fork, which made this child. The stop is not an old one, and truss has not looked at it
--- before.
+-- Truss leaves its first process and reads the statuses of its lwps, and this reply tells that the first lwp on an
+-- event stands on the return of a fork, which made this child. The stop is not an old one, and truss has not looked at
+-- it before.
 pub record ReadsLastFork (t : TrussState) (r : Reply) (child : ℕ) : Type 0 where
   pub stage : t.stage ≡ ReadingLwps
   pub new : (traced_at t 0).old ≡ 0

@@ -70,9 +70,9 @@ pub record ShowsHeld (k : ℕ) (o : Options) (pid : ℕ) (s : TracedState) (h : 
 
 -- ---- what was read
 
--- What truss has read of a process: each event at which it found an lwp by a read of its own, in order. What came in the
--- hold, and is traced, is just this, save perhaps the last event, where it is lacking. What was shown of the process is
--- just what was read and the options select.
+-- What truss has read of a process: each event at which it found an lwp by a read of its own, in order. What came in
+-- the hold, and is traced, is just this, save perhaps the last event, where it is lacking. What was shown of the
+-- process is just what was read and the options select.
 pub record ReadsHeld (k : ℕ) (o : Options) (pid : ℕ) (s : TracedState) (h : List Entry) : Type 0 where
   pub events : List LwpEvent
   pub read : AreRead k pid s h events

@@ -12,10 +12,10 @@ use Rattle.pr_report_laws.specs.Lineages.{IsLeftToTruss}
 use Rattle.pr_report_laws.specs.Shown.{selected}
 
 -- How truss gets hold of a process in a history. It gets hold of it once. Each opening of the process, as one that it
--- was given, has its wait; and from that wait on the process does nothing until truss has hold of it. So what is selected
--- of the process from the wait on, to where truss leaves it or to the end, is what is selected of it in the hold. Of the
--- child of a fork this is so of all that it has done, where it is left to truss, as each process is that it descends
--- from.
+-- was given, has its wait; and from that wait on the process does nothing until truss has hold of it. So what is
+-- selected of the process from the wait on, to where truss leaves it or to the end, is what is selected of it in the
+-- hold. Of the child of a fork this is so of all that it has done, where it is left to truss, as each process is that
+-- it descends from.
 pub record HasOneGrip (k : ℕ) (o : Options) (pid : ℕ) (s : TracedState) (h : List Entry) : Type 0 where
   pub once : (before between later : List Entry) (e f : Entry) → h ≡ before ++ e ∷ (between ++ f ∷ later)
       → GetsHold k o pid before e → GetsHold k o pid (before ++ e ∷ between) f → ⊥

@@ -41,7 +41,8 @@ pub record StandsAtItsEvent (k : ℕ) (o : Options) (pid from len : ℕ) (s : Tr
   pub in_order : selected o pid logged ≡ filter_map (event_reported pid) reports
   pub process : TracedProcess
   pub lives : live_process (state_after s (earlier ++ entry ∷ [])).system pid ≡ Some process
-  pub stayed : (text ≡ text_of len (bytes_in (file_read (state_after s (earlier ++ entry ∷ [])).system pid 0 from len Mem)))
+  pub stayed : (text ≡ text_of len
+      (bytes_in (file_read (state_after s (earlier ++ entry ∷ [])).system pid 0 from len Mem)))
       ⊎ WasKilled pid (state_after s (earlier ++ entry ∷ [])) between
 
 -- The memory of each of these reports that is of an event of this process is that of its event.

@@ -36,7 +36,8 @@ range_asked o l = option_and_then (asked_range o) (event_of l)
 -- Truss read a range of the memory of a process in a history, when it had made just these reports, and this text is
 -- what stands there in the state in which it did: none where the process has ended, or where the first byte is not
 -- mapped.
-pub record IsMemoryRead (k : ℕ) (o : Options) (pid from len : ℕ) (s : TracedState) (h : List Entry) (earlier : List Report) (text : Came) : Type 0 where
+pub record IsMemoryRead (k : ℕ) (o : Options) (pid from len : ℕ) (s : TracedState) (h : List Entry)
+    (earlier : List Report) (text : Came) : Type 0 where
   pub before : List Entry
   pub handle : ℕ
   pub reply : Reply
@@ -51,7 +52,8 @@ pub record IsMemoryRead (k : ℕ) (o : Options) (pid from len : ℕ) (s : Traced
 
 -- The text that is reported with an event, after these reports, is the memory that its line asks for; an event whose
 -- line asks for none has no text.
-pub data IsTextOf (k : ℕ) (o : Options) (s : TracedState) (h : List Entry) (earlier : List Report) (pid : ℕ) (l : LwpStatus) (text : Came) : Type 0 where
+pub data IsTextOf (k : ℕ) (o : Options) (s : TracedState) (h : List Entry) (earlier : List Report) (pid : ℕ)
+    (l : LwpStatus) (text : Came) : Type 0 where
   unasked : range_asked o l ≡ None → text ≡ None → IsTextOf k o s h earlier pid l text
   read : (from len : ℕ) → range_asked o l ≡ Some (from, len) → IsMemoryRead k o pid from len s h earlier text
       → IsTextOf k o s h earlier pid l text
@@ -65,7 +67,8 @@ HasItsText k o s h earlier (report.Called pid lwp function arguments) = Unit {0}
 
 -- Each of these reports has its text: what stands with an event was read when truss had made all reports before it and
 -- no other.
-pub record HaveTheirTexts (k : ℕ) (o : Options) (s : TracedState) (h : List Entry) (reports : List Report) : Type 0 where
+pub record HaveTheirTexts (k : ℕ) (o : Options) (s : TracedState) (h : List Entry)
+    (reports : List Report) : Type 0 where
   pub each : (earlier later : List Report) (x : Report) → reports ≡ earlier ++ x ∷ later → HasItsText k o s h earlier x
 
 -- ---- the state that the memory is of
@@ -87,7 +90,8 @@ pub record WasKilled (pid : ℕ) (s : TracedState) (h : List Entry) : Type 0 whe
 -- the event came in an entry of the history, while truss watched the process; what was selected before that entry is
 -- just what truss had reported of the process when it read. The text is what stood in the memory of the process in the
 -- state that the entry left, in which the process lives; or SIGKILL ended the process between the entry and the read.
-pub record IsOfItsEvent (k : ℕ) (o : Options) (pid from len : ℕ) (s : TracedState) (h : List Entry) (reports : List Report) (l : LwpStatus) (text : Came) : Type 0 where
+pub record IsOfItsEvent (k : ℕ) (o : Options) (pid from len : ℕ) (s : TracedState) (h : List Entry)
+    (reports : List Report) (l : LwpStatus) (text : Came) : Type 0 where
   pub read : IsMemoryRead k o pid from len s h reports text
   pub earlier : List Entry
   pub entry : Entry
@@ -97,14 +101,17 @@ pub record IsOfItsEvent (k : ℕ) (o : Options) (pid from len : ℕ) (s : Traced
   pub event : LwpEvent
   pub told : event_told l ≡ Some event
   pub came : selected o pid (events_of (state_after s earlier) entry) ≡ event ∷ []
-  pub in_order : selected o pid (events_watched k pid (first_truss o) s earlier) ≡ filter_map (event_reported pid) reports
+  pub in_order : selected o pid (events_watched k pid (first_truss o) s earlier)
+      ≡ filter_map (event_reported pid) reports
   pub process : TracedProcess
   pub lives : live_process (state_after s (earlier ++ entry ∷ [])).system pid ≡ Some process
-  pub stayed : (text ≡ text_of len (bytes_in (file_read (state_after s (earlier ++ entry ∷ [])).system pid 0 from len Mem)))
+  pub stayed : (text ≡ text_of len
+      (bytes_in (file_read (state_after s (earlier ++ entry ∷ [])).system pid 0 from len Mem)))
       ⊎ WasKilled pid (state_after s (earlier ++ entry ∷ [])) between
 
 -- The memory of each of these reports that is of an event of this process is that of its event.
-pub record AreOfTheirEvents (k : ℕ) (o : Options) (pid : ℕ) (s : TracedState) (h : List Entry) (reports : List Report) : Type 0 where
+pub record AreOfTheirEvents (k : ℕ) (o : Options) (pid : ℕ) (s : TracedState) (h : List Entry)
+    (reports : List Report) : Type 0 where
   pub each : (earlier later : List Report) (l : LwpStatus) (text : Came) (from len : ℕ)
       → reports ≡ earlier ++ report.Event pid l text ∷ later → range_asked o l ≡ Some (from, len)
       → IsOfItsEvent k o pid from len s h earlier l text

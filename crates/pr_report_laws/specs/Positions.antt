@@ -73,8 +73,8 @@ abbrev pub is_named : Stage → ℕ → Bool
 is_named (ReadingStatus at) place = at == place
 is_named _ place = false
 
--- How a live process stands that truss watches at a place, where it counts so many stops as old: those that stood before
--- it came, and that it has not run yet.
+-- How a live process stands that truss watches at a place, where it counts so many stops as old: those that stood
+-- before it came, and that it has not run yet.
 pub data Position (o : Options) (stage : Stage) (place old : ℕ) (p : TracedProcess)
     (tally : Tally) : Type 0 where
   -- Truss has read the stop, and runs the process next. Nothing of it moves until then, and truss was told all of it.
@@ -85,16 +85,16 @@ pub data Position (o : Options) (stage : Stage) (place old : ℕ) (p : TracedPro
   -- No lwp of it stands on an event, and no poll has named it. Truss was told all of it.
   goes : has_read stage place ≡ false → is_named stage place ≡ false → old ≡ 0 → IsQuiet p → IsWhole tally
       → Position o stage place old p tally
-  -- An lwp of it stands on an event that truss has not read yet, and that is all that truss was not told. Each other lwp
-  -- will stop before it does anything; and once a poll has named the process nothing of it moves.
+  -- An lwp of it stands on an event that truss has not read yet, and that is all that truss was not told. Each other
+  -- lwp will stop before it does anything; and once a poll has named the process nothing of it moves.
   has_event : (id : ℕ) (event : Event) → has_read stage place ≡ false → old ≡ 0 → HasEvent p id event
       → (is_named stage place ≡ true → Waits p 1) → tally.came ≡ tally.told ++ unread tally id event
       → Position o stage place old p tally
 
 -- ---- after a history
 
--- How a live process stands after a history in which truss has hold of it. It is traced as the options ask, truss has it
--- at this place, and what it has read of the process are these events.
+-- How a live process stands after a history in which truss has hold of it. It is traced as the options ask, truss has
+-- it at this place, and what it has read of the process are these events.
 pub record StandsSo (k : ℕ) (o : Options) (pid : ℕ) (p : TracedProcess) (s : TracedState) (h : List Entry)
     : Type 0 where
   pub traced_so : IsTracedBy o p

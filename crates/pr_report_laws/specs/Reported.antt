@@ -30,10 +30,11 @@ pub record IsKilled (k pid : ℕ) (t : TrussState) (s : TracedState) (h : List E
   pub left : process_of (state_after s (before ++ entry ∷ [])).system pid ≡ Some zombie
   pub status : zombie.ended ≡ Some (signal_number Kill)
 
--- An event of a process of which truss had no answer: it was the only one of those that are picked in the entry in which
--- it came, while truss watched the process, and since then no read of the status of the process, or of the statuses of
--- its lwps, gave truss bytes.
-pub record IsUnread (picks : Event → Bool) (k : ℕ) (o : Options) (pid : ℕ) (s : TracedState) (h : List Entry) (event : LwpEvent) : Type 0 where
+-- An event of a process of which truss had no answer: it was the only one of those that are picked in the entry in
+-- which it came, while truss watched the process, and since then no read of the status of the process, or of the
+-- statuses of its lwps, gave truss bytes.
+pub record IsUnread (picks : Event → Bool) (k : ℕ) (o : Options) (pid : ℕ) (s : TracedState) (h : List Entry)
+    (event : LwpEvent) : Type 0 where
   pub before : List Entry
   pub entry : Entry
   pub later : List Entry
@@ -45,9 +46,10 @@ pub record IsUnread (picks : Event → Bool) (k : ℕ) (o : Options) (pid : ℕ)
   pub lwps : (between behind : List Entry) (e : Entry) → later ≡ between ++ e ∷ behind
       → ReadsFile k pid Lstatus (state_after s (before ++ entry ∷ between)) e → ⊥
 
--- Why one of the events that are picked is missing: truss still watches the process, or SIGKILL ended the process while truss watched it; and
--- truss had no answer that told it.
-pub record IsMissed (picks : Event → Bool) (k : ℕ) (o : Options) (pid : ℕ) (s : TracedState) (h : List Entry) (missing : List LwpEvent) : Type 0 where
+-- Why one of the events that are picked is missing: truss still watches the process, or SIGKILL ended the process while
+-- truss watched it; and truss had no answer that told it.
+pub record IsMissed (picks : Event → Bool) (k : ℕ) (o : Options) (pid : ℕ) (s : TracedState) (h : List Entry)
+    (missing : List LwpEvent) : Type 0 where
   pub event : LwpEvent
   pub one : missing ≡ event ∷ []
   pub cause : (watches (truss_at k o h) pid ≡ true) ⊎ IsKilled k pid (first_truss o) s h

@@ -46,7 +46,9 @@ if_picked picks e = if picks e then Some e else None
 -- a logged event of a process, if it is told and picked
 unfoldable pub event_picked : (Event → Bool) → ℕ → Logged → Option LwpEvent
 event_picked picks pid l =
-    if l.pid == pid then option_map (λ e. record { id = l.id; event = e }) (option_and_then (if_picked picks) (told l.event)) else None
+    if l.pid == pid
+    then option_map (λ e. record { id = l.id; event = e }) (option_and_then (if_picked picks) (told l.event))
+    else None
 
 -- of logged events those that are picked, of one process
 unfoldable pub picked : (Event → Bool) → ℕ → List Logged → List LwpEvent

@@ -50,8 +50,8 @@ pub fn truss_closes_the_control_file_of_a_process_last()
 
 /// In such a history truss reads the status of a process, whole, right after a poll has named the process, of which it
 /// has hold; and the statuses of its lwps, whole, right behind the granted wait of the opening, or, once truss was
-/// interrupted and as long as it has hold of the process, right behind PCUNSET PR_FORK, behind which nothing else comes,
-/// unless the reply tells that the process has ended.
+/// interrupted and as long as it has hold of the process, right behind PCUNSET PR_FORK, behind which nothing else
+/// comes, unless the reply tells that the process has ended.
 #[tactic(auto, using(crate::proofs::Asking::LeavingLooks::left_looks))]
 pub fn truss_looks_at_a_process_in_its_place()
     ensures places { (n k : ℕ) (o : Options) (s : TracedState) (h : List Entry) → IsTrussRun n k o s h

@@ -62,8 +62,8 @@ pub fn truss_has_one_grip_of_a_process()
         → HasBytes h → HasOneGrip k o pid s h }
 {}
 
-/// Where children are followed and truss has finished, it has cared for the child of each fork and vfork that came while
-/// it had hold of the parent, as `no_child_is_left` says.
+/// Where children are followed and truss has finished, it has cared for the child of each fork and vfork that came
+/// while it had hold of the parent, as `no_child_is_left` says.
 #[tactic(auto, using(crate::proofs::Holding::HeldLaws::held))]
 pub fn no_child_is_left_of_a_process_that_truss_had_hold_of()
     ensures { (n k : ℕ) (o : Options) (s : TracedState) (h : List Entry) → o.follow ≡ true → IsReached s

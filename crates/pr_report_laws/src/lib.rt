@@ -1,5 +1,5 @@
-//! Laws of what truss shows: exactly the selected events of each process that it watches, once and in order. Each public
-//! function carries one law in its contract, and does nothing.
+//! Laws of what truss shows: exactly the selected events of each process that it watches, once and in order. Each
+//! public function carries one law in its contract, and does nothing.
 #![tactic(auto)]
 
 mod attachments;

@@ -13,9 +13,9 @@ ghost use Rattle.pr_truss_laws.specs.Runs.{IsTrussRun};
 /// traced as the options ask, and stands in one of four ways. No lwp of it stands on an event; or stops are left that
 /// stood before truss came; or an lwp stands on one event that truss has not read, each other lwp will stop before it
 /// does anything, and once a poll has named the process nothing of it moves; or truss has read the stop, and nothing of
-/// the process moves until truss runs it. So at most one event is unread, and all others that came in the hold, and that
-/// truss traces, are those that it has read. This is said of a process that is left to truss, as each is that it descends
-/// from, and of one that truss never opened as the child of a fork.
+/// the process moves until truss runs it. So at most one event is unread, and all others that came in the hold, and
+/// that truss traces, are those that it has read. This is said of a process that is left to truss, as each is that it
+/// descends from, and of one that truss never opened as the child of a fork.
 #[tactic(auto, using(crate::proofs::Holding::PositionLaws::positions))]
 pub fn a_process_stands_in_one_of_four_ways_with_truss()
     ensures { (n k : ℕ) (o : Options) (pid : ℕ) (s : TracedState) (h : List Entry) → IsReached s → IsTrussRun n k o s h

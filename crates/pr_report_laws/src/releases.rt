@@ -115,9 +115,9 @@ pub fn truss_is_granted_the_modes()
         → answer_of a.reply ≡ Accepted }
 {}
 
-/// What truss has set by its messages is released, told by the messages and their replies alone. A live process of which
-/// truss has set PR_RLC by a control file, which it has had open since, is released when truss closes that file. The
-/// message is refused for no live process but process 0.
+/// What truss has set by its messages is released, told by the messages and their replies alone. A live process of
+/// which truss has set PR_RLC by a control file, which it has had open since, is released when truss closes that file.
+/// The message is refused for no live process but process 0.
 #[tactic(auto, using(crate::proofs::Holding::SetReleases::set_releases))]
 pub fn what_truss_has_set_by_its_messages_is_released()
     ensures set { (n k : ℕ) (o : Options) (s : TracedState) (h : List Entry) → IsTrussRun n k o s h → (number : ℕ)

@@ -8,8 +8,8 @@ ghost use Rattle.pr_report_laws.specs.Unfollowed.{HasUnfollowed};
 ghost use Rattle.pr_truss_laws.specs.Runs.{IsTrussRun};
 
 /// Right before truss leaves a process, by the read of the statuses of its lwps, its last call is the message that
-/// clears PR_FORK of the process: a child that the process makes after that read is not to stop at its birth for a truss
-/// that looks at it no more.
+/// clears PR_FORK of the process: a child that the process makes after that read is not to stop at its birth for a
+/// truss that looks at it no more.
 #[tactic(auto, using(crate::proofs::Watching::Unfollowing::unfollowings))]
 pub fn a_process_is_unfollowed_before_it_is_left()
     ensures { (n k : ℕ) (o : Options) (pid : ℕ) (s : TracedState) (before : List Entry) (e : Entry)

@@ -47,6 +47,7 @@ use Rattle.pr_truss.specs.Asides.{marks_at}
 use Rattle.pr_function_hides.proofs.CopyWalk.{finds-so}
 use Rattle.pr_function_hides.proofs.OwnRuns.{function-stays}
 use Rattle.pr_function_laws.proofs.KindLemmas.{event-kinds}
+use Rattle.pr_function_laws.proofs.BreakpointCallLemmas.{breakpoint-calls}
 
 -- A truss that shows calls of functions among the controllers of a run.
 
@@ -131,6 +132,7 @@ function-kept controllers n s h k o reached bytes none at some named legal own =
       told = tells-turns n k o s h run reached bytes (all-steppable o named);
       steps = steps-read n k o s h run reached bytes (all-steppable o named);
       kinds = event-kinds o;
+      messages = breakpoint-calls o;
       copies = λ opens. finds-so n k o s h run reached bytes opens;
       treats = treats-its-events o (exchanges k h) has run.follows_none stays.0 calm;
       leaves = leaves-its-processes n k o s h run;

@@ -312,7 +312,8 @@ hidden-kept s n h range bytes legal own = record {
 
 -- what truss with calls of functions writes, and what programs see of it
 pub writes-kept : (s : Scenario) (n : ℕ) (h : List Entry) → IsScenarioInRange s → HasBytes h
-    → IsLegal n (first_state_of s) h → AreOwnCalls (controllers_of s) h → WriteUnseen (controllers_of s) (first_state_of s) h
+    → IsLegal n (first_state_of s) h → AreOwnCalls (controllers_of s) h
+    → WriteUnseen (controllers_of s) (first_state_of s) h
 writes-kept s n h range bytes legal own =
     let reached = state-reached s range in
     record {
@@ -337,7 +338,8 @@ writes-kept s n h range bytes legal own =
           let run =
           function-run (controllers_of s) n (first_state_of s) h k o reached (first-held s k) starts named.0 named.1
           legal own in
-          fetched-turns n k who (controllers_of s) o (first_state_of s) h run reached bytes (all-steppable o named.1) own
+          fetched-turns n k who (controllers_of s) o
+          (first_state_of s) h run reached bytes (all-steppable o named.1) own
           (hide-trusses s range who hide) hider starts undisturbed fetches pid;
       own_steps = λ who hide undisturbed passive.
           own-steps n who (controllers_of s) (first_state_of s) h reached bytes legal own

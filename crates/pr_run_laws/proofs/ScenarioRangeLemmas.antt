@@ -301,8 +301,8 @@ truss-plan-bytes o true all = subst (λ (p : Options). All HasCodeOfBytes p.func
 truss-plan-bytes o false all = tt
 
 -- the options of a truss, with the functions that its words name
-named-options : (asked : Asked) (functions : List Function) → AreFewAlone asked → AreShowableOf asked.functions functions
-    → AreShowable (record asked.options { functions = functions })
+named-options : (asked : Asked) (functions : List Function) → AreFewAlone asked
+    → AreShowableOf asked.functions functions → AreShowable (record asked.options { functions = functions })
 named-options asked functions alone named = record {
   few = named.few;
   each = named.each;

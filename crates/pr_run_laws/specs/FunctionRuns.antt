@@ -9,6 +9,7 @@ use Rattle.pr_function_hides.specs.PassiveOthers.{AreOthersPassive}
 use Rattle.pr_function_hides.specs.TidyCloses.{LeavesNoBreakpoint, LeavesNoFault}
 use Rattle.pr_function_hides.specs.TidyFaults.{AreFaultsTidy, PostsNoOwnFault}
 use Rattle.pr_function_hides.specs.TidyWrites.{AreUndisturbed, WritesTidily}
+use Rattle.pr_function_laws.specs.BreakpointCalls.{AreBreakpointCalls}
 use Rattle.pr_function_laws.specs.CalledTurns.{CallsAreTurns}
 use Rattle.pr_function_laws.specs.EventKinds.{AreEventKinds}
 use Rattle.pr_function_laws.specs.EventsRead.{EventsAreRead}
@@ -28,6 +29,7 @@ use Rattle.pr_function_laws.specs.Treated.{TreatsItsEvents}
 use Rattle.pr_hidden.specs.HiddenSteps.{IsHidden}
 use Rattle.pr_hidden.specs.Hiders.{Hiders, hides}
 use Rattle.pr_hidden.specs.Tidiness.{IsSparing, IsTidy}
+use Rattle.pr_line.specs.declared.functions.Function.{Function}
 use Rattle.pr_line.specs.declared.options.Options.{Options}
 use Rattle.pr_model.specs.Legal.{state_after}
 use Rattle.pr_model.specs.State.{TracedState}
@@ -82,6 +84,9 @@ pub record IsFunctionTrussKept (controllers : List ControllerState) (first : Tra
   pub turns : CallsAreTurns k o first h
   pub told : TellsTurnsAlone k o first h
   pub steps : StepsAreRead k o first h
+  -- The messages by which it reads the code of a function, plants its breakpoint and lifts it, byte for byte.
+  pub messages : (control function : ℕ) (f : Function) → slice_get o.functions function ≡ Some f
+      → AreBreakpointCalls o control function f
   -- In a process that it opens it plants just the functions whose code it reads there. What each event is to the
   -- breakpoints; and what it asks truss to plant and to lift, which comes before it runs the process. Where no lwp was
   -- at a fork, a vfork or an exec when the wait of the opening was answered, such a call that is granted finds none

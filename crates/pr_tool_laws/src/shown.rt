@@ -31,8 +31,8 @@ pub fn one_read_has_what_stands_there()
 /// stands in one state: in the one that its read finds. In the state of which pwait prints the wait status the process
 /// has ended, and was not reaped yet.
 pub fn tools_show_what_stands_there()
-    ensures later { (controllers : List ControllerState) (n k : ℕ) (kind : ToolKind) (pid : ℕ) (s : TracedState) (h : List Entry)
-        → (t : ToolState) (programs : List Program)
+    ensures later { (controllers : List ControllerState) (n k : ℕ) (kind : ToolKind) (pid : ℕ) (s : TracedState)
+        (h : List Entry) → (t : ToolState) (programs : List Program)
         → IsLawful s → IsInRange s.system → HasBytes h
         → reads_once kind ≡ true → slice_get controllers k ≡ Some (cores.Tool (first_tool kind pid))
         → IsLegal n s h → AreOwnCalls controllers h

@@ -25,16 +25,16 @@ ghost use Rattle.pr_tool_laws.specs.OwnCalls.{AreOwnCalls};
 /// waited for the process to stop. This is so whatever programs it takes its labels from. Of the stacks of a process
 /// that has lent its memory in that state nothing is said (vfork(2)).
 pub fn pstack_shows_one_state()
-    ensures later { (controllers : List ControllerState) (n k : ℕ) (pid : ℕ) (s : TracedState) (h : List Entry) (t : ToolState)
-        → (programs : List Program)
+    ensures later { (controllers : List ControllerState) (n k : ℕ) (pid : ℕ) (s : TracedState) (h : List Entry)
+        (t : ToolState) → (programs : List Program)
         → IsLawful s → IsInRange s.system → HasBytes h
         → slice_get controllers k ≡ Some (cores.Tool (first_tool Pstack pid))
         → IsLegal n s h → AreOwnCalls controllers h
         → slice_get (controllers_at controllers h) k ≡ Some (cores.Tool t) → has_ended t ≡ true → t.refusal ≡ None
         → ShowsOneStack k pid programs s h (printed t programs) }
     ensures first { (programs : List Program) (files : List StoredFile) (spawns : List ℕ)
-        → (controllers : List ControllerState) (n k : ℕ) (pid : ℕ) (h : List Entry) (t : ToolState) (labels : List Program)
-        → IsStart programs files spawns → IsStartInRange programs files → HasBytes h
+        → (controllers : List ControllerState) (n k : ℕ) (pid : ℕ) (h : List Entry) (t : ToolState)
+        (labels : List Program) → IsStart programs files spawns → IsStartInRange programs files → HasBytes h
         → slice_get controllers k ≡ Some (cores.Tool (first_tool Pstack pid))
         → IsLegal n (first_state programs files spawns) h → AreOwnCalls controllers h
         → slice_get (controllers_at controllers h) k ≡ Some (cores.Tool t) → has_ended t ≡ true → t.refusal ≡ None
@@ -45,8 +45,8 @@ pub fn pstack_shows_one_state()
 /// and in which controllers write bytes, a pstack that has finished, and was not refused, has run its process again by
 /// PCRUN, unless every lwp of it stood when pstack came.
 pub fn pstack_runs_its_process_again()
-    ensures later { (controllers : List ControllerState) (n k pid : ℕ) (s : TracedState) (h : List Entry) (t : ToolState)
-        → IsLawful s → IsInRange s.system → HasBytes h
+    ensures later { (controllers : List ControllerState) (n k pid : ℕ) (s : TracedState) (h : List Entry)
+        (t : ToolState) → IsLawful s → IsInRange s.system → HasBytes h
         → slice_get controllers k ≡ Some (cores.Tool (first_tool Pstack pid)) → IsLegal n s h
         → AreOwnCalls controllers h
         → slice_get (controllers_at controllers h) k ≡ Some (cores.Tool t) → has_ended t ≡ true → t.refusal ≡ None

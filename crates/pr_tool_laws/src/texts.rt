@@ -17,8 +17,8 @@ ghost use Rattle.pr_tool_laws.specs.OwnCalls.{AreOwnCalls};
 /// than pstack that has finished, and was not refused, prints the text of one state: of the one that its read finds,
 /// and so of one between its first call and its last.
 pub fn a_tools_text_is_of_one_state()
-    ensures { (controllers : List ControllerState) (n k : ℕ) (kind : ToolKind) (pid : ℕ) (first : TracedState) (h : List Entry)
-        → (t : ToolState) (programs : List Program)
+    ensures { (controllers : List ControllerState) (n k : ℕ) (kind : ToolKind) (pid : ℕ) (first : TracedState)
+        (h : List Entry) → (t : ToolState) (programs : List Program)
         → reads_once kind ≡ true → slice_get controllers k ≡ Some (cores.Tool (first_tool kind pid))
         → IsLegal n first h → AreOwnCalls controllers h
         → slice_get (controllers_at controllers h) k ≡ Some (cores.Tool t) → has_ended t ≡ true → t.refusal ≡ None

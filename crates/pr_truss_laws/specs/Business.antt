@@ -266,8 +266,8 @@ pub record ClosesWhatEnded (xs : List Exchange) : Type 0 where
 -- Truss makes its own calls alone, sends each message in its place, opens no process but those that it was given,
 -- made or was told of, and these right then, reports a refusal as such only where a call of that process was refused,
 -- waits for all that it holds, closes what has ended before it does anything else, and once it was interrupted
--- does nothing but leave its processes. It prints no event that is not selected, one line for each report, and its lines
--- stay where they stand.
+-- does nothing but leave its processes. It prints no event that is not selected, one line for each report, and its
+-- lines stay where they stand.
 pub record DoesItsBusiness (o : Options) (xs : List Exchange) : Type 0 where
   pub calls : AreItsCalls o.program xs
   pub sends : SendsInOrder o xs

@@ -20,9 +20,9 @@ pub record HasNoOtherWriter (k pid : ℕ) (opens : Places) : Type 0 where
   pub none : (by number : ℕ) (h : Held) → by ≢ k → handle_of opens by number ≡ Some h → is_writable h.mode ≡ true
       → h.pid ≢ pid
 
--- What it leaves when it closes a control file in this state: nobody has the process open for writing then; and where the
--- process lives and has PR_RLC without PR_KLC, nothing is traced or watched in it, and no lwp of it stands on an event,
--- is directed to stop, or has a mark.
+-- What it leaves when it closes a control file in this state: nobody has the process open for writing then; and where
+-- the process lives and has PR_RLC without PR_KLC, nothing is traced or watched in it, and no lwp of it stands on an
+-- event, is directed to stop, or has a mark.
 pub record ClosesFreely (k : ℕ) (s : TracedState) : Type 0 where
   pub alone : (number : ℕ) (h : Held) (a : Answer) → handle_of s.opens k number ≡ Some h → is_control h.file ≡ true
       → answer_to s k (Close number) ≡ Some a → has_writer h.pid a.state.opens ≡ false

@@ -96,4 +96,5 @@ pub record HasOneEvent (p : TracedProcess) (id : ℕ) : Type 0 where
   pub lwp : TracedLwp
   pub there : lwp_of p id ≡ Some lwp
   pub stands : StandsOnEvent lwp
-  pub others : (other : ℕ) (k : TracedLwp) → other ≢ id → lwp_of p other ≡ Some k → shows_run p.job_stop (other, k) ≡ true
+  pub others : (other : ℕ) (k : TracedLwp) → other ≢ id → lwp_of p other ≡ Some k
+      → shows_run p.job_stop (other, k) ≡ true

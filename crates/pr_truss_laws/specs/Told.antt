@@ -35,7 +35,8 @@ has_ended _ = false
 
 -- After a turn that did this, of an lwp that was l in a process p, the status of the lwp k that is in q then tells the
 -- event that the turn logged.
-pub record TellsItsEvent (p : TracedProcess) (l : TracedLwp) (did : Did) (q : TracedProcess) (id : ℕ) (k : TracedLwp) : Type 0 where
+pub record TellsItsEvent (p : TracedProcess) (l : TracedLwp) (did : Did) (q : TracedProcess) (id : ℕ)
+    (k : TracedLwp) : Type 0 where
   pub event : MachineEvent
   pub logged : event_of p l (Some k) did ≡ Some event
   pub tells : event_shown (lwpstatus_of q id k) ≡ told event

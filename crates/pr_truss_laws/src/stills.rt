@@ -32,7 +32,8 @@ pub fn a_halting_process_only_stops()
     ensures did { (s : TracedSystem) (pid : ℕ) (p : TracedProcess) → live_process s pid ≡ Some p → IsHalting p
         → (id : ℕ) (t : LwpTurn) → turn_of s pid id ≡ Some t → t.turned ≡ record { did = Stopped; stop = false } }
     ensures leaves { (s : TracedSystem) (pid : ℕ) (p : TracedProcess) → live_process s pid ≡ Some p → IsHalting p
-        → (id : ℕ) (t : LwpTurn) → turn_of s pid id ≡ Some t → live_process t.system pid ≡ Some (with_lwp_stopped id p) }
+        → (id : ℕ) (t : LwpTurn) → turn_of s pid id ≡ Some t
+        → live_process t.system pid ≡ Some (with_lwp_stopped id p) }
     ensures stays { (s : TracedSystem) (pid : ℕ) (p : TracedProcess) → live_process s pid ≡ Some p → IsHalting p
         → (id : ℕ) (t : LwpTurn) → turn_of s pid id ≡ Some t → IsHalting (with_lwp_stopped id p) }
 {}
@@ -52,9 +53,9 @@ pub fn other_controllers_leave_an_exclusive_process_alone()
         → live_process s.system h.pid ≡ Some p → live_process a.state.system h.pid ≡ Some q → IsUndisturbed p q }
 {}
 
-/// A turn in a process without PR_ASYNC, of which no lwp stands on an event of interest or is directed to stop: it meets
-/// nothing traced, and this stays so; or its lwp stops on what it met, and each other one stands still or is directed to
-/// stop. Both hold where the process lives still, and what is set on it stays, but for its watched areas.
+/// A turn in a process without PR_ASYNC, of which no lwp stands on an event of interest or is directed to stop: it
+/// meets nothing traced, and this stays so; or its lwp stops on what it met, and each other one stands still or is
+/// directed to stop. Both hold where the process lives still, and what is set on it stays, but for its watched areas.
 #[tactic(auto, using(crate::proofs::OwnTurnLemmas::quiets))]
 pub fn a_quiet_process_halts_at_one_event()
     ensures stays { (s : TracedSystem) (pid : ℕ) (p : TracedProcess) (id : ℕ) (t : LwpTurn) → IsLawfulSystem s

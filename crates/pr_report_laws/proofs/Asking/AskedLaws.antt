@@ -123,7 +123,8 @@ child-is l =
   where
     made : Bool → Bool → Option ℕ
     made at-exit fork =
-        cond ((at-exit && fork && is_none l.errno) && not (l.result == 0) && nat_lt l.result (2 ^ 32)) (Some l.result) None
+        cond ((at-exit && fork && is_none l.errno) && not (l.result == 0) && nat_lt l.result (2 ^ 32))
+        (Some l.result) None
 
 on-event-is : (l : LwpStatus) → is_on_event l ≡ is_some (event_of l)
 unfolding is_on_event

@@ -188,8 +188,8 @@ pub looks-at-left : (n k : ℕ) (o : Options) (first : TracedState) (h : List En
     → LooksAtWhatItLeaves k first h
 looks-at-left n k o first h run = record {
   each = λ before later e pid control r is own lives interrupted mine.
-      looks-behind n k o first before later e (subst (IsTrussRun n k o first) is run) pid control r own lives interrupted
-      mine;
+      looks-behind n k o first before later e (subst (IsTrussRun n k o first) is run) pid control r own lives
+      interrupted mine;
 }
 
 pub ruleset left_looks = (looks-in-place, looks-at-left)

@@ -262,7 +262,8 @@ module _ (o : Options) (xs : List Exchange) (s : TrussState) (x : Exchange) (sam
   looks-aware stage place pid u at f a (step.shows_text {l = l} {from = from} {len = len}) off =
       elim a [
         | inl on ↦ not-leaving on off
-        | inr known ↦ named-on _ (no-poll (ReadingText place l from len) at (λ is. cc)) (text-runs place l from len at) known
+        | inr known ↦
+            named-on _ (no-poll (ReadingText place l from len) at (λ is. cc)) (text-runs place l from len at) known
       ]
 
   closes-aware : (stage : Stage) (place : ℕ) (next : AfterClosing) (u : TrussState) → s.stage ≡ stage

@@ -33,8 +33,8 @@ no-split [] post y is = cc
 no-split (p ∷ pre) post y is = cc
 
 -- an exchange of a call that does not wait
-pub calm-exchanges : (h : List Entry) (n k : ℕ) (s : TracedState) (pre post : List Exchange) (y : Exchange) → IsLegal n s h
-    → exchanges k h ≡ pre ++ y ∷ post → can_wait y.call ≡ false → answer_of y.reply ≢ Interrupted
+pub calm-exchanges : (h : List Entry) (n k : ℕ) (s : TracedState) (pre post : List Exchange) (y : Exchange)
+    → IsLegal n s h → exchanges k h ≡ pre ++ y ∷ post → can_wait y.call ≡ false → answer_of y.reply ≢ Interrupted
 calm-exchanges [] n k s pre post y legal is waits = absurd (no-split pre post y (sym (no-exchanges k) ∙ is))
 calm-exchanges (e ∷ h) n k s pre post y legal is waits =
     by (exchange_of k e) refl pre (sym (cons-exchanges k e h)

@@ -190,7 +190,8 @@ unfolding bytes_in answer_of event_stops
 stops-accepted (reply.Fail errno) l is = absurd (none-some l is)
 stops-accepted _ l is = refl
 
-pub first-on : (bytes : Option (List ℕ)) (l : LwpStatus) → slice_get (event_stops bytes) 0 ≡ Some l → is_on_event l ≡ true
+pub first-on : (bytes : Option (List ℕ)) (l : LwpStatus) → slice_get (event_stops bytes) 0 ≡ Some l
+    → is_on_event l ≡ true
 unfolding event_stops
 first-on bytes l is =
     let lwps = unwrap_or (option_and_then lstatus_lwps bytes) [] in

@@ -161,7 +161,8 @@ module _ (child : ℕ) (u : Traced) where
 
   set-goes : (control : ℕ) (xs : List Exchange) (s : TrussState) → IsFreeing s (freeing.SetRelease control)
       → Makes s xs
-      → Goes (message_call control (message.Set rlc_mode) ∷ call.Close control ∷ closing_calls (handles_of u)) s.reports s
+      → Goes (message_call control (message.Set rlc_mode)
+      ∷ call.Close control ∷ closing_calls (handles_of u)) s.reports s
       xs
   unfolding freeing_call with_freeing_answered
   set-goes control [] s at makes =

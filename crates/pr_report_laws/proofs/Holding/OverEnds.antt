@@ -199,7 +199,8 @@ module _ (n k : ℕ) (o : Options) (pid : ℕ) (s : TracedState) (before : List 
   told-off w =
       let next : next_call_of was ≡ Some w.call = subst (MakesNext was) w.is (run-next n k o s before e run) in
       let c =
-      next-closes k was (state_after s before) (run-reaches n k o s before (run-front n k o s before e run)) pid w.handle
+      next-closes k was (state_after s before)
+      (run-reaches n k o s before (run-front n k o s before e run)) pid w.handle
       w.held w.there w.of on w.call next w.goes in
       let now : v ≡ fed was ended = truss_at-push k o before e ∙ ap (with_exchange was) w.is in
       let later : Reaches k v (state_after s (before ++ e ∷ [])) = run-reaches n k o s (before ++ e ∷ []) run in

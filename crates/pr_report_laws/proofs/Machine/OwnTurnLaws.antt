@@ -345,7 +345,8 @@ module _ (p : TracedProcess) (id : ℕ) (ev : Event) (event : HasEvent p id ev) 
       held other l apart there = let it = event.others other l apart there in it.stops
 
   -- the lwp on the event has no turn
-  pub event-waits : (s : TracedSystem) (pid : ℕ) (t : LwpTurn) → live_process s pid ≡ Some p → turn_of s pid id ≡ Some t → ⊥
+  pub event-waits : (s : TracedSystem) (pid : ℕ) (t : LwpTurn) → live_process s pid ≡ Some p
+      → turn_of s pid id ≡ Some t → ⊥
   unfolding is_held_back
   event-waits s pid t live turn =
       let it = turn-taken s pid id t turn in

@@ -30,8 +30,8 @@ use Rattle.pr_report_laws.proofs.Machine.TracedPoints.{StopsAtPicked, fit-row, l
 use Rattle.pr_reached.specs.Fits.{IsFitSystem}
 use Rattle.pr_report_laws.specs.Shown.{if_picked, picked}
 
--- A turn in which its lwp meets a point that is traced leaves the process and the lwp, which stands on the event that the
--- turn logs.
+-- A turn in which its lwp meets a point that is traced leaves the process and the lwp, which stands on the event that
+-- the turn logs.
 
 -- ---- what a turn logs is told, where no call ended its lwp
 

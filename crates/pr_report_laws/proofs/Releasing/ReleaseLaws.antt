@@ -248,7 +248,8 @@ module _ (n k : ℕ) (o : Options) (s : TracedState) (before : List Entry) (e : 
   abbrev was : TrussState
   was = truss_at k o before
 
-  pub modes-push : modes_set k o pid (before ++ e ∷ []) ≡ modes_told pid was (modes_set k o pid before) (exchange_of k e)
+  pub modes-push : modes_set k o pid (before ++ e ∷ [])
+      ≡ modes_told pid was (modes_set k o pid before) (exchange_of k e)
   unfolding modes_set
   modes-push =
       ap (modes_after pid (first_truss o) spared) (exchanges-push k before e)

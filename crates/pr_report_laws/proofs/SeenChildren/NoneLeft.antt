@@ -242,7 +242,8 @@ module _ (n k : ℕ) (o : Options) (parent id child : ℕ) (turned : Turned) (s 
     where
       by : (y : Option Exchange) → exchange_of k w.entry ≡ y → IsSeenTo k o parent child s before fork later
       by None none =
-          absurd (none-some event (ap (read_of parent (truss_after (truss_at k o before) (exchanges k w.before))) (sym none)
+          absurd (none-some event
+          (ap (read_of parent (truss_after (truss_at k o before) (exchanges k w.before))) (sym none)
           ∙ w.reads))
       by (Some x) own = read-seen w x own (done w x own)
 

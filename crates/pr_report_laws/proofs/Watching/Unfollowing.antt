@@ -101,7 +101,10 @@ record IsUnfollowedLast (o : Options) (xs : List Exchange) : Type 0 where
   earlier : List Exchange
   reply : Reply
   is : xs ≡ earlier ++
-      record { call = message_call (traced_at (truss_after (first_truss o) xs) 0).control (Unset fork_mode); reply = reply }
+      record {
+        call = message_call (traced_at (truss_after (first_truss o) xs) 0).control (Unset fork_mode);
+        reply = reply;
+      }
       ∷ []
 
 module _ (o : Options) (xs : List Exchange) (makes : Makes (first_truss o) xs)

@@ -14,4 +14,5 @@ returns-clause-acts c = λ n k o s h past xs x place child run is reads.
     fork-read n k o s h past xs x run is place child reads
 
 pub returns-clause-acts_last : goal.returns-clause-acts_last
-returns-clause-acts_last c = λ n k o s h past xs x child run is reads. last-fork-read n k o s h past xs x run is child reads
+returns-clause-acts_last c =
+    λ n k o s h past xs x child run is reads. last-fork-read n k o s h past xs x run is child reads
