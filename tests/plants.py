@@ -11,9 +11,10 @@ with what was not proved. The last line of a crate counts its functions and bodi
 an equation for all that it answers and changes can only be the same, so --loose leaves such functions out.
 
 --only WORD takes the functions whose file, line and path contain it; --private also those that are not public; methods
-of traits are left out. --batch N is how many bodies are tried at once, and --in FOLDER keeps the copy with what was
-checked, and in its file `verdicts` all that was judged so far. A batch takes a processor from 20 seconds to some
-minutes, and 1 to 2 GB. Several calls can try several crates at once. It needs rt.
+of traits are left out. --by-hand tries the bodies of tests/plants/CRATE in place of those of `rt plant`: below a line
+`fn: PATH` a line `body: TEXT` for each. --batch N is how many bodies are tried at once, and --in FOLDER keeps the copy
+with what was checked, and in its file `verdicts` all that was judged so far. A batch takes a processor from 20 seconds
+to some minutes, and 1 to 2 GB. Several calls can try several crates at once. It needs rt.
 """
 import argparse
 import collections
@@ -29,6 +30,7 @@ import types
 
 from checks import TOP
 
+BY_HAND = os.path.join(TOP, "tests/plants")
 MEMORY = re.compile(r"\b(NoMemory|OutOfMemory|AllocError|AllocFailed)\b")
 STUB = b"{ unreachable!() }"
 # A clause that says what is given, unless memory ran out or there is nothing.
@@ -64,7 +66,13 @@ class Bodies(bodies.Bodies):
         return [it for it in super().over_the_real_one(fails) if not MEMORY.search(it.text)]
 
 
-bodies.Bodies = Bodies
+def behind_comment(words, behind=bodies.without_attributes):
+    """What stands behind attributes and behind the doc comment of a variant or a field, which rt plant takes for its
+    name."""
+    return behind([it for it in words if not it.startswith("///")])
+
+
+bodies.Bodies, bodies.without_attributes = Bodies, behind_comment
 
 
 def read_crate(name):
@@ -108,7 +116,7 @@ def gives_equations(source, f):
     clauses = re.findall(r"ensures\s*\w*\s*\{(.*?)\}\s*(?=\n\s*(?://|ensures|requires)|\Z)", text, re.S)
     told = set()
     for clause in (" ".join(it.split()) for it in clauses):
-        whole = re.match(r"(result(?:\.now)?|(\w+)\.new(?:\.\w+)*) ≡ ", clause)
+        whole = re.match(r"(result(?:\.now)?|(\w+)\.new(?:\.items|\.entries)?) ≡ ", clause)
         if whole and "→" not in clause:
             told.add(whole[2] or "result")
         changed = re.match(r"OnOk result \((\w+)\.new ≡ ", clause)
@@ -170,11 +178,44 @@ class Copy(planting.Copy):
             batch, began = plants[at : at + planting.BATCH], time.monotonic()
             self.write(batch)
             super().judge(batch)
-            kinds = collections.Counter(it.kind for it in batch)
-            told = ", ".join("%d %s" % (kinds[it], it) for it in planting.KINDS if kinds[it])
-            print("%s: %s, %d s" % (self.crate.name, told, time.monotonic() - began), file=sys.stderr, flush=True)
-            with open("%s/verdicts" % self.folder, "a", encoding="utf-8") as verdicts:
-                verdicts.writelines("%s\n" % row_of(it) for it in batch)
+            self.note(batch, began)
+
+    def note(self, batch, began):
+        """Tells how a batch was judged."""
+        kinds = collections.Counter(it.kind for it in batch)
+        told = ", ".join("%d %s" % (kinds[it], it) for it in planting.KINDS if kinds[it])
+        print("%s: %s, %d s" % (self.crate.name, told, time.monotonic() - began), file=sys.stderr, flush=True)
+        with open("%s/verdicts" % self.folder, "a", encoding="utf-8") as verdicts:
+            verdicts.writelines("%s\n" % row_of(it) for it in batch)
+
+
+    def pass_over_guesses(self, plants):
+        """Where a function has a proof of its own, the tactics lack that for a body that calls others in its place."""
+        for it in plants:
+            proof = "%s/proofs/%s" % (self.crate.folder, "/".join(path_of(self.source, it.f)))
+            is_called = re.search(r"::%s\b" % it.f.name, it.body)
+            is_constant = not re.search(r"\b[a-z]\w*(::<.*>)?\(", it.body)
+            if it.kind == "refused" and os.path.isdir(proof) and not is_called and not is_constant:
+                it.kind, it.why = "not-judged", "the function has a proof of its own; " + it.why
+
+    def try_out(self, plants):
+        """Judges bodies in one check for each batch, or in one more for those that do not compile."""
+        for at in range(0, len(plants), planting.BATCH):
+            batch, began = plants[at : at + planting.BATCH], time.monotonic()
+            left = batch
+            while left:
+                self.write(left)
+                said = self.check([it.name for it in left]) or ""
+                if re.search(r"(?m)^(only=|rattle: no verdict)", said):
+                    planting.read(left, said)
+                    self.pass_over_guesses(left)
+                    break
+                lines = planting.ERROR.findall(said)
+                wrong = {self.lines.get((file, int(line))) for file, line in lines} - {None}
+                for it in wrong or left:
+                    it.kind = "not-source" if wrong else "not-judged"
+                left = [it for it in left if it.kind == "not-run"]
+            self.note(batch, began)
 
 
 def chosen(crate, source, asked):
@@ -188,15 +229,33 @@ def chosen(crate, source, asked):
     return [f for f in found if not (asked.loose and gives_equations(source, f))]
 
 
+def by_hand(name, source):
+    """The bodies of a crate that were written by hand, not judged yet."""
+    plants, f = [], None
+    with open(os.path.join(BY_HAND, name), encoding="utf-8") as file:
+        rows = [line.strip().partition(": ") for line in file if line.strip() and line[0] != "#"]
+    for word, _, text in rows:
+        if word == "fn":
+            (f,) = (it for it in source.functions if it.shown.split(" ", 1)[1] == text)
+        else:
+            plants.append(planting.Plant(f, bodies.Body(text), len(plants)))
+    return plants
+
+
 def plant_in(name, asked):
     """Tries the wrong bodies of one crate."""
     crate, source = read_crate(name)
     while any(planting.Plant.stem.encode() in it for it in source.data.values()):
         planting.Plant.stem += "_"
-    functions = chosen(crate, source, asked)
     room = os.path.abspath(asked.room or tempfile.mkdtemp())
     copy = Copy(crate, source, os.path.join(room, name))
-    plants = planting.plant(crate, copy, functions, functions, 1 << 30)
+    if asked.by_hand:
+        plants = [it for it in by_hand(name, source) if not asked.only or any(w in it.f.shown for w in asked.only)]
+        functions = {it.f for it in plants}
+        copy.try_out(plants)
+    else:
+        functions = chosen(crate, source, asked)
+        plants = planting.plant(crate, copy, functions, functions, 1 << 30)
     if not asked.room:
         shutil.rmtree(room)
     shown = planting.KINDS if asked.all else ("proves", "same")
@@ -212,6 +271,7 @@ def main():
     words.add_argument("--only", action="append", default=[])
     words.add_argument("--private", action="store_true")
     words.add_argument("--loose", action="store_true")
+    words.add_argument("--by-hand", action="store_true")
     words.add_argument("--all", action="store_true")
     words.add_argument("--batch", type=int, default=24)
     words.add_argument("--in", dest="room")

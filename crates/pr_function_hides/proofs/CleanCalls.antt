@@ -20,6 +20,7 @@ use Rattle.pr_function_hides.proofs.SentMessages.{Admits, Clears, Sends, aside-s
 use Rattle.pr_function_hides.proofs.TidyCalls as Calls
 use Rattle.pr_function_hides.proofs.TidyEntries.{its-lawful, its-legal}
 use Rattle.pr_function_hides.proofs.TidyKept.{IsRunOfTrusses, Kept}
+use Rattle.pr_function_hides.specs.TidyWrites.{AreUnbroken}
 use Rattle.pr_function_laws.proofs.BreakpointLemmas.{IsOwnEntry}
 use Rattle.pr_function_laws.proofs.KeptPlaces.{AtAside, Kept as KeptPlaces}
 use Rattle.pr_function_laws.proofs.MarkLemmas.{first-below}
@@ -128,7 +129,7 @@ admits-keeping = record {
 }
 
 module _ {n : ℕ} {who : Hiders} {controllers : List ControllerState} {first : TracedState} {h : List Entry}
-    (run : IsRunOfTrusses n who controllers first h)
+    (run : IsRunOfTrusses (AreUnbroken who h) n who controllers first h)
     (front back : List Entry) (j : ℕ) (c : Call) (r : Reply) (place : h ≡ front ++ call_entry j c r ∷ back)
     (kept : Kept who controllers first h front) where
   abbrev later_front : List Entry
@@ -211,7 +212,7 @@ module _ {n : ℕ} {who : Hiders} {controllers : List ControllerState} {first : 
     patched-at q step is idle pid =
         Calls.called-stays run front back j c r place kept pid
         (opening-stays who run.are.no_probes j before v c r t (Calls.fits run front back j c r place kept hider)
-        (Calls.these run front back j c r place kept hider) holds
+        (Calls.these run front back j c r place kept hider) (Calls.files-now run front back j c r place kept hider)
         (Calls.below run front back j c r place kept hider) (λ i. ⊥) (λ i within none. absurd none)
         (λ i within none. absurd none) q step (idle-is idle (stage.Opening q step) is) pid)
 
@@ -278,7 +279,7 @@ module _ {n : ℕ} {who : Hiders} {controllers : List ControllerState} {first : 
     known =
         let w = Calls.truss-now run front back j c r place kept hider in
         let it =
-        Closing.closed-at n who controllers first h run.reached run.bytes run.legal run.own_calls run.are run.und front
+        Closing.closed-at run front
         (call_entry j c r ∷ back) place j hider t w.is in
         it.known
 
@@ -389,8 +390,7 @@ module _ {n : ℕ} {who : Hiders} {controllers : List ControllerState} {first : 
 
         files : Files j v (traced_at t q)
         files =
-            let w = Calls.truss-now run front back j c r place kept hider in
-            let f = w.files in f.each q within
+            let w = Calls.truss-now run front back j c r place kept hider in w.files q within
 
         named-is : (m : ℕ) → names c m ≡ true → m ≡ last_handle (traced_at t q)
         named-is m named = sym (eqb-true _ m (ap (λ (d : Call). names d m) (sym closes) ∙ named))

@@ -8,12 +8,13 @@ use Rattle.pr_function_hides.proofs.ClosingWalk.{StageSo}
 use Rattle.pr_function_hides.proofs.OwnFiles.{HoldsItsFiles, IsWithin}
 use Rattle.pr_function_hides.proofs.PassiveHiders.{passive-but}
 use Rattle.pr_function_hides.proofs.TidyCalls as Calls
-use Rattle.pr_function_hides.proofs.TidyKept.{IsRunOfTrusses, Kept}
+use Rattle.pr_function_hides.proofs.TidyKept.{IsRunOfTrusses, Kept, calm-run}
 use Rattle.pr_function_hides.proofs.TidyLaw.{kept-at}
 use Rattle.pr_function_hides.specs.FunctionHiders.{AreTrusses}
 use Rattle.pr_function_hides.specs.PassiveOthers.{AreOthersPassive}
+use Rattle.pr_function_hides.specs.SleptCopies.{NoneSleepsInCopy}
 use Rattle.pr_function_hides.specs.TidyCloses.{LeavesNoFault}
-use Rattle.pr_function_hides.specs.TidyWrites.{AreUndisturbed}
+use Rattle.pr_function_hides.specs.TidyWrites.{AreUnbroken, AreUndisturbed}
 use Rattle.pr_hidden.specs.Hiders.{Hiders, hides}
 use Rattle.pr_hidden.specs.Tidiness.{IsPassiveBut}
 use Rattle.pr_model.specs.Handles.{handle_of}
@@ -37,19 +38,12 @@ use Rattle.pr_world.specs.ControllerStates.{ControllerState}
 -- opening was refused, and until then none had met one.
 
 module _ (n : ℕ) (who : Hiders) (controllers : List ControllerState) (first : TracedState) (h : List Entry)
-    (reached : IsReached first) (bytes : HasBytes h) (legal : IsLegal n first h)
+    (reached : IsReached first) (awake : NoneSleepsInCopy first.system) (bytes : HasBytes h) (legal : IsLegal n first h)
     (own_calls : AreOwnCalls controllers h) (are : AreTrusses who controllers first)
-    (und : AreUndisturbed who controllers first h) (others : AreOthersPassive who h)
+    (und : AreUndisturbed who controllers first h) (unbroken : AreUnbroken who h) (others : AreOthersPassive who h)
     (unstepped : IsUnstepped first.system) where
-  run : IsRunOfTrusses n who controllers first h
-  run = record {
-    reached = reached;
-    bytes = bytes;
-    legal = legal;
-    own_calls = own_calls;
-    are = are;
-    und = und;
-  }
+  run : IsRunOfTrusses (AreUnbroken who h) n who controllers first h
+  run = calm-run n who controllers first h reached awake bytes legal own_calls are und unbroken
 
   passive : IsPassiveBut who h
   passive = passive-but run others
@@ -60,7 +54,7 @@ module _ (n : ℕ) (who : Hiders) (controllers : List ControllerState) (first : 
       (live : live_process (state_after first front).system held.pid ≡ Some p) where
     abbrev kept : Kept who controllers first h front
     kept =
-        kept-at n who controllers first h reached bytes legal own_calls are und front
+        kept-at run front
         (call_entry k (call.Close number) r ∷ back) place
 
     abbrev t : TrussState
@@ -91,7 +85,7 @@ module _ (n : ℕ) (who : Hiders) (controllers : List ControllerState) (first : 
         same =
             let x = Calls.truss-now run front back k (call.Close number) r place kept hider in
             let f = x.files in
-            last-pid k (state_after first front) (traced_at t w.place) (f.each w.place w.within) held
+            last-pid k (state_after first front) (traced_at t w.place) (f w.place w.within) held
             (ap (handle_of (state_after first front).opens k) w.last ∙ there)
 
         ended : {A : Type 0} → Over who first front (traced_at t w.place).pid → A

@@ -8,16 +8,15 @@ use Rattle.pr_function_hides.proofs.CleanCalls.{Bare, Clean, Closes, Halts, Leav
 use Rattle.pr_function_hides.proofs.CleanCovers.{IsClean, bare-not-own, stopped-not-own, turned-clean}
 use Rattle.pr_function_hides.proofs.ClosingStages.{stage-stays}
 use Rattle.pr_function_hides.proofs.ClosingWalk.{StageSo}
-use Rattle.pr_function_hides.proofs.FilesCalls.{holds-of}
 use Rattle.pr_function_hides.proofs.HaltedOpenings.{is_halted}
 use Rattle.pr_function_hides.proofs.OwnFiles.{HoldsItsFiles}
 use Rattle.pr_function_hides.proofs.StepLaw.{trace-marked}
 use Rattle.pr_function_hides.proofs.StepWalk.{Calm, Stepped, stepped-at}
 use Rattle.pr_function_hides.proofs.TidyEntries.{at-is, its-lawful, its-legal, lived, now-is, tick-covers, turn-covers}
-use Rattle.pr_function_hides.proofs.TidyKept.{Holder, IsRunOfTrusses, Kept, Truss, holder-moves}
+use Rattle.pr_function_hides.proofs.TidyKept.{Holder, IsRunOfTrusses, Kept, Truss, holder-moves, holds-calm}
 use Rattle.pr_function_hides.proofs.TidyLaw.{kept-at}
 use Rattle.pr_probe_laws.proofs.MarkTurns.{IsOne, unmarked-lwp}
-use Rattle.pr_function_hides.specs.TidyWrites.{IsTrussAfter}
+use Rattle.pr_function_hides.specs.TidyWrites.{AreUnbroken, IsTrussAfter}
 use Rattle.pr_function_laws.proofs.BreakpointLemmas.{foreign-entry}
 use Rattle.pr_function_laws.proofs.OpenedLemmas.{control-made, control-sole}
 use Rattle.pr_hidden.specs.Covers.{Covers}
@@ -54,7 +53,7 @@ use Rattle.pr_world.specs.Protocol.{controllers_after, controllers_at}
 -- truss is still opening, or in one whose opening was refused. What turns, ticks, and what others do leave of that.
 
 module _ {n : ℕ} {who : Hiders} {controllers : List ControllerState} {first : TracedState} {h : List Entry}
-    (run : IsRunOfTrusses n who controllers first h) (passive : IsPassiveBut who h)
+    (run : IsRunOfTrusses (AreUnbroken who h) n who controllers first h) (passive : IsPassiveBut who h)
     (unstepped : IsUnstepped first.system) where
   abbrev here : List Entry → TracedState
   here front = state_after first front
@@ -69,7 +68,7 @@ module _ {n : ℕ} {who : Hiders} {controllers : List ControllerState} {first : 
   KeptAfter front = Kept who controllers first h front
 
   abbrev kept : (front back : List Entry) → h ≡ front ++ back → KeptAfter front
-  kept = kept-at n who controllers first h run.reached run.bytes run.legal run.own_calls run.are run.und
+  kept = kept-at run
 
   abbrev CalmAt : List Entry → ℕ → Type 0
   CalmAt front pid = Calm run passive unstepped front pid
@@ -181,7 +180,7 @@ module _ {n : ℕ} {who : Hiders} {controllers : List ControllerState} {first : 
       t = let w = truss in w.t
 
       files : HoldsItsFiles k t s
-      files = let w = truss in holds-of k s w.t w.files
+      files = holds-calm truss run.besides
 
       made-at : (q : ℕ) → q < length t.traced → (traced_at t q).pid < s.system.made
       made-at q within =
@@ -205,7 +204,8 @@ module _ {n : ℕ} {who : Hiders} {controllers : List ControllerState} {first : 
           let lives = lived run front e back place kept-here k hider q within (x, later) in
           by
           (others-halt n s k pid lawful-here
-          (control-sole k pid (traced_at t q).control s lawful-here (f.control q within)) lives.0 lives.1 (halts lives.0 lives.1) e legal-entry other)
+          (control-sole k pid (traced_at t q).control s lawful-here (f.control q within)) lives.0 lives.1
+          (halts lives.0 lives.1) e legal-entry other)
         where
           pid : ℕ
           pid = (traced_at t q).pid

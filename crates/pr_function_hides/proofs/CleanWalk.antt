@@ -4,7 +4,7 @@ use Rattle.std.proofs.lemmas.List.{append-nil, append_assoc}
 use Rattle.std.proofs.lemmas.Option.{none-some, same_Some}
 use Rattle.std.specs.List.{slice_get}
 use Rattle.pr_api.specs.Entries.{call_entry}
-use Rattle.pr_function_hides.proofs.CallFacts.{calm-reply, close-done, controllers-push, legal-here, open-finds, same-truss}
+use Rattle.pr_function_hides.proofs.CallFacts.{close-done, controllers-push, legal-here, open-finds, same-truss}
 use Rattle.pr_function_hides.proofs.CalledCovers.{IsAsPatched, call-still}
 use Rattle.pr_function_hides.proofs.CleanCalls.{Bare, Clean, Closes, Leaves, Opens, Over, clean-called, ends-done, opens-leaves, stage-on, stands-next}
 use Rattle.pr_function_hides.proofs.CleanCovers.{IsClean, closed-clean}
@@ -16,7 +16,7 @@ use Rattle.pr_function_hides.proofs.TidyCalls as Calls
 use Rattle.pr_function_hides.proofs.TidyCovers as Called
 use Rattle.pr_function_hides.proofs.TidyKept.{Holder, IsRunOfTrusses, Kept, holder-moves}
 use Rattle.pr_function_hides.proofs.TidyLaw.{kept-at}
-use Rattle.pr_function_hides.specs.TidyWrites.{IsTrussAfter}
+use Rattle.pr_function_hides.specs.TidyWrites.{AreUnbroken, IsTrussAfter}
 use Rattle.pr_hidden.specs.Covers.{Covers}
 use Rattle.pr_hidden.specs.Hiders.{Hiders, covers_at, covers_called, hides}
 use Rattle.pr_hidden.specs.Tidiness.{IsPassiveBut}
@@ -56,7 +56,7 @@ use Rattle.pr_world.specs.Protocol.{controllers_after, controllers_at}
 -- whole; and so it is along the history.
 
 module _ {n : ℕ} {who : Hiders} {controllers : List ControllerState} {first : TracedState} {h : List Entry}
-    (run : IsRunOfTrusses n who controllers first h) (passive : IsPassiveBut who h)
+    (run : IsRunOfTrusses (AreUnbroken who h) n who controllers first h) (passive : IsPassiveBut who h)
     (unstepped : IsUnstepped first.system) where
   abbrev here : List Entry → TracedState
   here front = state_after first front
@@ -71,7 +71,7 @@ module _ {n : ℕ} {who : Hiders} {controllers : List ControllerState} {first : 
   KeptAfter front = Kept who controllers first h front
 
   abbrev kept : (front back : List Entry) → h ≡ front ++ back → KeptAfter front
-  kept = kept-at n who controllers first h run.reached run.bytes run.legal run.own_calls run.are run.und
+  kept = kept-at run
 
   abbrev CleanedAt : List Entry → Type 0
   CleanedAt front = Cleaned run passive unstepped front
@@ -236,21 +236,19 @@ module _ {n : ℕ} {who : Hiders} {controllers : List ControllerState} {first : 
             following behind (opens-at q step is);
       }
         where
-          closed : Closing.Closed n who controllers first h run.reached run.bytes run.legal run.own_calls run.are
-              run.und front
+          closed : Closing.Closed run front
           closed =
-              Closing.closed-at n who controllers first h run.reached run.bytes run.legal run.own_calls run.are run.und
+              Closing.closed-at run
               front (call_entry j c r ∷ back) place
 
           called-within : (q : ℕ) → called_at tr.stage tr.aside ≡ Some q → q < length tr.traced
           called-within =
-              Closing.called-within n who controllers first h run.reached run.bytes run.legal run.own_calls run.are
-              run.und front back j c r place closed hider
+              Closing.called-within run front back j c r place closed hider
 
           told-gone : (q : ℕ) → called_at tr.stage tr.aside ≡ Some q → answer_of r ≡ Gone
               → Over who first front (traced_at tr q).pid
           told-gone =
-              Closing.gone n who controllers first h run.reached run.bytes run.legal run.own_calls run.are run.und
+              Closing.gone run
               front back j c r place closed hider
 
           within-is : (q : ℕ) (step : OpeningStep) → tr.stage ≡ stage.Opening q step → q < length tr.traced
@@ -295,7 +293,7 @@ module _ {n : ℕ} {who : Hiders} {controllers : List ControllerState} {first : 
           let it = was in
           fed-closes (Over who first later_front) (Opens who first later_front) (Leaves who first later_front)
           (opens-leaves who first later_front) tr r f.off f.follow f.stage f.beside
-          (calm-reply r (run.und.unbroken front back j c r place hider)) it.looks called-so
+          (Calls.calm-now run front back j c r place kept-now hider) it.looks called-so
           (Calls.has run front back j c r place kept-now hider)
 
       own-later : (later : TrussState) → After later_front j later → Closes who first later_front later

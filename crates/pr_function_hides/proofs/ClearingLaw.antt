@@ -7,11 +7,12 @@ use Rattle.pr_function_hides.proofs.ClosingLaw as Closing
 use Rattle.pr_function_laws.proofs.KnownFiles.{Knows}
 use Rattle.pr_function_hides.proofs.SentMessages.{Admits, Clears, Sends, aside-sends, run-begins, stage-sends}
 use Rattle.pr_function_hides.proofs.TidyCalls as Calls
-use Rattle.pr_function_hides.proofs.TidyKept.{IsRunOfTrusses, Kept as TidyKept}
+use Rattle.pr_function_hides.proofs.TidyKept.{IsRunOfTrusses, Kept as TidyKept, calm-run}
 use Rattle.pr_function_hides.proofs.TidyLaw.{kept-at}
 use Rattle.pr_function_hides.specs.ClearedFaults.{ClearByRunning}
 use Rattle.pr_function_hides.specs.FunctionHiders.{ArePatchable, AreTrusses}
-use Rattle.pr_function_hides.specs.TidyWrites.{AreUndisturbed}
+use Rattle.pr_function_hides.specs.SleptCopies.{NoneSleepsInCopy}
+use Rattle.pr_function_hides.specs.TidyWrites.{AreUnbroken, AreUndisturbed}
 use Rattle.pr_function_laws.proofs.KeptPlaces.{AtAside, Kept}
 use Rattle.pr_hidden.specs.Hiders.{Hiders, hides}
 use Rattle.pr_model.specs.Legal.{IsLegal}
@@ -52,24 +53,17 @@ admits-unclear = record {
 }
 
 module _ (n : ℕ) (who : Hiders) (controllers : List ControllerState) (first : TracedState) (h : List Entry)
-    (reached : IsReached first) (bytes : HasBytes h) (legal : IsLegal n first h)
+    (reached : IsReached first) (awake : NoneSleepsInCopy first.system) (bytes : HasBytes h) (legal : IsLegal n first h)
     (own_calls : AreOwnCalls controllers h) (are : AreTrusses who controllers first)
-    (und : AreUndisturbed who controllers first h) where
-  run : IsRunOfTrusses n who controllers first h
-  run = record {
-    reached = reached;
-    bytes = bytes;
-    legal = legal;
-    own_calls = own_calls;
-    are = are;
-    und = und;
-  }
+    (und : AreUndisturbed who controllers first h) (unbroken : AreUnbroken who h) where
+  run : IsRunOfTrusses (AreUnbroken who h) n who controllers first h
+  run = calm-run n who controllers first h reached awake bytes legal own_calls are und unbroken
 
   module _ (front back : List Entry) (j : ℕ) (c : Call) (r : Reply) (place : h ≡ front ++ call_entry j c r ∷ back)
       (hider : hides who j ≡ true) where
     abbrev kept : TidyKept who controllers first h front
     kept =
-        kept-at n who controllers first h reached bytes legal own_calls are und front (call_entry j c r ∷ back) place
+        kept-at run front (call_entry j c r ∷ back) place
 
     abbrev t : TrussState
     t = Calls.tr run front back j c r place kept hider
@@ -81,7 +75,7 @@ module _ (n : ℕ) (who : Hiders) (controllers : List ControllerState) (first : 
     known =
         let w = Calls.truss-now run front back j c r place kept hider in
         let it =
-        Closing.closed-at n who controllers first h reached bytes legal own_calls are und front
+        Closing.closed-at run front
         (call_entry j c r ∷ back) place j hider t w.is in
         it.known
 

@@ -6,13 +6,14 @@ use Rattle.pr_function_hides.proofs.ClosingWalk.{CalledSo, ClosesSo, Lifts, Stag
 use Rattle.pr_function_laws.proofs.KnownFiles.{Knows, known-fed, known-first}
 use Rattle.pr_function_hides.specs.Copying.{IsEmpty}
 use Rattle.pr_function_hides.proofs.OwnFiles.{HoldsItsFiles, IsBeside, IsWithin}
-use Rattle.pr_function_hides.proofs.TidyKept.{Kept as TidyKept, Truss as TidyTruss}
+use Rattle.pr_function_hides.proofs.TidyKept.{IsRunOfTrusses, Kept as TidyKept, Truss as TidyTruss, holds-calm}
+use Rattle.pr_function_hides.proofs.TidyKept.{calm-run}
 use Rattle.pr_function_hides.proofs.TidyLaw.{kept-at}
-use Rattle.pr_function_hides.proofs.FilesCalls.{Files, holds-of}
+use Rattle.pr_function_hides.proofs.FilesCalls.{Files}
 use Rattle.pr_function_hides.proofs.CallFacts.{calm-reply, controllers-push, legal-here, open-finds, own-here, same-truss}
 use Rattle.pr_function_hides.specs.FunctionHiders.{AreTrusses}
 use Rattle.pr_function_hides.specs.TidyCloses.{LeavesNoBreakpoint}
-use Rattle.pr_function_hides.specs.TidyWrites.{AreUndisturbed, IsTrussAfter}
+use Rattle.pr_function_hides.specs.TidyWrites.{AreUnbroken, AreUndisturbed, IsTrussAfter}
 use Rattle.pr_function_laws.proofs.BreakpointLemmas.{IsOwnEntry, own-entry}
 use Rattle.pr_function_laws.proofs.KeptPlaces.{Kept}
 use Rattle.pr_function_laws.proofs.OpenedLemmas.{control-made}
@@ -70,6 +71,7 @@ use Rattle.std.specs.List.{slice_get}
 use Rattle.std.specs.Option.{option_and_then}
 use Rattle.pr_function_hides.proofs.GoneTold.{told-gone}
 use Rattle.pr_function_hides.proofs.CopyFree.{none-marked}
+use Rattle.pr_function_hides.specs.SleptCopies.{NoneSleepsInCopy}
 
 -- Where truss closes the control file of a process that lives, no breakpoint stands there.
 
@@ -93,13 +95,11 @@ over-stays Over Later t stays within =
 
 -- ---- along the history
 
-module _ (n : ℕ) (who : Hiders) (controllers : List ControllerState) (first : TracedState) (h : List Entry)
-    (reached : IsReached first) (bytes : HasBytes h) (legal : IsLegal n first h)
-    (own_calls : AreOwnCalls controllers h)
-    (are : AreTrusses who controllers first) (und : AreUndisturbed who controllers first h) where
+module _ {n : ℕ} {who : Hiders} {controllers : List ControllerState} {first : TracedState} {h : List Entry}
+    (run : IsRunOfTrusses (AreUnbroken who h) n who controllers first h) where
   abbrev its_kept : (front back : List Entry) → h ≡ front ++ back
       → TidyKept who controllers first h front
-  its_kept = kept-at n who controllers first h reached bytes legal own_calls are und
+  its_kept = kept-at run
 
   abbrev pub here : List Entry → TracedState
   here front = state_after first front
@@ -127,11 +127,11 @@ module _ (n : ℕ) (who : Hiders) (controllers : List ControllerState) (first : 
 
     its-lawful : IsLawful s
     its-lawful =
-        history-state n first front reached.lawful
-        (front-legal n first front (e ∷ back) (subst (λ (es : List Entry). IsLegal n first es) place legal))
+        history-state n first front (let x = run.reached in x.lawful)
+        (front-legal n first front (e ∷ back) (subst (λ (es : List Entry). IsLegal n first es) place run.legal))
 
     its-legal : IsLegalEntry n s e
-    its-legal = legal-here n first front e back (subst (λ (es : List Entry). IsLegal n first es) place legal)
+    its-legal = legal-here n first front e back (subst (λ (es : List Entry). IsLegal n first es) place run.legal)
 
     module _ (k : ℕ) (hider : hides who k ≡ true) where
       abbrev truss : TidyTruss who controllers first h front k
@@ -141,7 +141,7 @@ module _ (n : ℕ) (who : Hiders) (controllers : List ControllerState) (first : 
       t = let w = truss in w.t
 
       files : HoldsItsFiles k t s
-      files = let w = truss in holds-of k s w.t w.files
+      files = holds-calm truss run.besides
 
       before : ClosesAt front t
       before = let w = truss in closed k hider w.t w.is
@@ -230,7 +230,8 @@ module _ (n : ℕ) (who : Hiders) (controllers : List ControllerState) (first : 
       next =
           let w = truss-now in
           sym (ap (option_and_then next_call) w.is)
-          ∙ own-here controllers front e back (subst (λ (es : List Entry). AreOwnCalls controllers es) place own_calls)
+          ∙ own-here controllers front e back
+          (subst (λ (es : List Entry). AreOwnCalls controllers es) place run.own_calls)
           (slice_get_within (controllers_at controllers front) j (FnTruss tr) w.is)
 
       own : IsOwnEntry j u e (record { call = c; reply = r })
@@ -239,10 +240,10 @@ module _ (n : ℕ) (who : Hiders) (controllers : List ControllerState) (first : 
           (ap (λ b. cond b (Some (record { call = c; reply = r })) None) (eq-eqb j j refl))
 
       calm : answer_of r ≢ Interrupted
-      calm = calm-reply r (und.unbroken front back j c r place hider)
+      calm = calm-reply r (run.besides.unbroken front back j c r place hider)
 
       its-files : (q : ℕ) → q < length tr.traced → Files j u (traced_at tr q)
-      its-files q within = let w = truss-now in let f = w.files in f.each q within
+      its-files q within = let w = truss-now in w.files q within
 
       pub gone : (q : ℕ) → called_at tr.stage tr.aside ≡ Some q → answer_of r ≡ Gone
           → (live_process u.system (traced_at tr q).pid ≡ None)
@@ -350,12 +351,12 @@ module _ (n : ℕ) (who : Hiders) (controllers : List ControllerState) (first : 
       subst Closed (append_assoc front (e ∷ []) middle)
       (walk middle (front ++ e ∷ []) back (place ∙ sym (append_assoc front (e ∷ []) (middle ++ back)))
       (entry-closed front e.actor e.act (middle ++ back) place
-      (legal-here n first front e (middle ++ back) (subst (λ (es : List Entry). IsLegal n first es) place legal))
+      (legal-here n first front e (middle ++ back) (subst (λ (es : List Entry). IsLegal n first es) place run.legal))
       closed))
 
   at-first : Closed []
   at-first k hider t is =
-      let i = are.trusses k hider in
+      let i = run.are.trusses k hider in
       subst (ClosesAt []) (same-truss (first_truss i.options) t _ i.starts is)
       (record {
         closes = first-closes (Over []) no_opens no_leaves i.options;
@@ -397,8 +398,7 @@ module _ (n : ℕ) (who : Hiders) (controllers : List ControllerState) (first : 
         same : (traced_at tc q).pid ≡ held.pid
         same =
             let w = its in
-            let f = w.files in
-            last-pid j (here front) (traced_at tc q) (f.each q within) held
+            last-pid j (here front) (traced_at tc q) (w.files q within) held
             (ap (handle_of (here front).opens j) last ∙ there)
 
         by : StageSo (Over front) no_opens no_leaves tc (Closing q OpenNext) → patches ≡ []
@@ -435,11 +435,18 @@ module _ (n : ℕ) (who : Hiders) (controllers : List ControllerState) (first : 
         (is-closing tc number f.stage f.beside (has front back j (call.Close number) r place closed-here hider)
         (next front back j (call.Close number) r place closed-here hider))
 
-  pub leaves-none : LeavesNoBreakpoint who first h
-  leaves-none = record {
+  none-left : LeavesNoBreakpoint who first h
+  none-left = record {
     bare = λ front back k number r held p place hider there live.
         closes-bare front back k number r place hider held there p live;
     no_agent = λ front back pid place. let w = its_kept front back place in w.no_agent pid;
   }
+
+pub leaves-none : (n : ℕ) (who : Hiders) (controllers : List ControllerState) (first : TracedState) (h : List Entry)
+    → IsReached first → NoneSleepsInCopy first.system → HasBytes h → IsLegal n first h → AreOwnCalls controllers h
+    → AreTrusses who controllers first → AreUndisturbed who controllers first h → AreUnbroken who h
+    → LeavesNoBreakpoint who first h
+leaves-none n who controllers first h reached awake bytes legal own_calls are und unbroken =
+    none-left (calm-run n who controllers first h reached awake bytes legal own_calls are und unbroken)
 
 pub ruleset leaves = (leaves-none)

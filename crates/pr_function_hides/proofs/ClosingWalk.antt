@@ -693,7 +693,8 @@ module _ (Over : ℕ → Type 0) (Opens : OpeningStep → ℕ → Type 0) (Leave
             none-left (Some j) b it = absurd (false≢true (sym it))
 
             by : (b : Bool)
-                → (is_some (first_function plants) || is_some (first_function (without_function lifts function)) || clear)
+                → (is_some (first_function plants) || is_some (first_function (without_function lifts function))
+                || clear)
                 ≡ b
                 → Lifts q (cond b (Patching q plants (without_function lifts function) clear) Nothing)
                 (without_function (marks_at t q).planted function)

@@ -5,11 +5,11 @@ use Rattle.std.specs.List.{slice_get}
 use Rattle.std.specs.Prelude.{map}
 use Rattle.pr_api.specs.Entries.{call_entry}
 use Rattle.pr_function_hides.proofs.CalledCovers.{IsAsPatched, call-still, close-apart, ctl-apart, ctl-still}
-use Rattle.pr_function_hides.proofs.CallFacts.{calm-reply}
 use Rattle.pr_function_hides.proofs.CodeWalk.{CodeAt, Counted, Known, Replaced, beside-code, kept-there, replaced-later}
-use Rattle.pr_function_hides.proofs.CountedWalk.{AsideIn, BeforeAside, BeforeStage, MarksIn, TrussIn, truss-later}
+use Rattle.pr_function_hides.proofs.CountedWalk.{AsideIn, BesideSo, MarksIn, StageSo, TrussIn, truss-later}
+use Rattle.pr_function_hides.proofs.MarkedPatches.{same-patch}
 use Rattle.pr_function_hides.proofs.OwnCalls.{IsLast, last-is, not-taken, taken}
-use Rattle.pr_function_hides.proofs.OwnFiles.{HoldsItsFiles, IsBeside, IsWithin}
+use Rattle.pr_function_hides.proofs.OwnFiles.{GoesOn, HasItsFiles, IsBeside, IsWithin}
 use Rattle.pr_function_hides.proofs.OwnTidy.{Kind, other, sends, writes}
 use Rattle.pr_function_hides.proofs.OwnWrites.{code-is, write-read, write-tail}
 use Rattle.pr_function_hides.proofs.PlantedReplies.{LeftSo, So}
@@ -18,6 +18,7 @@ use Rattle.pr_function_hides.proofs.SpaceEdits.{EntryRelates}
 use Rattle.pr_function_hides.proofs.StillMessages.{BeginStill, is_still}
 use Rattle.pr_function_hides.proofs.TidyCalls as Calls
 use Rattle.pr_function_hides.proofs.TidyEntries.{lived}
+use Rattle.pr_function_hides.proofs.TidyOwn.{went-on}
 use Rattle.pr_function_hides.proofs.TidyKept.{IsRunOfTrusses, Kept, Lives, Truss}
 use Rattle.pr_function_hides.proofs.TurnCode.{HoldsCode, holds-same}
 use Rattle.pr_function_hides.proofs.WrittenCode as Written
@@ -64,6 +65,7 @@ use Rattle.pr_truss.specs.Replies.{answer_of}
 use Rattle.pr_truss.specs.Trusses.{TrussState, traced_at}
 use Rattle.pr_truss.specs.declared.asides.Aside.{Aside}
 use Rattle.pr_truss.specs.declared.asides.Aside.TheVariants.{Nothing, Reading, Planting, Patching}
+use Rattle.pr_truss.specs.declared.marks.Marks.{Marks}
 use Rattle.pr_truss.specs.declared.processes.Traced.{Traced}
 use Rattle.pr_truss.specs.declared.replies.Answer.TheVariants.{Accepted}
 use Rattle.pr_truss.specs.declared.stages.AfterClosing.TheVariants.{GoOn, OpenNext}
@@ -77,8 +79,8 @@ use Rattle.pr_world.specs.ControllerStates.{ControllerState}
 -- The code of a function that counts as planted stands, or its breakpoint does, also after each call of truss: it reads
 -- the code before it plants the breakpoint, and lifts it by writing the code.
 
-module _ {n : ℕ} {who : Hiders} {controllers : List ControllerState} {first : TracedState} {h : List Entry}
-    (run : IsRunOfTrusses n who controllers first h)
+module _ {B : Type 0} {n : ℕ} {who : Hiders} {controllers : List ControllerState} {first : TracedState}
+    {h : List Entry} (run : IsRunOfTrusses B n who controllers first h)
     (front back : List Entry) (j : ℕ) (c : Call) (r : Reply) (place : h ≡ front ++ call_entry j c r ∷ back)
     (hider : hides who j ≡ true) (spaces : HaveAddressSpaces (state_after first front).system) where
   abbrev at : List Entry → Covers
@@ -120,8 +122,8 @@ module _ {n : ℕ} {who : Hiders} {controllers : List ControllerState} {first : 
   abbrev below : AsideIsBelow (length o.functions) t.aside
   below = Calls.below run front back j c r place kept hider
 
-  abbrev files : HoldsItsFiles j t v
-  files = Calls.holds-now run front back j c r place kept hider
+  abbrev files : HasItsFiles j t v
+  files = Calls.files-now run front back j c r place kept hider
 
   abbrev has : has_functions o ≡ true
   has = Calls.has run front back j c r place kept hider
@@ -146,14 +148,6 @@ module _ {n : ℕ} {who : Hiders} {controllers : List ControllerState} {first : 
 
   patchable-of : (i : ℕ) (f : Function) → slice_get o.functions i ≡ Some f → IsPatchable f
   patchable-of i f named = All-at IsPatchable o.functions i f named fits.each
-
-  -- one address is that of one function
-  one-function : (i k : ℕ) (f g : Function) → slice_get o.functions i ≡ Some f → slice_get o.functions k ≡ Some g
-      → g.at ≡ f.at → g ≡ f
-  one-function i k f g first_named second same = elim (cases_eq k i) [
-    | inl is ↦ same_Some g f (sym second ∙ ap (slice_get o.functions) is ∙ first_named)
-    | inr apart ↦ absurd (fits.apart k i g f apart second first_named same)
-  ]
 
   -- ---- the code of a function in a process that truss traces
 
@@ -284,8 +278,8 @@ module _ {n : ℕ} {who : Hiders} {controllers : List ControllerState} {first : 
                 ∙ ap (patch_at f.at) covers)
                 ∙ ap (λ x. patch_at f.at (at later_front x).patches) same ∙ bare) in
                 let holds =
-                written-holds f patchable g (patchable-of k g its_name) (one-function i k f g named its_name) code size
-                (at front pid).patches p lent now_bare (λ before. code_at.holds p live before) in
+                written-holds f patchable g (patchable-of k g its_name) (same-patch o fits k i g f its_name named) code
+                size (at front pid).patches p lent now_bare (λ before. code_at.holds p live before) in
                 let later_is
                 : with_space (with_bytes g.at (tail_of (message.Write g.at 16) bytes) p.space) p ≡ s =
                 same_Some _ s (sym there ∙ answer-later (traced_at t m).pid
@@ -299,7 +293,7 @@ module _ {n : ℕ} {who : Hiders} {controllers : List ControllerState} {first : 
           → x.pid ≡ pid → is_ctl x.file ≡ false) → CodeAt run front pid pf → CodeAt run later_front pid pf
       own-code closes code = by (Calls.its-kind run front back j c r place kept hider)
         where
-          by : Kind j v c t fits files below → CodeAt run later_front pid pf
+          by : Kind c t → CodeAt run later_front pid pf
           by (writes m inside k g its_name bytes size are is) = elim (cases_eq (traced_at t m).pid pid) [
             | inl same ↦ written m inside k g its_name bytes size are is same code
             | inr apart ↦ elsewhere m inside _ is apart code
@@ -330,76 +324,51 @@ module _ {n : ℕ} {who : Hiders} {controllers : List ControllerState} {first : 
                   subst (λ (x : Call). IsAsPatched (at front pid) (covers_called who (at front) v j x r pid)) (sym is)
                   (call-still who none (at front) v j pid d r refl)
 
-  -- ---- all that truss has
+  -- ---- which control file is closed
 
-  module _ (counted : Counted run front) where
-    abbrev Old : ℕ → ℕ → Type 0
-    Old pid i = Known run front j o pid i
+  -- the call does not close the control file of a process
+  abbrev pub Spares : ℕ → Type 0
+  Spares pid =
+      (number : ℕ) (x : Held) → c ≡ call.Close number → handle_of v.opens j number ≡ Some x → x.pid ≡ pid
+      → is_ctl x.file ≡ false
 
-    abbrev New : ℕ → ℕ → Type 0
-    New pid i = Known run later_front j o pid i
+  abbrev ClosesNone : Type 0
+  ClosesNone = (number : ℕ) → c ≢ call.Close number
 
-    known : TrussIn Old t
-    known = let w = truss in counted.each j hider w.t w.is
+  none-spares : ClosesNone → (pid : ℕ) → Spares pid
+  none-spares never pid number x is there same = absurd (never number is)
 
-    -- the call does not close the control file of a process
-    abbrev Spares : ℕ → Type 0
-    Spares pid =
-        (number : ℕ) (x : Held) → c ≡ call.Close number → handle_of v.opens j number ≡ Some x → x.pid ≡ pid
-        → is_ctl x.file ≡ false
+  closes-none : (d : Call) → Some d ≡ Some c → ((number : ℕ) → d ≢ call.Close number) → ClosesNone
+  closes-none d same never number is = never number (same_Some d c same ∙ is)
 
-    known-later : (q i : ℕ) → q < length t.traced → Spares (traced_at t q).pid → Old (traced_at t q).pid i
-        → New (traced_at t q).pid i
-    known-later q i within spares was f named = by (was f named)
-      where
-        by : CodeAt run front (traced_at t q).pid (patch_of f) ⊎ Replaced run front j (traced_at t q).pid
-            → CodeAt run later_front (traced_at t q).pid (patch_of f) ⊎ Replaced run later_front j (traced_at t q).pid
-        by (inl code) = inl (own-code q within i f named spares code)
-        by (inr replaced) =
-            inr (replaced-later run front (Controller j) (act.Call c r) back place j (traced_at t q).pid replaced)
+  opening-none : (q : ℕ) (step : OpeningStep) → function_call_of t (Opening q step) ≡ Some c → ClosesNone
+  unfolding function_call_of call_of opening_call
+  opening-none q opening.OpenStatus is = closes-none _ is (λ number same. cc)
+  opening-none q opening.OpenLstatus is = closes-none _ is (λ number same. cc)
+  opening-none q opening.OpenMemory is = closes-none _ is (λ number same. cc)
+  opening-none q opening.ClearModes is = closes-none _ is (λ number same. cc)
+  opening-none q opening.SetRelease is = closes-none _ is (λ number same. cc)
+  opening-none q opening.Stop is = closes-none _ is (λ number same. cc)
+  opening-none q (opening.AwaitStop until) is = closes-none _ is (λ number same. cc)
+  opening-none q opening.ReadLwps is = closes-none _ is (λ number same. cc)
+  opening-none q opening.TraceSignals is = closes-none _ is (λ number same. cc)
+  opening-none q opening.TraceFaults is = closes-none _ is (λ number same. cc)
+  opening-none q opening.TraceEntries is = closes-none _ is (λ number same. cc)
+  opening-none q opening.TraceExits is = closes-none _ is (λ number same. cc)
+  opening-none q opening.Follow is = closes-none _ is (λ number same. cc)
+  opening-none q opening.Start is = closes-none _ is (λ number same. cc)
 
-    marks-later : (q : ℕ) → q < length t.traced → Spares (traced_at t q).pid → So (MarksIn New) (traced_at t q)
-    marks-later q within spares =
-        let w = known in
-        let m = w.marks q within in
-        record {
-          planted = λ i marked. known-later q i within spares (m.planted i marked);
-          lifted = λ i marked. known-later q i within spares (m.lifted i marked);
-          stepped = λ step is. known-later q step.function within spares (m.stepped step is);
-        }
+  patch-none : (q : ℕ) (plant lift : Option ℕ) → Some (patch_call o (traced_at t q).control plant lift) ≡ Some c
+      → ClosesNone
+  patch-none q (Some i) lift is = closes-none _ is (λ number same. cc)
+  patch-none q None (Some i) is = closes-none _ is (λ number same. cc)
+  patch-none q None None is = closes-none _ is (λ number same. cc)
 
-    -- ---- a call that closes nothing
-
-    abbrev ClosesNone : Type 0
-    ClosesNone = (number : ℕ) → c ≢ call.Close number
-
-    none-spares : ClosesNone → (pid : ℕ) → Spares pid
-    none-spares never pid number x is there same = absurd (never number is)
-
-    all-marks : ClosesNone → Each (So (MarksIn New)) t.traced
-    all-marks never q within = marks-later q within (none-spares never (traced_at t q).pid)
-
-    closes-none : (d : Call) → Some d ≡ Some c → ((number : ℕ) → d ≢ call.Close number) → ClosesNone
-    closes-none d same never number is = never number (same_Some d c same ∙ is)
-
-    opening-none : (q : ℕ) (step : OpeningStep) → function_call_of t (Opening q step) ≡ Some c → ClosesNone
-    unfolding function_call_of call_of opening_call
-    opening-none q opening.OpenStatus is = closes-none _ is (λ number same. cc)
-    opening-none q opening.OpenLstatus is = closes-none _ is (λ number same. cc)
-    opening-none q opening.OpenMemory is = closes-none _ is (λ number same. cc)
-    opening-none q opening.ClearModes is = closes-none _ is (λ number same. cc)
-    opening-none q opening.SetRelease is = closes-none _ is (λ number same. cc)
-    opening-none q opening.Stop is = closes-none _ is (λ number same. cc)
-    opening-none q (opening.AwaitStop until) is = closes-none _ is (λ number same. cc)
-    opening-none q opening.ReadLwps is = closes-none _ is (λ number same. cc)
-    opening-none q opening.TraceSignals is = closes-none _ is (λ number same. cc)
-    opening-none q opening.TraceFaults is = closes-none _ is (λ number same. cc)
-    opening-none q opening.TraceEntries is = closes-none _ is (λ number same. cc)
-    opening-none q opening.TraceExits is = closes-none _ is (λ number same. cc)
-    opening-none q opening.Follow is = closes-none _ is (λ number same. cc)
-    opening-none q opening.Start is = closes-none _ is (λ number same. cc)
-
-    -- ---- a file is closed
+  -- what is so of the marks of each process whose control file stays open
+  module _ (on : GoesOn t) (X : ℕ → Marks → Type 0)
+      (spared : (q : ℕ) → q < length t.traced → Spares (traced_at t q).pid → So X (traced_at t q)) where
+    all-so : ClosesNone → Each (So X) t.traced
+    all-so never q within = spared q within (none-spares never (traced_at t q).pid)
 
     module _ (q : ℕ) (within : q < length t.traced) (is : Some (call.Close (last_handle (traced_at t q))) ≡ Some c)
       where
@@ -428,59 +397,100 @@ module _ {n : ℕ} {who : Hiders} {controllers : List ControllerState} {first : 
                 ∙ ap (λ (y : Held). y.pid)
                 (same_Some x (held-of q) (sym found ∙ ap (handle_of v.opens j) control.0 ∙ files.control q within))))
 
-        left-marks : LeftSo (MarksIn New) (without_last u) u
-        left-marks = by last
+        left-so : LeftSo X (without_last u) u
+        left-so = by last
           where
-            kept_marks : (o : Option Traced) → Spares u.pid → LeftSo (MarksIn New) o u
-            kept_marks None spares = tt
-            kept_marks (Some w) spares = marks-later q within spares
+            kept_so : (o : Option Traced) → Spares u.pid → LeftSo X o u
+            kept_so None spares = tt
+            kept_so (Some w) spares = spared q within spares
 
-            by : IsLast j v u → LeftSo (MarksIn New) (without_last u) u
-            by (inl control) = subst (λ o. LeftSo (MarksIn New) o u) (sym control.1) tt
+            by : IsLast j v u → LeftSo X (without_last u) u
+            by (inl control) = subst (λ o. LeftSo X o u) (sym control.1) tt
             by (inr other_file) =
-                kept_marks (without_last u) (λ number x closes there same.
+                kept_so (without_last u) (λ number x closes there same.
                 other_file.other x (ap (handle_of v.opens j) (number-is number closes) ∙ there))
 
-        closing-marks : EachBut (So (MarksIn New)) t.traced q × LeftSo (MarksIn New) (without_last u) u
-        closing-marks = (λ i inside apart. marks-later i inside (others-spare i inside apart), left-marks)
+        closing-so : EachBut (So X) t.traced q × LeftSo X (without_last u) u
+        closing-so = (λ i inside apart. spared i inside (others-spare i inside apart), left-so)
 
-    stage-before : (stage : Stage) → IsWithin (length t.traced) stage → function_call_of t stage ≡ Some c
-        → BeforeStage New t stage
+    stage-so : (stage : Stage) → IsWithin (length t.traced) stage → function_call_of t stage ≡ Some c
+        → StageSo X t stage
     unfolding function_call_of call_of
-    stage-before (Spawning program) w is = all-marks (closes-none _ is (λ number same. cc))
-    stage-before (OpeningControl pid) w is = all-marks (closes-none _ is (λ number same. cc))
-    stage-before (Opening q step) w is = all-marks (opening-none q step is)
-    stage-before Polling w is = all-marks (closes-none _ is (λ number same. cc))
-    stage-before (ReadingStatus q) w is = all-marks (closes-none _ is (λ number same. cc))
-    stage-before (ReadingText q l from len) w is = all-marks (closes-none _ is (λ number same. cc))
-    stage-before (Running q) w is = all-marks (closes-none _ is (λ number same. cc))
-    stage-before (Closing q OpenNext) w is = closing-marks q w is
-    stage-before (Closing q GoOn) w is = closing-marks q w is
-    stage-before Finished w is = absurd (none-some c is)
-    stage-before _ w is = absurd w
+    stage-so (Spawning program) w is = all-so (closes-none _ is (λ number same. cc))
+    stage-so (OpeningControl pid) w is = all-so (closes-none _ is (λ number same. cc))
+    stage-so (Opening q step) w is = all-so (opening-none q step is)
+    stage-so Polling w is = all-so (closes-none _ is (λ number same. cc))
+    stage-so (ReadingStatus q) w is = all-so (closes-none _ is (λ number same. cc))
+    stage-so (ReadingText q l from len) w is = all-so (closes-none _ is (λ number same. cc))
+    stage-so (Running q) w is = all-so (closes-none _ is (λ number same. cc))
+    stage-so (Closing q OpenNext) w is = closing-so q w is
+    stage-so (Closing q GoOn) w is = closing-so q w is
+    stage-so Finished w is = absurd (none-some c is)
+    stage-so _ w is = absurd w
 
-    patch-none : (q : ℕ) (plant lift : Option ℕ) → Some (patch_call o (traced_at t q).control plant lift) ≡ Some c
-        → ClosesNone
-    patch-none q (Some i) lift is = closes-none _ is (λ number same. cc)
-    patch-none q None (Some i) is = closes-none _ is (λ number same. cc)
-    patch-none q None None is = closes-none _ is (λ number same. cc)
+    aside-so : (aside : Aside) → IsBeside (length t.traced) aside → call_beside t t.stage aside ≡ Some c
+        → BesideSo X t aside
+    unfolding call_beside
+    aside-so Nothing w is = stage-so t.stage on.stage is
+    aside-so (Reading q i) w is = all-so (closes-none _ is (λ number same. cc))
+    aside-so (Planting q i) w is = all-so (closes-none _ is (λ number same. cc))
+    aside-so (Patching q plants lifts clear) w is =
+        all-so (patch-none q (first_function plants) (first_function lifts) is)
+    aside-so _ w is = absurd w
+
+    pub marks-so : BesideSo X t t.aside
+    unfolding next_function_call_of
+    marks-so =
+        aside-so t.aside on.beside
+        (sym (ap (λ b. cond b (call_beside t t.stage t.aside) (next_call_of t)) has) ∙ next)
+
+  -- ---- all that truss has
+
+  module _ (counted : Counted run front) (stays : (fed_functions t r).leaving ≡ false) where
+    abbrev goes : GoesOn t
+    goes = (went-on run front back j c r place kept hider stays).0
+
+    abbrev Old : ℕ → ℕ → Type 0
+    Old pid i = Known run front j o pid i
+
+    abbrev New : ℕ → ℕ → Type 0
+    New pid i = Known run later_front j o pid i
+
+    known : TrussIn Old t
+    known = let w = truss in counted.each j hider w.t w.is goes.off
+
+    known-later : (q i : ℕ) → q < length t.traced → Spares (traced_at t q).pid → Old (traced_at t q).pid i
+        → New (traced_at t q).pid i
+    known-later q i within spares was f named = by (was f named)
+      where
+        by : CodeAt run front (traced_at t q).pid (patch_of f) ⊎ Replaced run front j (traced_at t q).pid
+            → CodeAt run later_front (traced_at t q).pid (patch_of f) ⊎ Replaced run later_front j (traced_at t q).pid
+        by (inl code) = inl (own-code q within i f named spares code)
+        by (inr replaced) =
+            inr (replaced-later run front (Controller j) (act.Call c r) back place j (traced_at t q).pid replaced)
+
+    marks-later : (q : ℕ) → q < length t.traced → Spares (traced_at t q).pid → So (MarksIn New) (traced_at t q)
+    marks-later q within spares =
+        let w = known in
+        let m = w.marks q within in
+        record {
+          planted = λ i marked. known-later q i within spares (m.planted i marked);
+          lifted = λ i marked. known-later q i within spares (m.lifted i marked);
+          stepped = λ step is. known-later q step.function within spares (m.stepped step is);
+        }
 
     aside-before : (aside : Aside) → t.aside ≡ aside → IsBeside (length t.traced) aside
-        → call_beside t t.stage aside ≡ Some c → AsideIn Old t.traced aside
-        → BeforeAside New t aside × AsideIn New t.traced aside
+        → call_beside t t.stage aside ≡ Some c → AsideIn Old t.traced aside → AsideIn New t.traced aside
     unfolding call_beside
-    aside-before Nothing is_aside w is it = (stage-before t.stage files.stage is, tt)
-    aside-before (Reading q i) is_aside w is it = (all-marks (closes-none _ is (λ number same. cc)), tt)
+    aside-before Nothing is_aside w is it = tt
+    aside-before (Reading q i) is_aside w is it = tt
     aside-before (Planting q i) is_aside w is it =
         let never : ClosesNone = closes-none _ is (λ number same. cc) in
-        (all-marks never, known-later q i w (none-spares never (traced_at t q).pid) it)
+        (known-later q i w (none-spares never (traced_at t q).pid) it.0, tt)
     aside-before (Patching q plants lifts clear) is_aside w is it =
         let never : ClosesNone = patch-none q (first_function plants) (first_function lifts) is in (
-          all-marks never,
-          (
-            (λ i marked. known-later q i w (none-spares never (traced_at t q).pid) (it.0 i marked)),
-            (λ i marked. known-later q i w (none-spares never (traced_at t q).pid) (it.1 i marked)),
-          ),
+          (λ i marked. known-later q i w (none-spares never (traced_at t q).pid) (it.0 i marked)),
+          (λ i marked. known-later q i w (none-spares never (traced_at t q).pid) (it.1 i marked)),
         )
     aside-before _ is_aside w is it = absurd w
 
@@ -511,7 +521,7 @@ module _ {n : ℕ} {who : Hiders} {controllers : List ControllerState} {first : 
     })
       where
         within : q < length t.traced
-        within = subst (IsBeside (length t.traced)) reading files.beside
+        within = subst (IsBeside (length t.traced)) reading goes.beside
 
         call-is : Some (call.Ctl (traced_at t q).control (spelling (message.Read f.at 16) [])) ≡ Some c
         call-is =
@@ -527,8 +537,9 @@ module _ {n : ℕ} {who : Hiders} {controllers : List ControllerState} {first : 
     pub called-in : TrussIn (λ pid i. Known run later_front j (fed_functions t r).options pid i) (fed_functions t r)
     called-in =
         let w = known in
-        let before = aside-before t.aside refl files.beside beside-is w.aside in
         subst (λ (x : Options). TrussIn (λ pid i. Known run later_front j x pid i) (fed_functions t r))
         (sym (fed_functions-options t r))
-        (truss-later New t r files.off files.follow files.stage files.beside
-        (calm-reply r (run.und.unbroken front back j c r place hider)) has before.0 before.1 learns)
+        (truss-later New (λ pid i. Unit {0}) t r goes.off goes.follow goes.stage goes.beside
+        (went-on run front back j c r place kept hider stays).1 has (marks-so goes (MarksIn New) marks-later)
+        (aside-before t.aside refl goes.beside beside-is w.aside) learns (λ pid. tt)
+        (λ q i at accepted other. tt) (λ q i at accepted. tt))

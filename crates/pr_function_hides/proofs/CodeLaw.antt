@@ -1,4 +1,4 @@
-use Rattle.std.proofs.Common.{◌≡◌, ◌≢◌, ◌⊎◌, ◌++◌, ℕ, true, Some, None, List, [], ◌∷◌, refl, sym, subst, ap, ◌∙◌, arith, inl, inr}
+use Rattle.std.proofs.Common.{◌≡◌, ◌≢◌, ◌⊎◌, ◌++◌, ℕ, true, false, List, [], ◌∷◌, refl, sym, subst, ap, ◌∙◌, inl, inr}
 use Rattle.std.proofs.lemmas.Bool.{cases_eq}
 use Rattle.std.proofs.lemmas.List.{append-nil, append_assoc}
 use Rattle.std.specs.List.{slice_get}
@@ -6,12 +6,11 @@ use Rattle.pr_api.specs.Entries.{call_entry}
 use Rattle.pr_function_hides.proofs.CallFacts.{controllers-push, legal-here, same-truss}
 use Rattle.pr_function_hides.proofs.CodeCalls.{called-in}
 use Rattle.pr_function_hides.proofs.CodeWalk.{Counted, Known, After, foreign-in, kept-there}
-use Rattle.pr_function_hides.proofs.CountedWalk.{TrussIn}
+use Rattle.pr_function_hides.proofs.CountedWalk.{TrussIn, first-so}
 use Rattle.pr_function_hides.proofs.TidyCalls as Calls
 use Rattle.pr_function_hides.proofs.TidyKept.{IsRunOfTrusses}
 use Rattle.pr_function_laws.proofs.OpenedLaws.{bytes-front}
 use Rattle.pr_hidden.specs.Hiders.{Hiders, hides}
-use Rattle.pr_line.specs.declared.options.Options.{Options}
 use Rattle.pr_model.specs.Legal.{IsLegal, IsLegalEntry, state_after}
 use Rattle.pr_model.specs.State.{TracedState}
 use Rattle.pr_model.specs.declared.calls.Call.{Call}
@@ -26,29 +25,16 @@ use Rattle.pr_reached.specs.ByteHistories.{HasBytes}
 use Rattle.pr_reached.specs.Mapped.{HaveAddressSpaces}
 use Rattle.pr_tool_laws.proofs.WholeLemmas.{front-legal}
 use Rattle.pr_truss.specs.FunctionFeeding.{fed_functions}
-use Rattle.pr_truss.specs.Trusses.{TrussState, first_of_program, first_truss, idle, opening_or}
+use Rattle.pr_truss.specs.Trusses.{TrussState, first_truss}
 use Rattle.pr_world.specs.ControllerStates.{ControllerState}
 use Rattle.pr_world.specs.Protocol.{controllers_after, controllers_at}
 
 -- Along a history of trusses that are undisturbed the code of each function that counts as planted stands, or its
 -- breakpoint does, as long as the memory of its process is not replaced.
 
--- before its first call truss is to plant and to lift nothing
-first-in : (P : ℕ → ℕ → Type 0) (o : Options) → TrussIn P (first_truss o)
-unfolding first_truss
-first-in P o = by-program o.program
-  where
-    by-pid : (pid : _) → TrussIn P (opening_or (idle o) (idle o) pid)
-    by-pid None = record { marks = λ q within. absurd (omega (arith, within)); aside = tt }
-    by-pid (Some pid) = record { marks = λ q within. absurd (omega (arith, within)); aside = tt }
-
-    by-program : (program : _) → TrussIn P (first_of_program o program)
-    by-program None = by-pid (slice_get o.pids 0)
-    by-program (Some program) = record { marks = λ q within. absurd (omega (arith, within)); aside = tt }
-
-module _ {n : ℕ} {who : Hiders} {controllers : List ControllerState} {first : TracedState} {h : List Entry}
-    (run : IsRunOfTrusses n who controllers first h) where
-  spaces : (front back : List Entry) → h ≡ front ++ back → HaveAddressSpaces (state_after first front).system
+module _ {B : Type 0} {n : ℕ} {who : Hiders} {controllers : List ControllerState} {first : TracedState}
+    {h : List Entry} (run : IsRunOfTrusses B n who controllers first h) where
+  pub spaces : (front back : List Entry) → h ≡ front ++ back → HaveAddressSpaces (state_after first front).system
   spaces front back place =
       history-spaces n first front (let x = run.reached in x.lawful) (let x = run.reached in x.in_range)
       (bytes-front front back (subst HasBytes place run.bytes))
@@ -56,11 +42,11 @@ module _ {n : ℕ} {who : Hiders} {controllers : List ControllerState} {first : 
 
   at-first : Counted run []
   at-first = record {
-    each = λ k hider t is.
+    each = λ k hider t is off.
         let i = run.are.trusses k hider in
         subst (λ (x : TrussState). TrussIn (Known run [] k x.options) x)
         (same-truss (first_truss i.options) t _ i.starts is)
-        (first-in (Known run [] k (first_truss i.options).options) i.options);
+        (first-so (Known run [] k (first_truss i.options).options) (λ pid i. Unit {0}) i.options);
   }
 
   -- an entry that is no call of a controller
@@ -71,38 +57,40 @@ module _ {n : ℕ} {who : Hiders} {controllers : List ControllerState} {first : 
       ≡ controllers_at controllers front
       → Counted run front → Counted run (front ++ record { actor = actor; act = did } ∷ [])
   quiet-counted front actor did back place none same counted = record {
-    each = λ k hider t is.
+    each = λ k hider t is off.
         foreign-in run front actor did back place k hider
         (ap (λ (cs : List ControllerState). slice_get cs k)
         (controllers-push controllers front (record { actor = actor; act = did }) ∙ same))
-        (none k) counted t is;
+        (none k) counted t is off;
   }
 
   called-counted : (front back : List Entry) (j : ℕ) (c : Call) (r : Reply)
       (place : h ≡ front ++ call_entry j c r ∷ back) → Counted run front
       → Counted run (front ++ call_entry j c r ∷ [])
   called-counted front back j c r place counted = record {
-    each = λ k hider t is. by k hider t is (cases_eq j k);
+    each = λ k hider t is off. by k hider t is off (cases_eq j k);
   }
     where
       by : (k : ℕ) → hides who k ≡ true → (t : TrussState) → After run (front ++ call_entry j c r ∷ []) k t
-          → (j ≡ k) ⊎ (j ≢ k) → TrussIn (Known run (front ++ call_entry j c r ∷ []) k t.options) t
-      by k hider t is (inr apart) =
+          → t.leaving ≡ false → (j ≡ k) ⊎ (j ≢ k) → TrussIn (Known run (front ++ call_entry j c r ∷ []) k t.options) t
+      by k hider t is off (inr apart) =
           foreign-in run front (Controller j) (act.Call c r) back place k hider
           (Calls.foreign-same run front back j c r place (kept-there run front (call_entry j c r ∷ back) place) k apart)
-          (λ same. apart (controller-same same)) counted t is
+          (λ same. apart (controller-same same)) counted t is off
         where
           controller-same : {a b : ℕ} → Controller a ≡ Controller b → a ≡ b
           controller-same same = cc
-      by k hider t is (inl same) =
+      by k hider t is off (inl same) =
           let hides_it : hides who j ≡ true = ap (hides who) same ∙ hider in
           let kept = kept-there run front (call_entry j c r ∷ back) place in
           let now = subst (λ i. After run (front ++ call_entry j c r ∷ []) i t) (sym same) is in
+          let is_now : fed_functions (Calls.tr run front back j c r place kept hides_it) r ≡ t =
+          same-truss (fed_functions (Calls.tr run front back j c r place kept hides_it) r) t _
+          (Calls.own-after run front back j c r place kept hides_it) now in
           subst (λ i. TrussIn (Known run (front ++ call_entry j c r ∷ []) i t.options) t) same
-          (subst (λ (x : TrussState). TrussIn (Known run (front ++ call_entry j c r ∷ []) j x.options) x)
-          (same-truss (fed_functions (Calls.tr run front back j c r place kept hides_it) r) t _
-          (Calls.own-after run front back j c r place kept hides_it) now)
-          (called-in run front back j c r place hides_it (spaces front (call_entry j c r ∷ back) place) counted))
+          (subst (λ (x : TrussState). TrussIn (Known run (front ++ call_entry j c r ∷ []) j x.options) x) is_now
+          (called-in run front back j c r place hides_it (spaces front (call_entry j c r ∷ back) place) counted
+          (subst (λ (x : TrussState). x.leaving ≡ false) (sym is_now) off)))
 
   entry-counted : (front : List Entry) (actor : Actor) (did : Act) (back : List Entry)
       → h ≡ front ++ record { actor = actor; act = did } ∷ back

@@ -4,22 +4,25 @@ use Rattle.std.proofs.lemmas.List.{append_assoc}
 use Rattle.std.proofs.lemmas.Option.{none-some}
 use Rattle.std.specs.List.{slice_get}
 use Rattle.pr_function_hides.proofs.CallFacts.{same-truss}
+use Rattle.pr_function_hides.proofs.CopyCounts.{opened-or-none, takes-copies}
+use Rattle.pr_function_hides.proofs.CopyFree.{copies-on, goes-on-there, run-options, truss-is}
 use Rattle.pr_function_hides.proofs.CountedWalk.{AsideIn, TrussIn}
-use Rattle.pr_function_hides.proofs.OwnFiles.{HoldsItsFiles, IsBeside}
-use Rattle.pr_function_hides.proofs.FilesCalls.{holds-of}
-use Rattle.pr_function_hides.proofs.MarkedPatches.{found-is}
+use Rattle.pr_function_hides.proofs.OwnFiles.{HasItsFiles, IsBeside}
+use Rattle.pr_function_hides.proofs.MarkedPatches.{patch-there}
 use Rattle.pr_function_hides.proofs.SpaceEdits.{EntryRelates, entry-relates}
 use Rattle.pr_function_hides.proofs.TidyEntries.{its-lawful, its-legal, lived, now-is, sole}
-use Rattle.pr_function_hides.proofs.TidyKept.{IsRunOfTrusses, Kept, Lives, Truss}
+use Rattle.pr_function_hides.proofs.TidyKept.{IsRunOfTrusses, Kept, Lives, Truss, has-files, stays-on}
 use Rattle.pr_function_hides.proofs.TidyLaw.{kept-at}
 use Rattle.pr_function_hides.proofs.TurnCode.{HoldsCode, holds-same, turn-holds}
 use Rattle.pr_function_hides.specs.CountedFunctions.{Counts, again, is_next, lifted, stepped, takes_memory}
-use Rattle.pr_function_hides.specs.FunctionHiders.{ArePatchable, IsPatchable, patch_of}
-use Rattle.pr_function_hides.specs.TidyWrites.{IsTrussAfter, WasReplaced}
+use Rattle.pr_function_hides.specs.FunctionHiders.{ArePatchable, IsMarked, IsPatchable, patch_of}
+use Rattle.pr_function_hides.specs.Replacing.{WasReplaced}
+use Rattle.pr_function_hides.specs.TidyWrites.{IsTrussAfter}
 use Rattle.pr_hidden.specs.Covers.{Covers, Patch}
 use Rattle.pr_hidden.specs.Hiders.{Hiders, covers_at, hides, patch_at}
 use Rattle.pr_hidden.specs.Sparing.{AreWithin}
 use Rattle.pr_lawful.proofs.HandleLemmas.{control-writes, handle-at}
+use Rattle.pr_function_laws.specs.Opened.{functions_at, is_opened}
 use Rattle.pr_line.specs.declared.functions.Function.{Function}
 use Rattle.pr_line.specs.declared.options.Options.{Options}
 use Rattle.pr_model.specs.Handles.{handle_of, is_control}
@@ -45,7 +48,7 @@ use Rattle.pr_world.specs.ControllerStates.{ControllerState}
 use Rattle.pr_world.specs.Protocol.{controllers_at}
 
 -- The code of a function that counts as planted stands, or its breakpoint does, as long as the memory of its process is
--- not replaced: what others do leaves it.
+-- not replaced and truss does not leave its processes: what others do leaves it.
 
 -- ---- what is so of each function follows from another thing
 
@@ -66,7 +69,7 @@ module _ (P Q : ℕ → ℕ → Type 0) (t : TrussState)
   }
     where
       by : (a : Aside) → t.aside ≡ a → IsBeside (length t.traced) a → AsideIn P t.traced a → AsideIn Q t.traced a
-      by (Planting q i) at within it = each q i within (inr (is_next at)) it
+      by (Planting q i) at within it = (each q i within (inr (is_next at)) it.0, tt)
       by (Patching q plants lifts clear) at within it = (
         (λ i has. each q i within (inr (again plants lifts clear at (inl has))) (it.0 i has)),
         (λ i has. each q i within (inr (again plants lifts clear at (inr has))) (it.1 i has)),
@@ -75,8 +78,8 @@ module _ (P Q : ℕ → ℕ → Type 0) (t : TrussState)
 
 -- ---- along a history
 
-module _ {n : ℕ} {who : Hiders} {controllers : List ControllerState} {first : TracedState} {h : List Entry}
-    (run : IsRunOfTrusses n who controllers first h) where
+module _ {B : Type 0} {n : ℕ} {who : Hiders} {controllers : List ControllerState} {first : TracedState}
+    {h : List Entry} (run : IsRunOfTrusses B n who controllers first h) where
   abbrev at : List Entry → Covers
   at front = covers_at who first front
 
@@ -86,16 +89,17 @@ module _ {n : ℕ} {who : Hiders} {controllers : List ControllerState} {first : 
   abbrev pub KeptAfter : List Entry → Type 0
   KeptAfter front = Kept who controllers first h front
 
-  pub kept-there : (front back : List Entry) → h ≡ front ++ back → KeptAfter front
-  kept-there = kept-at n who controllers first h run.reached run.bytes run.legal run.own_calls run.are run.und
+  abbrev pub kept-there : (front back : List Entry) → h ≡ front ++ back → KeptAfter front
+  kept-there = kept-at run
 
   -- where no breakpoint of a function stands in the process of an id, its code does
   pub record CodeAt (front : List Entry) (pid : ℕ) (f : Patch) : Type 0 where
     pub holds : (p : TracedProcess) → live_process (now front).system pid ≡ Some p
         → patch_at f.at (at front pid).patches ≡ None → HoldsCode f p
 
+  -- a vfork or an exec of it was granted once truss had opened it
   abbrev pub Replaced : List Entry → ℕ → ℕ → Type 0
-  Replaced front k pid = WasReplaced who controllers first h front k pid
+  Replaced front k pid = (hider : hides who k ≡ true) → WasReplaced k (run-options run k hider) front pid
 
   -- so it is of a function that truss names, or the memory was replaced
   abbrev pub Known : List Entry → ℕ → Options → ℕ → ℕ → Type 0
@@ -106,7 +110,7 @@ module _ {n : ℕ} {who : Hiders} {controllers : List ControllerState} {first : 
   After front k t = IsTrussAfter who controllers first h front k t
 
   pub record Counted (front : List Entry) : Type 0 where
-    pub each : (k : ℕ) → hides who k ≡ true → (t : TrussState) → After front k t
+    pub each : (k : ℕ) → hides who k ≡ true → (t : TrussState) → After front k t → t.leaving ≡ false
         → TrussIn (Known front k t.options) t
 
   -- ---- an entry
@@ -138,18 +142,22 @@ module _ {n : ℕ} {who : Hiders} {controllers : List ControllerState} {first : 
     legal-entry = its-legal run front e back place kept-here
 
     pub replaced-later : (k pid : ℕ) → Replaced front k pid → Replaced next_front k pid
-    replaced-later k pid w = record {
-      before = w.before;
-      later = w.later ++ e ∷ [];
-      id = w.id;
-      t = w.t;
-      is =
-          ap (λ xs. xs ++ e ∷ []) w.is
-          ∙ append_assoc w.before (record { actor = Lwp pid w.id; act = act.Turn w.t } ∷ w.later) (e ∷ []);
-      takes = w.takes;
-      number = w.number;
-      control = w.control;
-    }
+    replaced-later k pid was hider =
+        let w = was hider in
+        record {
+          before = w.before;
+          later = w.later ++ e ∷ [];
+          id = w.id;
+          t = w.t;
+          is =
+              ap (λ xs. xs ++ e ∷ []) w.is
+              ∙ append_assoc w.before (record { actor = Lwp pid w.id; act = act.Turn w.t } ∷ w.later) (e ∷ []);
+          takes = w.takes;
+          place = w.place;
+          within = w.within;
+          own = w.own;
+          opened = w.opened;
+        }
 
     -- ---- the processes of a truss
 
@@ -160,8 +168,8 @@ module _ {n : ℕ} {who : Hiders} {controllers : List ControllerState} {first : 
       abbrev t : TrussState
       t = let w = truss in w.t
 
-      files : HoldsItsFiles k t s
-      files = let w = truss in holds-of k s w.t w.files
+      files : HasItsFiles k t s
+      files = has-files truss
 
       fits : ArePatchable t.options
       fits =
@@ -214,42 +222,47 @@ module _ {n : ℕ} {who : Hiders} {controllers : List ControllerState} {first : 
             let kept = kept-there next_front back next-place in kept.trusses k hider
 
         -- the breakpoints that stand are the same
-        none-before : (q : ℕ) → q < length t.traced → (i : ℕ) (f : Function) → slice_get t.options.functions i ≡ Some f
-            → (r : TracedProcess) → live_process (now next_front).system (traced_at t q).pid ≡ Some r
+        none-before : (q : ℕ) → q < length t.traced → (f : Function) (r : TracedProcess)
+            → live_process (now next_front).system (traced_at t q).pid ≡ Some r
             → patch_at f.at (at next_front (traced_at t q).pid).patches ≡ None
             → patch_at f.at (at front (traced_at t q).pid).patches ≡ None
-        none-before q within i f named r later bare =
+        none-before q within f r later bare =
             by (patch_at f.at (at front (traced_at t q).pid).patches) refl
           where
             there : Lives s (traced_at t q).pid
             there = lived run front e back place kept-here k hider q within (r, later)
 
-            after-it : (x : TrussState) (w : Truss who controllers first h next_front k) → w.t ≡ x → x ≡ t
-                → has_function (marks_at t q).planted i ≡ true
-                → patch_at f.at (at next_front (traced_at t q).pid).patches ≡ Some (patch_of f)
-            after-it x w one two has =
+            -- the breakpoint of a function that is marked stands later too
+            after-it : (x : TrussState) (w : Truss who controllers first h next_front k) → w.t ≡ x → x ≡ t → (j : ℕ)
+                (g : Function) → slice_get t.options.functions j ≡ Some g
+                → has_function (marks_at t q).planted j ≡ true
+                → patch_at g.at (at next_front (traced_at t q).pid).patches ≡ Some (patch_of g)
+            after-it x w one two j g its_name has =
                 let stand =
                 subst (λ (y : TrussState). q < length y.traced → Lives (now next_front) (traced_at y q).pid
-                → (has_function (marks_at y q).planted i ≡ true)
-                → slice_get y.options.functions i ≡ Some f
-                → patch_at f.at (at next_front (traced_at y q).pid).patches ≡ Some (patch_of f)) (one ∙ two)
+                → has_function (marks_at y q).planted j ≡ true
+                → slice_get y.options.functions j ≡ Some g
+                → patch_at g.at (at next_front (traced_at y q).pid).patches ≡ Some (patch_of g)) (one ∙ two)
                 (λ inside lives marked its.
-                let d = w.stand q inside lives in d.each i f its marked) in
-                stand within (r, later) has named
+                let d = w.stand q inside lives in d.each j g its marked) in
+                stand within (r, later) has its_name
 
             by : (o : Option Patch) → patch_at f.at (at front (traced_at t q).pid).patches ≡ o → o ≡ None
             by None found = refl
             by (Some g) found =
                 let w = truss in
                 let d = w.stand q within there in
-                let its =
-                found-is t.options fits (marks_at t q).planted (at front (traced_at t q).pid).patches i f g named d.all
-                found in
+                let it =
+                patch-there (IsMarked t.options (marks_at t q).planted) f.at (at front (traced_at t q).pid).patches g
+                d.all found in
+                let mark = it.0 in
                 let later_truss = truss-later in
-                absurd (none-some (patch_of f)
+                absurd (none-some (patch_of mark.f)
                 (sym bare
+                ∙ ap (λ a. patch_at a (at next_front (traced_at t q).pid).patches)
+                (sym it.1 ∙ ap (λ (x : Patch). x.at) mark.is)
                 ∙ after-it later_truss.t later_truss refl
-                (same-truss later_truss.t t _ later_truss.is is-later) its.1))
+                (same-truss later_truss.t t _ later_truss.is is-later) mark.function mark.f mark.named mark.marked))
 
         -- nobody else writes to its processes
         none-writes : (q : ℕ) → q < length t.traced → (j number : ℕ) (x : Held) → j ≢ k
@@ -273,14 +286,29 @@ module _ {n : ℕ} {who : Hiders} {controllers : List ControllerState} {first : 
         relates q within f patchable p r own (Lwp acting id) it other = tt
         relates q within f patchable p r own Clock it other = tt
 
-        -- a turn of the process
-        turn-code : (q i : ℕ) → q < length t.traced → (f : Function) → slice_get t.options.functions i ≡ Some f
+        -- a turn of the process that takes no memory
+        turn-keeps : (q i : ℕ) → q < length t.traced → (f : Function) → slice_get t.options.functions i ≡ Some f
             → (has_function (marks_at t q).planted i ≡ true) ⊎ Counts t q i → (id : ℕ) (turned : Turned)
             → e ≡ record { actor = Lwp (traced_at t q).pid id; act = act.Turn turned }
-            → CodeAt front (traced_at t q).pid (patch_of f)
-            → CodeAt next_front (traced_at t q).pid (patch_of f) ⊎ Replaced next_front k (traced_at t q).pid
+            → takes_memory turned.did ≡ false → CodeAt front (traced_at t q).pid (patch_of f)
+            → CodeAt next_front (traced_at t q).pid (patch_of f)
         unfolding after
-        turn-code q i within f named member id turned is code = by (takes_memory turned.did) refl
+        turn-keeps q i within f named member id turned is leaves code = record {
+          holds = λ r later bare.
+              let was = lived run front e back place kept-here k hider q within (r, later) in
+              let before = none-before q within f r later bare in
+              let taken = legal-turn n s own id turned (subst (IsLegalEntry n s) is legal-entry) in
+              let w = truss in
+              turn-holds (patch_of f) inside own s.system id (record { system = taken.0; turned = turned }) taken.1
+              leaves
+              (λ p l live there going.
+              run.und.untouched.spares front back own id turned p l k w.t q i f its-place live there going hider w.is
+              within refl (counts was before) named before)
+              was.0 was.1 (code.holds was.0 was.1 before) r
+              (sym (turned-now (record { system = taken.0; turned = turned }) taken.1)
+              ∙ ap (λ (x : Entry). live_process (after s x).system own) (sym is)
+              ∙ ap (λ (x : TracedState). live_process x.system own) (sym later-is) ∙ later);
+        }
           where
             own : ℕ
             own = (traced_at t q).pid
@@ -300,56 +328,113 @@ module _ {n : ℕ} {who : Hiders} {controllers : List ControllerState} {first : 
                 let most : f.at + 16 ≤ 2 ^ 64 = patchable.within in
                 (omega (arith, size, most), tt)
 
-            by : (b : Bool) → takes_memory turned.did ≡ b
-                → CodeAt next_front own (patch_of f) ⊎ Replaced next_front k own
-            by true takes = inr (record {
-              before = front;
-              later = [];
-              id = id;
-              t = turned;
-              is = ap (λ (x : Entry). front ++ x ∷ []) is;
-              takes = takes;
-              number = (traced_at t q).control;
-              control = (let w = files in w.control q within);
-            })
-            by false leaves = inl (record {
-              holds = λ r later bare.
-                  let was = lived run front e back place kept-here k hider q within (r, later) in
-                  let before = none-before q within i f named r later bare in
-                  let taken = legal-turn n s own id turned (subst (IsLegalEntry n s) is legal-entry) in
-                  let w = truss in
-                  turn-holds (patch_of f) inside own s.system id (record { system = taken.0; turned = turned }) taken.1
-                  leaves
-                  (λ p l live there going.
-                  run.und.untouched.spares front back own id turned p l k w.t q i f its-place live there going hider w.is
-                  within
-                  refl (counts was before) named before)
-                  was.0 was.1 (code.holds was.0 was.1 before) r
-                  (sym (turned-now (record { system = taken.0; turned = turned }) taken.1)
-                  ∙ ap (λ (x : Entry). live_process (after s x).system own) (sym is)
-                  ∙ ap (λ (x : TracedState). live_process x.system own) (sym later-is) ∙ later);
-            })
+            turned-now : (x : LwpTurn) → turn_of s.system own id ≡ Some x
+                → live_process (after s its_entry).system own ≡ live_process x.system own
+            turned-now x taken = rw taken refl
+
+            -- a function that is planted has its breakpoint standing
+            counts : Lives s own → patch_at f.at (at front own).patches ≡ None → Counts t q i
+            counts lives before = of member
               where
-                turned-now : (x : LwpTurn) → turn_of s.system own id ≡ Some x
-                    → live_process (after s its_entry).system own ≡ live_process x.system own
-                turned-now x taken = rw taken refl
+                of : (has_function (marks_at t q).planted i ≡ true) ⊎ Counts t q i → Counts t q i
+                of (inr it) = it
+                of (inl has) =
+                    let w = truss in
+                    let d = w.stand q within lives in
+                    absurd (none-some (patch_of f) (sym before ∙ d.each i f named has))
 
-                -- a function that is planted has its breakpoint standing
-                counts : Lives s own → patch_at f.at (at front own).patches ≡ None → Counts t q i
-                counts lives before = of member
-                  where
-                    of : (has_function (marks_at t q).planted i ≡ true) ⊎ Counts t q i → Counts t q i
-                    of (inr it) = it
-                    of (inl has) =
-                        let w = truss in
-                        let d = w.stand q within lives in
-                        absurd (none-some (patch_of f) (sym before ∙ d.each i f named has))
+        -- whatever turn of it
+        turn-code : t.leaving ≡ false → (q i : ℕ) → q < length t.traced → (f : Function)
+            → slice_get t.options.functions i ≡ Some f
+            → (has_function (marks_at t q).planted i ≡ true) ⊎ Counts t q i → (id : ℕ) (turned : Turned)
+            → e ≡ record { actor = Lwp (traced_at t q).pid id; act = act.Turn turned }
+            → CodeAt front (traced_at t q).pid (patch_of f)
+            → CodeAt next_front (traced_at t q).pid (patch_of f) ⊎ Replaced next_front k (traced_at t q).pid
+        turn-code stays q i within f named member id turned is code = by (takes_memory turned.did) refl
+          where
+            by : (b : Bool) → takes_memory turned.did ≡ b
+                → CodeAt next_front (traced_at t q).pid (patch_of f) ⊎ Replaced next_front k (traced_at t q).pid
+            by true takes = of opened-there
+              where
+                -- truss is where its replies have brought it
+                at-is : (hides_it : hides who k ≡ true) → t ≡ functions_at k (run-options run k hides_it) front
+                at-is hides_it =
+                    let w = truss in truss-is run.own_calls run.are k hides_it front (e ∷ back) place w.t w.is
 
-        each-later : (q i : ℕ) → q < length t.traced
+                opened-there : (is_opened t.stage q ≡ true)
+                    ⊎ ((i : ℕ) → (has_function (marks_at t q).planted i ≡ true) ⊎ Counts t q i → ⊥)
+                opened-there =
+                    let w = truss in
+                    let taken =
+                    legal-turn n s (traced_at t q).pid id turned (subst (IsLegalEntry n s) is legal-entry) in
+                    opened-or-none n k (run-options run k hider) t s
+                    (goes-on-there run k hider front (e ∷ back) place w.t w.is stays)
+                    (copies-on run k hider front (e ∷ back) place w.t w.is stays) q within id
+                    (record { system = taken.0; turned = turned }) taken.1 (takes-copies turned.did takes)
+
+                of : (is_opened t.stage q ≡ true)
+                    ⊎ ((i : ℕ) → (has_function (marks_at t q).planted i ≡ true) ⊎ Counts t q i → ⊥)
+                    → CodeAt next_front (traced_at t q).pid (patch_of f) ⊎ Replaced next_front k (traced_at t q).pid
+                of (inr none) = absurd (none i member)
+                of (inl opened) = inr (λ hides_it. record {
+                  before = front;
+                  later = [];
+                  id = id;
+                  t = turned;
+                  is = ap (λ (x : Entry). front ++ x ∷ []) is;
+                  takes = takes;
+                  place = q;
+                  within = subst (λ (u : TrussState). q < length u.traced) (at-is hides_it) within;
+                  own = ap (λ (u : TrussState). (traced_at u q).pid) (sym (at-is hides_it));
+                  opened = subst (λ (u : TrussState). is_opened u.stage q ≡ true) (at-is hides_it) opened;
+                })
+            by false leaves = inl (turn-keeps q i within f named member id turned is leaves code)
+
+        lwp-same : {a b i j : ℕ} → Lwp a i ≡ Lwp b j → a ≡ b
+        lwp-same is = cc
+
+        -- where no turn of the process takes its memory, the code of a function stands on
+        pub code-stays : (q i : ℕ) → q < length t.traced
+            → (has_function (marks_at t q).planted i ≡ true) ⊎ Counts t q i → (f : Function)
+            → slice_get t.options.functions i ≡ Some f
+            → ((id : ℕ) (turned : Turned) → e ≡ record { actor = Lwp (traced_at t q).pid id; act = act.Turn turned }
+            → takes_memory turned.did ≡ false) → CodeAt front (traced_at t q).pid (patch_of f)
+            → CodeAt next_front (traced_at t q).pid (patch_of f)
+        unfolding IsLegalEntry
+        code-stays q i within member f named leaves code = of actor did refl refl legal-entry
+          where
+            own : ℕ
+            own = (traced_at t q).pid
+
+            patchable : IsPatchable f
+            patchable = let x = fits in All-at IsPatchable t.options.functions i f named x.each
+
+            beside : ((id : ℕ) → actor ≢ Lwp own id) → CodeAt next_front own (patch_of f)
+            beside apart =
+                beside-code q within f patchable apart
+                (λ p r lent. relates q within f patchable p r lent actor did foreign)
+                (λ r later bare. none-before q within f r later bare) code
+
+            of : (who_acts : Actor) (it : Act) → actor ≡ who_acts → did ≡ it
+                → IsLegalEntry n s (record { actor = who_acts; act = it }) → CodeAt next_front own (patch_of f)
+            of (Controller j) it acts does legal = beside (λ id is. cc)
+            of Clock it acts does legal = beside (λ id is. cc)
+            of (Lwp acting id) (act.Turn turned) acts does legal = elim (cases_eq acting own) [
+              | inl is_own ↦
+                  (let is =
+                  ap (λ (x : Actor). record { actor = x; act = did }) (acts ∙ ap (λ m. Lwp m id) is_own)
+                  ∙ ap (λ (x : Act). record { actor = Lwp own id; act = x }) does in
+                  turn-keeps q i within f named member id turned is (leaves id turned is) code)
+              | inr apart ↦ beside (λ other is. apart (lwp-same (sym acts ∙ is)))
+            ]
+            of (Lwp acting id) (act.Call c reply) acts does legal = absurd legal
+            of (Lwp acting id) (act.Tick moment) acts does legal = absurd legal
+
+        each-later : t.leaving ≡ false → (q i : ℕ) → q < length t.traced
             → (has_function (marks_at t q).planted i ≡ true) ⊎ Counts t q i
             → Known front k t.options (traced_at t q).pid i → Known next_front k t.options (traced_at t q).pid i
         unfolding IsLegalEntry
-        each-later q i within member known f named = by (known f named)
+        each-later stays q i within member known f named = by (known f named)
           where
             own : ℕ
             own = (traced_at t q).pid
@@ -362,7 +447,7 @@ module _ {n : ℕ} {who : Hiders} {controllers : List ControllerState} {first : 
             beside apart code =
                 inl (beside-code q within f patchable apart
                 (λ p r lent. relates q within f patchable p r lent actor did foreign)
-                (λ r later bare. none-before q within i f named r later bare) code)
+                (λ r later bare. none-before q within f r later bare) code)
 
             of : (who_acts : Actor) (it : Act) → actor ≡ who_acts → did ≡ it
                 → IsLegalEntry n s (record { actor = who_acts; act = it }) → CodeAt front own (patch_of f)
@@ -371,14 +456,11 @@ module _ {n : ℕ} {who : Hiders} {controllers : List ControllerState} {first : 
             of Clock it acts does legal code = beside (λ id is. cc) code
             of (Lwp acting id) (act.Turn turned) acts does legal code = elim (cases_eq acting own) [
               | inl is_own ↦
-                  turn-code q i within f named member id turned
+                  turn-code stays q i within f named member id turned
                   (ap (λ (x : Actor). record { actor = x; act = did }) (acts ∙ ap (λ m. Lwp m id) is_own)
                   ∙ ap (λ (x : Act). record { actor = Lwp own id; act = x }) does) code
               | inr apart ↦ beside (λ other is. apart (lwp-same (sym acts ∙ is))) code
             ]
-              where
-                lwp-same : {a b i j : ℕ} → Lwp a i ≡ Lwp b j → a ≡ b
-                lwp-same is = cc
             of (Lwp acting id) (act.Call c reply) acts does legal code = absurd legal
             of (Lwp acting id) (act.Tick moment) acts does legal code = absurd legal
 
@@ -387,11 +469,12 @@ module _ {n : ℕ} {who : Hiders} {controllers : List ControllerState} {first : 
             by (inr replaced) = inr (replaced-later k own replaced)
             by (inl code) = of actor did refl refl legal-entry code
 
-        pub foreign-in : Counted front → (later : TrussState) → After next_front k later
+        pub foreign-in : Counted front → (later : TrussState) → After next_front k later → later.leaving ≡ false
             → TrussIn (Known next_front k later.options) later
-        foreign-in counted later is =
+        foreign-in counted later is off =
             let w = truss in
-            subst (λ (x : TrussState). TrussIn (Known next_front k x.options) x)
-            (same-truss t later _ is-later is)
-            (truss-weaker (Known front k t.options) (Known next_front k t.options) t each-later
-            (let g = files in g.beside) (counted.each k hider w.t w.is))
+            let same : t ≡ later = same-truss t later _ is-later is in
+            let stays : t.leaving ≡ false = subst (λ (x : TrussState). x.leaving ≡ false) (sym same) off in
+            subst (λ (x : TrussState). TrussIn (Known next_front k x.options) x) same
+            (truss-weaker (Known front k t.options) (Known next_front k t.options) t (each-later stays)
+            (let g = stays-on w stays in g.beside) (counted.each k hider w.t w.is stays))

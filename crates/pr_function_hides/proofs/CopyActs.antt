@@ -150,7 +150,7 @@ module _ (n k : ℕ) (s : TracedState) (lawful : IsLawful s) (c : Call) (a : Ans
 
   -- it runs the process, or is refused and leaves the system
   pub data HasRunSo (v : Traced) (flags : ℕ) (p : TracedProcess) : Type 0 where
-    ran : live_process a.state.system v.pid ≡ Some (with_run flags p) → HasRunSo v flags p
+    ran : run_refused p ≡ false → live_process a.state.system v.pid ≡ Some (with_run flags p) → HasRunSo v flags p
     left : (v.pid ≡ 0) ⊎ (run_refused p ≡ true) → a.state.system ≡ s.system → HasRunSo v flags p
 
   -- with whatever run flags
@@ -189,7 +189,8 @@ module _ (n k : ℕ) (s : TracedState) (lawful : IsLawful s) (c : Call) (a : Ans
           left (inl (eqb-true v.pid 0 zero)) (ap (λ (x : Answer). x.state.system) same)
       by false true other refused_so same = left (inr refused_so) (ap (λ (x : Answer). x.state.system) same)
       by false false other granted same =
-          ran (ap (λ (x : Answer). live_process x.state.system v.pid) same
+          ran granted
+          (ap (λ (x : Answer). live_process x.state.system v.pid) same
           ∙ live-changed s.system v.pid (with_run flags) p live (run-ended flags p))
 
   -- ---- the look at the lwps

@@ -49,6 +49,22 @@ use Rattle.pr_function_hides.proofs.CopyRunning.{run-done}
 
 -- Each call of truss, and its reply, leaves the forks, vforks and execs of its processes as they are to stand.
 
+-- ---- where truss looks at functions
+
+-- they are looked at where a process is run next
+started : (q b : ℕ) (step : OpeningStep) → (q ≡ b) × (step ≡ opening.Start) → Opening b step ≡ Opening q opening.Start
+started q b step is = ap (λ x. Opening x step) (sym is.0) ∙ ap (λ x. Opening q x) is.1
+
+pub reading-starts : (q function : ℕ) (stage : Stage) → FitsSo (Reading q function) stage
+    → stage ≡ Opening q opening.Start
+reading-starts q function (Opening b step) fits = started q b step fits
+reading-starts q function _ fits = absurd fits
+
+pub planting-starts : (q function : ℕ) (stage : Stage) → FitsSo (Planting q function) stage
+    → stage ≡ Opening q opening.Start
+planting-starts q function (Opening b step) fits = started q b step fits
+planting-starts q function _ fits = absurd fits
+
 -- ---- the messages by which truss reads and writes memory
 
 read-leaves : (at size : ℕ) → BeginLeavingLwps (spelling (message.Read at size) [])
@@ -167,39 +183,18 @@ module _ {n k : ℕ} {o : Options} {t : TrussState} {s : TracedState} {c : Call}
   beside-now aside beside =
       let g = w.goes in let m = g.kept in subst (AtAside (IsSo (Unit {0}) k t.options s) t.traced) beside m.beside
 
-  -- functions are looked at where a process is run next
-  starts : (aside : Aside) (q : ℕ) → ((b : ℕ) (step : OpeningStep) → FitsSo aside (Opening b step)
-      → (q ≡ b) × (step ≡ opening.Start)) → ((stage : Stage) → FitsSo aside stage → (b : ℕ) × ((step : OpeningStep)
-      × (stage ≡ Opening b step))) → FitsSo aside t.stage → t.stage ≡ Opening q opening.Start
-  starts aside q is only fits =
-      let at = only t.stage fits in
-      let both = is at.0 at.1.0 (subst (FitsSo aside) at.1.1 fits) in
-      at.1.1 ∙ ap (λ b. Opening b at.1.0) (sym both.0) ∙ ap (λ step. Opening q step) both.1
-
-  reading-only : (q function : ℕ) (stage : Stage) → FitsSo (Reading q function) stage
-      → (b : ℕ) × ((step : OpeningStep) × (stage ≡ Opening b step))
-  reading-only q function (Opening b step) fits = (b, (step, refl))
-  reading-only q function _ fits = absurd fits
-
-  planting-only : (q function : ℕ) (stage : Stage) → FitsSo (Planting q function) stage
-      → (b : ℕ) × ((step : OpeningStep) × (stage ≡ Opening b step))
-  planting-only q function (Opening b step) fits = (b, (step, refl))
-  planting-only q function _ fits = absurd fits
-
   aside-done : (aside : Aside) → t.aside ≡ aside → call_beside t t.stage aside ≡ Some c → Done (fed_functions t r)
   unfolding call_beside with_aside_answered
   aside-done Nothing beside is = stage-done beside t.stage refl at-now is
   aside-done (Reading q function) beside is =
       subst Done (sym (aside-fed (Reading q function) beside))
       (code-done w q (let b = beside-now (Reading q function) beside in b.0)
-      (starts (Reading q function) q (λ b step fits. fits) (reading-only q function)
-      (fits-now (Reading q function) beside)) _ (sym (same_Some _ c is))
+      (reading-starts q function t.stage (fits-now (Reading q function) beside)) _ (sym (same_Some _ c is))
       (read-leaves (address_of t.options function) instruction_size) function (answer_of r) refl w.calm)
   aside-done (Planting q function) beside is =
       subst Done (sym (aside-fed (Planting q function) beside))
       (plant-done w q (let b = beside-now (Planting q function) beside in b.0)
-      (starts (Planting q function) q (λ b step fits. fits) (planting-only q function)
-      (fits-now (Planting q function) beside)) _ (sym (same_Some _ c is))
+      (planting-starts q function t.stage (fits-now (Planting q function) beside)) _ (sym (same_Some _ c is))
       (write-leaves (address_of t.options function) instruction_size breakpoint) function (answer_of r) refl w.calm)
   aside-done (Patching q plants lifts clear) beside is =
       by (first_function plants) (first_function lifts) refl refl (same_Some _ c is)

@@ -37,6 +37,22 @@ use Rattle.pr_function_hides.proofs.PlantedReplies.{lost-marks}
 
 -- The forks, vforks and execs of a process whose files truss closes.
 
+-- the last file of a process is open for reading, where another one is left
+pub last-read : (k : ℕ) (o : Options) (s : TracedState) (v u : Traced) (memory lstatus status : Option ℕ)
+    → Holds k o s (Some opening.OpenStatus) v.pid v.control status lstatus memory
+    → without_last (record v { memory = memory; lstatus = lstatus; status = status }) ≡ Some u
+    → (file : Held)
+    × ((handle_of s.opens k (last_handle (record v { memory = memory; lstatus = lstatus; status = status }))
+    ≡ Some file) × (is_writable file.mode ≡ false))
+unfolding last_handle without_last
+last-read k o s v u (Some m) lstatus status h left =
+    (held_by k v.pid 0 file.Mem Read, (h.its_memory m refl, refl))
+last-read k o s v u None (Some m) status h left =
+    (held_by k v.pid 0 file.Lstatus Read, (h.its_lstatus m refl, refl))
+last-read k o s v u None None (Some m) h left =
+    (held_by k v.pid 0 file.Status Read, (h.its_status m refl, refl))
+last-read k o s v u None None None h left = absurd (none-some u left)
+
 module _ {n k : ℕ} {o : Options} {t : TrussState} {s : TracedState} {c : Call} {a : Answer}
     (w : OwnCall n k o t s c a) (q : ℕ) (within : q < length t.traced) where
   abbrev v : Traced
@@ -64,27 +80,11 @@ module _ {n k : ℕ} {o : Options} {t : TrussState} {s : TracedState} {c : Call}
         (λ place other. ap (λ y. is_about y place) at ∙ ne_eqb q place (λ same_place. other (sym same_place)))
         (apart-away w q within (last_handle v) last.its_file last.its_mode (ap acts_by is) last.there)
 
-    -- the file that is closed is open for reading, where another one is left
-    last-read : (u : Traced) (memory lstatus status : Option ℕ)
-        → Holds k t.options s (Some opening.OpenStatus) v.pid v.control status lstatus memory
-        → without_last (record v { memory = memory; lstatus = lstatus; status = status }) ≡ Some u
-        → (file : Held)
-        × ((handle_of s.opens k (last_handle (record v { memory = memory; lstatus = lstatus; status = status }))
-        ≡ Some file) × (is_writable file.mode ≡ false))
-    unfolding last_handle without_last
-    last-read u (Some m) lstatus status h left =
-        (held_by k v.pid 0 file.Mem Read, (h.its_memory m refl, refl))
-    last-read u None (Some m) status h left =
-        (held_by k v.pid 0 file.Lstatus Read, (h.its_lstatus m refl, refl))
-    last-read u None None (Some m) h left =
-        (held_by k v.pid 0 file.Status Read, (h.its_status m refl, refl))
-    last-read u None None None h left = absurd (none-some u left)
-
     close-left : (u : Traced) → without_last v ≡ Some u → Done (with_traced t q u)
     unfolding without_last
     close-left u left =
         let there : traced_at (with_traced t q u) q ≡ u = set-at t.traced q u within in
-        let read = last-read u v.memory v.lstatus v.status held left in
+        let read = last-read k t.options s v u v.memory v.lstatus v.status held left in
         let g = w.goes in
         let stays = read-closed n k s g.lawful c a w.given w.over (last_handle v) read.0 read.1.0 read.1.1 is in
         let lost = lost-same v u left in
@@ -99,7 +99,7 @@ module _ {n k : ℕ} {o : Options} {t : TrussState} {s : TracedState} {c : Call}
         }))
         (λ x now.
         closes_so next at
-        (subst (λ (y : Traced). ClosesSo y x) (sym there)
+        (subst (λ (y : Traced). ClosesSo t.aside y x) (sym there)
         (by x (lost-marks v u left)
         (let cs = w.copies in
         closes-of t q x next at
@@ -118,8 +118,8 @@ module _ {n k : ℕ} {o : Options} {t : TrussState} {s : TracedState} {c : Call}
             seen-of None None (Some m) left = ap (λ (y : Traced). y.seen) (sym (same_Some _ u left))
             seen-of None None None left = absurd (none-some u left)
 
-        by : (x : TracedProcess) → u.marks ≡ v.marks → ClosesSo v x → ClosesSo u x
-        by x marks (unplanted m) = unplanted (subst IsBareMarks (sym marks) m)
+        by : (x : TracedProcess) → u.marks ≡ v.marks → ClosesSo t.aside v x → ClosesSo t.aside u x
+        by x marks (unplanted none m) = unplanted none (subst IsBareMarks (sym marks) m)
         by x marks (halted out halting) = halted out halting
 
     close-removed : (following : AfterClosing) → next ≡ following

@@ -33,14 +33,14 @@ use Rattle.pr_function_hides.proofs.FilesCalls.{Files}
 use Rattle.pr_function_hides.proofs.GoneTold.{told-gone}
 use Rattle.pr_function_laws.proofs.KnownFiles.{Knows}
 use Rattle.pr_function_hides.proofs.OwnFiles.{IsBeside, IsWithin}
-use Rattle.pr_function_hides.specs.Copying.{CopiesStand, IsEmpty, bare, makes_copy, none_goes, one_goes}
+use Rattle.pr_function_hides.specs.Copying.{CopiesStand, IsLifted, bare, makes_copy, none_goes, one_goes}
 
 -- What a fork, a vfork and an exec find that are granted, where those of each process stand as they are to; and that
 -- truss is told of no process that it is gone but where that has ended.
 
 -- ---- where truss has come
 
-stage-within : (P : Position → Traced → Type 0) (ts : List Traced) (stage : Stage) → AtStage P ts stage
+pub stage-within : (P : Position → Traced → Type 0) (ts : List Traced) (stage : Stage) → AtStage P ts stage
     → IsWithin (length ts) stage
 stage-within P ts (Spawning program) w = tt
 stage-within P ts (OpeningControl pid) w = tt
@@ -54,7 +54,7 @@ stage-within P ts (Closing q GoOn) w = w.0
 stage-within P ts Finished w = tt
 stage-within P ts _ w = absurd w
 
-aside-within : (P : Position → Traced → Type 0) (ts : List Traced) (aside : Aside) → AtAside P ts aside
+pub aside-within : (P : Position → Traced → Type 0) (ts : List Traced) (aside : Aside) → AtAside P ts aside
     → IsBeside (length ts) aside
 aside-within P ts Nothing w = tt
 aside-within P ts (Reading q function) w = w.0
@@ -87,55 +87,56 @@ module _ (n k : ℕ) (o : Options) (t : TrussState) (s : TracedState) (g : Goes 
     abbrev pid : ℕ
     pid = (traced_at t place).pid
 
-    abbrev Empty : Type 0
-    Empty = IsEmpty (marks_at t place).planted
+    abbrev Lifted : Type 0
+    Lifted = IsLifted (marks_at t place)
 
-    bare-empty : (m : Marks) → IsBareMarks m → IsEmpty m.planted
-    bare-empty m b = let l = b.lifted in l.none_planted
+    bare-lifted : (m : Marks) → IsBareMarks m → IsLifted m
+    bare-lifted m b = b.lifted
 
-    still-none : {A : Type 0} (p : TracedProcess) → live_process s.system pid ≡ Some p → IsFrozen p → A
+    pub still-none : {A : Type 0} (p : TracedProcess) → live_process s.system pid ≡ Some p → IsFrozen p → A
     still-none p live frozen =
         absurd (none-some turn (sym (frozen-turns s.system pid p live frozen id) ∙ is))
 
-    halted-none : {A : Type 0} (p : TracedProcess) → live_process s.system pid ≡ Some p → IsHalting p → A
+    pub halted-none : {A : Type 0} (p : TracedProcess) → live_process s.system pid ≡ Some p → IsHalting p → A
     halted-none p live halting =
         absurd (false≢true
         (sym (halting-makes-none s.system pid p (let l = g.lawful in l.system) live halting id turn is) ∙ makes))
 
-    stands-empty : (p : TracedProcess) → live_process s.system pid ≡ Some p → CopiesStand (marks_at t place) p → Empty
-    stands-empty p live (none_goes all) =
+    stands-lifted : (p : TracedProcess) → live_process s.system pid ≡ Some p → CopiesStand (marks_at t place) p → Lifted
+    stands-lifted p live (none_goes all) =
         absurd (false≢true
         (sym (turn-makes-none s.system pid p id turn (let l = g.lawful in l.system) live is None all tt) ∙ makes))
-    stands-empty p live (one_goes i lifted all) = lifted.none_planted
-    stands-empty p live (bare lifted none) = lifted.none_planted
+    stands-lifted p live (one_goes i lifted all) = lifted
+    stands-lifted p live (bare lifted none) = lifted
 
-    rests-empty : (p : TracedProcess) → live_process s.system pid ≡ Some p → RestsSo (traced_at t place) p → Empty
-    rests-empty p live (rests_new none stands) = stands-empty p live stands
-    rests-empty p live (rests_old flags some w) = still-none p live w.frozen
+    rests-lifted : (p : TracedProcess) → live_process s.system pid ≡ Some p → RestsSo (traced_at t place) p → Lifted
+    rests-lifted p live (rests_new none stands) = stands-lifted p live stands
+    rests-lifted p live (rests_old flags some w) = still-none p live w.frozen
 
-    opens-empty : (p : TracedProcess) → live_process s.system pid ≡ Some p → (step : _)
-        → t.stage ≡ Opening place step → OpensSo step (traced_at t place) p → Empty
-    opens-empty p live step at (early first m) = bare-empty (marks_at t place) m
-    opens-empty p live step at (stopped reads out) =
+    opens-lifted : (p : TracedProcess) → live_process s.system pid ≡ Some p → (step : _)
+        → t.stage ≡ Opening place step → OpensSo step (traced_at t place) p → Lifted
+    opens-lifted p live step at (early first m) = bare-lifted (marks_at t place) m
+    opens-lifted p live step at (stopped reads out) =
         halted-none p live (opening-halts n k o t s g place step at p live (ap is_early reads))
-    opens-empty p live step at (counted late other c) =
+    opens-lifted p live step at (counted late other c) =
         halted-none p live (opening-halts n k o t s g place step at p live late)
 
-    closes-empty : (p : TracedProcess) → live_process s.system pid ≡ Some p → ClosesSo (traced_at t place) p → Empty
-    closes-empty p live (unplanted m) = bare-empty (marks_at t place) m
-    closes-empty p live (halted out halting) = halted-none p live halting
+    closes-lifted : (p : TracedProcess) → live_process s.system pid ≡ Some p → ClosesSo t.aside (traced_at t place) p
+        → Lifted
+    closes-lifted p live (unplanted idle m) = bare-lifted (marks_at t place) m
+    closes-lifted p live (halted out halting) = halted-none p live halting
 
-    by-standing : (p : TracedProcess) → live_process s.system pid ≡ Some p → StandingSo t place p → Empty
-    by-standing p live (rests_so other w) = rests-empty p live w
-    by-standing p live (opens_so step at w) = opens-empty p live step at w
-    by-standing p live (closes_so next at w) = closes-empty p live w
+    by-standing : (p : TracedProcess) → live_process s.system pid ≡ Some p → StandingSo t place p → Lifted
+    by-standing p live (rests_so other w) = rests-lifted p live w
+    by-standing p live (opens_so step at w) = opens-lifted p live step at w
+    by-standing p live (closes_so next at w) = closes-lifted p live w
     by-standing p live (runs_so soon w) = still-none p live (soon-still n k o t s g place soon p live)
 
-    pub copy-finds-none : Empty
+    pub copy-finds-lifted : Lifted
     unfolding turn_of
-    copy-finds-none = by (live_process s.system pid) refl
+    copy-finds-lifted = by (live_process s.system pid) refl
       where
-        by : (x : Option TracedProcess) → live_process s.system pid ≡ x → Empty
+        by : (x : Option TracedProcess) → live_process s.system pid ≡ x → Lifted
         by None none = absurd (none-some turn (sym (no-turn none) ∙ is))
           where
             no-turn : live_process s.system pid ≡ None → turn_of s.system pid id ≡ None

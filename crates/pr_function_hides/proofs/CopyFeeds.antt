@@ -73,7 +73,7 @@ module _ (t : TrussState) (place : ℕ) (p : TracedProcess) where
       absurd (false≢true (sym (ap (λ x. is_run_soon x place) at) ∙ soon))
 
   pub closes-of : (next : AfterClosing) → t.stage ≡ Closing place next → StandingSo t place p
-      → ClosesSo (traced_at t place) p
+      → ClosesSo t.aside (traced_at t place) p
   closes-of next at (rests_so rest w) =
       absurd (false≢true (sym rest ∙ ap (λ x. is_about x place) at ∙ own-place place))
   closes-of next at (opens_so step is w) = absurd (apart (sym is ∙ at))

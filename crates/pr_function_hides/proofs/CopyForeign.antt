@@ -1,18 +1,12 @@
-use Rattle.std.proofs.Common.{◌≡◌, ◌≢◌, ◌<◌, ◌==◌, ℕ, true, false, Option, Some, None, List, length, refl, sym, subst, ap, ◌∙◌, inl, inr}
-use Rattle.std.proofs.lemmas.Bool.{cases_eq, eq-eqb, eqb-true, false≢true}
-use Rattle.std.proofs.lemmas.Option.{none-some, same_Some}
+use Rattle.std.proofs.Common.{◌≡◌, ◌≢◌, ◌<◌, ◌==◌, ℕ, true, false, Option, Some, None, List, length, refl, sym, subst, ◌∙◌}
+use Rattle.std.proofs.lemmas.Bool.{eq-eqb, eqb-true, false≢true}
+use Rattle.std.proofs.lemmas.Option.{same_Some}
 use Rattle.pr_line.specs.declared.options.Options.{Options}
-use Rattle.pr_model.specs.Legal.{IsLegalEntry, after, after_turn}
+use Rattle.pr_model.specs.Legal.{IsLegalEntry, after}
 use Rattle.pr_model.specs.LwpTurns.{LwpTurn, turn_of}
-use Rattle.pr_model.specs.State.{TracedProcess, TracedState, TracedSystem, has_agent, live_process}
-use Rattle.pr_model.specs.declared.events.Act.{Act}
-use Rattle.pr_model.specs.declared.events.Act.TheVariants as act
-use Rattle.pr_model.specs.declared.events.Actor.{Actor}
-use Rattle.pr_model.specs.declared.events.Actor.TheVariants.{Controller, Lwp, Clock}
+use Rattle.pr_model.specs.State.{TracedProcess, TracedState, has_agent, live_process}
 use Rattle.pr_model.specs.declared.events.Entry.{Entry}
-use Rattle.pr_model.specs.declared.events.Turned.{Turned}
-use Rattle.pr_report_laws.proofs.Invariant.OtherSteps.{lives-later}
-use Rattle.pr_truss.specs.Trusses.{TrussState, first_truss, traced_at}
+use Rattle.pr_truss.specs.Trusses.{TrussState, traced_at}
 use Rattle.pr_truss.specs.declared.marks.Marks.{Marks}
 use Rattle.pr_truss.specs.declared.processes.Traced.{Traced}
 use Rattle.pr_truss.specs.declared.stages.AfterClosing.TheVariants.{OpenNext, GoOn}
@@ -21,19 +15,17 @@ use Rattle.pr_truss.specs.declared.stages.OpeningStep.TheVariants as opening
 use Rattle.pr_truss.specs.declared.stages.Stage.{Stage}
 use Rattle.pr_truss.specs.declared.stages.Stage.TheVariants.{Spawning, OpeningControl, Opening, Polling, ReadingStatus, ReadingText, Running, Closing, Finished}
 use Rattle.pr_truss_laws.proofs.HeldLemmas.{at_place}
-use Rattle.pr_truss_laws.proofs.OutlastLemmas.{others-entry}
-use Rattle.pr_truss_laws.proofs.OverLemmas.{stays-over}
 use Rattle.pr_truss_laws.specs.Exchanges.{exchange_of}
-use Rattle.pr_truss_laws.specs.Stills.{IsFrozen, IsHalting, IsUndisturbed}
-use Rattle.pr_function_laws.proofs.BreakpointLemmas.{IsForeign, foreign-entry}
+use Rattle.pr_truss_laws.specs.Stills.{IsFrozen, IsHalting}
+use Rattle.pr_function_laws.proofs.BreakpointLemmas.{foreign-entry}
 use Rattle.pr_function_laws.proofs.KeptPlaces.{AtStage, Position, looks, opens, rests, runs}
 use Rattle.pr_function_laws.proofs.OpenedCalls.{IsSo, lowest}
 use Rattle.pr_function_laws.proofs.OpenedLaws.{Goes}
-use Rattle.pr_function_laws.proofs.OpenedLemmas.{control-made, control-sole}
 use Rattle.pr_function_laws.proofs.StoodLemmas.{StoodOpening}
 use Rattle.pr_function_laws.specs.Lifted.{HasControl}
 use Rattle.pr_function_laws.specs.Opened.{TracesAll}
 use Rattle.pr_function_hides.proofs.CopyOthers.{others-wait}
+use Rattle.pr_function_hides.proofs.CopyPasses.{Passed, alone, passed, turned}
 use Rattle.pr_function_hides.proofs.CopyPlaces.{CopiesSo, RestsSo, StandingSo, closes-turn, closes_so, is_about, is_early, no-turn, opens-turn, opens_so, rests-alone, rests_new, rests_old, rests_so, runs_so, standing-alone}
 use Rattle.pr_function_hides.specs.Copying.{CopiesStand, HaveNoCopyGoing, IsTracedIn, NoCopyGoesIn, bare, none_goes, one_goes}
 use Rattle.pr_function_hides.specs.Treating.{is_run_soon}
@@ -133,7 +125,7 @@ module _ (n k : ℕ) (o : Options) (t : TrussState) (s : TracedState) (g : Goes 
         by _ late other h = absurd (false≢true (sym late))
 
   -- truss traces what rests
-  traced-at : (place : ℕ) → place < length t.traced → is_about t.stage place ≡ false
+  pub traced-at : (place : ℕ) → place < length t.traced → is_about t.stage place ≡ false
       → IsTracedIn t.options (traced_at t place).pid s
   traced-at place within other = record {
     live = λ p live.
@@ -144,63 +136,6 @@ module _ (n k : ℕ) (o : Options) (t : TrussState) (s : TracedState) (g : Goes 
   }
 
   -- ---- an entry
-
-  -- others left the process alone, or a turn of it came
-  data Passed (pid : ℕ) (p q : TracedProcess) : Type 0 where
-    alone : IsUndisturbed p q → Passed pid p q
-    turned : (own : ℕ) (turn : LwpTurn) → turn_of s.system pid own ≡ Some turn
-        → live_process turn.system pid ≡ Some q → Passed pid p q
-
-  module _ (e : Entry) (legal : IsLegalEntry n s e) (pid control : ℕ) (its : HasControl k pid control s) where
-    over : live_process s.system pid ≡ None → live_process (after s e).system pid ≡ None
-    over none = stays-over n s e pid g.lawful legal (control-made k pid control s g.lawful its) none
-
-    elsewhere : IsForeign k s e → ((own : ℕ) → e.actor ≢ Lwp pid own) → (q : TracedProcess)
-        → live_process (after s e).system pid ≡ Some q
-        → (p : TracedProcess) × ((live_process s.system pid ≡ Some p) × Passed pid p q)
-    elsewhere foreign apart q later =
-        let was =
-        lives-later o pid (first_truss o) s (after s e)
-        (λ p live. others-entry n s k pid e p g.lawful (control-sole k pid control s g.lawful its) legal apart
-        (let f = foreign in f.other) live) over q later in
-        (was.0, (was.1.0, alone was.1.1))
-
-    own-turn : (own : ℕ) (turn : LwpTurn) → turn_of s.system pid own ≡ Some turn
-        → (after s e).system ≡ turn.system → (q : TracedProcess) → live_process (after s e).system pid ≡ Some q
-        → (p : TracedProcess) × ((live_process s.system pid ≡ Some p) × Passed pid p q)
-    own-turn own turn is same q later = by (live_process s.system pid) refl
-      where
-        by : (x : Option TracedProcess) → live_process s.system pid ≡ x
-            → (p : TracedProcess) × ((live_process s.system pid ≡ Some p) × Passed pid p q)
-        by None none = absurd (none-some q (sym (over none) ∙ later))
-        by (Some p) live =
-            (p, (live, turned own turn is (ap (λ (x : TracedSystem). live_process x pid) (sym same) ∙ later)))
-
-  turn-after : (pid own : ℕ) (it : Turned) (turn : LwpTurn) → turn_of s.system pid own ≡ Some turn
-      → (after s (record { actor = Lwp pid own; act = act.Turn it })).system ≡ turn.system
-  unfolding after
-  turn-after pid own it turn is = ap (λ (x : Option LwpTurn). (after_turn s x).system) is
-
-  passed : (actor : Actor) (it : Act) (legal : IsLegalEntry n s (record { actor = actor; act = it }))
-      → IsForeign k s (record { actor = actor; act = it }) → (pid control : ℕ) (its : HasControl k pid control s)
-      → (q : TracedProcess) → live_process (after s (record { actor = actor; act = it })).system pid ≡ Some q
-      → (p : TracedProcess) × ((live_process s.system pid ≡ Some p) × Passed pid p q)
-  unfolding IsLegalEntry
-  passed (Controller j) (act.Call c r) legal foreign pid control its q later =
-      elsewhere (record { actor = Controller j; act = act.Call c r }) legal pid control its foreign (λ own same. cc) q
-      later
-  passed (Lwp acting own) (act.Turn it) legal foreign pid control its q later =
-      let turn : LwpTurn = record { system = legal.0; turned = it } in
-      let e : Entry = record { actor = Lwp acting own; act = act.Turn it } in
-      elim (cases_eq acting pid) [
-        | inl same ↦
-            own-turn e legal pid control its own turn (subst (λ i. turn_of s.system i own ≡ Some turn) same legal.1)
-            (turn-after acting own it turn legal.1) q later
-        | inr differs ↦ elsewhere e legal pid control its foreign (λ i same. differs (cc)) q later
-      ]
-  passed Clock (act.Tick m) legal foreign pid control its q later =
-      elsewhere (record { actor = Clock; act = act.Tick m }) legal pid control its foreign (λ own same. cc) q later
-  passed _ _ legal foreign pid control its q later = absurd legal
 
   module _ (e : Entry) (legal : IsLegalEntry n s e) (other : exchange_of k e ≡ None) (c : CopiesSo t s.system)
       (place : ℕ) (within : place < length t.traced) where
@@ -228,7 +163,7 @@ module _ (n k : ℕ) (o : Options) (t : TrussState) (s : TracedState) (g : Goes 
         by (bare lifted none) = bare lifted none
 
     rests-later : is_about t.stage place ≡ false → (p q : TracedProcess) → live_process s.system pid ≡ Some p
-        → live_process (after s e).system pid ≡ Some q → Passed pid p q → RestsSo (traced_at t place) p
+        → live_process (after s e).system pid ≡ Some q → Passed s pid p q → RestsSo (traced_at t place) p
         → RestsSo (traced_at t place) q
     rests-later rest p q live later how (rests_new none stands) =
         rests_new none (copies-later rest (traced_at t place).marks p q live later stands)
@@ -248,17 +183,18 @@ module _ (n k : ℕ) (o : Options) (t : TrussState) (s : TracedState) (g : Goes 
         (opening-halts place step opening_is p live) (opening-stands place step opening_is p live) w)
     turned-later p q live own turn is at (closes_so next closing_is w) later =
         closes_so next closing_is
-        (closes-turn s.system pid p own turn g.lawful.system live is q at (traced_at t place) w)
+        (closes-turn s.system pid p own turn g.lawful.system live is q at t.aside (traced_at t place) w)
     turned-later p q live own turn is at (runs_so soon w) later =
         no-turn s.system pid p own turn g.lawful.system live is q at (soon-still place soon p live)
 
     standing-later : (q : TracedProcess) → live_process (after s e).system pid ≡ Some q → StandingSo t place q
     standing-later q later =
         let was =
-        passed e.actor e.act legal (foreign-entry n k s e legal other) pid (traced_at t place).control its q later in
+        passed n k o s g.lawful e.actor e.act legal (foreign-entry n k s e legal other) pid
+        (traced_at t place).control its q later in
         by was.0 was.1.0 was.1.1 (c.each place within was.0 was.1.0)
       where
-        by : (p : TracedProcess) → live_process s.system pid ≡ Some p → Passed pid p q → StandingSo t place p
+        by : (p : TracedProcess) → live_process s.system pid ≡ Some p → Passed s pid p q → StandingSo t place p
             → StandingSo t place q
         by p live (alone a) (rests_so rest w) =
             rests_so rest (rests-later rest p q live later (alone a) w)

@@ -1,6 +1,7 @@
 use Rattle.std.proofs.Common.{◌≡◌, ◌⊎◌, ◌<◌, ◌==◌, ◌++◌, ℕ, Bool, true, false, cond, Some, None, Option, List, [], ◌∷◌, length, append_assoc, refl, sym, subst, ap, ◌∙◌, inl, inr}
 use Rattle.std.proofs.lemmas.Bool.{eq-eqb, eqb-true, false≢true}
-use Rattle.std.proofs.lemmas.List.Elements.{All-cons, All-head, All-nil}
+use Rattle.std.proofs.lemmas.List.{append-nil}
+use Rattle.std.proofs.lemmas.List.Elements.{All-cons, All-head, All-nil, All-tail}
 use Rattle.std.proofs.lemmas.Option.{none-some, same_Some}
 use Rattle.std.specs.List.{All, cons_option}
 use Rattle.pr_api.specs.Entries.{call_entry}
@@ -18,28 +19,42 @@ use Rattle.pr_model.specs.declared.events.Actor.{Actor}
 use Rattle.pr_model.specs.declared.events.Actor.TheVariants.{Controller, Lwp}
 use Rattle.pr_model.specs.declared.events.Entry.{Entry}
 use Rattle.pr_model.specs.declared.events.Turned.{Turned}
-use Rattle.pr_report_laws.proofs.Files.WatchHistories.{cons-exchanges, no-exchanges}
+use Rattle.pr_reached.specs.ByteHistories.{HasBytes}
+use Rattle.pr_report_laws.proofs.Files.WatchHistories.{cons-exchanges, exchanges-both, no-exchanges}
+use Rattle.pr_reached.specs.Reached.{IsReached}
 use Rattle.pr_tool_laws.specs.OwnCalls.{AreOwnCalls}
 use Rattle.pr_truss.specs.Asides.{marks_at}
 use Rattle.pr_truss.specs.FunctionEvents.{function_event}
 use Rattle.pr_truss.specs.Trusses.{TrussState, first_truss, traced_at}
+use Rattle.pr_truss.specs.declared.marks.Stepped.{Stepped}
+use Rattle.pr_truss.specs.declared.asides.Aside.TheVariants.{Reading}
+use Rattle.pr_truss.specs.declared.stages.Stage.TheVariants.{ReadingStatus}
+use Rattle.pr_truss_laws.proofs.HeldLemmas.{of_stage}
 use Rattle.pr_truss_laws.specs.Exchanges.{Exchange, exchange_in, exchange_of, exchanges}
 use Rattle.pr_world.specs.ControllerStates.{ControllerState, FnTruss}
 use Rattle.pr_world.specs.Protocol.{controllers_after}
-use Rattle.pr_function_laws.proofs.OpenedLaws.{before-goes}
+use Rattle.pr_function_laws.proofs.MarkedFlags.{no-flags-at-read}
+use Rattle.pr_function_laws.proofs.SoundLemmas.{first-sound}
+use Rattle.pr_function_laws.proofs.OpenedLaws.{Goes, before-goes, bytes-front}
 use Rattle.pr_function_laws.specs.Opened.{IsFunctionRun, WasNotInterrupted, functions_at}
-use Rattle.pr_function_hides.proofs.CallFacts.{legal-here}
+use Rattle.pr_function_laws.specs.Runs.{MakesCalls}
+use Rattle.pr_function_laws.specs.Soon.{IsCalm}
+use Rattle.pr_function_hides.proofs.CallFacts.{legal-here, same-truss}
 use Rattle.pr_function_hides.proofs.CopyPlaces.{CopiesSo}
-use Rattle.pr_function_hides.proofs.CopyWalk.{finds-so, stands-after, told-lives}
-use Rattle.pr_function_hides.proofs.FilesCalls.{holds-of}
-use Rattle.pr_function_hides.proofs.OwnFiles.{IsWithin}
+use Rattle.pr_function_hides.proofs.CopyHistory.{finds-so, stays-calm}
+use Rattle.pr_function_hides.proofs.CopyWalk.{stands-after}
+use Rattle.pr_function_hides.proofs.CountedWalk.{TrussIn}
+use Rattle.pr_function_hides.proofs.FirstFunctions.{IsFirstOf}
+use Rattle.pr_function_hides.proofs.FirstWalk.{firsts-after}
+use Rattle.pr_function_hides.proofs.LeavingStages.{TellsLast}
 use Rattle.pr_function_hides.proofs.OwnRuns.{function-stays}
-use Rattle.pr_function_hides.proofs.TidyKept.{Holder, IsRunOfTrusses, Kept, Truss}
-use Rattle.pr_function_hides.proofs.TracedHandles.{handle-traced}
+use Rattle.pr_function_hides.proofs.TidyKept.{Course, Holder, IsRunOfTrusses, Kept, Lives, Truss, goes_on, leaves_them}
+use Rattle.pr_function_hides.proofs.TracedHandles.{handle-traced, left-freed, none-freed}
 use Rattle.pr_function_hides.specs.Copying.{IsEmpty, makes_copy}
-use Rattle.pr_function_hides.specs.FunctionHiders.{IsMarked, IsTrussAt}
+use Rattle.pr_function_hides.specs.FunctionHiders.{AreTrusses, IsMarked, IsTrussAt}
 use Rattle.pr_function_hides.specs.LiftedCopies.{CopiesFindNone, OpensOutOfCopies}
-use Rattle.pr_function_hides.specs.TidyWrites.{IsTrussAfter, TellsReplaced}
+use Rattle.pr_function_hides.specs.TidyWrites.{AreUnbroken, IsTrussAfter}
+use Rattle.pr_function_hides.proofs.ToldReplaced.{TellsReplaced}
 
 -- A fork, a vfork and an exec that is granted finds no breakpoint of those who hide, and neither does the read of the
 -- exit of a vfork or an exec that was.
@@ -72,91 +87,151 @@ entry-is k e x own = by e.actor e.act own
     by (Lwp pid id) did is = absurd (none-some x is)
     by _ did is = absurd (none-some x is)
 
+first-options : (o : Options) → (first_truss o).options ≡ o
+first-options o =
+    let sound = first-sound o (λ (step : Stepped). Unit {0}) in let names = sound.names in names.options
+
 own-front : (controllers : List ControllerState) (front back : List Entry) → AreOwnCalls controllers (front ++ back)
     → AreOwnCalls controllers front
 own-front controllers [] back own = tt
 own-front controllers (e ∷ front) back own = (own.0, own-front (controllers_after controllers e) front back own.1)
 
+-- ---- a truss that hides
+
+-- its options
+abbrev pub options-of : {who : Hiders} {controllers : List ControllerState} {first : TracedState}
+    → AreTrusses who controllers first → (k : ℕ) → hides who k ≡ true → Options
+options-of are k hider = let i = are.trusses k hider in i.options
+
 module _ {n : ℕ} {who : Hiders} {controllers : List ControllerState} {first : TracedState} {h : List Entry}
-    (run : IsRunOfTrusses n who controllers first h) where
+    (legal : IsLegal n first h) (reached : IsReached first) (own_calls : AreOwnCalls controllers h)
+    (are : AreTrusses who controllers first) (k : ℕ) (hider : hides who k ≡ true) where
+  pub function-run : IsFunctionRun n k (options-of are k hider) first h
+  function-run =
+      let i = are.trusses k hider in
+      record {
+        has = i.has;
+        follows_none = i.follows_none;
+        lawful = reached.lawful;
+        nothing_open = are.begins k hider;
+        legal = legal;
+        makes = (function-stays h controllers k (first_truss i.options) i.starts own_calls).0;
+      }
+
+-- it is where its replies have brought it
+module _ {who : Hiders} {controllers : List ControllerState} {first : TracedState} {h : List Entry}
+    (own_calls : AreOwnCalls controllers h) (are : AreTrusses who controllers first) (k : ℕ)
+    (hider : hides who k ≡ true) where
+  pub truss-at : (front back : List Entry) → h ≡ front ++ back
+      → IsTrussAfter who controllers first h front k (functions_at k (options-of are k hider) front)
+  truss-at front back place =
+      let i = are.trusses k hider in
+      (function-stays front controllers k (first_truss i.options) i.starts
+      (own-front controllers front back (subst (AreOwnCalls controllers) place own_calls))).1
+
+  pub truss-is : (front back : List Entry) → h ≡ front ++ back → (t : TrussState)
+      → IsTrussAfter who controllers first h front k t → t ≡ functions_at k (options-of are k hider) front
+  truss-is front back place t is =
+      same t (functions_at k (options-of are k hider) front) (sym is ∙ truss-at front back place)
+    where
+      same : (a b : TrussState) → Some (FnTruss a) ≡ Some (FnTruss b) → a ≡ b
+      same a b e = cc
+
+module _ {B : Type 0} {n : ℕ} {who : Hiders} {controllers : List ControllerState} {first : TracedState}
+    {h : List Entry} (run : IsRunOfTrusses B n who controllers first h) where
   abbrev at : List Entry → Covers
   at front = covers_at who first front
 
   abbrev now : List Entry → TracedState
   now front = state_after first front
 
+  abbrev pub run-options : (k : ℕ) → hides who k ≡ true → Options
+  run-options k hider = options-of run.are k hider
+
   module _ (k : ℕ) (hider : hides who k ≡ true) where
-    abbrev it : IsTrussAt who controllers k
-    it = let a = run.are in a.trusses k hider
+    abbrev its-run : IsFunctionRun n k (run-options k hider) first h
+    its-run = function-run run.legal run.reached run.own_calls run.are k hider
 
-    abbrev o : Options
-    o = let i = it in i.options
-
-    function-run : IsFunctionRun n k o first h
-    function-run =
-        let i = it in
-        record {
-          has = i.has;
-          follows_none = i.follows_none;
-          lawful = let r = run.reached in r.lawful;
-          nothing_open = let a = run.are in a.begins k hider;
-          legal = run.legal;
-          makes = (function-stays h controllers k (first_truss i.options) i.starts run.own_calls).0;
-        }
-
-    opens-out : OpensOutOfCopies k first h
+    pub opens-out : OpensOutOfCopies k (run-options k hider) first h
     opens-out = record {
-      out = λ front back e x handle until bytes held p place own sent accepted there live.
-          let u = run.und in
-          u.opens_out front back k handle until bytes x.reply held p
-          (place ∙ ap (λ (y : Entry). front ++ y ∷ back)
-          (entry-is k e x own ∙ ap (λ (c : Call). call_entry k c x.reply) sent)) hider accepted there live;
+      out = λ front back e x place until p at own waits accepted live.
+          let there : h ≡ front ++ call_entry k x.call x.reply ∷ back =
+          at ∙ ap (λ (y : Entry). front ++ y ∷ back) (entry-is k e x own) in
+          run.und.opens_out front back k place until x.call x.reply (functions_at k (run-options k hider) front) p there
+          hider
+          (truss-at run.own_calls run.are k hider front (call_entry k x.call x.reply ∷ back)
+          there) waits accepted live;
     }
 
-    -- truss is where its replies have brought it
-    truss-is : (front back : List Entry) → h ≡ front ++ back → (t : TrussState)
-        → IsTrussAfter who controllers first h front k t → t ≡ functions_at k o front
-    truss-is front back place t is =
-        let i = it in
-        let there =
-        (function-stays front controllers k (first_truss i.options) i.starts
-        (own-front controllers front back (subst (AreOwnCalls controllers) place run.own_calls))).1 in
-        same t (functions_at k o front) (sym is ∙ there)
-      where
-        same : (a b : TrussState) → Some (FnTruss a) ≡ Some (FnTruss b) → a ≡ b
-        same a b e = cc
+    finds : CopiesFindNone k (run-options k hider) first h
+    finds = finds-so n k (run-options k hider) first h its-run run.reached run.awake run.bytes opens-out
 
-    -- it is not interrupted
-    calm-from : (front pre back : List Entry) → h ≡ pre ++ (front ++ back) → All WasNotInterrupted (exchanges k front)
-    calm-from [] pre back place =
-        subst (All WasNotInterrupted) (sym (no-exchanges k)) (All-nil WasNotInterrupted)
-    calm-from (e ∷ front) pre back place =
-        subst (All WasNotInterrupted) (sym (cons-exchanges k e front))
-        (by (exchange_of k e) refl
-        (calm-from front (pre ++ e ∷ []) back (place ∙ sym (append_assoc pre (e ∷ []) (front ++ back)))))
-      where
-        by : (x : Option Exchange) → exchange_of k e ≡ x → All WasNotInterrupted (exchanges k front)
-            → All WasNotInterrupted (cons_option x (exchanges k front))
-        by None own rest = rest
-        by (Some x) own rest =
-            All-cons WasNotInterrupted x (exchanges k front)
-            (record {
-              unbroken = let u = run.und in
-                  u.unbroken pre (front ++ back) k x.call x.reply
-                  (place ∙ ap (λ (y : Entry). pre ++ y ∷ (front ++ back)) (entry-is k e x own)) hider;
-            }) rest
+    -- as long as it does not leave its processes it was not interrupted
+    pub calm-on : (front back : List Entry) → h ≡ front ++ back → (t : TrussState)
+        → IsTrussAfter who controllers first h front k t → t.leaving ≡ false
+        → All WasNotInterrupted (exchanges k front)
+    calm-on front back place t is off =
+        stays-calm n k (run-options k hider) first h its-run run.reached run.awake run.bytes opens-out front back place
+        (subst (λ (u : TrussState). u.leaving ≡ false) (truss-is run.own_calls run.are k hider front back place t is)
+        off)
 
-    finds : CopiesFindNone k o first h
-    finds = finds-so n k o first h function-run run.reached run.bytes opens-out
+    -- then it has its files of its processes, and traces those that it has opened
+    pub goes-on-there : (front back : List Entry) → h ≡ front ++ back → (t : TrussState)
+        → IsTrussAfter who controllers first h front k t → t.leaving ≡ false
+        → Goes (Unit {0}) k (run-options k hider) t (now front)
+    goes-on-there front back place t is off =
+        subst (λ (u : TrussState). Goes (Unit {0}) k (run-options k hider) u (now front))
+        (sym (truss-is run.own_calls run.are k hider front back place t is))
+        (before-goes n k (run-options k hider) first h its-run front back place (calm-on front back place t is off)
+        (Unit {0}) (λ r. run.reached) (λ r. bytes-front front back (subst HasBytes place run.bytes)))
 
-    -- how its processes stand
-    pub copies-so : (front back : List Entry) → h ≡ front ++ back → (t : TrussState)
-        → IsTrussAfter who controllers first h front k t → CopiesSo t (now front).system
-    copies-so front back place t is =
+    -- and so its processes stand
+    pub copies-on : (front back : List Entry) → h ≡ front ++ back → (t : TrussState)
+        → IsTrussAfter who controllers first h front k t → t.leaving ≡ false → CopiesSo t (now front).system
+    copies-on front back place t is off =
         let st =
-        stands-after n k o first h function-run run.reached run.bytes opens-out front back place
-        (calm-from front [] back place) in
-        subst (λ (u : TrussState). CopiesSo u (now front).system) (sym (truss-is front back place t is)) st.copies
+        stands-after n k (run-options k hider) first h its-run run.reached run.awake run.bytes opens-out front back
+        place (calm-on front back place t is off) in
+        subst (λ (u : TrussState). CopiesSo u (now front).system)
+        (sym (truss-is run.own_calls run.are k hider front back place t is)) st.copies
+
+    -- and of the functions at one address it has planted the first alone
+    pub firsts-on : (front back : List Entry) → h ≡ front ++ back → (t : TrussState)
+        → IsTrussAfter who controllers first h front k t → t.leaving ≡ false → TrussIn (IsFirstOf t.options) t
+    firsts-on front back place t is off =
+        let i = run.are.trusses k hider in
+        let calm = calm-on front back place t is off in
+        let goes =
+        before-goes n k (run-options k hider) first h its-run front back place calm ⊥ (λ none. absurd none)
+        (λ none. absurd none) in
+        let firsts =
+        firsts-after n k (run-options k hider) first h its-run run.reached run.awake run.bytes opens-out i.patchable
+        owns front back place calm in
+        subst (λ (u : TrussState). TrussIn (IsFirstOf u.options) u)
+        (sym (truss-is run.own_calls run.are k hider front back place t is))
+        (subst (λ (p : Options). TrussIn (IsFirstOf p) (functions_at k (run-options k hider) front)) (sym goes.options)
+        firsts)
+      where
+        owns : (before later : List Entry) (e : Entry) (x : Exchange) (q function : ℕ) (p : TracedProcess)
+            → h ≡ before ++ e ∷ later → exchange_of k e ≡ Some x
+            → (functions_at k (run-options k hider) before).aside ≡ Reading q function
+            → live_process (now before).system (traced_at (functions_at k (run-options k hider) before) q).pid ≡ Some p
+            → p.borrower ≡ None
+        owns before later e x q function p at own reading live =
+            let u = run.und in
+            let un = u.untouched in
+            un.owns before later k x.call x.reply (functions_at k (run-options k hider) before) q function p
+            (at ∙ ap (λ (y : Entry). before ++ y ∷ later) (entry-is k e x own)) hider
+            (truss-at run.own_calls run.are k hider before (e ∷ later) at) reading live
+
+  -- it is at no stage at which a child is set free
+  freed : (k : ℕ) (front : List Entry) (w : Truss who controllers first h front k) (pid number : ℕ)
+      → of_stage pid number w.t.stage ≡ 0
+  freed k front w pid number = by w.course
+    where
+      by : Course w.t → of_stage pid number w.t.stage ≡ 0
+      by (goes_on goes flags) = none-freed (length w.t.traced) pid number w.t.stage goes.stage
+      by (leaves_them on at_place) = left-freed w.t pid number at_place
 
   -- ---- a call that is granted
 
@@ -183,22 +258,23 @@ module _ {n : ℕ} {who : Hiders} {controllers : List ControllerState} {first : 
       traced : (x : Holder who pid (now front)) → (at front pid).patches ≡ []
       traced x =
           let w = kept.trusses x.k x.hider in
-          let same = truss-is x.k x.hider front (record { actor = Lwp pid id; act = act.Turn turned } ∷ back) place w.t
-          w.is in
-          let holds = holds-of x.k (now front) w.t w.files in
+          let same =
+          truss-is run.own_calls run.are x.k x.hider front
+          (record { actor = Lwp pid id; act = act.Turn turned } ∷ back) place w.t w.is in
           let found =
-          handle-traced n x.k (o x.k x.hider) first front (record { actor = Lwp pid id; act = act.Turn turned } ∷ back)
-          (subst (IsFunctionRun n x.k (o x.k x.hider) first) place (function-run x.k x.hider))
-          (subst (λ (t : TrussState). IsWithin (length t.traced) t.stage) same holds.stage) x.number x.held x.there in
+          handle-traced n x.k (run-options x.k x.hider) first front
+          (record { actor = Lwp pid id; act = act.Turn turned } ∷ back)
+          (subst (IsFunctionRun n x.k (run-options x.k x.hider) first) place
+          (function-run run.legal run.reached run.own_calls run.are x.k x.hider))
+          (λ p m. subst (λ (t : TrussState). of_stage p m t.stage ≡ 0) same (freed x.k front w p m)) x.number x.held
+          x.there in
           of x w found.0 (subst (λ (t : TrussState). found.0 < length t.traced) (sym same) found.1.0)
           (ap (λ (t : TrussState). (traced_at t found.0).pid) same ∙ found.1.1 ∙ x.of)
           (subst (λ (t : TrussState). IsEmpty (marks_at t found.0).planted) (sym same)
           (let f = finds x.k x.hider in
           f.copies front back found.0 id turned
           (place ∙ ap (λ i. front ++ record { actor = Lwp i id; act = act.Turn turned } ∷ back)
-          (sym (found.1.1 ∙ x.of)))
-          (calm-from x.k x.hider front [] (record { actor = Lwp pid id; act = act.Turn turned } ∷ back) place) found.1.0
-          makes))
+          (sym (found.1.1 ∙ x.of))) found.1.0 makes))
         where
           of : (x : Holder who pid (now front)) (w : Truss who controllers first h front x.k) (q : ℕ)
               → q < length w.t.traced → (traced_at w.t q).pid ≡ pid → IsEmpty (marks_at w.t q).planted
@@ -223,35 +299,118 @@ module _ {n : ℕ} {who : Hiders} {controllers : List ControllerState} {first : 
     abbrev t : TrussState
     t = let w = truss in w.t
 
-    pub replaced-bare : (q : ℕ) → TellsReplaced t q r → (at front (traced_at t q).pid).patches ≡ []
-    replaced-bare q tells =
+    abbrev its-o : Options
+    its-o = run-options j hider
+
+    abbrev there : TrussState
+    there = functions_at j its-o front
+
+    same : t ≡ there
+    same =
         let w = truss in
-        let holds = holds-of j (now front) w.t w.files in
-        let within : q < length w.t.traced =
-        subst (IsWithin (length w.t.traced)) tells.reads holds.stage in
-        let same = truss-is j hider front (call_entry j c r ∷ back) place w.t w.is in
-        let e : Entry = call_entry j c r in
-        let x : Exchange = record { call = c; reply = r } in
-        let own : exchange_of j e ≡ Some x = ap (λ b. cond b (Some x) None) (eq-eqb j j refl) in
-        let calm = calm-from j hider front [] (e ∷ back) place in
-        let f = finds j hider in
-        let there : TrussState = functions_at j (o j hider) front in
-        let told : TellsReplaced there q r = subst (λ (y : TrussState). TellsReplaced y q r) same tells in
-        let inside : q < length there.traced = subst (λ (y : TrussState). q < length y.traced) same within in
-        let options : there.options ≡ o j hider =
-        (let g =
-        before-goes n j (o j hider) first h (function-run j hider) front (e ∷ back) place calm ⊥ (λ none. absurd none)
-        (λ none. absurd none) in g.options) in
-        let lifted =
-        f.replaced front back e x q told.l told.event place calm own inside told.reads told.idle told.accepted told.told
-        told.fresh
-        (ap (λ (y : Options). function_event y (marks_at there q) told.l.id told.event) (sym options)
-        ∙ told.replaced) in
-        let live =
-        told-lives n j (o j hider) first h (function-run j hider) run.reached run.bytes (opens-out j hider) front back
-        e x q place calm own inside told.reads told.idle told.accepted in
-        let stand =
-        w.stand q within
-        (live.0, ap (λ (y : TrussState). live_process (now front).system (traced_at y q).pid) same ∙ live.1) in
+        truss-is run.own_calls run.are j hider front (call_entry j c r ∷ back) place w.t w.is
+
+    x-own : exchange_of j (call_entry j c r) ≡ Some (record { call = c; reply = r })
+    x-own = ap (λ b. cond b (Some (record { call = c; reply = r })) None) (eq-eqb j j refl)
+
+    options-are : there.options ≡ its-o
+    options-are =
+        let w = truss in
+        let names = w.sound.names in
+        ap (λ (y : TrussState). y.options) (sym same) ∙ names.options ∙ options-same w.it
+      where
+        options-same : (i : IsTrussAt who controllers j) → i.options ≡ its-o
+        options-same i =
+            let k = run.are.trusses j hider in
+            let same_first : first_truss i.options ≡ first_truss k.options =
+            same-truss (first_truss i.options) (first_truss k.options) _ i.starts k.starts in
+            sym (first-options i.options) ∙ ap (λ (y : TrussState). y.options) same_first ∙ first-options k.options
+
+    -- where none is marked in a process that lives, no breakpoint stands
+    bare-there : (q : ℕ) → q < length t.traced → Lives (now front) (traced_at t q).pid
+        → IsEmpty (marks_at there q).planted → (at front (traced_at t q).pid).patches ≡ []
+    bare-there q within lives none =
+        let w = truss in
+        let stand = w.stand q within lives in
         none-marked w.t.options (marks_at w.t q).planted _
-        (subst (λ (y : TrussState). IsEmpty (marks_at y q).planted) (sym same) lifted.none_planted) stand.all
+        (subst (λ (y : TrussState). IsEmpty (marks_at y q).planted) (sym same) none) stand.all
+
+    pub replaced-bare : (q : ℕ) → q < length t.traced → Lives (now front) (traced_at t q).pid → TellsReplaced t q r
+        → (at front (traced_at t q).pid).patches ≡ []
+    replaced-bare q within lives tells =
+        let told : TellsReplaced there q r = subst (λ (y : TrussState). TellsReplaced y q r) same tells in
+        let f = finds j hider in
+        let lifted =
+        f.replaced front back (call_entry j c r) (record { call = c; reply = r }) q told.l told.event place x-own
+        (subst (λ (y : TrussState). q < length y.traced) same within) told.reads told.idle told.accepted told.told
+        told.fresh
+        (ap (λ (y : Options). function_event y (marks_at there q) told.l.id told.event) (sym options-are)
+        ∙ told.replaced) in
+        bare-there q within lives lifted.none_planted
+
+    pub last-bare : 0 < length t.traced → Lives (now front) (traced_at t 0).pid → TellsLast t r
+        → (at front (traced_at t 0).pid).patches ≡ []
+    last-bare within lives tells =
+        let told : TellsLast there r = subst (λ (y : TrussState). TellsLast y r) same tells in
+        let f = finds j hider in
+        bare-there 0 within lives
+        (f.last front back (call_entry j c r) (record { call = c; reply = r }) told.l told.event place x-own
+        (subst (λ (y : TrussState). 0 < length y.traced) same within) told.reads told.idle told.accepted told.told
+        told.fresh
+        (ap (λ (y : Options). function_event y (marks_at there 0) told.l.id told.event) (sym options-are)
+        ∙ told.replaced))
+
+-- ---- one that is not interrupted
+
+module _ {n : ℕ} {who : Hiders} {controllers : List ControllerState} {first : TracedState} {h : List Entry}
+    (run : IsRunOfTrusses (AreUnbroken who h) n who controllers first h) (k : ℕ) (hider : hides who k ≡ true) where
+  calm-from : (front pre back : List Entry) → h ≡ pre ++ (front ++ back) → All WasNotInterrupted (exchanges k front)
+  calm-from [] pre back place =
+      subst (All WasNotInterrupted) (sym (no-exchanges k)) (All-nil WasNotInterrupted)
+  calm-from (e ∷ front) pre back place =
+      subst (All WasNotInterrupted) (sym (cons-exchanges k e front))
+      (by (exchange_of k e) refl
+      (calm-from front (pre ++ e ∷ []) back (place ∙ sym (append_assoc pre (e ∷ []) (front ++ back)))))
+    where
+      by : (x : Option Exchange) → exchange_of k e ≡ x → All WasNotInterrupted (exchanges k front)
+          → All WasNotInterrupted (cons_option x (exchanges k front))
+      by None own rest = rest
+      by (Some x) own rest =
+          All-cons WasNotInterrupted x (exchanges k front)
+          (record {
+            unbroken = run.besides.unbroken pre (front ++ back) k x.call x.reply
+                (place ∙ ap (λ (y : Entry). pre ++ y ∷ (front ++ back)) (entry-is k e x own)) hider;
+          }) rest
+
+  -- how its processes stand
+  pub copies-so : (front back : List Entry) → h ≡ front ++ back → (t : TrussState)
+      → IsTrussAfter who controllers first h front k t → CopiesSo t (state_after first front).system
+  copies-so front back place t is =
+      let st =
+      stands-after n k (run-options run k hider) first h (its-run run k hider) run.reached run.awake run.bytes
+      (opens-out run k hider) front back place (calm-from front [] back place) in
+      subst (λ (u : TrussState). CopiesSo u (state_after first front).system)
+      (sym (truss-is run.own_calls run.are k hider front back place t is)) st.copies
+
+  calm-all : (xs : List Exchange) → All WasNotInterrupted xs → All IsCalm xs
+  calm-all [] all = All-nil IsCalm
+  calm-all (x ∷ xs) all =
+      let head = All-head WasNotInterrupted x xs all in
+      All-cons IsCalm x xs (record { waits = λ fails. absurd (head.unbroken fails) })
+      (calm-all xs (All-tail WasNotInterrupted x xs all))
+
+  -- where it reads the status of a process, it would run that with no run flags
+  pub plain-read : (front back : List Entry) → h ≡ front ++ back → (t : TrussState)
+      → IsTrussAfter who controllers first h front k t → t.leaving ≡ false → (q : ℕ) → t.stage ≡ ReadingStatus q
+      → (marks_at t q).flags ≡ 0
+  plain-read front back place t is =
+      subst (λ (u : TrussState). u.leaving ≡ false → (q : ℕ) → u.stage ≡ ReadingStatus q → (marks_at u q).flags ≡ 0)
+      (sym (truss-is run.own_calls run.are k hider front back place t is))
+      (λ stays q reads.
+      let o = run-options run k hider in
+      let f = its-run run k hider in
+      let both : exchanges k h ≡ exchanges k front ++ exchanges k back =
+      ap (exchanges k) place ∙ exchanges-both k front back in
+      no-flags-at-read o f.has f.follows_none (exchanges k front) (exchanges k back) q
+      (subst (MakesCalls (first_truss o)) both f.makes)
+      (subst (All IsCalm) both (calm-all (exchanges k h) (calm-from h [] [] (sym (append-nil h))))) stays reads)

@@ -1,4 +1,4 @@
-use Rattle.std.proofs.Common.{◌≡◌, ◌≢◌, ◌<◌, ◌||◌, ◌-◌, ◌∷◌, [], ◌++◌, ℕ, zero, suc, Bool, true, false, cond, is_some, nat_lt, Some, None, List, length, refl, sym, subst, ap, ◌∙◌, arith}
+use Rattle.std.proofs.Common.{◌≡◌, ◌≢◌, ◌<◌, ◌||◌, ◌-◌, ◌∷◌, [], ◌++◌, ℕ, zero, suc, Bool, true, false, cond, is_some, nat_lt, Option, Some, None, List, length, refl, sym, subst, ap, ◌∙◌, arith}
 use Rattle.std.proofs.lemmas.Bool.{false≢true, ne_eqb}
 use Rattle.std.proofs.lemmas.List.{get_or_push}
 use Rattle.std.proofs.lemmas.Option.{same_Some}
@@ -61,13 +61,13 @@ use Rattle.pr_function_laws.specs.Stretches.{acts_by}
 use Rattle.pr_function_hides.proofs.CopyActs.{lwps-counted-now}
 use Rattle.pr_function_hides.proofs.CopyFeeds.{IsNext, IsRestedSo, all-rest, but-one, going-next, opening-next, opens-of, rests-of}
 use Rattle.pr_function_hides.proofs.CopyForeign.{opening-halts, opening-stands, opens-at}
-use Rattle.pr_function_hides.proofs.CopyOuts.{out-clear, run-out}
+use Rattle.pr_function_hides.proofs.CopyOuts.{HaveNoCopyBegun, out-clear, run-out}
 use Rattle.pr_function_hides.proofs.CopyOwn.{OwnCall, control-away, has-control, is-off, is-unfollowed, later, others-rested, quiet-away, same-lwps, same-state, stood-there}
 use Rattle.pr_function_hides.proofs.CopyPlaces.{ClosesSo, CopiesSo, FitsSo, IsBareMarks, IsClean, IsCountedOut, IsRunFlags, OpensSo, RestsSo, StandingSo, closes_so, counted, counted-lwps, early, halted, is_about, is_early, no_flags, opens_so, rests_new, rests_old, stopped, unplanted}
-use Rattle.pr_function_hides.proofs.FunctionSets.{has-none}
+use Rattle.pr_function_hides.proofs.FunctionSets.{first-has, has-none}
 use Rattle.pr_function_hides.proofs.PlantedReplies.{learnt-marks, learnt-pid}
 use Rattle.pr_function_hides.proofs.TreatedEvents.{first-of-none}
-use Rattle.pr_function_hides.specs.Copying.{AreOutOfCopies, none_goes}
+use Rattle.pr_function_hides.specs.Copying.{IsEmpty, none_goes}
 
 -- The forks, vforks and execs of a process that truss opens: none is at one from the answer to its wait on, until it is
 -- run; and where the opening is refused none is until its files are closed.
@@ -88,7 +88,7 @@ early-marks step v p is (early at m) = m
 early-marks step v p is (stopped at out) = absurd (false≢true (sym (ap is_early at) ∙ is))
 early-marks step v p is (counted late other c) = absurd (false≢true (sym late ∙ is))
 
-stopped-out : (v : Traced) (p : TracedProcess) → OpensSo opening.ReadLwps v p → AreOutOfCopies p
+stopped-out : (v : Traced) (p : TracedProcess) → OpensSo opening.ReadLwps v p → HaveNoCopyBegun p
 stopped-out v p (early at m) = absurd (false≢true at)
 stopped-out v p (stopped at out) = out
 stopped-out v p (counted late other c) = absurd (other refl)
@@ -180,16 +180,16 @@ module _ {n k : ℕ} {o : Options} {t : TrussState} {s : TracedState} {c : Call}
     stood x now = let was = stood-there w q within x now in (was.0, (was.1.0, opens-of t q was.0 step at was.1.1))
 
     -- where it is refused
-    refused-closes : answer_of a.reply ≢ Accepted → (x : TracedProcess) → live_process (later w) v.pid ≡ Some x
-        → ClosesSo v x
-    refused-closes other x now =
+    refused-closes : (rest : Aside) → (IsBareMarks v.marks → rest ≡ Nothing) → answer_of a.reply ≢ Accepted
+        → (x : TracedProcess) → live_process (later w) v.pid ≡ Some x → ClosesSo rest v x
+    refused-closes rest none other x now =
         let same : a.state ≡ s = same-state w other in
         let live : live_process s.system v.pid ≡ Some x =
         ap (λ (u : TracedState). live_process u.system v.pid) (sym same) ∙ now in
         let cs = w.copies in by x live (opens-of t q x step at (cs.each q within x live))
       where
-        by : (p : TracedProcess) → live_process s.system v.pid ≡ Some p → OpensSo step v p → ClosesSo v p
-        by p live (early is m) = unplanted m
+        by : (p : TracedProcess) → live_process s.system v.pid ≡ Some p → OpensSo step v p → ClosesSo rest v p
+        by p live (early is m) = unplanted (none m) m
         by p live (stopped is out) =
             halted out (opening-halts n k o t s w.goes q step at p live (ap is_early is))
         by p live (counted late other c) =
@@ -219,6 +219,19 @@ module _ {n k : ℕ} {o : Options} {t : TrussState} {s : TracedState} {c : Call}
         by true = (refl, first-of-none)
         by false = tt
 
+    -- where nothing is planted, nothing is to be lifted
+    none-patched : (planted : List Bool) → IsEmpty planted → patching q no_functions planted false ≡ Nothing
+    unfolding patching
+    none-patched planted none =
+        ap (λ (f : Option ℕ). cond (is_some f || is_some (first_function planted) || false)
+        (Patching q no_functions planted false) Nothing) first-of-none
+        ∙ ap (λ (f : Option ℕ). cond (is_some f || false) (Patching q no_functions planted false) Nothing)
+        (of (first_function planted) refl)
+      where
+        of : (f : Option ℕ) → first_function planted ≡ f → first_function planted ≡ None
+        of None is = is
+        of (Some i) is = absurd (false≢true (sym (none i) ∙ first-has planted i is))
+
     closing-about : (place : ℕ) → place ≢ q → is_about (Closing q OpenNext) place ≡ false
     closing-about place other = ne_eqb q place (λ same. other (sym same))
 
@@ -232,7 +245,16 @@ module _ {n k : ℕ} {o : Options} {t : TrussState} {s : TracedState} {c : Call}
         (subst (λ us. (p : TracedProcess) → live_process (later w) (at_place us q).pid ≡ Some p
         → StandingSo (with_refused_opening u q errno) q p) (sym same)
         (λ x now. closes_so OpenNext refl
-        (subst (λ us. ClosesSo (at_place us q) x) (sym same) (refused-closes other x now))))
+        (subst (λ us. ClosesSo rest_aside (at_place us q) x) (sym same)
+        (refused-closes rest_aside (λ bare. none-patched (marks_at u q).planted (none-here bare)) other x now))))
+      where
+        rest_aside : Aside
+        rest_aside = patching q no_functions (marks_at u q).planted false
+
+        none-here : IsBareMarks v.marks → IsEmpty (marks_at u q).planted
+        none-here bare =
+            let lifted = bare.lifted in
+            subst (λ us. IsEmpty (let y : Traced = at_place us q in y.marks.planted)) (sym same) lifted.none_planted
 
     pub opening-gone : (u : TrussState) → u.traced ≡ ts → u.aside ≡ Nothing → (errno : Errno)
         → answer_of a.reply ≢ Accepted → Done (with_refused_step u q errno)
@@ -244,7 +266,8 @@ module _ {n k : ℕ} {o : Options} {t : TrussState} {s : TracedState} {c : Call}
         (subst (λ us. (p : TracedProcess) → live_process (later w) (at_place us q).pid ≡ Some p
         → StandingSo (with_refused_step u q errno) q p) (sym same)
         (λ x now. closes_so OpenNext refl
-        (subst (λ us. ClosesSo (at_place us q) x) (sym same) (refused-closes other x now))))
+        (subst (λ us. ClosesSo u.aside (at_place us q) x) (sym same)
+        (refused-closes u.aside (λ bare. idle) other x now))))
 
     -- where it goes on
     module _ (others : EachBut X ts q) where
@@ -365,7 +388,7 @@ module _ {n k : ℕ} {o : Options} {t : TrussState} {s : TracedState} {c : Call}
             opens-at (IsSo (Unit {0}) k t.options s) ts t.stage q opening.Start at m.stage in
             let st = h.stands tt in st.prepared.0
 
-        by : (p : TracedProcess) → IsFrozen p → has_agent p ≡ false → IsRising p.lwps → AreOutOfCopies p
+        by : (p : TracedProcess) → IsFrozen p → has_agent p ≡ false → IsRising p.lwps → HaveNoCopyBegun p
             → u.old ≡ met_in p - 1 → (m : ℕ) → met_in p ≡ m → RestsSo u (with_run 0 p)
         by p frozen none rises out count zero is =
             rests_new (omega (arith, count, is))
@@ -417,7 +440,7 @@ module _ {n k : ℕ} {o : Options} {t : TrussState} {s : TracedState} {c : Call}
         record { unseen = it.unseen; flags = it.flags }) tt
         (λ x now.
         stopped refl
-        (w.out u.control until (spelling message.Stop []) held x sent accepted its
+        (w.out q until x at accepted
         (ap (λ (y : TracedSystem). live_process y u.pid) (sym same) ∙ now))) _ refl refl idle
     step-accepted opening.ReadLwps at is =
         let g = w.goes in

@@ -16,9 +16,13 @@ use Rattle.pr_truss.specs.Marks.{has_functions}
 use Rattle.pr_truss.specs.Replies.{answer_of}
 use Rattle.pr_truss.specs.Trusses.{TrussState, traced_at}
 use Rattle.pr_truss.specs.declared.replies.Answer.TheVariants.{Accepted, Gone, Interrupted}
+use Rattle.pr_truss.specs.declared.stages.OpeningStep.TheVariants.{AwaitStop}
+use Rattle.pr_truss.specs.declared.stages.Stage.TheVariants.{Opening}
+use Rattle.pr_truss_laws.proofs.HeldLemmas.{at_place}
 use Rattle.pr_truss_laws.proofs.OpensLemmas.{held_by}
+use Rattle.pr_truss.specs.declared.processes.Traced.{Traced}
 use Rattle.pr_truss_laws.specs.Stills.{IsUndisturbed}
-use Rattle.pr_function_laws.proofs.KeptPlaces.{apart-at}
+use Rattle.pr_function_laws.proofs.KeptPlaces.{Apart, apart-at}
 use Rattle.pr_function_laws.proofs.OpenedLaws.{Goes}
 use Rattle.pr_function_laws.proofs.StoodCalls.{BeginLeavingLwps, KeepsLwps}
 use Rattle.pr_function_laws.specs.Lifted.{HasControl}
@@ -27,13 +31,13 @@ use Rattle.pr_function_hides.proofs.ClosingWalk.{called_at}
 use Rattle.pr_function_hides.proofs.CopyActs.{elsewhere-alone, lived, refused-same, sent-lwps}
 use Rattle.pr_function_hides.proofs.CopyFeeds.{IsRestedSo, rests-of}
 use Rattle.pr_function_hides.proofs.CopyForeign.{control-at}
+use Rattle.pr_function_hides.proofs.CopyOuts.{HaveNoCopyBegun}
 use Rattle.pr_function_hides.proofs.CopyPlaces.{CopiesSo, StandingSo, is_about, rests-alone}
-use Rattle.pr_function_hides.specs.Copying.{AreOutOfCopies}
 
 -- A call of truss, and what it leaves of the processes that it is not about.
 
 -- A call of truss along its history, and its answer, which is no interrupt. Where it is told that a process is gone, it
--- has ended; and where it waits for one, no lwp of that is at a fork, a vfork or an exec.
+-- has ended; and where its wait for one that it opens is granted, no lwp of that is at a fork, a vfork or an exec.
 pub record OwnCall (n k : ℕ) (o : Options) (t : TrussState) (s : TracedState) (c : Call) (a : Answer) : Type 0 where
   pub goes : Goes (Unit {0}) k o t s
   pub copies : CopiesSo t s.system
@@ -44,9 +48,21 @@ pub record OwnCall (n k : ℕ) (o : Options) (t : TrussState) (s : TracedState) 
   pub calm : answer_of a.reply ≢ Interrupted
   pub gone : answer_of a.reply ≡ Gone → (q : ℕ) → called_at t.stage t.aside ≡ Some q
       → live_process s.system (traced_at t q).pid ≡ None
-  pub out : (handle until : ℕ) (bytes : List ℕ) (held : Held) (p : TracedProcess)
-      → c ≡ call.CtlWait handle until bytes → answer_of a.reply ≡ Accepted → handle_of s.opens k handle ≡ Some held
-      → live_process s.system held.pid ≡ Some p → AreOutOfCopies p
+  pub out : (place until : ℕ) (p : TracedProcess) → t.stage ≡ Opening place (AwaitStop until)
+      → answer_of a.reply ≡ Accepted → live_process s.system (traced_at t place).pid ≡ Some p → HaveNoCopyBegun p
+
+-- a call that acts by a file of the process at a place acts on no file of another one
+pub acts-apart : (k : ℕ) (s : TracedState) (c : Call) (ts : List Traced) → Apart ts → (q : ℕ) → q < length ts → (m : ℕ)
+    (f : File) (mode : Mode) → acts_by c ≡ Some m
+    → handle_of s.opens k m ≡ Some (held_by k (at_place ts q).pid 0 f mode) → (place : ℕ) → place < length ts
+    → place ≢ q → (j : ℕ) (held : Held) → acts_by c ≡ Some j
+    → handle_of s.opens k j ≡ Some held → held.pid ≢ (at_place ts place).pid
+acts-apart k s c ts apart q within m f mode acts there place inside other j held its at same =
+    let one : m ≡ j = same_Some m j (sym acts ∙ its) in
+    let own : (at_place ts q).pid ≡ held.pid =
+    ap (λ (x : Held). x.pid)
+    (same_Some (held_by k (at_place ts q).pid 0 f mode) held (sym there ∙ ap (handle_of s.opens k) one ∙ at)) in
+    apart-at ts place q inside within other apart (sym same ∙ sym own)
 
 module _ {n k : ℕ} {o : Options} {t : TrussState} {s : TracedState} {c : Call} {a : Answer}
     (w : OwnCall n k o t s c a) where
@@ -88,12 +104,9 @@ module _ {n k : ℕ} {o : Options} {t : TrussState} {s : TracedState} {c : Call}
   pub apart-away : (q : ℕ) → q < length t.traced → (m : ℕ) (f : File) (mode : Mode) → acts_by c ≡ Some m
       → handle_of s.opens k m ≡ Some (held_by k (traced_at t q).pid 0 f mode) → (place : ℕ)
       → place < length t.traced → place ≢ q → IsAway place
-  apart-away q within m f mode acts there place inside other j held its at same =
-      let one : m ≡ j = same_Some m j (sym acts ∙ its) in
-      let own : (traced_at t q).pid ≡ held.pid =
-      ap (λ (x : Held). x.pid)
-      (same_Some (held_by k (traced_at t q).pid 0 f mode) held (sym there ∙ ap (handle_of s.opens k) one ∙ at)) in
-      apart-at t.traced place q inside within other (let g = w.goes in let x = g.kept in x.apart) (sym same ∙ sym own)
+  apart-away q within m f mode acts there place inside other =
+      acts-apart k s c t.traced (let g = w.goes in let x = g.kept in x.apart) q within m f mode acts there place inside
+      other
 
   pub left-alone : (place : ℕ) → place < length t.traced → IsAway place → (q : TracedProcess)
       → live_process later (traced_at t place).pid ≡ Some q

@@ -242,22 +242,23 @@ module _ {n k : ℕ} {o : Options} {t : TrussState} {s : TracedState} {c : Call}
       none-planted : first_function plants ≡ None
       none-planted = (subst (FitsSo (Patching q plants lifts clear)) at fits-now).1
 
-      closes-here : (x : TracedProcess) → live_process (later w) v.pid ≡ Some x → ClosesSo v x
-      closes-here x now =
+      -- something comes before the close, so that it is directed to stop
+      closes-here : (rest : Aside) (x : TracedProcess) → live_process (later w) v.pid ≡ Some x → ClosesSo rest v x
+      closes-here rest x now =
           let was = kept-lwps x now in
           let keeps : KeepsLwps was.0 x = was.1.1 in
           let cs = w.copies in
           by was.0 keeps (closes-of t q was.0 next at (cs.each q within was.0 was.1.0))
         where
-          by : (p : TracedProcess) → KeepsLwps p x → ClosesSo v p → ClosesSo v x
-          by p keeps (unplanted m) = unplanted m
+          by : (p : TracedProcess) → KeepsLwps p x → ClosesSo t.aside v p → ClosesSo rest v x
+          by p keeps (unplanted none m) = absurd (busy none)
           by p keeps (halted out halting) =
               halted (lwps-out p x keeps.lwps out) (halting-lwps p x keeps.lwps halting)
 
-      less-here : (i : ℕ) (x : TracedProcess) → ClosesSo v x
-          → ClosesSo (record v { marks = record v.marks { planted = without_function v.marks.planted i } }) x
-      less-here i x (unplanted m) = unplanted (lifted-bare v.marks i m)
-      less-here i x (halted out halting) = halted out halting
+      less-here : (rest : Aside) (i : ℕ) (x : TracedProcess) → ClosesSo rest v x
+          → ClosesSo rest (record v { marks = record v.marks { planted = without_function v.marks.planted i } }) x
+      less-here rest i x (unplanted none m) = unplanted none (lifted-bare v.marks i m)
+      less-here rest i x (halted out halting) = halted out halting
 
       -- the same, or with one breakpoint less
       data IsLess (z : TrussState) : Type 0 where
@@ -271,13 +272,14 @@ module _ {n k : ℕ} {o : Options} {t : TrussState} {s : TracedState} {c : Call}
       less-patched z (none_less is) = same is
       less-patched z (one_less i is) = set (without_function v.marks.planted i) is
 
-      less-closes : (z : TrussState) → IsLess z → (x : TracedProcess) → ClosesSo v x → ClosesSo (traced_at z q) x
-      less-closes z (none_less is) x it = subst (λ us. ClosesSo (at_place us q) x) (sym is) it
-      less-closes z (one_less i is) x it =
-          subst (λ (y : Traced). ClosesSo y x)
+      less-closes : (rest : Aside) (z : TrussState) → IsLess z → (x : TracedProcess) → ClosesSo rest v x
+          → ClosesSo rest (traced_at z q) x
+      less-closes rest z (none_less is) x it = subst (λ us. ClosesSo rest (at_place us q) x) (sym is) it
+      less-closes rest z (one_less i is) x it =
+          subst (λ (y : Traced). ClosesSo rest y x)
           (sym (ap (λ us. at_place us q) is
           ∙ set-at t.traced q (record v { marks = record v.marks { planted = without_function v.marks.planted i } })
-          within)) (less-here i x it)
+          within)) (less-here rest i x it)
 
       closing-goes : (u : TrussState) → IsLess u → u.stage ≡ t.stage → (rest : Aside) → FitsSo rest t.stage
           → Done (with_aside u rest)
@@ -290,7 +292,7 @@ module _ {n k : ℕ} {o : Options} {t : TrussState} {s : TracedState} {c : Call}
           (let it = patched-stays z (less-patched z (on less)) in it.clean)
           (λ x now.
           closes_so next (stage ∙ at)
-          (less-closes z (on less) x (closes-here x (at-later z (less-patched z (on less)) x now))))
+          (less-closes rest z (on less) x (closes-here rest x (at-later z (less-patched z (on less)) x now))))
         where
           on : IsLess u → IsLess (with_aside u rest)
           on (none_less is) = none_less is

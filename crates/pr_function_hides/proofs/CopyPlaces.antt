@@ -27,10 +27,10 @@ use Rattle.pr_truss_laws.specs.Stills.{IsFrozen, IsHalting, IsUndisturbed, stopp
 use Rattle.pr_function_laws.proofs.OneEventLemmas.{alone-few}
 use Rattle.pr_function_laws.proofs.OpenedLemmas.{one-agent}
 use Rattle.pr_function_laws.specs.OneEvent.{HasMetNothing, HasOneEventAtMost}
-use Rattle.pr_function_hides.proofs.CopyOuts.{alone-out, halting-out, lwps-out}
+use Rattle.pr_function_hides.proofs.CopyOuts.{HaveNoCopyBegun, alone-out, halting-out, lwps-out}
 use Rattle.pr_function_hides.proofs.CopyRows.{tells-alike}
 use Rattle.pr_function_hides.proofs.CopyTurns.{alone-clear}
-use Rattle.pr_function_hides.specs.Copying.{AreOutOfCopies, CopiesStand, HaveNoCopyGoing, IsEmpty, IsLifted, Tells, bare, none_goes, one_goes}
+use Rattle.pr_function_hides.specs.Copying.{CopiesStand, HaveNoCopyGoing, IsEmpty, IsLifted, Tells, bare, none_goes, one_goes}
 use Rattle.pr_function_hides.specs.Treating.{Treats, is_run_soon}
 
 -- How the forks, vforks and execs of each process stand with what truss has planted there, by where truss has come with
@@ -52,7 +52,7 @@ pub record IsBareMarks (m : Marks) : Type 0 where
 
 -- It stands still, with so many events, that its lwps met before truss came; and none of them is at a copy.
 pub record WaitsOut (n : ℕ) (p : TracedProcess) : Type 0 where
-  pub out : AreOutOfCopies p
+  pub out : HaveNoCopyBegun p
   pub frozen : IsFrozen p
   pub count : met_in p ≡ n
 
@@ -74,19 +74,20 @@ is_early _ = false
 
 -- the stops that are left of it are counted
 pub record IsCountedOut (old : ℕ) (p : TracedProcess) : Type 0 where
-  pub out : AreOutOfCopies p
+  pub out : HaveNoCopyBegun p
   pub count : has_agent p ≡ false → old ≡ met_in p - 1
 
 -- one that truss opens: nothing is planted, up to the answer to the wait; and from there on none of it is at a copy
 pub data OpensSo (step : OpeningStep) (v : Traced) (p : TracedProcess) : Type 0 where
   early : is_early step ≡ true → IsBareMarks v.marks → OpensSo step v p
-  stopped : step ≡ opening.ReadLwps → AreOutOfCopies p → OpensSo step v p
+  stopped : step ≡ opening.ReadLwps → HaveNoCopyBegun p → OpensSo step v p
   counted : is_early step ≡ false → step ≢ opening.ReadLwps → IsCountedOut v.old p → OpensSo step v p
 
--- one that truss closes, and that lives: nothing is planted; or it is directed to stop, and none of it is at a copy
-pub data ClosesSo (v : Traced) (p : TracedProcess) : Type 0 where
-  unplanted : IsBareMarks v.marks → ClosesSo v p
-  halted : AreOutOfCopies p → IsHalting p → ClosesSo v p
+-- one that truss closes, and that lives: nothing is planted, and nothing comes before the close; or it is directed to
+-- stop, and none of it is at a copy
+pub data ClosesSo (a : Aside) (v : Traced) (p : TracedProcess) : Type 0 where
+  unplanted : a ≡ Nothing → IsBareMarks v.marks → ClosesSo a v p
+  halted : HaveNoCopyBegun p → IsHalting p → ClosesSo a v p
 
 -- the event that truss treats: an lwp met it; or there is none, as at a trace trap that is not its own
 pub record MetBy (m : Marks) (e : FunctionEvent) (p : TracedProcess) : Type 0 where
@@ -120,7 +121,7 @@ pub data StandingSo (t : TrussState) (place : ℕ) (p : TracedProcess) : Type 0 
   rests_so : is_about t.stage place ≡ false → RestsSo (traced_at t place) p → StandingSo t place p
   opens_so : (step : OpeningStep) → t.stage ≡ Opening place step → OpensSo step (traced_at t place) p
       → StandingSo t place p
-  closes_so : (next : AfterClosing) → t.stage ≡ Closing place next → ClosesSo (traced_at t place) p
+  closes_so : (next : AfterClosing) → t.stage ≡ Closing place next → ClosesSo t.aside (traced_at t place) p
       → StandingSo t place p
   runs_so : is_run_soon t.stage place ≡ true → RunsSo t place p → StandingSo t place p
 
@@ -181,9 +182,9 @@ module _ (p q : TracedProcess) (alone : IsUndisturbed p q) where
             w.count (sym (alone-agent p q alone) ∙ none) ∙ ap (λ n. n - 1) (sym (alone-met p q alone));
       })
 
-  closes-alone : (v : Traced) → ClosesSo v p → ClosesSo v q
-  closes-alone v (unplanted m) = unplanted m
-  closes-alone v (halted out halting) = halted (alone-out p q alone out) (alone-halting p q alone halting)
+  closes-alone : (a : Aside) (v : Traced) → ClosesSo a v p → ClosesSo a v q
+  closes-alone a v (unplanted none m) = unplanted none m
+  closes-alone a v (halted out halting) = halted (alone-out p q alone out) (alone-halting p q alone halting)
 
   unmet-alone : HasMetNothing p → HasMetNothing q
   unmet-alone none n k there =
@@ -210,7 +211,7 @@ module _ (p q : TracedProcess) (alone : IsUndisturbed p q) where
   pub standing-alone : (t : TrussState) (place : ℕ) → StandingSo t place p → StandingSo t place q
   standing-alone t place (rests_so other w) = rests_so other (rests-alone (traced_at t place) w)
   standing-alone t place (opens_so step is w) = opens_so step is (opens-alone step (traced_at t place) w)
-  standing-alone t place (closes_so next is w) = closes_so next is (closes-alone (traced_at t place) w)
+  standing-alone t place (closes_so next is w) = closes_so next is (closes-alone t.aside (traced_at t place) w)
   standing-alone t place (runs_so soon w) = runs_so soon (runs-alone t place w)
 
 -- ---- a process whose lwps stay
@@ -266,9 +267,9 @@ module _ (s : TracedSystem) (pid : ℕ) (p : TracedProcess) (own : ℕ) (t : Lwp
   same-agent halting =
       ap (λ (x : TracedProcess). has_agent x) (sym (halted-is halting)) ∙ one-agent own stopped_lwp p
 
-  pub closes-turn : (v : Traced) → ClosesSo v p → ClosesSo v q
-  closes-turn v (unplanted m) = unplanted m
-  closes-turn v (halted out halting) =
+  pub closes-turn : (a : Aside) (v : Traced) → ClosesSo a v p → ClosesSo a v q
+  closes-turn a v (unplanted none m) = unplanted none m
+  closes-turn a v (halted out halting) =
       halted (halting-out s pid p lawful live halting own t turn q later out)
       (subst IsHalting (halted-is halting) (halting-stays s pid p live halting own t turn))
 

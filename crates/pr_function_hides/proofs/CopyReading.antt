@@ -72,16 +72,16 @@ use Rattle.pr_function_hides.specs.Treating.{Treats}
 -- event truss does what it is to do; and another stop is no event.
 
 -- what truss reads of a process that lives
-record ReadsSo (k : ℕ) (t : TrussState) (s : TracedState) (q : ℕ) (r : Reply) (x : TracedProcess) : Type 0 where
-  live : live_process s.system (traced_at t q).pid ≡ Some x
-  stands : RestsSo (traced_at t q) x
-  frozen : IsFrozen x
-  no_agent : has_agent x ≡ false
-  rises : IsRising x.lwps
-  fit : (id : ℕ) (l : TracedLwp) → lwp_of x id ≡ Some l → IsFitLwp l
-  few : (traced_at t q).old ≡ 0 → HasOneEventAtMost x
-  accepted : answer_of r ≡ Accepted
-  told : option_and_then status_lwp (bytes_in r) ≡ Some (status_of_found x (representative x))
+pub record ReadsSo (k : ℕ) (t : TrussState) (s : TracedState) (q : ℕ) (r : Reply) (x : TracedProcess) : Type 0 where
+  pub live : live_process s.system (traced_at t q).pid ≡ Some x
+  pub stands : RestsSo (traced_at t q) x
+  pub frozen : IsFrozen x
+  pub no_agent : has_agent x ≡ false
+  pub rises : IsRising x.lwps
+  pub fit : (id : ℕ) (l : TracedLwp) → lwp_of x id ≡ Some l → IsFitLwp l
+  pub few : (traced_at t q).old ≡ 0 → HasOneEventAtMost x
+  pub accepted : answer_of r ≡ Accepted
+  pub told : option_and_then status_lwp (bytes_in r) ≡ Some (status_of_found x (representative x))
 
 few-of : (flags n : ℕ) (p : TracedProcess) → n ≡ 0 → Stood flags n p → HasOneEventAtMost p
 few-of flags n p none (as_stopped all few) = few
@@ -108,7 +108,7 @@ module _ {n k : ℕ} {o : Options} {t : TrussState} {s : TracedState} {c : Call}
   at-stage : AtStage So t.traced (ReadingStatus q)
   at-stage = let g = w.goes in let m = g.kept in subst (AtStage So t.traced) reads m.stage
 
-  reads-so : (x : TracedProcess) → live_process (later w) v.pid ≡ Some x → ReadsSo k t s q r x
+  pub reads-so : (x : TracedProcess) → live_process (later w) v.pid ≡ Some x → ReadsSo k t s q r x
   unfolding status_of
   reads-so x now =
       let g = w.goes in

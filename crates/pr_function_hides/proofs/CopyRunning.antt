@@ -165,7 +165,7 @@ module _ {n k : ℕ} {o : Options} {t : TrussState} {s : TracedState} {c : Call}
       rises = let g = w.goes in let l = live-lawful s.system v.pid p g.lawful.system live in l.rising
 
       by : HasRun p → with_run v.marks.flags p ≡ x
-      by (ran it) = same_Some (with_run v.marks.flags p) x (sym it ∙ now)
+      by (ran granted it) = same_Some (with_run v.marks.flags p) x (sym it ∙ now)
       by (left (inl zero_pid) same) =
           absurd (is-user p live e.0 e.1 (representative-stands p e rises leads) zero_pid)
       by (left (inr refused) same) =
@@ -198,7 +198,7 @@ module _ {n k : ℕ} {o : Options} {t : TrussState} {s : TracedState} {c : Call}
       treated = subst (λ z. IsTreated m z v.marks) other.0 (treated-now m fe q t treating idle)
 
       by : HasRun p → CopiesStand v.marks x
-      by (ran it) =
+      by (ran granted it) =
           subst (CopiesStand v.marks) (same_Some (with_run v.marks.flags p) x (sym it ∙ now))
           (unmet-runs p v.marks.flags rises other.1 m v.marks treated stands)
       by (left why same) =

@@ -28,7 +28,7 @@ IsOut k = is_in_copy k.phase ≡ false
 abbrev IsFree : TracedLwp → Type 0
 IsFree k = k.control.stop ≡ None
 
-fault-out : (l : TracedLwp) → IsOut l → IsOut (without_fault l)
+pub fault-out : (l : TracedLwp) → IsOut l → IsOut (without_fault l)
 unfolding without_fault
 fault-out l out = by l.phase out
   where

@@ -20,7 +20,7 @@ or-right : (b : Bool) → (b || true) ≡ true
 or-right true = refl
 or-right false = refl
 
-copying-has : (w : ℕ) (call : Sysno) → copies_memory call ≡ true
+pub copying-has : (w : ℕ) (call : Sysno) → copies_memory call ≡ true
     → has_number (with_copying w) (syscall_number call) ≡ true
 unfolding with_copying with_forks copies_memory is_fork_call syscall_number
 copying-has w Fork is =

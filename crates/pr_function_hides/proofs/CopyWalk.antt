@@ -48,20 +48,24 @@ use Rattle.pr_function_laws.specs.Opened.{IsFunctionRun, WasNotInterrupted, func
 use Rattle.pr_function_laws.specs.Runs.{MakesCalls, functions_after}
 use Rattle.pr_function_hides.proofs.CallFacts.{legal-here}
 use Rattle.pr_function_hides.proofs.CopyCalls.{call-copies}
-use Rattle.pr_function_hides.proofs.CopyEnds.{copy-finds-none, gone-there}
+use Rattle.pr_function_hides.proofs.CopyEnds.{copy-finds-lifted, gone-there}
 use Rattle.pr_function_hides.proofs.CopyForeign.{foreign-copies}
 use Rattle.pr_function_hides.proofs.CopyOwn.{OwnCall}
 use Rattle.pr_function_hides.proofs.CopyPlaces.{CopiesSo}
+use Rattle.pr_function_hides.proofs.CopyOuts.{none-begun}
 use Rattle.pr_function_hides.proofs.CopyReading.{read-lives, replaced-lifted}
+use Rattle.pr_function_hides.proofs.SleptHistories.{history-awake}
 use Rattle.pr_function_laws.proofs.KnownFiles.{Knows, known-fed, known-first}
 use Rattle.pr_function_hides.specs.Copying.{IsEmpty, IsLifted, makes_copy}
-use Rattle.pr_function_hides.specs.LiftedCopies.{CopiesFindNone, OpensOutOfCopies}
+use Rattle.pr_function_hides.specs.LiftedCopies.{OpensOutOfCopies}
+use Rattle.pr_function_hides.specs.SleptCopies.{NoneSleepsInCopy}
 
 -- Along each history of truss with functions the forks, vforks and execs of its processes stand as they are to with
 -- what is planted there: so one that is granted finds no breakpoint.
 
 module _ (n k : ℕ) (o : Options) (s : TracedState) (h : List Entry) (run : IsFunctionRun n k o s h)
-    (reached : IsReached s) (bytes : HasBytes h) (opens : OpensOutOfCopies k s h) where
+    (reached : IsReached s) (awake : NoneSleepsInCopy s.system) (bytes : HasBytes h)
+    (opens : OpensOutOfCopies k o s h) where
   abbrev truss : List Entry → TrussState
   truss front = functions_at k o front
 
@@ -112,25 +116,20 @@ module _ (n k : ℕ) (o : Options) (s : TracedState) (h : List Entry) (run : IsF
 
   -- ---- one entry
 
-  module _ (front back : List Entry) (e : Entry) (is : h ≡ front ++ e ∷ back) (calm : Calm front) where
+  module _ (front back : List Entry) (e : Entry) (is : h ≡ front ++ e ∷ back) where
     legal-all : IsLegal n s (front ++ e ∷ back)
     legal-all = subst (IsLegal n s) is run.legal
 
-    legal-now : IsLegalEntry n (now front) e
+    pub legal-now : IsLegalEntry n (now front) e
     legal-now = legal-here n s front e back legal-all
 
-    lawful-now : IsLawful (now front)
+    pub lawful-now : IsLawful (now front)
     lawful-now = history-state n s front run.lawful (front-legal n s front (e ∷ back) legal-all)
 
-    goes : Goes (Unit {0}) k o (truss front) (now front)
-    goes =
-        before-goes n k o s h run front (e ∷ back) is calm (Unit {0}) (λ r. reached)
-        (λ r. bytes-front front (e ∷ back) (subst HasBytes is bytes))
+    awake-now : NoneSleepsInCopy (now front).system
+    awake-now = history-awake n s front awake (front-legal n s front (e ∷ back) legal-all)
 
-    has-now : has_functions (truss front).options ≡ true
-    has-now = let g = goes in ap has_functions g.options ∙ run.has
-
-    next-is : (x : Exchange) → exchange_of k e ≡ Some x → next_function_call_of (truss front) ≡ Some x.call
+    pub next-is : (x : Exchange) → exchange_of k e ≡ Some x → next_function_call_of (truss front) ≡ Some x.call
     next-is x own =
         let makes : MakesCalls (truss front) (exchanges k (e ∷ back)) =
         calls-rest (first_truss o) (exchanges k front) (exchanges k (e ∷ back))
@@ -139,59 +138,20 @@ module _ (n k : ℕ) (o : Options) (s : TracedState) (h : List Entry) (run : IsF
         subst (λ y. MakesCalls (truss front) (cons_option y (exchanges k back))) own
         (subst (MakesCalls (truss front)) (cons-exchanges k e back) makes) in both.0
 
-    own-answer : (x : Exchange) → exchange_of k e ≡ Some x → IsOwnEntry k (now front) e x
+    pub own-answer : (x : Exchange) → exchange_of k e ≡ Some x → IsOwnEntry k (now front) e x
     own-answer x own = own-entry n k (now front) e x legal-now own
 
-    quiet-reply : (x : Exchange) → (own : exchange_of k e ≡ Some x) → WasNotInterrupted x
-        → (let it = own-answer x own in answer_of it.answer.reply ≢ Interrupted)
-    unfolding IsAnswer
-    quiet-reply x own was interrupted =
+    -- who has ended stays so in the state after a call
+    pub own-over : (x : Exchange) (own : exchange_of k e ≡ Some x) (pid : ℕ) → pid < (now front).system.made
+        → live_process (now front).system pid ≡ None
+        → (let it = own-answer x own in live_process it.answer.state.system pid ≡ None)
+    own-over x own pid made none =
         let it = own-answer x own in
-        was.unbroken (subst (IsAnswer x.reply) (ap answer_of (sym it.replied) ∙ interrupted) (answer-is x.reply))
-
-    its-call : StandsAfter front → (x : Exchange) → (own : exchange_of k e ≡ Some x) → WasNotInterrupted x
-        → (let it = own-answer x own in OwnCall n k o (truss front) (now front) x.call it.answer)
-    its-call st x own was =
-        let it = own-answer x own in
-        record {
-          goes = goes;
-          copies = st.copies;
-          given = it.is;
-          over = λ pid made none.
-              ap (λ (u : TracedState). live_process u.system pid) it.later
-              ∙ stays-over n (now front) e pid lawful-now legal-now made none;
-          has = has-now;
-          calm = quiet-reply x own was;
-          gone = λ told q here.
-              gone-there n k o (truss front) (now front) goes st.known x.call it.answer it.is told has-now
-              (next-is x own) q here;
-          out = λ handle until bytes held p sent accepted there live.
-              opens.out front back e x handle until bytes held p is own sent
-              (ap answer_of (sym it.replied) ∙ accepted) there live;
-        }
-
-    own-after : StandsAfter front → (x : Exchange) → exchange_of k e ≡ Some x → WasNotInterrupted x
-        → Kept Knows (fed_functions (truss front) x.reply)
-        × CopiesSo (fed_functions (truss front) x.reply) (now (front ++ e ∷ [])).system
-    own-after st x own was =
-        let it = own-answer x own in
-        let w = its-call st x own was in
-        let g = goes in
-        let fresh : (pid : ℕ) → (truss front).stage ≡ OpeningControl pid → (truss front).aside ≡ Nothing
-        → answer_of x.reply ≡ Accepted → Each (λ (u : Traced). u.pid ≢ pid) (truss front).traced =
-        λ pid at beside accepted.
-        control-fresh (Unit {0}) n k (now front) g.lawful x.call it.answer it.is w.over (truss front) g.kept g.reached
-        pid at beside has-now (next-is x own) (ap answer_of it.replied ∙ accepted) in (
-          known-fed (truss front) x.reply (λ i. quiet-reply x own was (ap answer_of it.replied ∙ i)) st.known fresh
-              has-now,
-          subst (λ (u : TracedState). CopiesSo (fed_functions (truss front) x.reply) u.system)
-              (it.later ∙ sym (state_after-push s front e))
-              (subst (λ y. CopiesSo (fed_functions (truss front) y) it.answer.state.system) it.replied
-              (call-copies w (next-is x own))),
-        )
+        ap (λ (u : TracedState). live_process u.system pid) it.later
+        ∙ stays-over n (now front) e pid lawful-now legal-now made none
 
     -- the exchanges with this entry
-    exchanges-then : (x : Option Exchange) → exchange_of k e ≡ x
+    pub exchanges-then : (x : Option Exchange) → exchange_of k e ≡ x
         → exchanges k (front ++ e ∷ []) ≡ exchanges k front ++ cons_option x []
     exchanges-then x own =
         exchanges-both k front (e ∷ [])
@@ -199,39 +159,99 @@ module _ (n k : ℕ) (o : Options) (s : TracedState) (h : List Entry) (run : IsF
         (cons-exchanges k e [] ∙ ap (λ (y : Option Exchange). cons_option y (exchanges k [])) own
         ∙ ap (cons_option x) (no-exchanges k))
 
-    truss-then : (x : Option Exchange) → exchange_of k e ≡ x
+    pub truss-then : (x : Option Exchange) → exchange_of k e ≡ x
         → truss (front ++ e ∷ []) ≡ functions_after (truss front) (cons_option x [])
     truss-then x own =
         ap (functions_after (first_truss o)) (exchanges-then x own)
         ∙ functions-both (first_truss o) (exchanges k front) (cons_option x [])
 
-    entry-stands : StandsAfter front → Calm (front ++ e ∷ []) → StandsAfter (front ++ e ∷ [])
-    entry-stands st calm_then = by (exchange_of k e) refl
-      where
-        by : (x : Option Exchange) → exchange_of k e ≡ x → StandsAfter (front ++ e ∷ [])
-        by None own = record {
-          known = subst (Kept Knows) (sym (truss-then None own)) st.known;
-          copies = subst (λ (u : TrussState). CopiesSo u (now (front ++ e ∷ [])).system) (sym (truss-then None own))
-              (subst (λ (u : TracedState). CopiesSo (truss front) u.system) (sym (state_after-push s front e))
-              (foreign-copies n k o (truss front) (now front) goes e legal-now own st.copies));
-        }
-        by (Some x) own =
-            let was : WasNotInterrupted x =
-            All-last (exchanges k front) x (subst (All WasNotInterrupted) (exchanges-then (Some x) own) calm_then) in
-            let both = own-after st x own was in
-            record {
-              known = subst (Kept Knows) (sym (truss-then (Some x) own)) both.0;
-              copies = subst (λ (u : TrussState). CopiesSo u (now (front ++ e ∷ [])).system)
-                  (sym (truss-then (Some x) own)) both.1;
-            }
-          where
-            All-last : (xs : List Exchange) (x : Exchange) → All WasNotInterrupted (xs ++ x ∷ []) → WasNotInterrupted x
-            All-last [] x all = All-head WasNotInterrupted x [] all
-            All-last (y ∷ ys) x all = All-last ys x (All-tail WasNotInterrupted y (ys ++ x ∷ []) all)
+    -- as long as it was not interrupted
+    module _ (calm : Calm front) where
+      pub goes : Goes (Unit {0}) k o (truss front) (now front)
+      goes =
+          before-goes n k o s h run front (e ∷ back) is calm (Unit {0}) (λ r. reached)
+          (λ r. bytes-front front (e ∷ back) (subst HasBytes is bytes))
+
+      pub has-now : has_functions (truss front).options ≡ true
+      has-now = let g = goes in ap has_functions g.options ∙ run.has
+
+      quiet-reply : (x : Exchange) → (own : exchange_of k e ≡ Some x) → WasNotInterrupted x
+          → (let it = own-answer x own in answer_of it.answer.reply ≢ Interrupted)
+      unfolding IsAnswer
+      quiet-reply x own was interrupted =
+          let it = own-answer x own in
+          was.unbroken (subst (IsAnswer x.reply) (ap answer_of (sym it.replied) ∙ interrupted) (answer-is x.reply))
+
+      pub its-call : StandsAfter front → (x : Exchange) → (own : exchange_of k e ≡ Some x) → WasNotInterrupted x
+          → (let it = own-answer x own in OwnCall n k o (truss front) (now front) x.call it.answer)
+      its-call st x own was =
+          let it = own-answer x own in
+          record {
+            goes = goes;
+            copies = st.copies;
+            given = it.is;
+            over = own-over x own;
+            has = has-now;
+            calm = quiet-reply x own was;
+            gone = λ told q here.
+                gone-there n k o (truss front) (now front) goes st.known x.call it.answer it.is told has-now
+                (next-is x own) q here;
+            out = λ place until p at accepted live.
+                none-begun (now front).system (traced_at (truss front) place).pid p awake-now live
+                (opens.out front back e x place until p is own at (ap answer_of (sym it.replied) ∙ accepted) live);
+          }
+
+      own-after : StandsAfter front → (x : Exchange) → exchange_of k e ≡ Some x → WasNotInterrupted x
+          → Kept Knows (fed_functions (truss front) x.reply)
+          × CopiesSo (fed_functions (truss front) x.reply) (now (front ++ e ∷ [])).system
+      own-after st x own was =
+          let it = own-answer x own in
+          let w = its-call st x own was in
+          let g = goes in
+          let fresh : (pid : ℕ) → (truss front).stage ≡ OpeningControl pid → (truss front).aside ≡ Nothing
+          → answer_of x.reply ≡ Accepted → Each (λ (u : Traced). u.pid ≢ pid) (truss front).traced =
+          λ pid at beside accepted.
+          control-fresh (Unit {0}) n k (now front) g.lawful x.call it.answer it.is w.over (truss front) g.kept g.reached
+          pid at beside has-now (next-is x own) (ap answer_of it.replied ∙ accepted) in (
+            known-fed (truss front) x.reply (λ i. quiet-reply x own was (ap answer_of it.replied ∙ i)) st.known fresh
+                has-now,
+            subst (λ (u : TracedState). CopiesSo (fed_functions (truss front) x.reply) u.system)
+                (it.later ∙ sym (state_after-push s front e))
+                (subst (λ y. CopiesSo (fed_functions (truss front) y) it.answer.state.system) it.replied
+                (call-copies w (next-is x own))),
+          )
+
+      -- a call of its own was not interrupted
+      pub calm-own : (x : Exchange) → exchange_of k e ≡ Some x → Calm (front ++ e ∷ []) → WasNotInterrupted x
+      calm-own x own calm_then =
+          All-last (exchanges k front) (subst (All WasNotInterrupted) (exchanges-then (Some x) own) calm_then)
+        where
+          All-last : (xs : List Exchange) → All WasNotInterrupted (xs ++ x ∷ []) → WasNotInterrupted x
+          All-last [] all = All-head WasNotInterrupted x [] all
+          All-last (y ∷ ys) all = All-last ys (All-tail WasNotInterrupted y (ys ++ x ∷ []) all)
+
+      entry-stands : StandsAfter front → Calm (front ++ e ∷ []) → StandsAfter (front ++ e ∷ [])
+      entry-stands st calm_then = by (exchange_of k e) refl
+        where
+          by : (x : Option Exchange) → exchange_of k e ≡ x → StandsAfter (front ++ e ∷ [])
+          by None own = record {
+            known = subst (Kept Knows) (sym (truss-then None own)) st.known;
+            copies = subst (λ (u : TrussState). CopiesSo u (now (front ++ e ∷ [])).system) (sym (truss-then None own))
+                (subst (λ (u : TracedState). CopiesSo (truss front) u.system) (sym (state_after-push s front e))
+                (foreign-copies n k o (truss front) (now front) goes e legal-now own st.copies));
+          }
+          by (Some x) own =
+              let was : WasNotInterrupted x = calm-own x own calm_then in
+              let both = own-after st x own was in
+              record {
+                known = subst (Kept Knows) (sym (truss-then (Some x) own)) both.0;
+                copies = subst (λ (u : TrussState). CopiesSo u (now (front ++ e ∷ [])).system)
+                    (sym (truss-then (Some x) own)) both.1;
+              }
 
   -- ---- all of them
 
-  calm-front : (front back : List Entry) → Calm (front ++ back) → Calm front
+  pub calm-front : (front back : List Entry) → Calm (front ++ back) → Calm front
   calm-front front back calm =
       All-left (exchanges k front) (exchanges k back)
       (subst (All WasNotInterrupted) (exchanges-both k front back) calm)
@@ -257,19 +277,21 @@ module _ (n k : ℕ) (o : Options) (s : TracedState) (h : List Entry) (run : IsF
 
   -- ---- what is granted, and what is read
 
-  finds-none : (front back : List Entry) (place id : ℕ) (turned : Turned)
+  pub finds-none : (front back : List Entry) (place id : ℕ) (turned : Turned)
       → h ≡ front ++ record { actor = Lwp (traced_at (truss front) place).pid id; act = Turn turned } ∷ back
       → Calm front → place < length (truss front).traced → makes_copy turned.did ≡ true
       → IsEmpty (marks_at (truss front) place).planted
   unfolding IsLegalEntry
   finds-none front back place id turned is calm within makes =
       let e : Entry = record { actor = Lwp (traced_at (truss front) place).pid id; act = Turn turned } in
-      let legal : IsLegalEntry n (now front) e = legal-now front back e is calm in
+      let legal : IsLegalEntry n (now front) e = legal-now front back e is in
       let st = stands-after front (e ∷ back) is calm in
-      copy-finds-none n k o (truss front) (now front) (goes front back e is calm) st.copies place within id
-      (record { system = legal.0; turned = turned }) legal.1 makes
+      let lifted =
+      copy-finds-lifted n k o (truss front) (now front) (goes front back e is calm) st.copies place within id
+      (record { system = legal.0; turned = turned }) legal.1 makes in
+      lifted.none_planted
 
-  reads-lifted : (front back : List Entry) (e : Entry) (x : Exchange) (place : ℕ) (l : LwpStatus) (event : Event)
+  pub reads-lifted : (front back : List Entry) (e : Entry) (x : Exchange) (place : ℕ) (l : LwpStatus) (event : Event)
       → h ≡ front ++ e ∷ back → Calm front → exchange_of k e ≡ Some x → place < length (truss front).traced
       → (truss front).stage ≡ ReadingStatus place → (truss front).aside ≡ Nothing → answer_of x.reply ≡ Accepted
       → option_and_then status_lwp (bytes_in x.reply) ≡ Some l
@@ -278,7 +300,7 @@ module _ (n k : ℕ) (o : Options) (s : TracedState) (h : List Entry) (run : IsF
   unfolding answer_of
   reads-lifted front back e x place l event is calm own within reads idle accepted told fresh replaced =
       let st = stands-after front (e ∷ back) is calm in
-      let it = own-answer front back e is calm x own in
+      let it = own-answer front back e is x own in
       let g = goes front back e is calm in
       let was : WasNotInterrupted x = record {
         unbroken = λ broken. interrupted-not (sym accepted ∙ ap answer_of broken);
@@ -286,7 +308,7 @@ module _ (n k : ℕ) (o : Options) (s : TracedState) (h : List Entry) (run : IsF
       let w = its-call front back e is calm st x own was in
       replaced-lifted w place within reads idle
       (same_Some _ _
-      (sym (next-is front back e is calm x own)
+      (sym (next-is front back e is x own)
       ∙ read-is (truss front) place (has-now front back e is calm) reads idle))
       (ap answer_of it.replied ∙ accepted) l
       (ap (λ r. option_and_then status_lwp (bytes_in r)) it.replied ∙ told) event fresh
@@ -303,26 +325,16 @@ module _ (n k : ℕ) (o : Options) (s : TracedState) (h : List Entry) (run : IsF
   unfolding answer_of
   told-lives front back e x place is calm own within reads idle accepted =
       let st = stands-after front (e ∷ back) is calm in
-      let it = own-answer front back e is calm x own in
+      let it = own-answer front back e is x own in
       let was : WasNotInterrupted x = record {
         unbroken = λ broken. interrupted-not (sym accepted ∙ ap answer_of broken);
       } in
       let w = its-call front back e is calm st x own was in
       read-lives w place within reads idle
       (same_Some _ _
-      (sym (next-is front back e is calm x own)
+      (sym (next-is front back e is x own)
       ∙ read-is (truss front) place (has-now front back e is calm) reads idle))
       (ap answer_of it.replied ∙ accepted)
     where
       interrupted-not : Accepted ≡ answer_of (reply.Fail Intr) → ⊥
       interrupted-not same = cc
-
-  pub finds-so : CopiesFindNone k o s h
-  finds-so = record {
-    copies = λ front back place id turned is calm within makes.
-        finds-none front back place id turned is calm within makes;
-    replaced = λ front back e x place l event is calm own within reads idle accepted told fresh replaced.
-        reads-lifted front back e x place l event is calm own within reads idle accepted told fresh replaced;
-  }
-
-pub ruleset copies_lifted = (finds-so)

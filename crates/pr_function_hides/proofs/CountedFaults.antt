@@ -68,6 +68,44 @@ module _ (who : Hiders) (none : (k : ℕ) → who.probes k ≡ false) (covers : 
               subst Less (sym (cover-other h.pid (finished (covers h.pid)) covers pid apart)) self-less
   called-less _ _ = self-less
 
+  -- and no fewer, but where its control file is closed
+  abbrev More : Cover → Type 0
+  More d = CountLess d (covers pid)
+
+  sent-more : (p : TracedProcess) (m : Message) (tail : List ℕ) → More (cover_sent who k p m tail (covers pid))
+  unfolding cover_sent
+  sent-more p (message.Write at size) tail = self-less
+  sent-more p (message.Agent regs) tail =
+      either More (who.probes k) (with_own_agent true (covers pid)) (covers pid) self-less self-less
+  sent-more p _ tail = self-less
+
+  pub called-more : (c : calls.Call) (r : Reply)
+      → ((number : ℕ) (h : Held) → c ≡ call.Close number → handle_of s.opens k number ≡ Some h
+      → (hides who k && is_ctl h.file) ≡ true → h.pid ≢ pid) → More (covers_called who covers s k c r pid)
+  unfolding covers_called
+  called-more (call.Ctl number bytes) (reply.Used used) keeps =
+      by (called-is who none covers s.system k bytes pid (handle_of s.opens k number))
+    where
+      by : {d : Cover} → IsCalled who none covers s.system k (handle_of s.opens k number) bytes pid d → More d
+      by (untouched is) = subst More (sym is) self-less
+      by (sent h p m len held its target read is) = subst More (sym is) (sent-more p m (tail_of m bytes))
+  called-more (call.Close number) reply.Done keeps = by (handle_of s.opens k number) refl
+    where
+      by : (o : Option Held) → handle_of s.opens k number ≡ o → More (covers_closed who k o covers pid)
+      by None there = self-less
+      by (Some h) there = of (hides who k && is_ctl h.file) refl
+        where
+          closed : Covers
+          closed = with_cover h.pid (finished (covers h.pid)) covers
+
+          of : (b : Bool) → (hides who k && is_ctl h.file) ≡ b → More (cond b closed covers pid)
+          of false is = self-less
+          of true is =
+              subst More
+              (sym (cover-other h.pid (finished (covers h.pid)) covers pid
+              (λ same. keeps number h refl there is (sym same)))) self-less
+  called-more _ _ keeps = self-less
+
 -- ---- turns
 
 module _ (who : Hiders) (covers : Covers) (s : TracedState) (acting id : ℕ) (did : Did) where
@@ -141,7 +179,65 @@ module _ (who : Hiders) (covers : Covers) (s : TracedState) (acting id : ℕ) (d
             before (sym (ap (λ (d : Cover). d.faulted n) (cover-other acting new covers pid apart)) ∙ it)
             (λ same own. absurd (apart same))
 
+    -- which count then
+    turned-is : (n : ℕ) → (cover_turned who covers s acting id did c).faulted n ≡ turned.faulted n
+    turned-is n =
+        ap (λ (b : Bool). (cond (not b) (cond (exits did) (with_own_agent false c) c)
+        (without_replaced did turned)).faulted n) kept
+        ∙ either (λ (d : Cover). d.faulted n ≡ turned.faulted n) (replaces_memory did) (with_patches [] turned) turned
+        refl refl
+
+    turned-other : (n : ℕ) → n ≢ id → turned.faulted n ≡ c.faulted n
+    turned-other n apart =
+        either (λ (d : Cover). d.faulted n ≡ c.faulted n) (is_directed (lwp_at s.system acting id)) c
+        (with_fault id (is_own who covers s acting id did) c) refl
+        (ap (λ b. cond b (is_own who covers s acting id did) (c.faulted n)) (ne_eqb n id apart))
+
+    -- another one that counted so does so still
+    pub turned-keeps : (pid n : ℕ) → (pid ≡ acting → n ≢ id) → (covers pid).faulted n ≡ true
+        → (covers_turned who covers s acting id did pid).faulted n ≡ true
+    unfolding covers_turned
+    turned-keeps pid n apart is = of (cases_eq pid acting)
+      where
+        new : Cover
+        new = cover_turned who covers s acting id did c
+
+        of : (pid ≡ acting) ⊎ (pid ≢ acting) → (with_cover acting new covers pid).faulted n ≡ true
+        of (inl same) =
+            ap (λ (d : Cover). d.faulted n) (ap (with_cover acting new covers) same ∙ cover-own acting new covers)
+            ∙ turned-is n ∙ turned-other n (apart same) ∙ ap (λ i. (covers i).faulted n) (sym same) ∙ is
+        of (inr other) = ap (λ (d : Cover). d.faulted n) (cover-other acting new covers pid other) ∙ is
+
+    -- the one that incurred a fault of one who hides counts so
+    pub turned-now : is_directed (lwp_at s.system acting id) ≡ false → is_own who covers s acting id did ≡ true
+        → (covers_turned who covers s acting id did acting).faulted id ≡ true
+    unfolding covers_turned
+    turned-now goes own =
+        ap (λ (d : Cover). d.faulted id) (cover-own acting (cover_turned who covers s acting id did c) covers)
+        ∙ turned-is id
+        ∙ ap (λ b. (cond b c (with_fault id (is_own who covers s acting id did) c)).faulted id) goes
+        ∙ ap (λ b. cond b (is_own who covers s acting id did) (c.faulted id)) (eq-eqb id id refl) ∙ own
+
   -- ---- which fault it is
+
+  -- FLTTRACE where one who hides has the control file open, and FLTBPT where a patch begins
+  pub own-trace : did ≡ Faulted Trace → has_hold who s.opens acting ≡ true → is_own who covers s acting id did ≡ true
+  unfolding is_own
+  own-trace is held =
+      ap (is_own_fault (has_hold who s.opens acting) (is_at_patch (covers acting).patches (lwp_at s.system acting id)))
+      is ∙ held
+
+  pub own-break : did ≡ Faulted Bpt → has_hold who s.opens acting ≡ true → (p : TracedProcess) (l : TracedLwp)
+      → live_process s.system acting ≡ Some p → lwp_of p id ≡ Some l → (g : Patch)
+      → patch_at (pc_of l.regs) (covers acting).patches ≡ Some g → is_own who covers s acting id did ≡ true
+  unfolding is_own
+  own-break is held p l live there g at =
+      let here : lwp_at s.system acting id ≡ Some l =
+      ap (λ (o : Option TracedProcess). lwp_in o id) live ∙ there in
+      ap (is_own_fault (has_hold who s.opens acting) (is_at_patch (covers acting).patches (lwp_at s.system acting id)))
+      is
+      ∙ ap (λ b. b && is_at_patch (covers acting).patches (lwp_at s.system acting id)) held
+      ∙ ap (is_at_patch (covers acting).patches) here ∙ ap (λ (o : Option Patch). is_some o) at
 
   -- where a patch begins at the pc of an lwp
   pub record IsAtPatch (l : TracedLwp) : Type 0 where

@@ -55,7 +55,7 @@ system-runs : is_stopped system_process ≡ false
 unfolding system_process bare_process
 system-runs = quiet-runs system_process refl (record { each = λ id l none. absurd (none-some l none) })
 
-stopped-user : (s : TracedSystem) (pid : ℕ) (p : TracedProcess) → IsLawfulSystem s → live_process s pid ≡ Some p
+pub stopped-user : (s : TracedSystem) (pid : ℕ) (p : TracedProcess) → IsLawfulSystem s → live_process s pid ≡ Some p
     → is_stopped p ≡ true → pid ≢ 0
 stopped-user s pid p lawful live stopped zero_pid =
     let there = (found-live s pid p live).0 in

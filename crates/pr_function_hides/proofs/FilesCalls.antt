@@ -42,8 +42,8 @@ use Rattle.pr_truss.specs.Openings.{learnt}
 use Rattle.pr_truss.specs.Processes.{last_handle, newly_traced, without_last}
 use Rattle.pr_truss.specs.declared.stages.OpeningStep.TheVariants as opening
 use Rattle.pr_function_hides.proofs.CallFacts.{keeps-there, not-accepted, open-finds}
-use Rattle.pr_function_hides.proofs.FilesWalk.{AfterAside, AfterStage, LeftFiles, SameFiles, Under, fed-under}
-use Rattle.pr_function_hides.proofs.OwnFiles.{HoldsItsFiles, IsBeside, IsOfOtherFile, IsWithin, other_handles}
+use Rattle.pr_function_hides.proofs.FilesWalk.{AfterAside, AfterStage, AreApart, LeftFiles, SameFiles, Under, fed-under}
+use Rattle.pr_function_hides.proofs.OwnFiles.{GoesOn, HasItsFiles, IsBeside, IsOfOtherFile, IsWithin, other_handles}
 
 -- The files of each process that truss traces, from one state to a later one: what others do leaves them, and its own
 -- calls open them one after another and close the last one first.
@@ -96,35 +96,25 @@ module _ (k : ℕ) where
                 ap (λ (x : Held). is_ctl x.file) (same_Some held _ (sym found ∙ there m refl)) ∙ other;
           }) all
 
-  pub holds-of : (s : TracedState) (t : TrussState) → Under (Files s) (files-alike s) t → HoldsItsFiles k t s
-  holds-of s t w = record {
-    off = w.off;
-    follow = w.follow;
-    stage = w.stage;
-    beside = w.beside;
-    control = λ q within. let h = w.each q within in h.control;
-    others = λ q within. others-of s (traced_at t q) (w.each q within);
-    apart = w.apart;
+  pub files-of : (s : TracedState) (t : TrussState) → Each (Files s) t.traced → AreApart t.traced → HasItsFiles k t s
+  files-of s t each apart = record {
+    control = λ q within. let h = each q within in h.control;
+    others = λ q within. others-of s (traced_at t q) (each q within);
+    apart = apart;
   }
 
   -- what others do
-  pub foreign-under : (s later : TracedState) (t : TrussState)
-      → ((m : ℕ) → handle_of later.opens k m ≡ handle_of s.opens k m) → Under (Files s) (files-alike s) t
-      → Under (Files later) (files-alike later) t
-  foreign-under s later t same w = record {
-    off = w.off;
-    follow = w.follow;
-    stage = w.stage;
-    beside = w.beside;
-    each = λ q within.
-        files-stay s later (traced_at t q) (λ m held there its. same m ∙ there) (w.each q within);
-    apart = w.apart;
-  }
+  pub foreign-files : (s later : TracedState) (t : TrussState)
+      → ((m : ℕ) → handle_of later.opens k m ≡ handle_of s.opens k m) → Each (Files s) t.traced
+      → Each (Files later) t.traced
+  foreign-files s later t same each q within =
+      files-stay s later (traced_at t q) (λ m held there its. same m ∙ there) (each q within)
 
   -- ---- its own calls
 
   module _ (s : TracedState) (c : Call) (a : Answer) (given : answer_to s k c ≡ Some a)
-      (fitting : All IsFitting s.opens) (t : TrussState) (w : Under (Files s) (files-alike s) t) where
+      (fitting : All IsFitting s.opens) (t : TrussState) (each : Each (Files s) t.traced)
+      (apart : AreApart t.traced) where
     abbrev Later : Traced → Type 0
     Later v = Files a.state v
 
@@ -135,10 +125,10 @@ module _ (k : ℕ) where
     none-closed v other h =
         files-stay s a.state v (λ m held there its. keeps-there s k c a given m held there (other m held there its)) h
 
-    all-stay : ((m : ℕ) → c ≢ call.Close m) → Each Later t.traced
-    all-stay other q within = none-closed (traced_at t q) (λ m held there its. other m) (w.each q within)
+    pub all-stay : ((m : ℕ) → c ≢ call.Close m) → Each Later t.traced
+    all-stay other q within = none-closed (traced_at t q) (λ m held there its. other m) (each q within)
 
-    no-close : (d : Call) → Some d ≡ Some c → ((m : ℕ) → d ≢ call.Close m) → (m : ℕ) → c ≢ call.Close m
+    pub no-close : (d : Call) → Some d ≡ Some c → ((m : ℕ) → d ≢ call.Close m) → (m : ℕ) → c ≢ call.Close m
     no-close d same other m closes = other m (same_Some d c same ∙ closes)
 
     opening-closes : (q : ℕ) (step : OpeningStep) → function_call_of t (Opening q step) ≡ Some c
@@ -188,7 +178,7 @@ module _ (k : ℕ) where
         memory = λ m at. absurd (none-some m at);
       },
       λ i within same.
-          let h = w.each i within in
+          let h = each i within in
           open-finds s k pid a (ap (answer_to s k) (sym is) ∙ given) accepted
           (subst (λ n. has_writer n s.opens ≡ true) same
           (handle-writer s.opens (traced_at t i).control _ fitting
@@ -317,19 +307,19 @@ module _ (k : ℕ) where
     last-of : (u : Traced) → Files s u → Last u
     last-of u h = last-fields u.pid u.control u.status u.lstatus u.memory u.attached u.old u.seen u.marks h
 
-    closing : (q : ℕ) → q < length t.traced → Some (call.Close (last_handle (traced_at t q))) ≡ Some c
+    pub closing : (q : ℕ) → q < length t.traced → Some (call.Close (last_handle (traced_at t q))) ≡ Some c
         → EachBut Later t.traced q
         × LeftFiles Later (files-alike a.state) (without_last (traced_at t q)) (traced_at t q)
     closing q within is =
-        let last = last-of (traced_at t q) (w.each q within) in
+        let last = last-of (traced_at t q) (each q within) in
         let closes : c ≡ call.Close (last_handle (traced_at t q)) = sym (same_Some _ c is) in (
           (λ i inside differs.
               none-closed (traced_at t i) (λ m held there its closes_m.
-              w.apart i q inside within differs
+              apart i q inside within differs
               (sym its ∙ ap (λ (x : Held). x.pid)
               (same_Some held last.held
               (sym there ∙ ap (handle_of s.opens k) (number m (sym closes_m ∙ closes)) ∙ last.there)) ∙ last.of))
-              (w.each i inside)),
+              (each i inside)),
           last.left closes,
         )
       where
@@ -358,26 +348,26 @@ module _ (k : ℕ) where
     stage-after Finished at is = absurd (none-some c is)
     stage-after _ at is = absurd at
 
-    patch-closes : (o : Options) (control : ℕ) (plant lift : Option ℕ) → Some (patch_call o control plant lift) ≡ Some c
-        → (m : ℕ) → c ≢ call.Close m
+    pub patch-closes : (o : Options) (control : ℕ) (plant lift : Option ℕ)
+        → Some (patch_call o control plant lift) ≡ Some c → (m : ℕ) → c ≢ call.Close m
     patch-closes o control (Some i) lift is = no-close _ is (λ m e. cc)
     patch-closes o control None (Some i) is = no-close _ is (λ m e. cc)
     patch-closes o control None None is = no-close _ is (λ m e. cc)
 
-    aside-after : (aside : Aside) → IsBeside (length t.traced) aside → call_beside t t.stage aside ≡ Some c
+    aside-after : GoesOn t → (aside : Aside) → IsBeside (length t.traced) aside → call_beside t t.stage aside ≡ Some c
         → AfterAside Later (files-alike a.state) t a.reply aside
     unfolding call_beside
-    aside-after Nothing at is = stage-after t.stage w.stage is
-    aside-after (Reading q i) at is = all-stay (no-close _ is (λ m e. cc))
-    aside-after (Planting q i) at is = all-stay (no-close _ is (λ m e. cc))
-    aside-after (Patching q plants lifts clear) at is =
+    aside-after goes Nothing at is = stage-after t.stage goes.stage is
+    aside-after goes (Reading q i) at is = all-stay (no-close _ is (λ m e. cc))
+    aside-after goes (Planting q i) at is = all-stay (no-close _ is (λ m e. cc))
+    aside-after goes (Patching q plants lifts clear) at is =
         all-stay (patch-closes t.options (traced_at t q).control (first_function plants) (first_function lifts) is)
-    aside-after _ at is = absurd at
+    aside-after goes _ at is = absurd at
 
-    pub own-under : next_function_call_of t ≡ Some c → has_functions t.options ≡ true
+    pub own-under : GoesOn t → next_function_call_of t ≡ Some c → has_functions t.options ≡ true
         → answer_of a.reply ≢ Interrupted → Under Later (files-alike a.state) (fed_functions t a.reply)
     unfolding next_function_call_of
-    own-under next has calm =
-        fed-under Later (files-alike a.state) t a.reply w.off w.follow w.stage w.beside w.apart calm has
-        (aside-after t.aside w.beside
+    own-under goes next has calm =
+        fed-under Later (files-alike a.state) t a.reply goes.off goes.follow goes.stage goes.beside apart calm has
+        (aside-after goes t.aside goes.beside
         (sym (ap (λ b. cond b (call_beside t t.stage t.aside) (next_call_of t)) has) ∙ next))

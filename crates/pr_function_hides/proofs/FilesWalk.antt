@@ -67,7 +67,7 @@ pub record SameFiles (u v : Traced) : Type 0 where
 same-self : (u : Traced) → SameFiles u u
 same-self u = record { pid = refl; control = refl; status = refl; lstatus = refl; memory = refl }
 
-same-at : (u v : Traced) → v ≡ u → SameFiles u v
+pub same-at : (u v : Traced) → v ≡ u → SameFiles u v
 same-at u v is = subst (SameFiles u) (sym is) (same-self u)
 
 -- the same processes, and another stage
@@ -87,7 +87,7 @@ pub record Likens (u v : TrussState) : Type 0 where
   pub options : v.options ≡ u.options
   pub aside : v.aside ≡ u.aside
 
-same-join : (u v w : Traced) → SameFiles u v → SameFiles v w → SameFiles u w
+pub same-join : (u v w : Traced) → SameFiles u v → SameFiles v w → SameFiles u w
 same-join u v w a b = record {
   pid = b.pid ∙ a.pid;
   control = b.control ∙ a.control;
@@ -215,6 +215,55 @@ module _ (u : TrussState) (off : u.leaving ≡ false) (follow : u.options.follow
 
 abbrev pub AreApart : List Traced → Type 0
 AreApart ts = (i j : ℕ) → i < length ts → j < length ts → i ≢ j → (at_place ts i).pid ≢ (at_place ts j).pid
+
+-- one process becomes another of the same id
+pub set-apart : (ts : List Traced) (q : ℕ) (v : Traced) → q < length ts → v.pid ≡ (at_place ts q).pid → AreApart ts
+    → AreApart (slice_set ts q v)
+set-apart ts q v within same apart i j one two other its =
+    apart i j (subst (λ k. i < k) (length-set ts q v) one) (subst (λ k. j < k) (length-set ts q v) two) other
+    (sym (pid-at i) ∙ its ∙ pid-at j)
+  where
+    pid-at : (i : ℕ) → (at_place (slice_set ts q v) i).pid ≡ (at_place ts i).pid
+    pid-at i = elim (cases_eq i q) [
+      | inl here ↦
+          ap (λ (x : Traced). x.pid) (ap (at_place (slice_set ts q v)) here ∙ set-at ts q v within)
+          ∙ same ∙ ap (λ n. (at_place ts n).pid) (sym here)
+      | inr apart_from ↦ ap (λ (x : Traced). x.pid) (get_or-set_other ts q i v nobody apart_from)
+    ]
+
+-- where the place of a process was, before the one at another place was removed
+abbrev Shift : ℕ → ℕ → ℕ → Type 0
+Shift q i k = ((k ≡ i) × (i < q)) ⊎ ((k ≡ i + 1) × (q ≤ i))
+
+-- one process less
+pub removed-apart : (ts : List Traced) (q : ℕ) → q < length ts → AreApart ts → AreApart (remove ts q)
+removed-apart ts q within apart i j one two other same =
+    let x = place-of i one in
+    let y = place-of j two in
+    apart x.0 y.0 x.1.0 y.1.0 (λ is. other (shift-back i j x.0 y.0 x.1.1.1 y.1.1.1 is))
+    (ap (λ (u : Traced). u.pid) (sym x.1.1.0) ∙ same ∙ ap (λ (u : Traced). u.pid) y.1.1.0)
+  where
+    place-of : (i : ℕ) → i < length (remove ts q)
+        → (k : ℕ) × ((k < length ts) × ((at_place (remove ts q) i ≡ at_place ts k) × Shift q i k))
+    place-of i inside = elim (cases_lt i q) [
+      | inl below ↦ (
+        i,
+        (omega (arith, below, within), (get_or-remove_below ts q nobody i below within, inl (refl, below))),
+      )
+      | inr above ↦ (
+        i + 1,
+        (
+          omega (arith, inside, length-remove ts q within),
+          (get_or-remove_above ts q nobody i above within, inr (refl, above)),
+        ),
+      )
+    ]
+
+    shift-back : (i j x y : ℕ) → Shift q i x → Shift q j y → x ≡ y → i ≡ j
+    shift-back i j x y (inl a) (inl b) same = omega (arith, a.0, b.0, same)
+    shift-back i j x y (inl a) (inr b) same = absurd (omega (arith, a.0, a.1, b.0, b.1, same))
+    shift-back i j x y (inr a) (inl b) same = absurd (omega (arith, a.0, a.1, b.0, b.1, same))
+    shift-back i j x y (inr a) (inr b) same = omega (arith, a.0, b.0, same)
 
 patching-beside : (n q : ℕ) (plants lifts : List Bool) (clear : Bool) → q < n
     → IsBeside n (patching q plants lifts clear)
@@ -534,49 +583,13 @@ module _ (S : Traced → Type 0) (alike : (u v : Traced) → SameFiles u v → S
         function-run-under Interrupted other all = absurd (other refl)
 
         -- a file is closed
-        abbrev Shift : ℕ → ℕ → Type 0
-        Shift i k = ((k ≡ i) × (i < q)) ⊎ ((k ≡ i + 1) × (q ≤ i))
-
-        removed-apart : AreApart (without_traced t q).traced
-        removed-apart i j one two other same =
-            let x = place-of i one in
-            let y = place-of j two in
-            apart x.0 y.0 x.1.0 y.1.0 (λ is. other (shift-back i j x.0 y.0 x.1.1.1 y.1.1.1 is))
-            (ap (λ (u : Traced). u.pid) (sym x.1.1.0) ∙ same ∙ ap (λ (u : Traced). u.pid) y.1.1.0)
-          where
-            place-of : (i : ℕ) → i < length (remove t.traced q)
-                → (k : ℕ)
-                × ((k < length t.traced) × ((at_place (remove t.traced q) i ≡ at_place t.traced k) × Shift i k))
-            place-of i inside = elim (cases_lt i q) [
-              | inl below ↦ (
-                i,
-                (
-                  omega (arith, below, within),
-                  (get_or-remove_below t.traced q nobody i below within, inl (refl, below)),
-                ),
-              )
-              | inr above ↦ (
-                i + 1,
-                (
-                  omega (arith, inside, length-remove t.traced q within),
-                  (get_or-remove_above t.traced q nobody i above within, inr (refl, above)),
-                ),
-              )
-            ]
-
-            shift-back : (i j x y : ℕ) → Shift i x → Shift j y → x ≡ y → i ≡ j
-            shift-back i j x y (inl a) (inl b) same = omega (arith, a.0, b.0, same)
-            shift-back i j x y (inl a) (inr b) same = absurd (omega (arith, a.0, a.1, b.0, b.1, same))
-            shift-back i j x y (inr a) (inl b) same = absurd (omega (arith, a.0, a.1, b.0, b.1, same))
-            shift-back i j x y (inr a) (inr b) same = omega (arith, a.0, b.0, same)
-
         removed-base : EachBut S t.traced q → Base (without_traced t q)
         removed-base others = record {
           off = off;
           follow = follow;
           idle = idle;
           each = each-remove S t.traced q within others;
-          apart = removed-apart;
+          apart = removed-apart t.traced q within apart;
         }
 
         lost-under : (next : AfterClosing) (v : Traced) → IsWithin (length t.traced) (Closing q next)
@@ -588,20 +601,8 @@ module _ (S : Traced → Type 0) (alike : (u v : Traced) → SameFiles u v → S
           stage = subst (λ n. IsWithin n t.stage) (sym (length-set t.traced q v)) at_stage;
           beside = subst (IsBeside (length (slice_set t.traced q v))) (sym idle) tt;
           each = each-set S t.traced q v within others so;
-          apart = λ i j one two other its.
-              apart i j (subst (λ k. i < k) (length-set t.traced q v) one)
-              (subst (λ k. j < k) (length-set t.traced q v) two) other
-              (sym (pid-at i) ∙ its ∙ pid-at j);
+          apart = set-apart t.traced q v within same apart;
         }
-          where
-            pid-at : (i : ℕ) → (at_place (slice_set t.traced q v) i).pid ≡ (traced_at t i).pid
-            pid-at i = elim (cases_eq i q) [
-              | inl here ↦
-                  ap (λ (x : Traced). x.pid)
-                  (ap (at_place (slice_set t.traced q v)) here ∙ set-at t.traced q v within)
-                  ∙ same ∙ ap (λ n. (at_place t.traced n).pid) (sym here)
-              | inr apart_from ↦ ap (λ (x : Traced). x.pid) (get_or-set_other t.traced q i v nobody apart_from)
-            ]
 
         closed-under : (next : AfterClosing) (v : Option Traced) → IsWithin (length t.traced) (Closing q next)
             → without_last (traced_at t q) ≡ v → t.stage ≡ Closing q next → EachBut S t.traced q
@@ -639,20 +640,8 @@ module _ (S : Traced → Type 0) (alike : (u v : Traced) → SameFiles u v → S
               follow = follow;
               idle = idle;
               each = each-set S t.traced q now within others (learns is);
-              apart = λ i j one two differs same.
-                  apart i j (subst (λ k. i < k) (length-set t.traced q now) one)
-                  (subst (λ k. j < k) (length-set t.traced q now) two) differs
-                  (sym (pid-at i) ∙ same ∙ pid-at j);
+              apart = set-apart t.traced q now within (learnt-pid (traced_at t q) r step) apart;
             }
-              where
-                pid-at : (i : ℕ) → (at_place (slice_set t.traced q now) i).pid ≡ (traced_at t i).pid
-                pid-at i = elim (cases_eq i q) [
-                  | inl same ↦
-                      ap (λ (x : Traced). x.pid)
-                      (ap (at_place (slice_set t.traced q now)) same ∙ set-at t.traced q now within)
-                      ∙ learnt-pid (traced_at t q) r step ∙ ap (λ n. (at_place t.traced n).pid) (sym same)
-                  | inr differs ↦ ap (λ (x : Traced). x.pid) (get_or-set_other t.traced q i now nobody differs)
-                ]
 
             done : (next : Option OpeningStep) → Under (at_step u q next)
             done None = to u _ b (opens-next u off follow)

@@ -13,16 +13,18 @@ use Rattle.pr_function_hides.specs.ClearedFaults.{ClearByRunning}
 use Rattle.pr_function_hides.specs.OwnSteps.{AreStepsOwn}
 use Rattle.pr_function_hides.specs.PassiveOthers.{AreOthersPassive}
 use Rattle.pr_function_hides.specs.TidyCloses.{LeavesNoBreakpoint, LeavesNoFault}
-use Rattle.pr_function_hides.specs.TidyFaults.{AreFaultsTidy, PostsNoOwnFault, is_clearing}
-use Rattle.pr_function_hides.specs.TidyWrites.{AreUndisturbed, WritesTidily}
+use Rattle.pr_function_hides.specs.TidyFaults.{ClearsOwnFaultsAlone, PostsNoOwnFault, is_clearing}
+use Rattle.pr_function_hides.specs.TidyWrites.{AreUnbroken, AreUndisturbed, WritesTidily}
 use Rattle.pr_function_hides.proofs.CleanLaw.{leaves-no-fault}
+use Rattle.pr_function_hides.proofs.ClearedLaw.{clears-alone}
 use Rattle.pr_function_hides.proofs.ClearingLaw.{clears-running}
 use Rattle.pr_function_hides.proofs.ClosingLaw.{leaves-none}
 use Rattle.pr_function_hides.proofs.PassiveHiders.{passive-but}
 use Rattle.pr_function_hides.proofs.PostedLaw.{posts-none}
 use Rattle.pr_function_hides.proofs.StepLaw.{own-steps}
-use Rattle.pr_function_hides.proofs.TidyKept.{IsRunOfTrusses}
-use Rattle.pr_function_hides.proofs.WritesLaw.{writes-tidily}
+use Rattle.pr_function_hides.proofs.TidyKept.{IsRunOfTrusses, calm-run}
+use Rattle.pr_function_hides.proofs.WritesLaw.{run-tidily}
+use Rattle.pr_function_hides.specs.SleptCopies.{NoneSleepsInCopy}
 use Rattle.pr_hidden.proofs.HistoryFollows.{hidden-later}
 use Rattle.pr_hidden.specs.Covers.{Covers}
 use Rattle.pr_hidden.specs.HiddenSteps.{IsHidden}
@@ -58,15 +60,15 @@ use Rattle.pr_reached.specs.ByteHistories.{HasBytes}
 use Rattle.pr_tool_laws.specs.OwnCalls.{AreOwnCalls}
 use Rattle.pr_world.specs.ControllerStates.{ControllerState}
 
--- A history of trusses with calls of functions is tidy, and programs see nothing of them, where the faults that they
--- bring about are kept tidily.
+-- A history of trusses with calls of functions is tidy, and programs see nothing of them.
 
 abbrev Parsed : Type 0
 Parsed = Result (Message × ℕ) MsgFault
 
 -- a message that is passive is none of those of which something is asked
 asks-nothing : (who : Hiders) (k : ℕ) (covers : Covers) (s : TracedSystem) (pid : ℕ) (p : TracedProcess) (held : Held)
-    (m : Message) (tail : List ℕ) → is_passive_message m ≡ true → IsTidyMessage who k covers s pid p (aim_of held) m tail
+    (m : Message) (tail : List ℕ) → is_passive_message m ≡ true
+    → IsTidyMessage who k covers s pid p (aim_of held) m tail
 unfolding is_passive_message
 asks-nothing who k covers s pid p held (message.Write at size) tail is = absurd (false≢true is)
 asks-nothing who k covers s pid p held message.Cfault tail is = absurd (false≢true is)
@@ -117,7 +119,7 @@ module _ (who : Hiders) (controllers : List ControllerState) (no_probes : (k : �
     (first : TracedState) (h : List Entry) (passive : IsPassiveBut who h)
     (writes : WritesTidily who controllers first h) (leaves : LeavesNoBreakpoint who first h)
     (unfaulted : LeavesNoFault who first h) (steps : AreStepsOwn who first h) (unclears : ClearByRunning who h)
-    (unposted : PostsNoOwnFault who first h) (faults : AreFaultsTidy who first h) where
+    (unposted : PostsNoOwnFault who first h) (faults : ClearsOwnFaultsAlone who first h) where
   abbrev at : List Entry → Covers
   at front = covers_at who first front
 
@@ -257,24 +259,25 @@ module _ (who : Hiders) (controllers : List ControllerState) (no_probes : (k : �
 -- ---- the laws
 
 module _ (n : ℕ) (who : Hiders) (controllers : List ControllerState) (s : TracedState) (h : List Entry)
-    (reached : IsReached s) (bytes : HasBytes h) (legal : IsLegal n s h) (own_calls : AreOwnCalls controllers h)
-    (are : AreTrusses who controllers s) (und : AreUndisturbed who controllers s h) (others : AreOthersPassive who h)
-    (faults : AreFaultsTidy who s h) where
+    (reached : IsReached s) (awake : NoneSleepsInCopy s.system) (bytes : HasBytes h) (legal : IsLegal n s h)
+    (own_calls : AreOwnCalls controllers h) (are : AreTrusses who controllers s)
+    (und : AreUndisturbed who controllers s h) (unbroken : AreUnbroken who h) (others : AreOthersPassive who h) where
+  run : IsRunOfTrusses (AreUnbroken who h) n who controllers s h
+  run = calm-run n who controllers s h reached awake bytes legal own_calls are und unbroken
+
   passive : IsPassiveBut who h
-  passive =
-      let run : IsRunOfTrusses n who controllers s h =
-      record { reached = reached; bytes = bytes; legal = legal; own_calls = own_calls; are = are; und = und } in
-      passive-but run others
+  passive = passive-but run others
 
   pub truss-tidy : IsUnstepped s.system → IsTidy who s h
   truss-tidy unstepped =
       walk who controllers are.no_probes s h passive
-      (writes-tidily n who controllers s h reached bytes legal own_calls are und)
-      (leaves-none n who controllers s h reached bytes legal own_calls are und)
-      (leaves-no-fault n who controllers s h reached bytes legal own_calls are und others unstepped)
-      (own-steps n who controllers s h reached bytes legal own_calls are und others unstepped)
-      (clears-running n who controllers s h reached bytes legal own_calls are und)
-      (posts-none n who controllers s h reached bytes legal own_calls are und others unstepped) faults [] h refl
+      (run-tidily run) (leaves-none n who controllers s h reached awake bytes legal own_calls are und unbroken)
+      (leaves-no-fault n who controllers s h reached awake bytes legal own_calls are und unbroken others unstepped)
+      (own-steps n who controllers s h reached awake bytes legal own_calls are und unbroken others unstepped)
+      (clears-running n who controllers s h reached awake bytes legal own_calls are und unbroken)
+      (posts-none n who controllers s h reached awake bytes legal own_calls are und unbroken others unstepped)
+      (clears-alone n who controllers s h reached awake bytes legal own_calls are und unbroken others unstepped) []
+      h refl
 
   pub truss-hidden : IsUntouched s.system → IsSparing who s h → IsHidden who s h
   truss-hidden untouched spares =

@@ -5,7 +5,7 @@ use Rattle.std.proofs.lemmas.List.Elements.{All-head, All-tail}
 use Rattle.std.proofs.lemmas.Option.{same_Some}
 use Rattle.std.specs.List.{slice_get}
 use Rattle.pr_api.specs.Entries.{call_entry}
-use Rattle.pr_function_hides.proofs.CallFacts.{calm-reply, controllers-push, legal-here}
+use Rattle.pr_function_hides.proofs.CallFacts.{controllers-push, legal-here}
 use Rattle.pr_function_hides.proofs.FaultFlags.{IsRunFlags, fed-flags}
 use Rattle.pr_function_hides.proofs.PlantedReplies.{first-so-truss}
 use Rattle.pr_function_hides.proofs.PlacesCome.{IsUnseen, unseen-fed, unseen-first}
@@ -13,7 +13,7 @@ use Rattle.pr_function_hides.proofs.TidyCalls as Calls
 use Rattle.pr_function_hides.proofs.TidyEntries.{its-legal, now-is}
 use Rattle.pr_function_hides.proofs.TidyKept.{IsRunOfTrusses, Kept as TidyKept}
 use Rattle.pr_function_hides.proofs.TidyLaw.{kept-at}
-use Rattle.pr_function_hides.specs.TidyWrites.{IsTrussAfter}
+use Rattle.pr_function_hides.specs.TidyWrites.{AreUnbroken, IsTrussAfter}
 use Rattle.pr_function_laws.proofs.BreakpointLemmas.{foreign-entry}
 use Rattle.pr_function_laws.proofs.KeptPlaces.{Kept, first-kept}
 use Rattle.pr_function_laws.proofs.OpenedCalls.{IsSo}
@@ -57,7 +57,7 @@ use Rattle.pr_world.specs.Protocol.{controllers_after, controllers_at}
 -- before.
 
 module _ {n : ℕ} {who : Hiders} {controllers : List ControllerState} {first : TracedState} {h : List Entry}
-    (run : IsRunOfTrusses n who controllers first h) where
+    (run : IsRunOfTrusses (AreUnbroken who h) n who controllers first h) where
   abbrev here : List Entry → TracedState
   here front = state_after first front
 
@@ -65,7 +65,7 @@ module _ {n : ℕ} {who : Hiders} {controllers : List ControllerState} {first : 
   After front k t = IsTrussAfter who controllers first h front k t
 
   abbrev kept : (front back : List Entry) → h ≡ front ++ back → TidyKept who controllers first h front
-  kept = kept-at n who controllers first h run.reached run.bytes run.legal run.own_calls run.are run.und
+  kept = kept-at run
 
   abbrev options : (k : ℕ) → hides who k ≡ true → Options
   options k hider = let it = run.are.trusses k hider in it.options
@@ -162,7 +162,7 @@ module _ {n : ℕ} {who : Hiders} {controllers : List ControllerState} {first : 
       next = Calls.next run front back j c r place kept-now hider
 
       unbroken : WasNotInterrupted x
-      unbroken = record { unbroken = run.und.unbroken front back j c r place hider }
+      unbroken = record { unbroken = run.besides.unbroken front back j c r place hider }
 
       -- its call opens a control file
       pub opening-is : (pid : ℕ) → tr.stage ≡ stage.OpeningControl pid → tr.aside ≡ Nothing → c ≡ open_control pid
@@ -189,12 +189,12 @@ module _ {n : ℕ} {who : Hiders} {controllers : List ControllerState} {first : 
                 (λ u. bytes-at front (call_entry j c r) back place) x (has-functions j hider)
                 (Calls.own run front back j c r place kept-now hider) next unbroken);
             fit = next-fit o (has-functions j hider) (follows-none j hider) tr x w.fit next
-                (record { waits = λ fails. absurd (run.und.unbroken front back j c r place hider fails) });
-            unseen = unseen-fed tr r (calm-reply r (run.und.unbroken front back j c r place hider)) w.unseen
+                (record { waits = λ fails. absurd (run.besides.unbroken front back j c r place hider fails) });
+            unseen = unseen-fed tr r (Calls.calm-now run front back j c r place kept-now hider) w.unseen
                 fresh-places has;
             flags = let f = Calls.holds-now run front back j c r place kept-now hider in
                 fed-flags tr r f.off f.follow f.stage f.beside
-                (calm-reply r (run.und.unbroken front back j c r place hider)) w.flags has;
+                (Calls.calm-now run front back j c r place kept-now hider) w.flags has;
           }
 
     called-known : AllKnown later_front

@@ -15,7 +15,8 @@ use Rattle.pr_line.specs.declared.options.Options.{Options}
 use Rattle.pr_num.proofs.SearchLemmas.{All-at}
 use Rattle.pr_truss.specs.Marks.{has_function, no_functions, with_function, without_function}
 use Rattle.pr_function_hides.proofs.FunctionSets.{has-own, has-with, has-without, not-in-none, with-keeps, without-keeps}
-use Rattle.pr_function_hides.specs.FunctionHiders.{ArePatchable, IsMarked, IsPatchable, StandAsMarked, patch_of}
+use Rattle.pr_function_hides.proofs.FirstFunctions.{one-first}
+use Rattle.pr_function_hides.specs.FunctionHiders.{ArePatchable, IsFirstThere, IsMarked, IsPatchable, StandAsMarked, patch_of}
 
 -- Breakpoints that stand as they are marked, once one more is planted, and once one is lifted.
 
@@ -71,6 +72,26 @@ both : (a b : Bool) → (a && b) ≡ true → (a ≡ true) × (b ≡ true)
 both true b e = (refl, e)
 both false b e = absurd (false≢true e)
 
+-- ---- the patch of an address
+
+-- the patch that begins somewhere is one of them
+pub patch-there : (P : Patch → Type 0) (at : ℕ) (ps : List Patch) (g : Patch) → All P ps → patch_at at ps ≡ Some g
+    → P g × (g.at ≡ at)
+patch-there P at [] g all found = absurd (none-some g found)
+patch-there P at (p ∷ ps) g all found =
+    by (begins_at at p) refl found (λ later. patch-there P at ps g (All-tail P p ps all) later)
+  where
+    by : (b : Bool) → begins_at at p ≡ b → cond b (Some p) (patch_at at ps) ≡ Some g
+        → (patch_at at ps ≡ Some g → P g × (g.at ≡ at)) → P g × (g.at ≡ at)
+    by true here it rest =
+        let same = same_Some p g it in (
+          subst P same (All-head P p ps all),
+          ap (λ (x : Patch). x.at) (sym same) ∙ eqb-true p.at at here,
+        )
+    by false there it rest = rest it
+
+-- ---- the functions of the options
+
 module _ (o : Options) (fit : ArePatchable o) where
   patchable : (i : ℕ) (f : Function) → slice_get o.functions i ≡ Some f → IsPatchable f
   patchable i f named = All-at IsPatchable o.functions i f named fit.each
@@ -80,13 +101,14 @@ module _ (o : Options) (fit : ArePatchable o) where
       let less : i < length o.functions = slice_get_within o.functions i f named in
       let few = fit.few in omega (arith, less, few)
 
-  -- one address is that of one function
-  one-place : (i j : ℕ) (f g : Function) → slice_get o.functions i ≡ Some f → slice_get o.functions j ≡ Some g
-      → f.at ≡ g.at → i ≡ j
-  one-place i j f g first second same = elim (cases_eq i j) [
-    | inl is ↦ is
-    | inr other ↦ absurd (fit.apart i j f g other first second same)
-  ]
+  abbrev patch_with : ℕ → List ℕ → Patch
+  patch_with at code = record { at = at; bytes = code }
+
+  -- functions at one address have one patch
+  pub same-patch : (i j : ℕ) (f g : Function) → slice_get o.functions i ≡ Some f → slice_get o.functions j ≡ Some g
+      → f.at ≡ g.at → patch_of f ≡ patch_of g
+  same-patch i j f g first second same =
+      ap (λ a. patch_with a f.code) same ∙ ap (patch_with g.at) (fit.alike i j f g first second same)
 
   -- ---- what patches there are
 
@@ -115,30 +137,12 @@ module _ (o : Options) (fit : ArePatchable o) where
 
   -- the patch at an address of a function is that of the function
   pub found-is : (set : List Bool) (ps : List Patch) (i : ℕ) (f : Function) (g : Patch)
-      → slice_get o.functions i ≡ Some f → All (IsMarked o set) ps → patch_at f.at ps ≡ Some g
-      → (g ≡ patch_of f) × (has_function set i ≡ true)
-  found-is set [] i f g named all found = absurd (none-some g found)
-  found-is set (p ∷ ps) i f g named all found =
-      by (begins_at f.at p) refl found
-      (λ later. found-is set ps i f g named (All-tail (IsMarked o set) p ps all) later)
-    where
-      mark : IsMarked o set p
-      mark = All-head (IsMarked o set) p ps all
-
-      by : (b : Bool) → begins_at f.at p ≡ b → cond b (Some p) (patch_at f.at ps) ≡ Some g
-          → (patch_at f.at ps ≡ Some g → (g ≡ patch_of f) × (has_function set i ≡ true))
-          → (g ≡ patch_of f) × (has_function set i ≡ true)
-      by false there it rest = rest it
-      by true here it rest =
-          let same : i ≡ mark.function =
-          one-place i mark.function f mark.f named mark.named
-          (sym (eqb-true p.at f.at here) ∙ ap (λ (q : Patch). q.at) mark.is) in
-          let its : mark.f ≡ f =
-          same_Some mark.f f
-          (sym mark.named ∙ ap (slice_get o.functions) (sym same) ∙ named) in (
-            sym (same_Some p g it) ∙ mark.is ∙ ap patch_of its,
-            ap (has_function set) same ∙ mark.marked,
-          )
+      → slice_get o.functions i ≡ Some f → All (IsMarked o set) ps → patch_at f.at ps ≡ Some g → g ≡ patch_of f
+  found-is set ps i f g named all found =
+      let it = patch-there (IsMarked o set) f.at ps g all found in
+      let mark = it.0 in
+      mark.is
+      ∙ same-patch mark.function i mark.f f mark.named named (ap (λ (q : Patch). q.at) (sym mark.is) ∙ it.1)
 
   -- ---- one more
 
@@ -158,13 +162,26 @@ module _ (o : Options) (fit : ArePatchable o) where
       (more-marked set i ps (All-tail (IsMarked o set) p ps all))
 
   module _ (set : List Bool) (ps : List Patch) (w : StandAsMarked o set ps) (i : ℕ) (f : Function)
-      (named : slice_get o.functions i ≡ Some f) where
+      (named : slice_get o.functions i ≡ Some f) (first : IsFirstThere o i f) where
     own-marked : has_function (with_function set i) i ≡ true
     own-marked = has-own set i (subst (λ n. i < n) (sym w.long) (within i f named))
 
     same-function : (j : ℕ) (g : Function) → slice_get o.functions j ≡ Some g → j ≡ i → g ≡ f
     same-function j g its same =
         same_Some g f (sym its ∙ ap (slice_get o.functions) same ∙ named)
+
+    more-first : (j : ℕ) (g : Function) → slice_get o.functions j ≡ Some g
+        → has_function (with_function set i) j ≡ true → IsFirstThere o j g
+    more-first j g its has = elim (has-with set i j has) [
+      | inl same ↦
+          subst (λ m. IsFirstThere o m g) (sym same)
+          (subst (IsFirstThere o i) (sym (same-function j g its same)) first)
+      | inr old ↦ w.first j g its old
+    ]
+
+    less-first : (j : ℕ) (g : Function) → slice_get o.functions j ≡ Some g
+        → has_function (without_function set i) j ≡ true → IsFirstThere o j g
+    less-first j g its has = let it = has-without set i j has in w.first j g its it.has
 
     pub one-planted : StandAsMarked o (with_function set i) (with_patch (patch_of f) ps)
     one-planted = by (patch_at f.at ps) refl
@@ -178,9 +195,10 @@ module _ (o : Options) (fit : ArePatchable o) where
           each = λ j h its has. elim (has-with set i j has) [
             | inl same ↦
                 subst (λ (x : Function). patch_at x.at ps ≡ Some (patch_of x)) (sym (same-function j h its same))
-                (found ∙ ap (λ (x : Patch). Some x) (found-is set ps i f g named w.all found).0)
+                (found ∙ ap (λ (x : Patch). Some x) (found-is set ps i f g named w.all found))
             | inr old ↦ w.each j h its old
           ];
+          first = more-first;
         }
         by None found = record {
           long = length-set set i true ∙ w.long;
@@ -195,6 +213,7 @@ module _ (o : Options) (fit : ArePatchable o) where
                 (ap (λ b. cond b (Some (patch_of f)) (patch_at f.at ps)) (eq-eqb f.at f.at refl))
             | inr old ↦ older j h its old
           ];
+          first = more-first;
         }
           where
             older : (j : ℕ) (h : Function) → slice_get o.functions j ≡ Some h → has_function set j ≡ true
@@ -272,10 +291,9 @@ module _ (o : Options) (fit : ArePatchable o) where
         cut : (b : Bool) → begins_at f.at q ≡ b → Left qs → Cut q qs b
         cut true here l =
             let at_it : q.at ≡ f.at = eqb-true q.at f.at here in
-            let same : m.function ≡ i =
-            one-place m.function i m.f f m.named named
-            (sym (ap (λ (x : Patch). x.at) m.is) ∙ at_it) in
-            let its : q ≡ patch_of f = m.is ∙ ap patch_of (same-function m.function m.f m.named same) in
+            let its : q ≡ patch_of f =
+            m.is
+            ∙ same-patch m.function i m.f f m.named named (sym (ap (λ (x : Patch). x.at) m.is) ∙ at_it) in
             record {
               all = fewer-marked qs rest (subst (λ (x : Patch). is_apart_from x qs ≡ true) its apart.0);
               apart = apart.1;
@@ -322,7 +340,9 @@ module _ (o : Options) (fit : ArePatchable o) where
           all = l.all;
           each = λ j h its has.
               let it = has-without set i j has in
-              l.others h.at (λ same. it.apart (one-place j i h f its named same)) ∙ w.each j h its it.has;
+              l.others h.at (λ same. it.apart (one-first o j i h f (w.first j h its it.has) first same))
+              ∙ w.each j h its it.has;
+          first = less-first;
         }
 
     -- it did not stand
@@ -332,6 +352,7 @@ module _ (o : Options) (fit : ArePatchable o) where
       apart = w.apart;
       all = fewer-marked ps w.all (none-at set ps i f named w.all none);
       each = λ j h its has. let it = has-without set i j has in w.each j h its it.has;
+      first = less-first;
     }
 
   -- ---- none
@@ -342,11 +363,13 @@ module _ (o : Options) (fit : ArePatchable o) where
     apart = tt;
     all = All-nil (IsMarked o no_functions);
     each = λ j h its has. absurd (not-in-none j has);
+    first = λ j h its has. absurd (not-in-none j has);
   }
 
   -- the patch of a function among those that the options name
   patch-named : (fs : List Function) (i : ℕ) (f : Function)
-      → ((j : ℕ) (g : Function) → slice_get fs j ≡ Some g → g.at ≡ f.at → g ≡ f) → slice_get fs i ≡ Some f
+      → ((j : ℕ) (g : Function) → slice_get fs j ≡ Some g → g.at ≡ f.at → patch_of g ≡ patch_of f)
+      → slice_get fs i ≡ Some f
       → patch_at f.at (map patch_of fs) ≡ Some (patch_of f)
   patch-named [] i f only named = absurd (none-some f named)
   patch-named (g ∷ fs) i f only named =
@@ -356,7 +379,7 @@ module _ (o : Options) (fit : ArePatchable o) where
       by : (b : Bool) → eqb g.at f.at ≡ b → (n : ℕ) → slice_get (g ∷ fs) n ≡ Some f
           → ((m : ℕ) → slice_get fs m ≡ Some f → patch_at f.at (map patch_of fs) ≡ Some (patch_of f))
           → cond b (Some (patch_of g)) (patch_at f.at (map patch_of fs)) ≡ Some (patch_of f)
-      by true here n its rest = ap (λ (x : Function). Some (patch_of x)) (only 0 g refl (eqb-true g.at f.at here))
+      by true here n its rest = ap (λ (x : Patch). Some x) (only 0 g refl (eqb-true g.at f.at here))
       by false there zero its rest =
           absurd (false≢true (sym there ∙ eq-eqb g.at f.at (ap (λ (x : Function). x.at) (same_Some g f its))))
       by false there (suc n) its rest = rest n its
@@ -364,27 +387,9 @@ module _ (o : Options) (fit : ArePatchable o) where
   pub function-patch : (i : ℕ) (f : Function) → slice_get o.functions i ≡ Some f
       → patch_at f.at (map patch_of o.functions) ≡ Some (patch_of f)
   function-patch i f named =
-      patch-named o.functions i f
-      (λ j g its same.
-      same_Some g f (sym its ∙ ap (slice_get o.functions) (one-place j i g f its named same) ∙ named)) named
+      patch-named o.functions i f (λ j g its same. same-patch j i g f its named same) named
 
 -- ---- what is so of each patch
-
--- the patch that begins somewhere is one of them
-pub patch-there : (P : Patch → Type 0) (at : ℕ) (ps : List Patch) (g : Patch) → All P ps → patch_at at ps ≡ Some g
-    → P g × (g.at ≡ at)
-patch-there P at [] g all found = absurd (none-some g found)
-patch-there P at (p ∷ ps) g all found =
-    by (begins_at at p) refl found (λ later. patch-there P at ps g (All-tail P p ps all) later)
-  where
-    by : (b : Bool) → begins_at at p ≡ b → cond b (Some p) (patch_at at ps) ≡ Some g
-        → (patch_at at ps ≡ Some g → P g × (g.at ≡ at)) → P g × (g.at ≡ at)
-    by true here it rest =
-        let same = same_Some p g it in (
-          subst P same (All-head P p ps all),
-          ap (λ (x : Patch). x.at) (sym same) ∙ eqb-true p.at at here,
-        )
-    by false there it rest = rest it
 
 -- one less, and one more
 pub without-all : (P : Patch → Type 0) (at : ℕ) (ps : List Patch) → All P ps → All P (without_patch at ps)

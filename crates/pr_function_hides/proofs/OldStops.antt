@@ -3,7 +3,7 @@ use Rattle.std.proofs.lemmas.Bool.{eq-eqb, false≢true}
 use Rattle.pr_function_hides.proofs.CopyFree.{copies-so}
 use Rattle.pr_function_hides.proofs.CopyPlaces.{RestsSo, RunsSo, StandingSo, closes_so, opens_so, rests_new, rests_old, rests_so, runs_old, runs_so, treats}
 use Rattle.pr_function_hides.proofs.TidyKept.{IsRunOfTrusses}
-use Rattle.pr_function_hides.specs.TidyWrites.{IsTrussAfter}
+use Rattle.pr_function_hides.specs.TidyWrites.{AreUnbroken, IsTrussAfter}
 use Rattle.pr_function_laws.specs.Opened.{is_opened}
 use Rattle.pr_hidden.specs.Hiders.{Hiders, hides}
 use Rattle.pr_model.specs.Legal.{state_after}
@@ -37,7 +37,7 @@ module _ (t : TrussState) (q : ℕ) (p : TracedProcess) (opened : is_opened t.st
   waits-frozen (runs_so soon stands) = runs-frozen stands
 
 module _ {n : ℕ} {who : Hiders} {controllers : List ControllerState} {first : TracedState} {h : List Entry}
-    (run : IsRunOfTrusses n who controllers first h) where
+    (run : IsRunOfTrusses (AreUnbroken who h) n who controllers first h) where
   pub old-frozen : (front back : List Entry) → h ≡ front ++ back → (k : ℕ) → hides who k ≡ true → (t : TrussState)
       → IsTrussAfter who controllers first h front k t → (q : ℕ) → q < length t.traced
       → is_opened t.stage q ≡ true → (traced_at t q).old ≢ 0 → (p : TracedProcess)

@@ -49,13 +49,16 @@ use Rattle.pr_truss_laws.proofs.TakenLemmas.{target-live}
 use Rattle.pr_function_laws.proofs.MarkLemmas.{first-below}
 use Rattle.pr_function_laws.proofs.SoundLemmas.{AsideIsBelow}
 use Rattle.pr_function_hides.proofs.CalledCovers.{IsAsPatched, call-still, close-apart, ctl-apart, ctl-still, taken-cover}
+use Rattle.pr_function_hides.proofs.CountedWalk.{AsideIn}
+use Rattle.pr_function_hides.proofs.FirstFunctions.{IsFirstOf}
+use Rattle.pr_function_hides.proofs.FunctionSets.{first-has}
 use Rattle.pr_function_hides.proofs.MarkedPatches.{function-patch, none-lifted, none-stand, one-lifted, one-planted}
 use Rattle.pr_function_hides.proofs.OwnWrites.{breakpoint-size, code-is, named-at, write-is, write-read, write-tail}
 use Rattle.pr_function_hides.proofs.PlantedReplies.{AfterAside, AfterStage, LeftSo, NowSo, So, fed-so, planted_after}
 use Rattle.pr_function_hides.proofs.StillMessages.{BeginStill, cfault-still, read-still, run-still, sentry-still, set-still, sexit-still, sfault-still, stop-still, strace-still, unset-still}
-use Rattle.pr_function_hides.specs.FunctionHiders.{ArePatchable, IsPatchable, StandAsMarked, patch_of}
-use Rattle.pr_function_hides.proofs.OwnFiles.{HoldsItsFiles, IsBeside, IsOfOtherFile, IsWithin, other_handles}
-use Rattle.pr_function_hides.specs.TidyWrites.{TellsReplaced}
+use Rattle.pr_function_hides.specs.FunctionHiders.{ArePatchable, IsFirstThere, IsPatchable, StandAsMarked, patch_of}
+use Rattle.pr_function_hides.proofs.OwnFiles.{GoesOn, HasItsFiles, IsBeside, IsOfOtherFile, IsWithin, other_handles}
+use Rattle.pr_function_hides.proofs.ToldReplaced.{TellsReplaced}
 use Rattle.pr_rec.specs.declared.lwps.LwpStatus.{LwpStatus}
 use Rattle.pr_truss.specs.declared.function_events.FunctionEvent.{FunctionEvent}
 use Rattle.pr_truss.specs.declared.function_events.FunctionEvent.TheVariants.{Replaced}
@@ -105,7 +108,7 @@ not-planted planted Interrupted i lift other = refl
 not-planted planted Gone i lift other = refl
 not-planted planted (Refused errno) i lift other = refl
 
-lift-after : (planted : List Bool) (a : Answer) (i : ℕ)
+pub lift-after : (planted : List Bool) (a : Answer) (i : ℕ)
     → planted_after planted a None (Some i) ≡ without_function planted i
 lift-after planted Accepted i = refl
 lift-after planted Interrupted i = refl
@@ -122,7 +125,7 @@ none-after planted (Refused errno) = refl
 
 module _ (who : Hiders) (none : (k : ℕ) → who.probes k ≡ false) (k : ℕ) (covers : Covers) (s : TracedState) (c : Call)
     (r : Reply) (t : TrussState) (fit : ArePatchable t.options)
-    (these : who.functions k ≡ map patch_of t.options.functions) (holds : HoldsItsFiles k t s)
+    (these : who.functions k ≡ map patch_of t.options.functions) (holds : HasItsFiles k t s)
     (below : AsideIsBelow (length t.options.functions) t.aside) (L : ℕ → Type 0)
     (was : (q : ℕ) → q < length t.traced → L (traced_at t q).pid
     → (p : TracedProcess) × (live_process s.system (traced_at t q).pid ≡ Some p))
@@ -152,17 +155,17 @@ module _ (who : Hiders) (none : (k : ℕ) → who.probes k ≡ false) (k : ℕ) 
         → (L v.pid → StandAsMarked o v.marks.planted (covers v.pid).patches) → So MarksStand v
     stays-so v a w = λ lives. subst (StandAsMarked o v.marks.planted) (sym a.patches) (w lives)
 
-    all-stay : ((pid : ℕ) → Stays pid) → Each (So MarksStand) t.traced
+    pub all-stay : ((pid : ℕ) → Stays pid) → Each (So MarksStand) t.traced
     all-stay stays i within = stays-so (traced_at t i) (stays (traced_at t i).pid) (old i within)
 
     -- ---- calls that leave all
 
-    is-call : (d : Call) → Some d ≡ Some c → (pid : ℕ) → IsAsPatched (covers pid) (covers_called who covers s k d r pid)
-        → Stays pid
+    pub is-call : (d : Call) → Some d ≡ Some c → (pid : ℕ)
+        → IsAsPatched (covers pid) (covers_called who covers s k d r pid) → Stays pid
     is-call d same pid stays =
         subst (λ (x : Call). IsAsPatched (covers pid) (covers_called who covers s k x r pid)) (same_Some d c same) stays
 
-    still-call : (control : ℕ) (bytes : List ℕ) → Some (call.Ctl control bytes) ≡ Some c → BeginStill bytes
+    pub still-call : (control : ℕ) (bytes : List ℕ) → Some (call.Ctl control bytes) ≡ Some c → BeginStill bytes
         → (pid : ℕ) → Stays pid
     still-call control bytes same still pid =
         is-call (call.Ctl control bytes) same pid (ctl-still who none covers s k pid control bytes r still)
@@ -204,7 +207,7 @@ module _ (who : Hiders) (none : (k : ℕ) → who.probes k ≡ false) (k : ℕ) 
             → Stays pid
         closes-apart pid apart = is-call _ is pid (close-apart who none covers s k pid (last_handle u) r apart)
 
-        others-stay : EachBut (So MarksStand) t.traced q
+        pub others-stay : EachBut (So MarksStand) t.traced q
         others-stay i inside apart =
             stays-so (traced_at t i) (closes-apart (traced_at t i).pid (λ h there same. file-is last h there same))
             (old i inside)
@@ -220,7 +223,7 @@ module _ (who : Hiders) (none : (k : ℕ) → who.probes k ≡ false) (k : ℕ) 
                     ap (λ (x : Held). x.pid)
                     (sym (same_Some _ h (sym held-there ∙ ap (handle_of s.opens k) (sym control.0) ∙ there)))
 
-        left-so : LeftSo MarksStand (without_last u) u
+        pub left-so : LeftSo MarksStand (without_last u) u
         left-so = by last
           where
             kept : (v : Option Traced) → Stays u.pid → LeftSo MarksStand v u
@@ -305,10 +308,10 @@ module _ (who : Hiders) (none : (k : ℕ) → who.probes k ≡ false) (k : ℕ) 
         stand-now : L v.pid → StandAsMarked o (marks_at t q).planted (covers v.pid).patches
         stand-now = old q within
 
-        pub planted-now : bytes_eq code f.code ≡ false → Shape → (lift : Option ℕ)
+        pub planted-now : IsFirstThere o i f → bytes_eq code f.code ≡ false → Shape → (lift : Option ℕ)
             → NowStand v.pid (planted_after (marks_at t q).planted (answer_of r) (Some i) lift)
         unfolding answer_of
-        planted-now other (inl got) lift lives =
+        planted-now first other (inl got) lift lives =
             let live = was q within lives in
             subst (λ (x : Reply). StandAsMarked o (planted_after (marks_at t q).planted (answer_of x) (Some i) lift)
             (later v.pid).patches) (sym got.1)
@@ -316,18 +319,18 @@ module _ (who : Hiders) (none : (k : ℕ) → who.probes k ≡ false) (k : ℕ) 
             (sym (taken got.0 got.1 live.0 live.1
             ∙ ap (λ b. cond b (without_patch f.at (covers v.pid).patches)
             (with_patch (patch_of f) (covers v.pid).patches)) other))
-            (one-planted o fit (marks_at t q).planted (covers v.pid).patches (stand-now lives) i f named))
-        planted-now other (inr refused) lift lives =
+            (one-planted o fit (marks_at t q).planted (covers v.pid).patches (stand-now lives) i f named first))
+        planted-now first other (inr refused) lift lives =
             subst (λ set. StandAsMarked o set (later v.pid).patches)
             (sym (not-planted (marks_at t q).planted (answer_of r) i lift refused.0))
             (subst (λ (x : Cover). StandAsMarked o (marks_at t q).planted x.patches)
             (sym (not-taken refused.1 v.pid)) (stand-now lives))
 
-        pub lifted-now : bytes_eq code f.code ≡ true → Shape
+        pub lifted-now : (L v.pid → IsFirstThere o i f) → bytes_eq code f.code ≡ true → Shape
             → ((p : TracedProcess) (g : Patch) → live_process s.system v.pid ≡ Some p
             → patch_at f.at (covers v.pid).patches ≡ Some g → (used : ℕ) × (r ≡ reply.Used used))
             → NowStand v.pid (planted_after (marks_at t q).planted (answer_of r) None (Some i))
-        lifted-now same shape granted lives =
+        lifted-now first same shape granted lives =
             subst (λ set. StandAsMarked o set (later v.pid).patches)
             (sym (lift-after (marks_at t q).planted (answer_of r) i)) (by shape)
           where
@@ -340,7 +343,8 @@ module _ (who : Hiders) (none : (k : ℕ) → who.probes k ≡ false) (k : ℕ) 
                 (sym (taken got.0 got.1 live.0 live.1
                 ∙ ap (λ b. cond b (without_patch f.at (covers v.pid).patches)
                 (with_patch (patch_of f) (covers v.pid).patches)) same))
-                (one-lifted o fit (marks_at t q).planted (covers v.pid).patches (stand-now lives) i f named)
+                (one-lifted o fit (marks_at t q).planted (covers v.pid).patches (stand-now lives) i f named
+                (first lives))
             by (inr refused) =
                 subst (λ (x : Cover). StandAsMarked o (without_function (marks_at t q).planted i) x.patches)
                 (sym (not-taken refused.1 v.pid)) (of (patch_at f.at (covers v.pid).patches) refl)
@@ -348,7 +352,9 @@ module _ (who : Hiders) (none : (k : ℕ) → who.probes k ≡ false) (k : ℕ) 
                 of : (x : Option Patch) → patch_at f.at (covers v.pid).patches ≡ x
                     → StandAsMarked o (without_function (marks_at t q).planted i) (covers v.pid).patches
                 of None found =
-                    none-lifted o fit (marks_at t q).planted (covers v.pid).patches (stand-now lives) i f named found
+                    none-lifted o fit (marks_at t q).planted (covers v.pid).patches (stand-now lives) i f named
+                    (first lives)
+                    found
                 of (Some g) found =
                     let got = granted live.0 g live.1 found in absurd (refused.1 got.0 got.1)
 
@@ -366,7 +372,8 @@ module _ (who : Hiders) (none : (k : ℕ) → who.probes k ≡ false) (k : ℕ) 
         → c ≡ call.Ctl (traced_at t q).control bytes → first_message bytes ≡ Ok (message.Write at 16, len) → Shape)
         (fresh : (pid : ℕ) → c ≡ call.Open pid 0 file.Ctl WriteExcl → answer_of r ≡ Accepted
         → (covers pid).patches ≡ [])
-        (replaced : (q : ℕ) → TellsReplaced t q r → (covers (traced_at t q).pid).patches ≡ [])
+        (replaced : (q : ℕ) → q < length t.traced → L (traced_at t q).pid → TellsReplaced t q r
+        → (covers (traced_at t q).pid).patches ≡ [])
         (granted : (q : ℕ) (bytes : List ℕ) (at len : ℕ) (p : TracedProcess) (g : Patch) → q < length t.traced
         → c ≡ call.Ctl (traced_at t q).control bytes → first_message bytes ≡ Ok (message.Write at 16, len)
         → length (tail_of (message.Write at 16) bytes) ≡ 16 → live_process s.system (traced_at t q).pid ≡ Some p
@@ -401,7 +408,7 @@ module _ (who : Hiders) (none : (k : ℕ) → who.probes k ≡ false) (k : ℕ) 
             event-stands q l (function_event t.options (marks_at t q) l.id e)
             (λ is_replaced lives.
             subst (StandAsMarked o no_functions)
-            (sym (stays.patches ∙ replaced q (record {
+            (sym (stays.patches ∙ replaced q w lives (record {
               reads = at;
               idle = idle;
               accepted = accepted;
@@ -427,60 +434,67 @@ module _ (who : Hiders) (none : (k : ℕ) → who.probes k ≡ false) (k : ℕ) 
 
       -- a breakpoint is planted
       plant-after : (q i : ℕ) (lift : Option ℕ) → q < length t.traced → i < length o.functions
-          → Some (plant_call o (traced_at t q).control i) ≡ Some c
+          → IsFirstOf o (traced_at t q).pid i → Some (plant_call o (traced_at t q).control i) ≡ Some c
           → EachBut (So MarksStand) t.traced q × NowSo MarksStand t r q (Some i) lift
-      plant-after q i lift within inside is =
+      plant-after q i lift within inside first is =
           let it = named-at o i inside in
           let p = function-is i it.0 it.1 in
           let its = write-is o c (traced_at t q).control i it.0 breakpoint breakpoint it.1 refl is in (
             others-kept q within i it.0 it.1 breakpoint breakpoint-size (instruction-bytes Bpt) its,
-            planted-now q within i it.0 it.1 breakpoint breakpoint-size (instruction-bytes Bpt) its p.other
+            planted-now q within i it.0 it.1 breakpoint breakpoint-size (instruction-bytes Bpt) its
+                (first it.0 it.1) p.other
                 (shape q _ it.0.at _ within its
                 (reads q within i it.0 it.1 breakpoint breakpoint-size (instruction-bytes Bpt))) lift,
           )
 
       -- or lifted
-      lift-after-all : (q i : ℕ) → q < length t.traced → i < length o.functions
+      pub lift-after-all : (q i : ℕ) → q < length t.traced → i < length o.functions
+          → (L (traced_at t q).pid → IsFirstOf o (traced_at t q).pid i)
           → Some (lift_call o (traced_at t q).control i) ≡ Some c
           → EachBut (So MarksStand) t.traced q × NowSo MarksStand t r q None (Some i)
-      lift-after-all q i within inside is =
+      lift-after-all q i within inside first is =
           let it = named-at o i inside in
           let f : Function = it.0 in
           let p = function-is i f it.1 in
           let its = write-is o c (traced_at t q).control i f f.code (code_of o i) it.1 (code-is o i f it.1) is in (
             others-kept q within i f it.1 f.code p.size p.bytes its,
-            lifted-now q within i f it.1 f.code p.size p.bytes its (same-code f.code)
+            lifted-now q within i f it.1 f.code p.size p.bytes its (λ lives. first lives f it.1) (same-code f.code)
                 (shape q _ f.at _ within its (reads q within i f it.1 f.code p.size p.bytes))
                 (λ process g live found.
                 granted q _ f.at _ process g within its (reads q within i f it.1 f.code p.size p.bytes)
                 (tail-long q within i f it.1 f.code p.size p.bytes) live found),
           )
 
-      aside-after : (aside : Aside) → t.aside ≡ aside → IsBeside (length t.traced) aside
-          → AsideIsBelow (length o.functions) aside → call_beside t t.stage aside ≡ Some c → AfterAside MarksStand t r aside
+      aside-after : GoesOn t → (aside : Aside) → t.aside ≡ aside → IsBeside (length t.traced) aside
+          → AsideIsBelow (length o.functions) aside → AsideIn (IsFirstOf o) t.traced aside
+          → call_beside t t.stage aside ≡ Some c → AfterAside MarksStand t r aside
       unfolding call_beside
-      aside-after Nothing beside w small is = stage-after beside t.stage holds.stage refl is
-      aside-after (Reading q i) beside w small is = all-stay (λ pid. still-call _ _ is (read-still _ _) pid)
-      aside-after (Planting q i) beside w small is = plant-after q i None w small is
-      aside-after (Patching q plants lifts clear) beside w small is =
+      aside-after goes Nothing beside w small firsts is = stage-after beside t.stage goes.stage refl is
+      aside-after goes (Reading q i) beside w small firsts is =
+          all-stay (λ pid. still-call _ _ is (read-still _ _) pid)
+      aside-after goes (Planting q i) beside w small firsts is = plant-after q i None w small firsts.0 is
+      aside-after goes (Patching q plants lifts clear) beside w small firsts is =
           by (first_function plants) (first_function lifts) refl refl is
         where
           by : (plant lift : Option ℕ) → first_function plants ≡ plant → first_function lifts ≡ lift
               → Some (patch_call o (traced_at t q).control plant lift) ≡ Some c
               → EachBut (So MarksStand) t.traced q × NowSo MarksStand t r q plant lift
-          by (Some i) lift first second its = plant-after q i lift w (first-below _ plants i small.0 first) its
-          by None (Some i) first second its = lift-after-all q i w (first-below _ lifts i small.1 second) its
+          by (Some i) lift first second its =
+              plant-after q i lift w (first-below _ plants i small.0 first) (firsts.0 i (first-has plants i first)) its
+          by None (Some i) first second its =
+              lift-after-all q i w (first-below _ lifts i small.1 second)
+              (λ lives. firsts.1 i (first-has lifts i second)) its
           by None None first second its = (
             each-but (So MarksStand) t.traced q (all-stay (λ pid. still-call _ _ its cfault-still pid)),
             subst (NowStand (traced_at t q).pid) (sym (none-after (marks_at t q).planted (answer_of r)))
                 (all-stay (λ pid. still-call _ _ its cfault-still pid) q w),
           )
-      aside-after _ beside w small is = absurd w
+      aside-after goes _ beside w small firsts is = absurd w
 
-      pub own-planted : next_function_call_of t ≡ Some c → has_functions o ≡ true → answer_of r ≢ Interrupted
-          → Each (So MarksStand) (fed_functions t r).traced
+      pub own-planted : GoesOn t → AsideIn (IsFirstOf o) t.traced t.aside → next_function_call_of t ≡ Some c
+          → has_functions o ≡ true → answer_of r ≢ Interrupted → Each (So MarksStand) (fed_functions t r).traced
       unfolding next_function_call_of
-      own-planted next has calm =
-          fed-so MarksStand t r holds.off holds.follow holds.stage holds.beside calm has
-          (aside-after t.aside refl holds.beside below
+      own-planted goes firsts next has calm =
+          fed-so MarksStand t r goes.off goes.follow goes.stage goes.beside calm has
+          (aside-after goes t.aside refl goes.beside below firsts
           (sym (ap (λ b. cond b (call_beside t t.stage t.aside) (next_call_of t)) has) ∙ next))

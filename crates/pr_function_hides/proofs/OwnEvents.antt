@@ -1,21 +1,17 @@
-use Rattle.std.proofs.Common.{◌≡◌, ◌<◌, ◌+◌, ◌==◌, ℕ, zero, suc, Bool, true, false, not, cond, nat_lt, Option, Some, None, List, [], ◌∷◌, length, position, refl, sym, subst, ap, ◌∙◌, inl, inr, arith}
-use Rattle.std.proofs.lemmas.Bool.{cases_eq, eq-eqb, ltb-false}
-use Rattle.std.proofs.lemmas.Option.{none-some, same_Some}
-use Rattle.std.specs.List.{position_or_len, slice_get}
+use Rattle.std.proofs.Common.{◌≡◌, ◌==◌, ℕ, true, false, cond, Option, Some, None, List, position, refl, sym, ap, ◌∙◌}
+use Rattle.std.proofs.lemmas.Bool.{eq-eqb}
 use Rattle.std.specs.Option.{option_and_then}
 use Rattle.pr_function_hides.proofs.FunctionSets.{with-keeps}
 use Rattle.pr_function_hides.proofs.MarkedPatches.{patch-there}
 use Rattle.pr_function_hides.proofs.OwnFaults.{IsOwnKind, OwnCleared, OwnStand, own-leads, own-met, planted, trap}
 use Rattle.pr_function_hides.proofs.SoonRuns.{flags_fresh, flags_met, flags_read}
-use Rattle.pr_function_hides.specs.FunctionHiders.{ArePatchable, IsMarked, StandAsMarked}
-use Rattle.pr_function_laws.proofs.MetLemmas.{found-function}
+use Rattle.pr_function_hides.specs.FunctionHiders.{IsMarked, StandAsMarked}
 use Rattle.pr_function_laws.proofs.TurnReads.{fault-told}
 use Rattle.pr_function_laws.specs.OneEvent.{HasOneEventAtMost}
 use Rattle.pr_hidden.specs.Covers.{Cover, Patch}
 use Rattle.pr_hidden.specs.Hiders.{patch_at}
 use Rattle.pr_line.specs.Events.{event_of}
 use Rattle.pr_line.specs.declared.events.Event.TheVariants as event
-use Rattle.pr_line.specs.declared.functions.Function.{Function}
 use Rattle.pr_line.specs.declared.options.Options.{Options}
 use Rattle.pr_model.specs.Registers.{pc_of}
 use Rattle.pr_model.specs.State.{TracedProcess, has_agent}
@@ -49,35 +45,7 @@ clears-both = refl
 
 -- ---- the function of a breakpoint
 
--- where one of a list passes, the first that passes is within it
-passes-within : {X : Type 0} (p : X → Bool) (xs : List X) (i : ℕ) (x : X) → slice_get xs i ≡ Some x → p x ≡ true
-    → position_or_len p xs < length xs
-passes-within p [] i x there passes = absurd (none-some x there)
-passes-within p (y ∷ ys) zero x there passes =
-    subst (λ b. cond (not b) (1 + position_or_len p ys) 0 < length (y ∷ ys))
-    (sym (ap p (same_Some y x there) ∙ passes)) (omega arith)
-passes-within p (y ∷ ys) (suc n) x there passes =
-    let rest : position_or_len p ys < length ys = passes-within p ys n x there passes in
-    elim (p y) as (λ b. cond (not b) (1 + position_or_len p ys) 0 < length (y ∷ ys)) [
-      | true ↦ omega arith
-      | false ↦ omega (arith, rest)
-    ]
-
-some-passes : {X : Type 0} (p : X → Bool) (xs : List X) (i : ℕ) (x : X) → slice_get xs i ≡ Some x → p x ≡ true
-    → (j : ℕ) × (position p xs ≡ Some j)
-some-passes p xs i x there passes = (position_or_len p xs, by (nat_lt (position_or_len p xs) (length xs)) refl)
-  where
-    by : (b : Bool) → nat_lt (position_or_len p xs) (length xs) ≡ b → position p xs ≡ Some (position_or_len p xs)
-    by true is = ap (λ b. cond b (Some (position_or_len p xs)) None) is
-    by false is =
-        absurd (omega (
-          arith,
-          ltb-false (position_or_len p xs) (length xs) is,
-          passes-within p xs i x there passes,
-        ))
-
-module _ (o : Options) (patchable : ArePatchable o) (m : Marks) (ps : List Patch)
-    (stand : StandAsMarked o m.planted ps) where
+module _ (o : Options) (m : Marks) (ps : List Patch) (stand : StandAsMarked o m.planted ps) where
   -- where a patch begins truss has a breakpoint
   pub stands-function : (pc : ℕ) (g : Patch) → patch_at pc ps ≡ Some g
       → (function : ℕ) × (function_at o m pc ≡ Some function)
@@ -86,25 +54,14 @@ module _ (o : Options) (patchable : ArePatchable o) (m : Marks) (ps : List Patch
       let it = patch-there (IsMarked o m.planted) pc ps g stand.all there in
       let mark = it.0 in
       let at : mark.f.at ≡ pc = ap (λ (x : Patch). x.at) (sym mark.is) ∙ it.1 in
-      let found =
-      some-passes (begins_at pc) o.functions mark.function mark.f mark.named (eq-eqb mark.f.at pc at) in
-      let first = found-function o pc found.0 found.1 in
-      let same : found.0 ≡ mark.function =
-      by found.0 mark.function first.0 mark.f first.1.0 mark.named (first.1.1 ∙ sym at) in
-      let has : has_function (with_step m.stepped m.planted) found.0 ≡ true =
-      ap (has_function (with_step m.stepped m.planted)) same ∙ steps m.stepped mark.function mark.marked in (
-        found.0,
-        ap (option_and_then (if_standing m)) found.1
-            ∙ ap (λ b. cond b (Some found.0) None) has,
+      let first : position (begins_at pc) o.functions ≡ Some mark.function =
+      ap (λ a. position (begins_at a) o.functions) (sym at)
+      ∙ stand.first mark.function mark.f mark.named mark.marked in (
+        mark.function,
+        ap (option_and_then (if_standing m)) first
+            ∙ ap (λ b. cond b (Some mark.function) None) (steps m.stepped mark.function mark.marked),
       )
     where
-      by : (i j : ℕ) (f g : Function) → slice_get o.functions i ≡ Some f → slice_get o.functions j ≡ Some g
-          → f.at ≡ g.at → i ≡ j
-      by i j f g one two same = elim (cases_eq i j) [
-        | inl is ↦ is
-        | inr apart ↦ absurd (patchable.apart i j f g apart one two same)
-      ]
-
       steps : (step : Option Stepped) (i : ℕ) → has_function m.planted i ≡ true
           → has_function (with_step step m.planted) i ≡ true
       steps None i has = has
@@ -129,7 +86,7 @@ module _ (o : Options) (m : Marks) (id pc : ℕ) where
 
 -- ---- the status that is read
 
-module _ (t : TrussState) (q : ℕ) (c : Cover) (p : TracedProcess) (patchable : ArePatchable t.options)
+module _ (t : TrussState) (q : ℕ) (c : Cover) (p : TracedProcess)
     (stand : StandAsMarked t.options (marks_at t q).planted c.patches) (new : (traced_at t q).old ≡ 0)
     (unseen : (traced_at t q).seen ≡ false) (rises : IsRising p.lwps) (no_agent : has_agent p ≡ false)
     (frozen : IsFrozen p) (few : HasOneEventAtMost p) (own : OwnStand c p) where
@@ -173,6 +130,6 @@ module _ (t : TrussState) (q : ℕ) (c : Cover) (p : TracedProcess) (patchable :
               ap (λ f. has_flags (flags_met m (function_event t.options m id (event.Incurred f pc))) clear_fault) is
               ∙ trap-clears t.options m id pc m.stepped
           by (planted g is there) =
-              let f = stands-function t.options patchable m c.patches stand pc g there in
+              let f = stands-function t.options m c.patches stand pc g there in
               ap (λ x. has_flags (flags_met m (function_event t.options m id (event.Incurred x pc))) clear_fault) is
               ∙ breakpoint-clears t.options m id pc f.0 f.1

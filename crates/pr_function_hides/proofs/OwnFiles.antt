@@ -1,4 +1,4 @@
--- What truss has of the processes that it traces, as long as it was not interrupted.
+-- What truss has of the processes that it traces, and where it stands as long as it was not interrupted.
 use Rattle.std.specs.Prelude.{◌≡◌, ◌≢◌, ◌<◌, ℕ, false, All, List, [], Some, length}
 use Rattle.std.specs.List.{cons_option}
 use Rattle.pr_function_laws.specs.Lifted.{HasControl}
@@ -47,6 +47,21 @@ pub record IsOfOtherFile (k : ℕ) (s : TracedState) (number : ℕ) : Type 0 whe
 
 -- Truss has the control file of each process that it traces open, for itself alone; its other handles are of other
 -- files; and it traces no process twice.
+pub record HasItsFiles (k : ℕ) (t : TrussState) (s : TracedState) : Type 0 where
+  pub control : (place : ℕ) → place < length t.traced
+      → HasControl k (traced_at t place).pid (traced_at t place).control s
+  pub others : (place : ℕ) → place < length t.traced → All (IsOfOtherFile k s) (other_handles (traced_at t place))
+  pub apart : (i j : ℕ) → i < length t.traced → j < length t.traced → i ≢ j
+      → (traced_at t i).pid ≢ (traced_at t j).pid
+
+-- It does not leave its processes, nor follow their children.
+pub record GoesOn (t : TrussState) : Type 0 where
+  pub off : t.leaving ≡ false
+  pub follow : t.options.follow ≡ false
+  pub stage : IsWithin (length t.traced) t.stage
+  pub beside : IsBeside (length t.traced) t.aside
+
+-- both
 pub record HoldsItsFiles (k : ℕ) (t : TrussState) (s : TracedState) : Type 0 where
   pub off : t.leaving ≡ false
   pub follow : t.options.follow ≡ false
@@ -57,3 +72,17 @@ pub record HoldsItsFiles (k : ℕ) (t : TrussState) (s : TracedState) : Type 0 w
   pub others : (place : ℕ) → place < length t.traced → All (IsOfOtherFile k s) (other_handles (traced_at t place))
   pub apart : (i j : ℕ) → i < length t.traced → j < length t.traced → i ≢ j
       → (traced_at t i).pid ≢ (traced_at t j).pid
+
+pub both-hold : (k : ℕ) (t : TrussState) (s : TracedState) → GoesOn t → HasItsFiles k t s → HoldsItsFiles k t s
+both-hold k t s g f = record {
+  off = g.off;
+  follow = g.follow;
+  stage = g.stage;
+  beside = g.beside;
+  control = f.control;
+  others = f.others;
+  apart = f.apart;
+}
+
+pub files-alone : (k : ℕ) (t : TrussState) (s : TracedState) → HoldsItsFiles k t s → HasItsFiles k t s
+files-alone k t s h = record { control = h.control; others = h.others; apart = h.apart }

@@ -1,9 +1,9 @@
-use Rattle.std.proofs.Common.{◌≡◌, ◌≢◌, ◌⊎◌, ◌<◌, ℕ, true, cond, Option, Some, None, List, All, length, refl, sym, ap, ◌∙◌, inl, inr}
+use Rattle.std.proofs.Common.{◌≡◌, ◌≢◌, ◌⊎◌, ◌<◌, ℕ, Bool, true, cond, Option, Some, None, List, All, length, refl, sym}
+use Rattle.std.proofs.Common.{subst, ap, ◌∙◌, inl, inr}
 use Rattle.std.proofs.lemmas.Option.{none-some, same_Some}
 use Rattle.std.specs.List.{slice_get}
 use Rattle.pr_line.specs.declared.functions.Function.{Function}
 use Rattle.pr_line.specs.declared.options.Options.{Options}
-use Rattle.pr_model.specs.State.{TracedState}
 use Rattle.pr_model.specs.declared.calls.Call.{Call}
 use Rattle.pr_model.specs.declared.calls.Call.TheVariants as call
 use Rattle.pr_num.specs.Messages.{spelling}
@@ -12,30 +12,38 @@ use Rattle.pr_num.specs.declared.messages.Message.TheVariants as message
 use Rattle.pr_num.proofs.SearchLemmas.{All-at}
 use Rattle.pr_reached.proofs.MemoryRanges.{instruction-bytes}
 use Rattle.pr_truss.specs.FunctionCalls.{call_beside, function_call_of, lift_call, next_function_call_of, patch_call, plant_call}
-use Rattle.pr_truss.specs.Marks.{breakpoint, code_of, first_function, has_functions}
+use Rattle.pr_truss.specs.Asides.{marks_at}
+use Rattle.pr_truss.specs.Marks.{breakpoint, code_of, first_function, has_functions, no_functions}
 use Rattle.pr_truss.specs.NextCalls.{call_of, next_call_of, opening_call}
 use Rattle.pr_truss.specs.Trusses.{TrussState, traced_at}
 use Rattle.pr_truss.specs.declared.asides.Aside.{Aside}
-use Rattle.pr_truss.specs.declared.asides.Aside.TheVariants.{Nothing, Reading, Planting, Patching}
+use Rattle.pr_truss.specs.declared.asides.Aside.TheVariants.{Nothing, Reading, Planting, Patching, AwaitingStop, Asking}
+use Rattle.pr_truss.specs.declared.asides.Aside.TheVariants.{AwaitingAgain}
 use Rattle.pr_truss.specs.declared.stages.AfterClosing.TheVariants.{OpenNext, GoOn}
 use Rattle.pr_truss.specs.declared.stages.OpeningStep.{OpeningStep}
 use Rattle.pr_truss.specs.declared.stages.OpeningStep.TheVariants as opening
 use Rattle.pr_truss.specs.declared.stages.Stage.{Stage}
-use Rattle.pr_truss.specs.declared.stages.Stage.TheVariants.{Spawning, OpeningControl, Opening, Polling, ReadingStatus, ReadingText, Running, Closing, Finished}
+use Rattle.pr_truss.specs.declared.stages.Stage.TheVariants.{Spawning, OpeningControl, Opening, Polling, ReadingStatus}
+use Rattle.pr_truss.specs.declared.stages.Stage.TheVariants.{ReadingText, Running, Closing, Unfollowing, ReadingLwps}
+use Rattle.pr_truss.specs.declared.stages.Stage.TheVariants.{Finished}
 use Rattle.pr_num.specs.declared.instructions.Instruction.TheVariants.{Bpt}
+use Rattle.pr_function_hides.proofs.LeavingStages.{IsLeft, asks, awaits, closes_files, halts, has_ended, lifts_all}
+use Rattle.pr_function_hides.proofs.LeavingStages.{looks, reads_text, waits_again}
 use Rattle.pr_function_laws.proofs.MarkLemmas.{first-below}
+use Rattle.pr_function_laws.proofs.PatchCalls.{next-beside, next-staged}
 use Rattle.pr_function_laws.proofs.SoundLemmas.{AsideIsBelow}
 use Rattle.pr_function_hides.specs.FunctionHiders.{ArePatchable, IsPatchable}
-use Rattle.pr_function_hides.proofs.OwnFiles.{HoldsItsFiles, IsBeside, IsWithin}
+use Rattle.pr_function_hides.proofs.OwnFiles.{GoesOn, IsBeside, IsWithin}
 use Rattle.pr_function_hides.proofs.OwnWrites.{breakpoint-size, code-is, named-at, write-is}
-use Rattle.pr_function_hides.proofs.StillMessages.{BeginStill, cfault-still, read-still, run-still, sentry-still, set-still, sexit-still, sfault-still, stop-still, strace-still, unset-still}
+use Rattle.pr_function_hides.proofs.StillMessages.{BeginStill, cfault-still, read-still, run-still, sentry-still}
+use Rattle.pr_function_hides.proofs.StillMessages.{set-still, sexit-still, sfault-still, stop-still, strace-still}
+use Rattle.pr_function_hides.proofs.StillMessages.{unset-still, wstop-still}
 
 -- The PCWRITEs of truss are tidy.
 
--- ---- what a call of truss is
+-- ---- the calls of a stage
 
-module _ (k : ℕ) (s : TracedState) (c : Call) (t : TrussState) (fit : ArePatchable t.options)
-    (holds : HoldsItsFiles k t s) (below : AsideIsBelow (length t.options.functions) t.aside) where
+module _ (c : Call) (t : TrussState) where
   abbrev o : Options
   o = t.options
 
@@ -60,10 +68,10 @@ module _ (k : ℕ) (s : TracedState) (c : Call) (t : TrussState) (fit : ArePatch
   as-kind (inl (q, (within, (bytes, (is, still))))) = sends q within bytes is still
   as-kind (inr never) = other never
 
-  is-other : (d : Call) → Some d ≡ Some c → ((number : ℕ) (bytes : List ℕ) → d ≢ call.Ctl number bytes) → Quiet
+  pub is-other : (d : Call) → Some d ≡ Some c → ((number : ℕ) (bytes : List ℕ) → d ≢ call.Ctl number bytes) → Quiet
   is-other d same none = inr (λ number bytes is. none number bytes (same_Some d c same ∙ is))
 
-  is-sent : (q : ℕ) → q < length t.traced → (bytes : List ℕ)
+  pub is-sent : (q : ℕ) → q < length t.traced → (bytes : List ℕ)
       → Some (call.Ctl (traced_at t q).control bytes) ≡ Some c → BeginStill bytes → Quiet
   is-sent q within bytes same still = inl (q, (within, (bytes, (sym (same_Some _ c same), still))))
 
@@ -99,40 +107,83 @@ module _ (k : ℕ) (s : TracedState) (c : Call) (t : TrussState) (fit : ArePatch
   stage-kind Finished w is = absurd (none-some c is)
   stage-kind _ w is = absurd w
 
-  plant-kind : (q i : ℕ) → q < length t.traced → i < length o.functions
-      → Some (plant_call o (traced_at t q).control i) ≡ Some c → Kind
+module _ (c : Call) (t : TrussState) (fit : ArePatchable t.options) where
+  plant-kind : (q i : ℕ) → q < length t.traced → i < length t.options.functions
+      → Some (plant_call t.options (traced_at t q).control i) ≡ Some c → Kind c t
   plant-kind q i within inside is =
-      let it = named-at o i inside in
+      let it = named-at t.options i inside in
       writes q within i it.0 it.1 breakpoint breakpoint-size (instruction-bytes Bpt)
-      (write-is o c (traced_at t q).control i it.0 breakpoint breakpoint it.1 refl is)
+      (write-is t.options c (traced_at t q).control i it.0 breakpoint breakpoint it.1 refl is)
 
-  lift-kind : (q i : ℕ) → q < length t.traced → i < length o.functions
-      → Some (lift_call o (traced_at t q).control i) ≡ Some c → Kind
+  lift-kind : (q i : ℕ) → q < length t.traced → i < length t.options.functions
+      → Some (lift_call t.options (traced_at t q).control i) ≡ Some c → Kind c t
   lift-kind q i within inside is =
-      let it = named-at o i inside in
+      let it = named-at t.options i inside in
       let f : Function = it.0 in
-      let p : IsPatchable f = All-at IsPatchable o.functions i f it.1 fit.each in
+      let p : IsPatchable f = All-at IsPatchable t.options.functions i f it.1 fit.each in
       writes q within i f it.1 f.code p.size p.bytes
-      (write-is o c (traced_at t q).control i f f.code (code_of o i) it.1 (code-is o i f it.1) is)
+      (write-is t.options c (traced_at t q).control i f f.code (code_of t.options i) it.1 (code-is t.options i f it.1)
+      is)
 
-  aside-kind : (aside : Aside) → IsBeside (length t.traced) aside → AsideIsBelow (length o.functions) aside
-      → call_beside t t.stage aside ≡ Some c → Kind
-  unfolding call_beside
-  aside-kind Nothing w small is = as-kind (stage-kind t.stage holds.stage is)
-  aside-kind (Reading q i) w small is = as-kind (is-sent q w _ is (read-still _ _))
-  aside-kind (Planting q i) w small is = plant-kind q i w small is
-  aside-kind (Patching q plants lifts clear) w small is =
-      by (first_function plants) (first_function lifts) refl refl is
-    where
-      by : (plant lift : Option ℕ) → first_function plants ≡ plant → first_function lifts ≡ lift
-          → Some (patch_call o (traced_at t q).control plant lift) ≡ Some c → Kind
-      by (Some i) lift first second its = plant-kind q i w (first-below _ plants i small.0 first) its
-      by None (Some i) first second its = lift-kind q i w (first-below _ lifts i small.1 second) its
-      by None None first second its = as-kind (is-sent q w _ its cfault-still)
-  aside-kind _ w small is = absurd w
+  patch-kind : (q : ℕ) (plants lifts : List Bool) (clear : Bool) → q < length t.traced
+      → AsideIsBelow (length t.options.functions) (Patching q plants lifts clear) → (plant lift : Option ℕ)
+      → first_function plants ≡ plant → first_function lifts ≡ lift
+      → Some (patch_call t.options (traced_at t q).control plant lift) ≡ Some c → Kind c t
+  patch-kind q plants lifts clear w small (Some i) lift first second its =
+      plant-kind q i w (first-below _ plants i small.0 first) its
+  patch-kind q plants lifts clear w small None (Some i) first second its =
+      lift-kind q i w (first-below _ lifts i small.1 second) its
+  patch-kind q plants lifts clear w small None None first second its =
+      as-kind c t (is-sent c t q w _ its cfault-still)
 
-  pub kind : next_function_call_of t ≡ Some c → has_functions o ≡ true → Kind
-  unfolding next_function_call_of
-  kind next has =
-      aside-kind t.aside holds.beside below
-      (sym (ap (λ b. cond b (call_beside t t.stage t.aside) (next_call_of t)) has) ∙ next)
+  -- ---- where it does not leave its processes
+
+  module _ (goes : GoesOn t) where
+    aside-kind : (aside : Aside) → IsBeside (length t.traced) aside
+        → AsideIsBelow (length t.options.functions) aside → call_beside t t.stage aside ≡ Some c → Kind c t
+    unfolding call_beside
+    aside-kind Nothing w small is = as-kind c t (stage-kind c t t.stage goes.stage is)
+    aside-kind (Reading q i) w small is = as-kind c t (is-sent c t q w _ is (read-still _ _))
+    aside-kind (Planting q i) w small is = plant-kind q i w small is
+    aside-kind (Patching q plants lifts clear) w small is =
+        patch-kind q plants lifts clear w small (first_function plants) (first_function lifts) refl refl is
+    aside-kind _ w small is = absurd w
+
+    pub kind : AsideIsBelow (length t.options.functions) t.aside → next_function_call_of t ≡ Some c
+        → has_functions t.options ≡ true → Kind c t
+    unfolding next_function_call_of
+    kind below next has =
+        aside-kind t.aside goes.beside below
+        (sym (ap (λ b. cond b (call_beside t t.stage t.aside) (next_call_of t)) has) ∙ next)
+
+  -- ---- where it does
+
+  module _ (below : AsideIsBelow (length t.options.functions) t.aside) (next : next_function_call_of t ≡ Some c)
+      (has : has_functions t.options ≡ true) where
+    staged : (stage : Stage) → t.stage ≡ stage → t.aside ≡ Nothing → function_call_of t stage ≡ Some c
+    staged stage at idle = sym (next-staged t.options has t stage refl idle at) ∙ next
+
+    beside : (aside : Aside) → t.aside ≡ aside → call_beside t t.stage aside ≡ Some c
+    beside aside is = sym (next-beside t.options has t refl ∙ ap (call_beside t t.stage) is) ∙ next
+
+    pub left-kind : IsLeft t → Kind c t
+    unfolding call_beside function_call_of call_of
+    left-kind (halts at idle within) =
+        as-kind c t (is-sent c t 0 within _ (staged Unfollowing at idle) stop-still)
+    left-kind (awaits until at is within) =
+        as-kind c t (is-other c t _ (beside (AwaitingStop until) is) (λ n b same. cc))
+    left-kind (asks at is within) = as-kind c t (is-sent c t 0 within _ (beside Asking is) wstop-still)
+    left-kind (waits_again until at is within) =
+        as-kind c t (is-other c t _ (beside (AwaitingAgain until) is) (λ n b same. cc))
+    left-kind (looks at idle within) =
+        as-kind c t (is-other c t _ (staged ReadingLwps at idle) (λ n b same. cc))
+    left-kind (reads_text l from len at idle within) =
+        as-kind c t (is-other c t _ (staged (ReadingText 0 l from len) at idle) (λ n b same. cc))
+    left-kind (lifts_all clear at is within) =
+        patch-kind 0 no_functions (marks_at t 0).planted clear within
+        (subst (AsideIsBelow (length t.options.functions)) is below) (first_function no_functions)
+        (first_function (marks_at t 0).planted) refl refl
+        (beside (Patching 0 no_functions (marks_at t 0).planted clear) is)
+    left-kind (closes_files at idle within) =
+        as-kind c t (is-other c t _ (staged (Closing 0 GoOn) at idle) (λ n b same. cc))
+    left-kind (has_ended at idle) = absurd (none-some c (staged Finished at idle))

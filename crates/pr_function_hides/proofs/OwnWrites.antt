@@ -64,7 +64,7 @@ module _ (o : Options) where
     | inr h ↦ absurd (let past = h.0 in omega (arith, past, inside))
   ]
 
-  address-is : (i : ℕ) (f : Function) → slice_get o.functions i ≡ Some f → address_of o i ≡ f.at
+  pub address-is : (i : ℕ) (f : Function) → slice_get o.functions i ≡ Some f → address_of o i ≡ f.at
   unfolding address_of
   address-is i f named = ap address_in named
 

@@ -12,6 +12,7 @@ use Rattle.pr_function_hides.proofs.TidyKept.{IsRunOfTrusses, Kept}
 use Rattle.pr_function_hides.proofs.TidyLaw.{kept-at}
 use Rattle.pr_function_hides.specs.FunctionHiders.{ArePatchable}
 use Rattle.pr_function_hides.specs.PassiveOthers.{AreOthersPassive, IsPassiveUnlessHidden}
+use Rattle.pr_function_hides.specs.TidyWrites.{AreUnbroken}
 use Rattle.pr_hidden.specs.Hiders.{Hiders, are_some, hides}
 use Rattle.pr_hidden.specs.Tidiness.{IsPassiveBut, is_function_message, is_hider_act, is_hider_write, is_probe_message, is_step_flags}
 use Rattle.pr_model.specs.Calls.{Answer, answer_to}
@@ -148,12 +149,12 @@ are-functions who k = by (are_some (who.functions k)) (who.probes k)
 -- ---- a history
 
 module _ {n : ℕ} {who : Hiders} {controllers : List ControllerState} {first : TracedState} {h : List Entry}
-    (run : IsRunOfTrusses n who controllers first h) (others : AreOthersPassive who h) where
+    (run : IsRunOfTrusses (AreUnbroken who h) n who controllers first h) (others : AreOthersPassive who h) where
   abbrev KeptAfter : List Entry → Type 0
   KeptAfter front = Kept who controllers first h front
 
   kept-there : (front back : List Entry) → h ≡ front ++ back → KeptAfter front
-  kept-there = kept-at n who controllers first h run.reached run.bytes run.legal run.own_calls run.are run.und
+  kept-there = kept-at run
 
   module _ (front back : List Entry) (j : ℕ) (c : Call) (r : Reply) (place : h ≡ front ++ call_entry j c r ∷ back)
       (hider : hides who j ≡ true) where
@@ -178,8 +179,8 @@ module _ {n : ℕ} {who : Hiders} {controllers : List ControllerState} {first : 
 
     its-runs : Runs IsItsMessage admits-its t fits c
     its-runs q within =
-        let w = Calls.truss-now run front back j c r place kept hider in
-        flags-begin IsItsMessage plain-its steps-its (traced_at t q).marks.flags (w.flags q within)
+        flags-begin IsItsMessage plain-its steps-its (traced_at t q).marks.flags
+        (Calls.flags-now run front back j c r place kept hider q within)
 
     its-sends : Sends IsItsMessage c
     unfolding call_beside

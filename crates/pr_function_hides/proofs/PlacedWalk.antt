@@ -4,7 +4,7 @@ use Rattle.std.proofs.lemmas.List.{append-nil, append_assoc}
 use Rattle.std.proofs.lemmas.Option.{none-some, same_Some}
 use Rattle.std.specs.List.{slice_get}
 use Rattle.pr_api.specs.Entries.{call_entry}
-use Rattle.pr_function_hides.proofs.CallFacts.{calm-reply, close-bare, close-done, controllers-push, legal-here}
+use Rattle.pr_function_hides.proofs.CallFacts.{close-bare, close-done, controllers-push, legal-here}
 use Rattle.pr_function_hides.proofs.CalledCovers.{call-still, ctl-apart, turn-stays}
 use Rattle.pr_function_hides.proofs.ClosingWalk.{StageSo}
 use Rattle.pr_function_hides.proofs.CopyFree.{copies-bare}
@@ -21,7 +21,7 @@ use Rattle.pr_function_hides.proofs.TidyKept.{IsRunOfTrusses, Kept}
 use Rattle.pr_function_hides.proofs.TidyLaw.{kept-at}
 use Rattle.pr_probe_laws.proofs.MarkCalls.{MarksNone}
 use Rattle.pr_probe_laws.proofs.MarkTurns.{IsOne, unmarked-lwp}
-use Rattle.pr_function_hides.specs.TidyWrites.{IsTrussAfter}
+use Rattle.pr_function_hides.specs.TidyWrites.{AreUnbroken, IsTrussAfter}
 use Rattle.pr_hidden.proofs.CoverLemmas.{cover-own}
 use Rattle.pr_hidden.specs.Covers.{Cover, Covers, Patch, with_cover}
 use Rattle.pr_hidden.specs.Hiders.{Hiders, covers_after, covers_at, covers_called, covers_closed, covers_turned, finished, hides, is_at_patch, is_ctl, lwp_at}
@@ -104,7 +104,7 @@ closed-cover who covers s k number pid h there its control hider =
 -- ---- along the history
 
 module _ {n : ℕ} {who : Hiders} {controllers : List ControllerState} {first : TracedState} {h : List Entry}
-    (run : IsRunOfTrusses n who controllers first h) (passive : IsPassiveBut who h)
+    (run : IsRunOfTrusses (AreUnbroken who h) n who controllers first h) (passive : IsPassiveBut who h)
     (unstepped : IsUnstepped first.system) where
   abbrev here : List Entry → TracedState
   here front = state_after first front
@@ -119,7 +119,7 @@ module _ {n : ℕ} {who : Hiders} {controllers : List ControllerState} {first : 
   KeptAfter front = Kept who controllers first h front
 
   abbrev kept : (front back : List Entry) → h ≡ front ++ back → KeptAfter front
-  kept = kept-at n who controllers first h run.reached run.bytes run.legal run.own_calls run.are run.und
+  kept = kept-at run
 
   abbrev CalmAt : List Entry → ℕ → Type 0
   CalmAt front pid = Calm run passive unstepped front pid
@@ -352,7 +352,7 @@ module _ {n : ℕ} {who : Hiders} {controllers : List ControllerState} {first : 
       own-placed i within =
           let f = holds in
           by (places-stay tr r f.off f.follow f.stage f.beside
-          (calm-reply r (run.und.unbroken front back j c r place hider)) has i within)
+          (Calls.calm-now run front back j c r place kept-now hider) has i within)
         where
           pid : ℕ
           pid = (traced_at tr i).pid
@@ -422,9 +422,7 @@ module _ {n : ℕ} {who : Hiders} {controllers : List ControllerState} {first : 
 
       abbrev KindNow : Type 0
       KindNow =
-          Kind j v c tr (Calls.fits run front back j c r place kept-now hider)
-          (Calls.holds-now run front back j c r place kept-now hider)
-          (Calls.below run front back j c r place kept-now hider)
+          Kind c tr
 
       -- a message to a process that it traces
       sent-placed : (pid q : ℕ) (bytes : List ℕ) → q < length tr.traced

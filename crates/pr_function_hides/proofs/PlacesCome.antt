@@ -83,12 +83,13 @@ module _ (t : TrussState) (r : Reply) (off : t.leaving ≡ false) (follow : t.op
 
 -- ---- which are run soon
 
--- the status of the process of this id was read, or it was run soon before
+-- the status of the process of this id was read, or it was run soon before, and is not run now
 pub record IsReadOrSoon (t : TrussState) (pid : ℕ) : Type 0 where
   pub place : ℕ
   pub within : place < length t.traced
   pub own : (traced_at t place).pid ≡ pid
   pub soon : ((t.stage ≡ ReadingStatus place) × (t.aside ≡ Nothing)) ⊎ (is_run_soon t.stage place ≡ true)
+  pub away : t.aside ≡ Nothing → t.stage ≢ Running place
 
 module _ (P : Position → Traced → Type 0) (t : TrussState) (r : Reply) (kept : Kept P t)
     (fits : FitsAside t.aside t.stage) (calm : answer_of r ≢ Interrupted)
@@ -134,8 +135,14 @@ module _ (P : Position → Traced → Type 0) (t : TrussState) (r : Reply) (kept
 
   own : (q : ℕ) → q < length t.traced
       → ((t.stage ≡ ReadingStatus q) × (t.aside ≡ Nothing)) ⊎ (is_run_soon t.stage q ≡ true)
-      → Seen (at_place t.traced q)
-  own q within soon = inr (record { place = q; within = within; own = refl; soon = soon })
+      → (t.aside ≡ Nothing → t.stage ≢ Running q) → Seen (at_place t.traced q)
+  own q within soon away = inr (record { place = q; within = within; own = refl; soon = soon; away = away })
+
+  reads-away : (q : ℕ) → t.stage ≡ ReadingStatus q → t.stage ≢ Running q
+  reads-away q is runs_it = let both : ReadingStatus q ≡ Running q = sym is ∙ runs_it in cc
+
+  text-away : (q : ℕ) (stage : Stage) → t.stage ≡ stage → stage ≢ Running q → t.stage ≢ Running q
+  text-away q stage is other runs_it = other (sym is ∙ runs_it)
 
   same-place : (q : ℕ) → (q == q) ≡ true
   same-place q = eq-eqb q q refl
@@ -154,9 +161,16 @@ module _ (P : Position → Traced → Type 0) (t : TrussState) (r : Reply) (kept
       next None = tt
       next (Some s) = tt
   stage-after idle Polling is w = (whole t.traced, λ accepted handle q ready there. inl (is, idle))
-  stage-after idle (ReadingStatus q) is w = (w.0, (whole t.traced, own q w.0 (inl (is, idle))))
-  stage-after idle (ReadingText q l from len) is w =
-      (w.0, (whole t.traced, own q w.0 (inr (ap (λ x. is_run_soon x q) is ∙ same-place q))))
+  stage-after idle (ReadingStatus q) is w =
+      (w.0, (whole t.traced, own q w.0 (inl (is, idle)) (λ none. reads-away q is)))
+  stage-after idle (ReadingText q l from len) is w = (
+    w.0,
+    (
+      whole t.traced,
+      own q w.0 (inr (ap (λ x. is_run_soon x q) is ∙ same-place q))
+          (λ none. text-away q (ReadingText q l from len) is (λ same. cc)),
+    ),
+  )
   stage-after idle (Running q) is w = (w.0, (but t.traced q, (tt, λ lives. tt)))
   stage-after idle (Closing q OpenNext) is w =
       (w.0, (but t.traced q, left-has (without_last (at_place t.traced q)) (at_place t.traced q) refl))
@@ -165,21 +179,33 @@ module _ (P : Position → Traced → Type 0) (t : TrussState) (r : Reply) (kept
   stage-after idle Finished is w = whole t.traced
   stage-after idle _ is w = absurd w
 
-  stage-at : (stage : Stage) → t.stage ≡ stage → (stage ≡ Polling → ⊥) → ((q : ℕ) → stage ≢ ReadingStatus q)
-      → AtStage P t.traced stage → AtStage S t.traced stage
-  stage-at (Spawning program) is none unread w = whole t.traced
-  stage-at (OpeningControl pid) is none unread w = whole t.traced
-  stage-at (Opening q step) is none unread w = (w.0, (but t.traced q, tt))
-  stage-at Polling is none unread w = whole t.traced
-  stage-at (ReadingStatus q) is none unread w = absurd (unread q refl)
-  stage-at (ReadingText q l from len) is none unread w =
-      (w.0, (whole t.traced, own q w.0 (inr (ap (λ x. is_run_soon x q) is ∙ same-place q))))
-  stage-at (Running q) is none unread w =
-      (w.0, (but t.traced q, own q w.0 (inr (ap (λ x. is_run_soon x q) is ∙ same-place q))))
-  stage-at (Closing q OpenNext) is none unread w = (w.0, (but t.traced q, tt))
-  stage-at (Closing q GoOn) is none unread w = (w.0, (but t.traced q, tt))
-  stage-at Finished is none unread w = whole t.traced
-  stage-at _ is none unread w = absurd w
+  stage-at : (stage : Stage) → t.aside ≢ Nothing → t.stage ≡ stage → (stage ≡ Polling → ⊥)
+      → ((q : ℕ) → stage ≢ ReadingStatus q) → AtStage P t.traced stage → AtStage S t.traced stage
+  stage-at (Spawning program) busy is none unread w = whole t.traced
+  stage-at (OpeningControl pid) busy is none unread w = whole t.traced
+  stage-at (Opening q step) busy is none unread w = (w.0, (but t.traced q, tt))
+  stage-at Polling busy is none unread w = whole t.traced
+  stage-at (ReadingStatus q) busy is none unread w = absurd (unread q refl)
+  stage-at (ReadingText q l from len) busy is none unread w = (
+    w.0,
+    (
+      whole t.traced,
+      own q w.0 (inr (ap (λ x. is_run_soon x q) is ∙ same-place q))
+          (λ idle. absurd (busy idle)),
+    ),
+  )
+  stage-at (Running q) busy is none unread w = (
+    w.0,
+    (
+      but t.traced q,
+      own q w.0 (inr (ap (λ x. is_run_soon x q) is ∙ same-place q))
+          (λ idle. absurd (busy idle)),
+    ),
+  )
+  stage-at (Closing q OpenNext) busy is none unread w = (w.0, (but t.traced q, tt))
+  stage-at (Closing q GoOn) busy is none unread w = (w.0, (but t.traced q, tt))
+  stage-at Finished busy is none unread w = whole t.traced
+  stage-at _ busy is none unread w = absurd w
 
   -- what comes before the call of a stage comes before no poll, and before no read of a status
   no-poll : (aside : Aside) → aside ≢ Nothing → FitsAside aside Polling → ⊥
@@ -198,7 +224,7 @@ module _ (P : Position → Traced → Type 0) (t : TrussState) (r : Reply) (kept
 
   busy-at : t.aside ≢ Nothing → AtStage S t.traced t.stage
   busy-at busy =
-      stage-at t.stage refl (λ is. no-poll t.aside busy (subst (FitsAside t.aside) is fits))
+      stage-at t.stage busy refl (λ is. no-poll t.aside busy (subst (FitsAside t.aside) is fits))
       (λ q is. no-read t.aside q busy (subst (FitsAside t.aside) is fits)) kept.stage
 
   aside-after : (aside : Aside) → t.aside ≡ aside → AtAside P t.traced aside → AfterBeside S t r aside

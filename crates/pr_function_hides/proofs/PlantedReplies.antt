@@ -385,7 +385,8 @@ module _ (Q : ℕ → Marks → Type 0) where
 
       first-so : (plants lifts : List Bool) (clear : Bool) (a : Answer) → a ≢ Interrupted → EachBut So t.traced q
           → (plant lift : Option ℕ)
-          → Q (traced_at t q).pid (record (marks_at t q) { planted = planted_after (marks_at t q).planted a plant lift })
+          → Q (traced_at t q).pid
+          (record (marks_at t q) { planted = planted_after (marks_at t q).planted a plant lift })
           → Each So (after_first idle_now q plants lifts clear a plant lift).traced
       first-so plants lifts clear Accepted other others (Some i) lift so =
           subst (Each So) (sym (after-same _ _ q t.stage Accepted other))

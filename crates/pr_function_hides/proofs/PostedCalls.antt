@@ -15,6 +15,7 @@ use Rattle.pr_function_hides.proofs.TidyEntries.{its-lawful, its-legal, now-is}
 use Rattle.pr_function_hides.proofs.TidyKept.{IsRunOfTrusses, Kept}
 use Rattle.pr_function_hides.proofs.TidyLaw.{kept-at}
 use Rattle.pr_function_hides.specs.Treating.{is_run_soon}
+use Rattle.pr_function_hides.specs.TidyWrites.{AreUnbroken}
 use Rattle.pr_function_laws.proofs.OpenedCalls.{call-is, opened-acts}
 use Rattle.pr_function_laws.proofs.OpenedLemmas.{control-made, control-sole, opened_call}
 use Rattle.pr_function_laws.proofs.OrdinaryStops.{FitsAside, IsLookedAt, IsOpenedAt, patch-looked}
@@ -161,7 +162,7 @@ module _ (k : ℕ) (s : TracedState) (u : TrussState) (c : Call) (its : HoldsIts
 -- ---- along the history
 
 module _ {n : ℕ} {who : Hiders} {controllers : List ControllerState} {first : TracedState} {h : List Entry}
-    (run : IsRunOfTrusses n who controllers first h) (passive : IsPassiveBut who h)
+    (run : IsRunOfTrusses (AreUnbroken who h) n who controllers first h) (passive : IsPassiveBut who h)
     (unstepped : IsUnstepped first.system) (front back : List Entry)
     (j : ℕ) (c : Call) (r : Reply) (place : h ≡ front ++ call_entry j c r ∷ back) where
   abbrev here : List Entry → TracedState
@@ -181,7 +182,7 @@ module _ {n : ℕ} {who : Hiders} {controllers : List ControllerState} {first : 
 
   abbrev pub kept-now : Kept who controllers first h front
   kept-now =
-      kept-at n who controllers first h run.reached run.bytes run.legal run.own_calls run.are run.und front (e ∷ back)
+      kept-at run front (e ∷ back)
       place
 
   pub called-cover : (pid : ℕ) → covers later_front pid ≡ covers_called who (covers front) v j c r pid
@@ -261,7 +262,7 @@ module _ {n : ℕ} {who : Hiders} {controllers : List ControllerState} {first : 
                 let mine = Calls.truss-now run front back j c r place kept-now hider in
                 let files = mine.files in
                 never w.place w.within
-                (last-pid j v (traced_at tr w.place) (files.each w.place w.within) held
+                (last-pid j v (traced_at tr w.place) (files w.place w.within) held
                 (ap (handle_of v.opens j) (w.last ∙ same) ∙ there) ∙ at)
 
             none-acts : (d : Call) → c ≡ d → ((number : ℕ) (sent : List ℕ) → c ≢ call.Ctl number sent) → ⊥
@@ -270,9 +271,7 @@ module _ {n : ℕ} {who : Hiders} {controllers : List ControllerState} {first : 
             none-acts (call.Open pid id file mode) is unsent = none-some m (sym (ap acts_by is) ∙ acts)
             none-acts d is unsent = none-some m (sym (ap acts_by is) ∙ acts)
 
-            by : Kind j v c tr (Calls.fits run front back j c r place kept-now hider)
-                (Calls.holds-now run front back j c r place kept-now hider)
-                (Calls.below run front back j c r place kept-now hider) → ⊥
+            by : Kind c tr → ⊥
             by (writes i inside function f named code size all is) = sent-to i _ inside is
             by (sends i inside sent is still) = sent-to i sent inside is
             by (other unsent) = none-acts c refl unsent
@@ -311,7 +310,7 @@ module _ {n : ℕ} {who : Hiders} {controllers : List ControllerState} {first : 
       abbrev pid : ℕ
       pid = (traced_at tr i).pid
 
-      own-alone : (x : TracedProcess) → live_process (here later_front).system pid ≡ Some x
+      pub own-alone : (x : TracedProcess) → live_process (here later_front).system pid ≡ Some x
           → (p : TracedProcess) × ((live_process v.system pid ≡ Some p) × IsUndisturbed p x)
       own-alone x later =
           let own = Calls.own run front back j c r place kept-now hider in
@@ -355,5 +354,5 @@ module _ {n : ℕ} {who : Hiders} {controllers : List ControllerState} {first : 
         let files = mine.files in
         let facts = known run passive unstepped front e back place j hider in
         let fit = facts.fit in
-        rests-away j v tr c holds-own (λ q within. files.each q within) fit.fits i inside opened quiet
+        rests-away j v tr c holds-own files fit.fits i inside opened quiet
         (Calls.has run front back j c r place kept-now hider) (Calls.next run front back j c r place kept-now hider)

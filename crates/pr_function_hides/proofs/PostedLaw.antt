@@ -1,11 +1,12 @@
 use Rattle.std.proofs.Common.{ℕ, List}
 use Rattle.pr_function_hides.proofs.PassiveHiders.{passive-but}
 use Rattle.pr_function_hides.proofs.PostedWalk.{never-posted}
-use Rattle.pr_function_hides.proofs.TidyKept.{IsRunOfTrusses}
+use Rattle.pr_function_hides.proofs.TidyKept.{IsRunOfTrusses, calm-run}
 use Rattle.pr_function_hides.specs.FunctionHiders.{AreTrusses}
 use Rattle.pr_function_hides.specs.PassiveOthers.{AreOthersPassive}
+use Rattle.pr_function_hides.specs.SleptCopies.{NoneSleepsInCopy}
 use Rattle.pr_function_hides.specs.TidyFaults.{PostsNoOwnFault}
-use Rattle.pr_function_hides.specs.TidyWrites.{AreUndisturbed}
+use Rattle.pr_function_hides.specs.TidyWrites.{AreUnbroken, AreUndisturbed}
 use Rattle.pr_hidden.specs.Hiders.{Hiders}
 use Rattle.pr_model.specs.Legal.{IsLegal}
 use Rattle.pr_model.specs.State.{TracedState}
@@ -19,19 +20,12 @@ use Rattle.pr_world.specs.ControllerStates.{ControllerState}
 -- Such trusses post no fault of their own.
 
 module _ (n : ℕ) (who : Hiders) (controllers : List ControllerState) (first : TracedState) (h : List Entry)
-    (reached : IsReached first) (bytes : HasBytes h) (legal : IsLegal n first h)
+    (reached : IsReached first) (awake : NoneSleepsInCopy first.system) (bytes : HasBytes h) (legal : IsLegal n first h)
     (own_calls : AreOwnCalls controllers h) (are : AreTrusses who controllers first)
-    (und : AreUndisturbed who controllers first h) (others : AreOthersPassive who h)
+    (und : AreUndisturbed who controllers first h) (unbroken : AreUnbroken who h) (others : AreOthersPassive who h)
     (unstepped : IsUnstepped first.system) where
-  run : IsRunOfTrusses n who controllers first h
-  run = record {
-    reached = reached;
-    bytes = bytes;
-    legal = legal;
-    own_calls = own_calls;
-    are = are;
-    und = und;
-  }
+  run : IsRunOfTrusses (AreUnbroken who h) n who controllers first h
+  run = calm-run n who controllers first h reached awake bytes legal own_calls are und unbroken
 
   pub posts-none : PostsNoOwnFault who first h
   posts-none = record {

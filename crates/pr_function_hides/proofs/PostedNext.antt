@@ -19,7 +19,7 @@ use Rattle.pr_function_hides.proofs.SoonRuns.{RunsOrCloses, RunsSoon, flags_afte
 use Rattle.pr_function_hides.proofs.TidyCalls as Calls
 use Rattle.pr_function_hides.proofs.TidyEntries.{its-lawful, its-legal, now-is}
 use Rattle.pr_function_hides.proofs.TidyKept.{IsRunOfTrusses, Kept}
-use Rattle.pr_function_hides.specs.TidyWrites.{IsTrussAfter}
+use Rattle.pr_function_hides.specs.TidyWrites.{AreUnbroken, IsTrussAfter}
 use Rattle.pr_function_hides.specs.Treating.{is_run_soon}
 use Rattle.pr_function_laws.proofs.KeptPlaces.{apart-at}
 use Rattle.pr_function_laws.proofs.KeptPlaces.{Kept as KeptPlaces}
@@ -61,13 +61,13 @@ use Rattle.pr_world.specs.Protocol.{controllers_after, controllers_at}
 -- of a process that it runs soon the run flags clear it.
 
 -- one process at most is run soon
-soon-same : (stage : Stage) (a b : ℕ) → is_run_soon stage a ≡ true → is_run_soon stage b ≡ true → a ≡ b
+pub soon-same : (stage : Stage) (a b : ℕ) → is_run_soon stage a ≡ true → is_run_soon stage b ≡ true → a ≡ b
 soon-same (Running at) a b one two = sym (eqb-true at a one) ∙ eqb-true at b two
 soon-same (ReadingText at l from len) a b one two = sym (eqb-true at a one) ∙ eqb-true at b two
 soon-same _ a b one two = absurd (false≢true one)
 
 module _ {n : ℕ} {who : Hiders} {controllers : List ControllerState} {first : TracedState} {h : List Entry}
-    (run : IsRunOfTrusses n who controllers first h) (passive : IsPassiveBut who h)
+    (run : IsRunOfTrusses (AreUnbroken who h) n who controllers first h) (passive : IsPassiveBut who h)
     (unstepped : IsUnstepped first.system) (front back : List Entry)
     (j : ℕ) (c : Call) (r : Reply) (place : h ≡ front ++ call_entry j c r ∷ back)
     (posted : Posted run passive unstepped front) (hider : hides who j ≡ true) where
@@ -123,10 +123,10 @@ module _ {n : ℕ} {who : Hiders} {controllers : List ControllerState} {first : 
   abbrev pub u : TrussState
   u = fed_functions tr r
 
-  calm : answer_of r ≢ Interrupted
-  calm = calm-reply r (run.und.unbroken front back j c r place hider)
+  pub calm : answer_of r ≢ Interrupted
+  calm = calm-reply r (run.besides.unbroken front back j c r place hider)
 
-  fit-now : FitsAside tr.aside tr.stage
+  pub fit-now : FitsAside tr.aside tr.stage
   fit-now = let w = facts in let fit = w.fit in fit.fits
 
   pub is-later : IsTrussAfter who controllers first h later_front j u
@@ -142,21 +142,21 @@ module _ {n : ℕ} {who : Hiders} {controllers : List ControllerState} {first : 
       w.unseen
 
   -- no process stands at two places
-  apart-later : (a b : ℕ) → a < length u.traced → b < length u.traced → (traced_at u a).pid ≡ (traced_at u b).pid
+  pub apart-later : (a b : ℕ) → a < length u.traced → b < length u.traced → (traced_at u a).pid ≡ (traced_at u b).pid
       → a ≡ b
   apart-later a b a_within b_within same = elim (cases_eq a b) [
     | inl is ↦ is
     | inr apart ↦ absurd (apart-at u.traced a b a_within b_within apart (let w = unseen-later in w.apart) same)
   ]
 
-  fresh : (at : ℕ) → tr.stage ≡ OpeningControl at → tr.aside ≡ Nothing → answer_of r ≡ Accepted
+  pub fresh : (at : ℕ) → tr.stage ≡ OpeningControl at → tr.aside ≡ Nothing → answer_of r ≡ Accepted
       → Each (λ (w : Traced). w.pid ≢ at) tr.traced
   unfolding function_call_of call_of
   fresh at is idle accepted =
       Calls.new-apart run front back j c r place kept-now hider at
       (same_Some c (open_control at) (sym (call-now idle) ∙ ap (function_call_of tr) is)) accepted
 
-  comes : (q : ℕ) → is_run_soon u.stage q ≡ true → IsReadOrSoon tr (traced_at u q).pid
+  pub comes : (q : ℕ) → is_run_soon u.stage q ≡ true → IsReadOrSoon tr (traced_at u q).pid
   comes q soon =
       soon-comes IsUnseen tr r (let w = facts in w.unseen) fit-now calm fresh has q soon
 
@@ -172,10 +172,10 @@ module _ {n : ℕ} {who : Hiders} {controllers : List ControllerState} {first : 
   abbrev SoonThen : ℕ → ℕ → Type 0
   SoonThen flags pid = SoonIn run passive unstepped later_front flags pid
 
-  abbrev GoesOn : ℕ → Type 0
+  abbrev pub GoesOn : ℕ → Type 0
   GoesOn i = RunsOrCloses r i (marks_at tr i).flags u
 
-  goes-on : (i : ℕ) → i < length tr.traced → is_run_soon tr.stage i ≡ true
+  pub goes-on : (i : ℕ) → i < length tr.traced → is_run_soon tr.stage i ≡ true
       → (tr.aside ≡ Nothing → tr.stage ≢ Running i) → GoesOn i
   goes-on i inside soon away =
       soon-on tr r i (marks_at tr i).flags calm

@@ -15,7 +15,7 @@ use Rattle.pr_function_hides.proofs.SoonRuns.{flags_after, flags_read}
 use Rattle.pr_function_hides.proofs.TidyCalls as Calls
 use Rattle.pr_function_hides.proofs.TidyEntries.{its-lawful, its-legal, now-is}
 use Rattle.pr_function_hides.proofs.TidyKept.{IsRunOfTrusses, Kept}
-use Rattle.pr_function_hides.specs.TidyWrites.{IsTrussAfter}
+use Rattle.pr_function_hides.specs.TidyWrites.{AreUnbroken, IsTrussAfter}
 use Rattle.pr_function_hides.specs.Treating.{is_run_soon}
 use Rattle.pr_function_laws.proofs.OpenedLaws.{Goes, goes-few, goes-opened, goes-runs, goes-still}
 use Rattle.pr_function_laws.specs.OneEvent.{is_looked_at}
@@ -58,7 +58,7 @@ use Rattle.pr_world.specs.ControllerStates.{ControllerState}
 -- the status was read, the run flags clear it.
 
 module _ {n : ℕ} {who : Hiders} {controllers : List ControllerState} {first : TracedState} {h : List Entry}
-    (run : IsRunOfTrusses n who controllers first h) (passive : IsPassiveBut who h)
+    (run : IsRunOfTrusses (AreUnbroken who h) n who controllers first h) (passive : IsPassiveBut who h)
     (unstepped : IsUnstepped first.system) (front back : List Entry)
     (j : ℕ) (c : Call) (r : Reply) (place : h ≡ front ++ call_entry j c r ∷ back)
     (posted : Posted run passive unstepped front) (hider : hides who j ≡ true) where
@@ -130,7 +130,7 @@ module _ {n : ℕ} {who : Hiders} {controllers : List ControllerState} {first : 
 
     -- ---- it is run
 
-    call-runs : tr.stage ≡ Running i → tr.aside ≡ Nothing
+    pub call-runs : tr.stage ≡ Running i → tr.aside ≡ Nothing
         → c ≡ message_call (traced_at tr i).control (message.Run (traced_at tr i).marks.flags)
     unfolding function_call_of
     call-runs runs idle = same_Some c _ (sym (call-now idle) ∙ ap (function_call_of tr) runs)
@@ -172,30 +172,35 @@ module _ {n : ℕ} {who : Hiders} {controllers : List ControllerState} {first : 
     not-run : tr.stage ≡ ReadingStatus i → tr.stage ≢ Running i
     not-run reads runs = let both : ReadingStatus i ≡ Running i = sym reads ∙ runs in cc
 
-    read-new : tr.stage ≡ ReadingStatus i → tr.aside ≡ Nothing → (traced_at tr i).old ≡ 0
-        → SoonIn run passive unstepped front (flags_after tr i r (answer_of r)) pid
+    -- with these run flags truss runs it then
+    pub read-flags : tr.stage ≡ ReadingStatus i → tr.aside ≡ Nothing → (p : TracedProcess)
+        → live_process v.system pid ≡ Some p
+        → flags_after tr i r (answer_of r) ≡ flags_read tr i (Some (status_of_found p (representative p)))
     unfolding status_of
-    read-new reads idle new p live =
+    read-flags reads idle p live =
         let own = Calls.own run front back j c r place kept-now hider in
-        let w = facts in
         let g = goes in
-        let opened : is_opened tr.stage i ≡ true = ap (λ st. is_opened st i) reads in
-        let its = owns opened in
+        let its = owns (ap (λ st. is_opened st i) reads) in
         let files = its.files in
-        let l = live-lawful v.system pid p lawful.system live in
-        let here_truss = Calls.truss-now run front back j c r place kept-now hider in
         let at = g.reached tt in
         let records = records-range v.system lawful.system at.in_range in
         let ranged = (records.processes pid p (found-live v.system pid p live).0).status in
         let sees =
         status-read v j its.status (held_by j pid 0 file.Status Read) files.reads own.answer p live refl ranged
         (ap (answer_to v j) (sym (ap read_record files.own_status) ∙ sym (call-reads reads idle)) ∙ own.is) in
-        let flags_same : flags_after tr i r (answer_of r)
-        ≡ flags_read tr i (Some (status_of_found p (representative p))) =
         ap (flags_after tr i r) (sym (ap answer_of own.replied) ∙ sees.accepted)
-        ∙ ap (flags_read tr i) (sym (ap (λ y. option_and_then status_lwp (bytes_in y)) own.replied) ∙ sees.lwp) in
-        subst (λ m. OwnCleared m (covers front pid) p) (sym flags_same)
-        (read-cleared tr i (covers front pid) p (Calls.fits run front back j c r place kept-now hider)
+        ∙ ap (flags_read tr i) (sym (ap (λ y. option_and_then status_lwp (bytes_in y)) own.replied) ∙ sees.lwp)
+
+    read-new : tr.stage ≡ ReadingStatus i → tr.aside ≡ Nothing → (traced_at tr i).old ≡ 0
+        → SoonIn run passive unstepped front (flags_after tr i r (answer_of r)) pid
+    read-new reads idle new p live =
+        let w = facts in
+        let opened : is_opened tr.stage i ≡ true = ap (λ st. is_opened st i) reads in
+        let its = owns opened in
+        let l = live-lawful v.system pid p lawful.system live in
+        let here_truss = Calls.truss-now run front back j c r place kept-now hider in
+        subst (λ m. OwnCleared m (covers front pid) p) (sym (read-flags reads idle p live))
+        (read-cleared tr i (covers front pid) p
         (here_truss.stand i inside (p, live)) new (unseen-read tr i w.unseen reads) l.rising (its.no_agent p live)
         (goes-still (Unit {0}) j _ tr v goes tt i p live (ap (λ st. is_looked_at st i) reads ∙ eq-eqb i i refl))
         (goes-few (Unit {0}) j _ tr v goes i inside tt opened (not-run reads) new p live)

@@ -5,7 +5,7 @@ use Rattle.pr_api.specs.Entries.{call_entry}
 use Rattle.pr_function_hides.proofs.ClosingLaw as Closing
 use Rattle.pr_function_hides.proofs.ClosingWalk.{called_at}
 use Rattle.pr_function_hides.proofs.KnownTrusses.{KnownOf}
-use Rattle.pr_function_hides.proofs.OwnFaults.{lwps-old, old-cleared}
+use Rattle.pr_function_hides.proofs.OwnFaults.{AreOld, OwnCleared, alone-old, lwps-old, old-cleared}
 use Rattle.pr_function_hides.proofs.OwnFiles.{HoldsItsFiles}
 use Rattle.pr_function_hides.proofs.PlacesCome.{IsUnseen}
 use Rattle.pr_function_hides.proofs.PostedCalls as Away
@@ -14,7 +14,7 @@ use Rattle.pr_function_hides.proofs.SoonRuns.{IsPatchedFirst, RunsSoon}
 use Rattle.pr_function_hides.proofs.TidyCalls as Calls
 use Rattle.pr_function_hides.proofs.TidyEntries.{its-lawful, its-legal, now-is}
 use Rattle.pr_function_hides.proofs.TidyKept.{IsRunOfTrusses, Kept}
-use Rattle.pr_function_hides.specs.TidyWrites.{IsTrussAfter}
+use Rattle.pr_function_hides.specs.TidyWrites.{AreUnbroken, IsTrussAfter}
 use Rattle.pr_function_hides.specs.Treating.{is_run_soon}
 use Rattle.pr_function_laws.proofs.KeptPlaces.{AtAside}
 use Rattle.pr_function_laws.proofs.OpenedCalls.{write-as}
@@ -50,6 +50,7 @@ use Rattle.pr_truss.specs.declared.replies.Answer.TheVariants.{Gone}
 use Rattle.pr_truss.specs.declared.stages.Stage.{Stage}
 use Rattle.pr_truss.specs.declared.stages.Stage.TheVariants.{ReadingText, Running}
 use Rattle.pr_truss_laws.proofs.OverLemmas.{stays-over}
+use Rattle.pr_truss_laws.specs.Stills.{IsUndisturbed}
 use Rattle.pr_world.specs.ControllerStates.{ControllerState}
 
 -- A process that truss runs soon: until it does, the lwps stay as they stood when it read the status, and so its run
@@ -88,7 +89,7 @@ runs-now _ stage i soon = inr (λ idle runs. cc)
 -- ---- the calls before that
 
 module _ {n : ℕ} {who : Hiders} {controllers : List ControllerState} {first : TracedState} {h : List Entry}
-    (run : IsRunOfTrusses n who controllers first h) (passive : IsPassiveBut who h)
+    (run : IsRunOfTrusses (AreUnbroken who h) n who controllers first h) (passive : IsPassiveBut who h)
     (unstepped : IsUnstepped first.system) (front back : List Entry)
     (j : ℕ) (c : Call) (r : Reply) (place : h ≡ front ++ call_entry j c r ∷ back)
     (posted : Posted run passive unstepped front) (hider : hides who j ≡ true) where
@@ -141,6 +142,22 @@ module _ {n : ℕ} {who : Hiders} {controllers : List ControllerState} {first : 
       sym (ap (λ b. cond b (call_beside tr tr.stage tr.aside) (next_call_of tr)) has
       ∙ ap (call_beside tr tr.stage) idle) ∙ next
 
+  module _ (i : ℕ) (inside : i < length tr.traced) where
+    -- one of which truss is told that it is gone has ended
+    pub gone-then : called_at tr.stage tr.aside ≡ Some i → answer_of r ≡ Gone → (x : TracedProcess)
+        → live_process (here later_front).system (traced_at tr i).pid ≡ Some x → ⊥
+    gone-then called told x later =
+        let legal = its-legal run front e back place kept-now in
+        let f = holds-own in
+        let over =
+        Closing.gone run front back j c r place (Closing.closed-at run front (e ∷ back) place) hider i called told in
+        none-some x
+        (sym (stays-over n v e (traced_at tr i).pid lawful legal
+        (control-made j (traced_at tr i).pid (traced_at tr i).control v lawful (f.control i inside))
+        over)
+        ∙ ap (λ (y : TracedState). live_process y.system (traced_at tr i).pid)
+        (sym (now-is run front e back place kept-now)) ∙ later)
+
   module _ (i : ℕ) (inside : i < length tr.traced) (soon : is_run_soon tr.stage i ≡ true) where
     abbrev pid : ℕ
     pid = (traced_at tr i).pid
@@ -148,62 +165,70 @@ module _ {n : ℕ} {who : Hiders} {controllers : List ControllerState} {first : 
     abbrev flags : ℕ
     flags = (marks_at tr i).flags
 
-    abbrev SoonLater : Type 0
-    SoonLater = SoonIn run passive unstepped later_front flags pid
+    -- a process of it was there before, and was left alone, or its lwps were
+    abbrev WasLeft : TracedProcess → Type 0
+    WasLeft x =
+        (p : TracedProcess) × ((live_process v.system pid ≡ Some p) × (IsUndisturbed p x ⊎ KeepsLwps p x))
 
-    was-soon : SoonIn run passive unstepped front flags pid
-    was-soon = posted.soon j hider tr is-now i inside soon
+    abbrev pub Left : Type 0
+    Left =
+        ((x : TracedProcess) → live_process (here later_front).system pid ≡ Some x → WasLeft x)
+        × ((number : ℕ) → c ≢ call.Close number)
 
     -- by a call that acts by no handle
-    none-acts : acts_by c ≡ None → SoonLater
-    none-acts none =
-        Away.own-soon run passive unstepped front back j c r place hider i inside
-        (λ m held acts there at. none-some m (sym none ∙ acts)) flags was-soon
+    none-acts : acts_by c ≡ None → Left
+    none-acts none = (
+      λ x later.
+          (let was =
+          Away.own-alone run passive unstepped front back j c r place hider i inside
+          (λ m held acts there at. none-some m (sym none ∙ acts)) x later in
+          (was.0, (was.1.0, inl was.1.1))),
+      λ number is. none-some number (sym none ∙ ap acts_by is),
+    )
 
     -- by a message that leaves the lwps
-    written : (sent : List ℕ) → c ≡ call.Ctl (traced_at tr i).control sent → BeginLeavingLwps sent → SoonLater
-    written sent is begins x later =
-        let own = Calls.own run front back j c r place kept-now hider in
-        let f = holds-own in
-        let legal = its-legal run front e back place kept-now in
-        let same : own.answer.state ≡ here later_front =
-        own.later ∙ sym (now-is run front e back place kept-now) in
-        let over : (at : ℕ) → at < v.system.made → live_process v.system at ≡ None
-        → live_process own.answer.state.system at ≡ None =
-        (λ at made none.
-        ap (λ (y : TracedState). live_process y.system at) own.later ∙ stays-over n v e at lawful legal made none) in
-        let was =
-        by-process n j tr.options v lawful c own.answer own.is over pid (traced_at tr i).control sent is
-        (f.control i inside) KeepsLwps
-        (λ p y live now.
-        message-lwps n j tr.options v lawful c own.answer own.is over (traced_at tr i) sent is (f.control i inside) p y
-        live now begins) x (ap (λ (y : TracedState). live_process y.system pid) same ∙ later) in
-        let keeps : KeepsLwps was.0 x = was.1.1 in
-        old-cleared (covers front pid) (covers later_front pid) was.0 x
-        (Away.less-now run passive unstepped front back j c r place pid)
-        (lwps-old was.0 x keeps.lwps) flags
-        (was-soon was.0 was.1.0)
+    written : (sent : List ℕ) → c ≡ call.Ctl (traced_at tr i).control sent → BeginLeavingLwps sent → Left
+    written sent is begins = (
+      λ x later.
+          (let own = Calls.own run front back j c r place kept-now hider in
+          let f = holds-own in
+          let legal = its-legal run front e back place kept-now in
+          let same : own.answer.state ≡ here later_front =
+          own.later ∙ sym (now-is run front e back place kept-now) in
+          let over : (at : ℕ) → at < v.system.made → live_process v.system at ≡ None
+          → live_process own.answer.state.system at ≡ None =
+          (λ at made none.
+          ap (λ (y : TracedState). live_process y.system at) own.later ∙ stays-over n v e at lawful legal made none) in
+          let was =
+          by-process n j tr.options v lawful c own.answer own.is over pid (traced_at tr i).control sent is
+          (f.control i inside) KeepsLwps
+          (λ p y live now.
+          message-lwps n j tr.options v lawful c own.answer own.is over (traced_at tr i) sent is (f.control i inside) p
+          y live now begins) x (ap (λ (y : TracedState). live_process y.system pid) same ∙ later) in
+          (was.0, (was.1.0, inr was.1.1))),
+      λ number closes. (let both : call.Ctl (traced_at tr i).control sent ≡ call.Close number = sym is ∙ closes in cc),
+    )
 
     begins-write : (at size : ℕ) (code : List ℕ) → BeginLeavingLwps (spelling (message.Write at size) code)
     begins-write at size code = write-as leaves_lwps (λ a b. refl) at size code
 
     -- by a breakpoint that is planted or lifted
     patch-soon : (plant lift : Option ℕ) → (is_some plant || is_some lift) ≡ true
-        → c ≡ patch_call tr.options (traced_at tr i).control plant lift → SoonLater
+        → c ≡ patch_call tr.options (traced_at tr i).control plant lift → Left
     patch-soon (Some f) lift busy is = written _ is (begins-write (address_of tr.options f) instruction_size _)
     patch-soon None (Some f) busy is = written _ is (begins-write (address_of tr.options f) instruction_size _)
     patch-soon None None busy is = absurd (false≢true busy)
 
     -- by memory that is read
     reads-text : (at from len : ℕ) (l : LwpStatus) → tr.stage ≡ ReadingText at l from len → tr.aside ≡ Nothing
-        → SoonLater
+        → Left
     unfolding function_call_of call_of
     reads-text at from len l is idle =
         none-acts
         (ap acts_by (same_Some c _ (sym (call-now idle) ∙ ap (function_call_of tr) is)))
 
     stage-soon : (stage : Stage) → tr.stage ≡ stage → tr.aside ≡ Nothing → is_run_soon stage i ≡ true
-        → stage ≢ Running i → SoonLater
+        → stage ≢ Running i → Left
     stage-soon (Running at) is idle here_soon away = absurd (away (ap (λ q. Running q) (eqb-true at i here_soon)))
     stage-soon (ReadingText at l from len) is idle here_soon away = reads-text at from len l is idle
     stage-soon _ is idle here_soon away = absurd (false≢true here_soon)
@@ -219,7 +244,7 @@ module _ {n : ℕ} {who : Hiders} {controllers : List ControllerState} {first : 
         Some (patch_call tr.options (traced_at tr q).control (first_function plants) (first_function lifts))) same)
 
     aside-soon : (aside : Aside) → tr.aside ≡ aside → IsPatchedFirst i aside → AtAside IsUnseen tr.traced aside
-        → (tr.aside ≡ Nothing → tr.stage ≢ Running i) → SoonLater
+        → (tr.aside ≡ Nothing → tr.stage ≢ Running i) → Left
     aside-soon Nothing is first_patched beside away = stage-soon tr.stage refl is soon (away is)
     aside-soon (Patching at plants lifts clear) is first_patched beside away =
         patch-soon (first_function plants) (first_function lifts) beside.1.0
@@ -229,8 +254,22 @@ module _ {n : ℕ} {who : Hiders} {controllers : List ControllerState} {first : 
     pub first-now : IsPatchedFirst i tr.aside
     first-now = let w = facts in let fit = w.fit in patched-first tr.aside tr.stage i fit.fits soon
 
-    pub soon-left : (tr.aside ≡ Nothing → tr.stage ≢ Running i) → SoonLater
-    soon-left away = let w = facts in let seen = w.unseen in aside-soon tr.aside refl first-now seen.beside away
+    pub left-so : (tr.aside ≡ Nothing → tr.stage ≢ Running i) → Left
+    left-so away = let w = facts in let seen = w.unseen in aside-soon tr.aside refl first-now seen.beside away
+
+    pub soon-left : (tr.aside ≡ Nothing → tr.stage ≢ Running i) → SoonIn run passive unstepped later_front flags pid
+    soon-left away x later = let was = (left-so away).0 x later in by was.0 was.1.0 was.1.1
+      where
+        by : (p : TracedProcess) → live_process v.system pid ≡ Some p → IsUndisturbed p x ⊎ KeepsLwps p x
+            → OwnCleared flags (covers later_front pid) x
+        by p live left =
+            old-cleared (covers front pid) (covers later_front pid) p x
+            (Away.less-now run passive unstepped front back j c r place pid) (of left) flags
+            (posted.soon j hider tr is-now i inside soon p live)
+          where
+            of : IsUndisturbed p x ⊎ KeepsLwps p x → AreOld p x
+            of (inl alone) = alone-old p x alone
+            of (inr keeps) = lwps-old p x keeps.lwps
 
     -- truss goes on with it, or it has ended
     pub runs-soon : RunsSoon i flags tr
@@ -243,7 +282,7 @@ module _ {n : ℕ} {who : Hiders} {controllers : List ControllerState} {first : 
       aside = first-now;
     }
 
-    called-it : (aside : Aside) (stage : Stage) → IsPatchedFirst i aside → is_run_soon stage i ≡ true
+    pub called-it : (aside : Aside) (stage : Stage) → IsPatchedFirst i aside → is_run_soon stage i ≡ true
         → called_at stage aside ≡ Some i
     called-it Nothing (Running at) first_patched here_soon = ap (λ q. Some q) (eqb-true at i here_soon)
     called-it Nothing (ReadingText at l from len) first_patched here_soon = ap (λ q. Some q) (eqb-true at i here_soon)
@@ -253,16 +292,4 @@ module _ {n : ℕ} {who : Hiders} {controllers : List ControllerState} {first : 
 
     pub gone-over : answer_of r ≡ Gone → (x : TracedProcess)
         → live_process (here later_front).system pid ≡ Some x → ⊥
-    gone-over told x later =
-        let legal = its-legal run front e back place kept-now in
-        let f = holds-own in
-        let over =
-        Closing.gone n who controllers first h run.reached run.bytes run.legal run.own_calls run.are run.und front back
-        j c r place
-        (Closing.closed-at n who controllers first h run.reached run.bytes run.legal run.own_calls run.are run.und
-        front (e ∷ back) place) hider i (called-it tr.aside tr.stage first-now soon) told in
-        none-some x
-        (sym (stays-over n v e pid lawful legal
-        (control-made j pid (traced_at tr i).control v lawful (f.control i inside))
-        over)
-        ∙ ap (λ (y : TracedState). live_process y.system pid) (sym (now-is run front e back place kept-now)) ∙ later)
+    gone-over told = gone-then i inside (called-it tr.aside tr.stage first-now soon) told

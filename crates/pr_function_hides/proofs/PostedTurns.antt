@@ -5,16 +5,15 @@ use Rattle.std.specs.List.{slice_get}
 use Rattle.pr_function_hides.proofs.CallFacts.{controllers-push}
 use Rattle.pr_function_hides.proofs.CountedFaults.{CountsNow, OwnFault, before, breaks, directed-is, now as counts_now, own-fault, patch-there, traces, turned-count}
 use Rattle.pr_function_hides.proofs.FaultTurns.{IsOldPhase, fresh, old, turn-directed, turn-free, turn-old, turn-other, turn-stops}
-use Rattle.pr_function_hides.proofs.FilesCalls.{holds-of}
 use Rattle.pr_function_hides.proofs.KnownTrusses.{KnownOf, known-at}
 use Rattle.pr_function_hides.proofs.OwnFaults.{CountLess, IsOwnKind, OwnCleared, OwnStand, StandsAtOwn, alone-old, clean-none, less-clean, none-stand, old-cleared, old-stand, own-met, planted, trap}
 use Rattle.pr_function_hides.proofs.OwnFiles.{HoldsItsFiles}
 use Rattle.pr_function_hides.proofs.OldStops.{old-frozen}
 use Rattle.pr_function_hides.proofs.PlacedWalk.{its-turn, turned-is, turned-patches}
 use Rattle.pr_function_hides.proofs.TidyEntries.{its-lawful, its-legal, now-is}
-use Rattle.pr_function_hides.proofs.TidyKept.{IsRunOfTrusses, Kept, Truss}
+use Rattle.pr_function_hides.proofs.TidyKept.{IsRunOfTrusses, Kept, Truss, holds-calm}
 use Rattle.pr_function_hides.proofs.TidyLaw.{kept-at}
-use Rattle.pr_function_hides.specs.TidyWrites.{IsTrussAfter}
+use Rattle.pr_function_hides.specs.TidyWrites.{AreUnbroken, IsTrussAfter}
 use Rattle.pr_function_hides.specs.Treating.{is_run_soon}
 use Rattle.pr_function_laws.proofs.BreakpointLemmas.{foreign-entry}
 use Rattle.pr_function_laws.proofs.HaltingSteps.{every-fault}
@@ -64,18 +63,18 @@ at-same : {f g : Flt} {a b : ℕ} → AtFault f a ≡ AtFault g b → f ≡ g
 at-same is = cc
 
 -- in a process that stops so a fault is traced
-stops-traced : (c : TracedControl) → StopsAtAll c → (f : Flt) → is_traced c (Fault f) ≡ true
+pub stops-traced : (c : TracedControl) → StopsAtAll c → (f : Flt) → is_traced c (Fault f) ≡ true
 unfolding is_traced
 stops-traced c all f = ap (λ set. has_number set (fault_number f)) all.faults ∙ every-fault f
 
 -- a process that is run soon is looked at
-soon-looked : (stage : Stage) (q : ℕ) → is_run_soon stage q ≡ true → is_looked_at stage q ≡ true
+pub soon-looked : (stage : Stage) (q : ℕ) → is_run_soon stage q ≡ true → is_looked_at stage q ≡ true
 soon-looked (Running at) q is = is
 soon-looked (ReadingText at l from len) q is = is
 soon-looked _ q is = absurd (false≢true is)
 
 module _ {n : ℕ} {who : Hiders} {controllers : List ControllerState} {first : TracedState} {h : List Entry}
-    (run : IsRunOfTrusses n who controllers first h) (passive : IsPassiveBut who h)
+    (run : IsRunOfTrusses (AreUnbroken who h) n who controllers first h) (passive : IsPassiveBut who h)
     (unstepped : IsUnstepped first.system) where
   abbrev here : List Entry → TracedState
   here front = state_after first front
@@ -87,7 +86,7 @@ module _ {n : ℕ} {who : Hiders} {controllers : List ControllerState} {first : 
   After front k t = IsTrussAfter who controllers first h front k t
 
   abbrev kept : (front back : List Entry) → h ≡ front ++ back → Kept who controllers first h front
-  kept = kept-at n who controllers first h run.reached run.bytes run.legal run.own_calls run.are run.und
+  kept = kept-at run
 
   -- ---- what is said
 
@@ -134,7 +133,7 @@ module _ {n : ℕ} {who : Hiders} {controllers : List ControllerState} {first : 
     t = let w = truss in w.t
 
     pub holds : HoldsItsFiles k t (here front)
-    holds = let w = truss in holds-of k (here front) w.t w.files
+    holds = holds-calm truss run.besides
 
     pub known : KnownOf run front k hider t
     known = let w = truss in known-at run front (e ∷ back) place k hider w.t w.is

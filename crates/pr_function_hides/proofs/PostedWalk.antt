@@ -7,7 +7,6 @@ use Rattle.pr_api.specs.Entries.{call_entry}
 use Rattle.pr_function_hides.proofs.CallFacts.{controllers-push, legal-here, open-finds}
 use Rattle.pr_function_hides.proofs.CleanCalls.{Clean, Leaves, Opens, Over}
 use Rattle.pr_function_hides.proofs.CleanWalk.{cleaned-at}
-use Rattle.pr_function_hides.proofs.FilesCalls.{holds-of}
 use Rattle.pr_function_hides.proofs.OwnFaults.{CountLess, StandsAtOwn, clean-none, none-stand}
 use Rattle.pr_function_hides.proofs.OwnFiles.{HoldsItsFiles}
 use Rattle.pr_function_hides.proofs.PlacedWalk.{IsPlaced, IsQuietAt, clean-called, its-turn, placed-at}
@@ -17,10 +16,10 @@ use Rattle.pr_function_hides.proofs.PostedNext as Next
 use Rattle.pr_function_hides.proofs.PostedTurns.{CleanIn, Posted, RestsIn, SoonIn, framed-clean, framed-rests, framed-soon, turn-clean, turn-rests, turn-soon}
 use Rattle.pr_function_hides.proofs.TidyCalls as Calls
 use Rattle.pr_function_hides.proofs.TidyEntries.{at-is, its-lawful}
-use Rattle.pr_function_hides.proofs.TidyKept.{IsRunOfTrusses, Kept}
+use Rattle.pr_function_hides.proofs.TidyKept.{IsRunOfTrusses, Kept, holds-calm}
 use Rattle.pr_function_hides.proofs.TidyLaw.{kept-at}
 use Rattle.pr_function_hides.proofs.UnopenedClean.{unopened-clean}
-use Rattle.pr_function_hides.specs.TidyWrites.{IsTrussAfter}
+use Rattle.pr_function_hides.specs.TidyWrites.{AreUnbroken, IsTrussAfter}
 use Rattle.pr_function_hides.specs.Treating.{is_run_soon}
 use Rattle.pr_function_laws.proofs.StopTurns.{free-stopless}
 use Rattle.pr_function_laws.specs.Opened.{is_opened}
@@ -65,7 +64,7 @@ use Rattle.pr_world.specs.Protocol.{controllers_after}
 -- so no such fault is posted.
 
 module _ {n : ℕ} {who : Hiders} {controllers : List ControllerState} {first : TracedState} {h : List Entry}
-    (run : IsRunOfTrusses n who controllers first h) (passive : IsPassiveBut who h)
+    (run : IsRunOfTrusses (AreUnbroken who h) n who controllers first h) (passive : IsPassiveBut who h)
     (unstepped : IsUnstepped first.system) where
   abbrev here : List Entry → TracedState
   here front = state_after first front
@@ -80,7 +79,7 @@ module _ {n : ℕ} {who : Hiders} {controllers : List ControllerState} {first : 
   KeptAfter front = Kept who controllers first h front
 
   abbrev kept : (front back : List Entry) → h ≡ front ++ back → KeptAfter front
-  kept = kept-at n who controllers first h run.reached run.bytes run.legal run.own_calls run.are run.und
+  kept = kept-at run
 
   abbrev RestsAt : List Entry → ℕ → Type 0
   RestsAt front pid = RestsIn run passive unstepped front pid
@@ -290,7 +289,7 @@ module _ {n : ℕ} {who : Hiders} {controllers : List ControllerState} {first : 
               let lawful = its-lawful run front e back place kept-now in
               let files : HoldsItsFiles w.k w.t v =
               subst (λ (x : TrussState). HoldsItsFiles w.k x v) (same-truss it.t w.t _ it.is w.is)
-              (holds-of w.k v it.t it.files) in
+              (holds-calm it run.besides) in
               let held : Held =
               record {
                 controller = w.k;
@@ -387,7 +386,7 @@ module _ {n : ℕ} {who : Hiders} {controllers : List ControllerState} {first : 
       (legal-here n first front e (middle ++ back) (subst (λ (es : List Entry). IsLegal n first es) place run.legal))
       posted))
 
-  posted-at : (front back : List Entry) → h ≡ front ++ back → PostedAt front
+  pub posted-at : (front back : List Entry) → h ≡ front ++ back → PostedAt front
   posted-at front back place = walk front [] back place at-first
 
   -- no lwp has a turn at a fault of its own

@@ -21,7 +21,7 @@ use Rattle.pr_model.specs.declared.handles.Held.{Held}
 use Rattle.pr_num.specs.Messages.{Spells, bad_operand, first_message, operand_count, operands, spelling, tail_length}
 use Rattle.pr_num.specs.Spaces.{IsSpace, Space, bytes_for}
 use Rattle.pr_num.specs.Words.{IsByte, IsWord}
-use Rattle.pr_num.specs.declared.errnos.Errno.TheVariants.{Io}
+use Rattle.pr_num.specs.declared.errnos.Errno.TheVariants.{Io, Noent}
 use Rattle.pr_num.specs.declared.mappings.BadByte.{BadByte}
 use Rattle.pr_num.specs.declared.messages.Message.{Message}
 use Rattle.pr_num.specs.declared.messages.Message.TheVariants as message
@@ -51,55 +51,86 @@ read-reads at fits =
     ap first_message (sym (append-nil bytes)) ∙ spelt_is_read bytes [] (message.Read at 16) [] spells
 
 module _ (s : TracedState) (k number : ℕ) (h : Held) (there : handle_of s.opens k number ≡ Some h)
+    (control : h.file ≡ file.Ctl) (at : ℕ) (fits : at < 2 ^ 64) (a : Answer)
+    (given : answer_to s k (call.Ctl number (spelling (message.Read at 16) [])) ≡ Some a) where
+  abbrev bytes : List ℕ
+  bytes = spelling (message.Read at 16) []
+
+  -- a process of which memory is read lives
+  pub read-alive : answer_of a.reply ≡ Accepted
+      → (p : TracedProcess) × (live_process s.system h.pid ≡ Some p)
+  read-alive accepted = by (live_process s.system h.pid) refl
+    where
+      by : (o : Option TracedProcess) → live_process s.system h.pid ≡ o
+          → (p : TracedProcess) × (live_process s.system h.pid ≡ Some p)
+      by (Some p) live = (p, live)
+      by None none =
+          absurd (not-accepted Noent
+          (sym (ap (λ (x : Answer). answer_of x.reply)
+          (ctl-is s k number h there control bytes a given
+          ∙ ap (λ o. controlled s (targeted_answer s.system h o bytes)) none)) ∙ accepted))
+
+  module _ (p : TracedProcess) (live : live_process s.system h.pid ≡ Some p) (own : p.borrower ≡ None) where
+    abbrev answered_by : Bool → Result (List ℕ) BadByte → Controlled
+    answered_by zeroth r =
+        cond zeroth (refused s.system (system_refusal (message.Read at 16))) (read_of s.system h.pid p r)
+
+    seen : space_seen s.system p ≡ p.space
+    seen = ap (λ (o : Option ℕ). space_shown s.system s.system.made o p.space) own
+
+    answer-is : a ≡ controlled s (answered_by (h.pid == 0) (bytes_for 0 p.space at 16))
+    unfolding message_answer read_answer
+    answer-is =
+        ctl-is s k number h there control bytes a given
+        ∙ ap (λ o. controlled s (targeted_answer s.system h o bytes)) live
+        ∙ ap (λ (x : Result (Message × ℕ) MsgFault). controlled s (decoded_answer s.system h p bytes x))
+        (read-reads at fits)
+        ∙ ap (λ (sp : Space). controlled s (answered_by (h.pid == 0) (bytes_for 0 sp at 16))) seen
+
+    -- the reply gave the bytes that stand there
+    pub record HasRead : Type 0 where
+      pub same : a.state.system ≡ s.system
+      pub found : List ℕ
+      pub read : bytes_for 0 p.space at 16 ≡ Ok found
+      pub gives : bytes_in a.reply ≡ Some found
+
+    pub has-read : answer_of a.reply ≡ Accepted → HasRead
+    unfolding bytes_in
+    has-read accepted = by (h.pid == 0) (bytes_for 0 p.space at 16) refl answer-is
+      where
+        by : (z : Bool) (r : Result (List ℕ) BadByte) → bytes_for 0 p.space at 16 ≡ r
+            → a ≡ controlled s (answered_by z r) → HasRead
+        by true r read is =
+            absurd (not-accepted _ (sym (ap (λ (x : Answer). answer_of x.reply) is) ∙ accepted))
+        by false (Err bad) read is =
+            absurd (not-accepted Io (sym (ap (λ (x : Answer). answer_of x.reply) is) ∙ accepted))
+        by false (Ok bs) read is = record {
+          same = ap (λ (x : Answer). x.state.system) is;
+          found = bs;
+          read = read;
+          gives = ap (λ (x : Answer). bytes_in x.reply) is;
+        }
+
+-- the first instruction of a function
+module _ (s : TracedState) (k number : ℕ) (h : Held) (there : handle_of s.opens k number ≡ Some h)
     (control : h.file ≡ file.Ctl) (f : Function) (patchable : IsPatchable f) (a : Answer)
     (given : answer_to s k (call.Ctl number (spelling (message.Read f.at 16) [])) ≡ Some a) (p : TracedProcess)
     (live : live_process s.system h.pid ≡ Some p) (own : p.borrower ≡ None) (is_space : IsSpace p.space) where
-  abbrev bytes : List ℕ
-  bytes = spelling (message.Read f.at 16) []
-
-  fits : f.at < 2 ^ 64
-  fits = let w = patchable.within in omega (arith, w)
-
-  abbrev answered_by : Bool → Result (List ℕ) BadByte → Controlled
-  answered_by zeroth r =
-      cond zeroth (refused s.system (system_refusal (message.Read f.at 16))) (read_of s.system h.pid p r)
-
-  seen : space_seen s.system p ≡ p.space
-  seen = ap (λ (o : Option ℕ). space_shown s.system s.system.made o p.space) own
-
-  answer-is : a ≡ controlled s (answered_by (h.pid == 0) (bytes_for 0 p.space f.at 16))
-  unfolding message_answer read_answer
-  answer-is =
-      ctl-is s k number h there control bytes a given
-      ∙ ap (λ o. controlled s (targeted_answer s.system h o bytes)) live
-      ∙ ap (λ (x : Result (Message × ℕ) MsgFault). controlled s (decoded_answer s.system h p bytes x))
-      (read-reads f.at fits)
-      ∙ ap (λ (sp : Space). controlled s (answered_by (h.pid == 0) (bytes_for 0 sp f.at 16))) seen
-
   -- the reply gave the code of the function
   pub read-holds : answer_of a.reply ≡ Accepted → is_code f.code (bytes_in a.reply) ≡ true
       → (a.state.system ≡ s.system) × HoldsCode (patch_of f) p
-  unfolding bytes_in
-  read-holds accepted code = by (h.pid == 0) (bytes_for 0 p.space f.at 16) refl answer-is
-    where
-      by : (z : Bool) (r : Result (List ℕ) BadByte) → bytes_for 0 p.space f.at 16 ≡ r
-          → a ≡ controlled s (answered_by z r) → (a.state.system ≡ s.system) × HoldsCode (patch_of f) p
-      by true r read is =
-          absurd (not-accepted _ (sym (ap (λ (x : Answer). answer_of x.reply) is) ∙ accepted))
-      by false (Err bad) read is =
-          absurd (not-accepted Io (sym (ap (λ (x : Answer). answer_of x.reply) is) ∙ accepted))
-      by false (Ok bs) read is = (
-        ap (λ (x : Answer). x.state.system) is,
+  read-holds accepted code =
+      let size : length f.code ≡ 16 = patchable.size in
+      let most : f.at + 16 ≤ 2 ^ 64 = patchable.within in
+      let it = has-read s k number h there control f.at (omega (arith, most)) a given p live own accepted in
+      let same : it.found ≡ f.code =
+      (bytes_eq-Decides it.found f.code).0 (sym (ap (is_code f.code) it.gives) ∙ code) in (
+        it.same,
         record {
           own = own;
           stands =
-              let same : bs ≡ f.code =
-              (bytes_eq-Decides bs f.code).0
-              (sym (ap (λ (x : Answer). is_code f.code (bytes_in x.reply)) is) ∙ code) in
-              let size : length f.code ≡ 16 = patchable.size in
-              let most : f.at + 16 ≤ 2 ^ 64 = patchable.within in
               read-stands p.space f.at f.code is_space (omega (arith, most, size))
-              (ap (bytes_for 0 p.space f.at) size ∙ read
+              (ap (bytes_for 0 p.space f.at) size ∙ it.read
               ∙ ap (λ xs. let ok : Result (List ℕ) BadByte = Ok xs in ok) same);
         },
       )

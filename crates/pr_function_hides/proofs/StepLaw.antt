@@ -6,12 +6,13 @@ use Rattle.std.proofs.lemmas.Option.{none-some}
 use Rattle.pr_function_hides.proofs.PassiveHiders.{are-functions, passive-but}
 use Rattle.pr_function_hides.proofs.StepWalk.{Calm, stepped-at}
 use Rattle.pr_function_hides.proofs.TidyEntries.{its-legal}
-use Rattle.pr_function_hides.proofs.TidyKept.{Holder, IsRunOfTrusses}
+use Rattle.pr_function_hides.proofs.TidyKept.{Holder, IsRunOfTrusses, calm-run}
 use Rattle.pr_function_hides.proofs.TidyLaw.{kept-at}
 use Rattle.pr_function_hides.specs.FunctionHiders.{AreTrusses}
 use Rattle.pr_function_hides.specs.OwnSteps.{AreStepsOwn}
 use Rattle.pr_function_hides.specs.PassiveOthers.{AreOthersPassive}
-use Rattle.pr_function_hides.specs.TidyWrites.{AreUndisturbed}
+use Rattle.pr_function_hides.specs.SleptCopies.{NoneSleepsInCopy}
+use Rattle.pr_function_hides.specs.TidyWrites.{AreUnbroken, AreUndisturbed}
 use Rattle.pr_function_laws.proofs.TrapLemmas.{IsTrapless, trapless}
 use Rattle.pr_hidden.proofs.FaultRows.{HowFaulted, by_instruction, by_return, how-faulted, return-marked, trace-effect}
 use Rattle.pr_hidden.specs.Hiders.{Hiders, has_hold, is_hold}
@@ -68,7 +69,7 @@ module _ (s : TracedSystem) (pid : ℕ) (p : TracedProcess) (id : ℕ) (l : Trac
 -- ---- who holds a control file
 
 -- one who hides, and has it open
-holder-hold : (who : Hiders) → ((k : ℕ) → who.probes k ≡ false) → (s : TracedState) (pid : ℕ) → Holder who pid s
+pub holder-hold : (who : Hiders) → ((k : ℕ) → who.probes k ≡ false) → (s : TracedState) (pid : ℕ) → Holder who pid s
     → has_hold who s.opens pid ≡ true
 unfolding has_hold
 holder-hold who none s pid x =
@@ -79,19 +80,12 @@ holder-hold who none s pid x =
 -- ---- along the history
 
 module _ (n : ℕ) (who : Hiders) (controllers : List ControllerState) (first : TracedState) (h : List Entry)
-    (reached : IsReached first) (bytes : HasBytes h) (legal : IsLegal n first h)
+    (reached : IsReached first) (awake : NoneSleepsInCopy first.system) (bytes : HasBytes h) (legal : IsLegal n first h)
     (own_calls : AreOwnCalls controllers h) (are : AreTrusses who controllers first)
-    (und : AreUndisturbed who controllers first h) (others : AreOthersPassive who h)
+    (und : AreUndisturbed who controllers first h) (unbroken : AreUnbroken who h) (others : AreOthersPassive who h)
     (unstepped : IsUnstepped first.system) where
-  run : IsRunOfTrusses n who controllers first h
-  run = record {
-    reached = reached;
-    bytes = bytes;
-    legal = legal;
-    own_calls = own_calls;
-    are = are;
-    und = und;
-  }
+  run : IsRunOfTrusses (AreUnbroken who h) n who controllers first h
+  run = calm-run n who controllers first h reached awake bytes legal own_calls are und unbroken
 
   passive : IsPassiveBut who h
   passive = passive-but run others
@@ -106,7 +100,7 @@ module _ (n : ℕ) (who : Hiders) (controllers : List ControllerState) (first : 
     its-turn =
         let legal_here =
         its-legal run front (record { actor = Lwp pid id; act = act.Turn t }) back place
-        (kept-at n who controllers first h reached bytes legal own_calls are und front
+        (kept-at run front
         (record { actor = Lwp pid id; act = act.Turn t } ∷ back) place) in
         (record { system = legal_here.0; turned = t }, (legal_here.1, refl))
 

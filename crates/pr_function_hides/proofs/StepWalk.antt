@@ -6,21 +6,20 @@ use Rattle.std.proofs.lemmas.Option.{same_Some}
 use Rattle.std.specs.Bool.{IsTrue}
 use Rattle.std.specs.List.{slice_get}
 use Rattle.pr_api.specs.Entries.{call_entry}
-use Rattle.pr_function_hides.proofs.CallFacts.{calm-reply, controllers-push, legal-here, open-finds, same-truss}
+use Rattle.pr_function_hides.proofs.CallFacts.{controllers-push, legal-here, open-finds, same-truss}
 use Rattle.pr_function_hides.proofs.ClosingCalls.{IsClosing, is-closing, last-pid}
 use Rattle.pr_function_hides.proofs.ClosingLaw as Closing
 use Rattle.pr_function_hides.proofs.ClosingStages.{stage-stays}
 use Rattle.pr_function_hides.proofs.ClosingWalk.{CalledSo, ClosesSo, StageSo, called_at, fed-closes, first-closes, is_quiet}
-use Rattle.pr_function_hides.proofs.FilesCalls.{holds-of}
 use Rattle.pr_function_hides.proofs.OwnFiles.{HoldsItsFiles, IsWithin}
 use Rattle.pr_function_hides.proofs.OwnTidy.{Kind, other, sends, writes}
 use Rattle.pr_function_hides.proofs.SteplessCalls.{CallsNoStep, aside-stepless, closing-stepless, opening-stepless, other-stepless}
 use Rattle.pr_function_hides.proofs.TidyCalls as Calls
 use Rattle.pr_function_hides.proofs.TidyCovers as Called
 use Rattle.pr_function_hides.proofs.TidyEntries.{its-lawful, its-legal, now-is}
-use Rattle.pr_function_hides.proofs.TidyKept.{Holder, IsRunOfTrusses, Kept, Truss, holder-moves}
+use Rattle.pr_function_hides.proofs.TidyKept.{Holder, IsRunOfTrusses, Kept, Truss, holder-moves, holds-calm}
 use Rattle.pr_function_hides.proofs.TidyLaw.{kept-at}
-use Rattle.pr_function_hides.specs.TidyWrites.{IsTrussAfter}
+use Rattle.pr_function_hides.specs.TidyWrites.{AreUnbroken, IsTrussAfter}
 use Rattle.pr_function_laws.proofs.BreakpointLemmas.{foreign-entry}
 use Rattle.pr_function_laws.proofs.OpenedLemmas.{control-made, control-sole}
 use Rattle.pr_hidden.specs.Hiders.{Hiders, hides}
@@ -96,7 +95,7 @@ entry-unmarked n s pid Clock (act.Tick moment) legal plain u = record { processe
 entry-unmarked n s pid _ _ legal plain u = absurd legal
 
 module _ {n : ℕ} {who : Hiders} {controllers : List ControllerState} {first : TracedState} {h : List Entry}
-    (run : IsRunOfTrusses n who controllers first h) (passive : IsPassiveBut who h)
+    (run : IsRunOfTrusses (AreUnbroken who h) n who controllers first h) (passive : IsPassiveBut who h)
     (unstepped : IsUnstepped first.system) where
   abbrev here : List Entry → TracedState
   here front = state_after first front
@@ -108,7 +107,7 @@ module _ {n : ℕ} {who : Hiders} {controllers : List ControllerState} {first : 
   KeptAfter front = Kept who controllers first h front
 
   abbrev kept : (front back : List Entry) → h ≡ front ++ back → KeptAfter front
-  kept = kept-at n who controllers first h run.reached run.bytes run.legal run.own_calls run.are run.und
+  kept = kept-at run
 
   abbrev pub Over : List Entry → ℕ → Type 0
   Over front pid = live_process (here front).system pid ≡ None
@@ -180,7 +179,7 @@ module _ {n : ℕ} {who : Hiders} {controllers : List ControllerState} {first : 
       t = let w = truss in w.t
 
       files : HoldsItsFiles k t s
-      files = let w = truss in holds-of k s w.t w.files
+      files = holds-calm truss run.besides
 
       pub made-at : (q : ℕ) → q < length t.traced → (traced_at t q).pid < s.system.made
       made-at q within =
@@ -366,9 +365,7 @@ module _ {n : ℕ} {who : Hiders} {controllers : List ControllerState} {first : 
 
       abbrev KindNow : Type 0
       KindNow =
-          Kind j v c tr (Calls.fits run front back j c r place kept-now hider)
-          (Calls.holds-now run front back j c r place kept-now hider)
-          (Calls.below run front back j c r place kept-now hider)
+          Kind c tr
 
       has : has_functions tr.options ≡ true
       has = Calls.has run front back j c r place kept-now hider
@@ -395,13 +392,15 @@ module _ {n : ℕ} {who : Hiders} {controllers : List ControllerState} {first : 
             absurd (apart (ap (λ (x : Held). x.pid) found ∙ its));
       }
 
-      pub no-message : (pid : ℕ) → ((number : ℕ) (bytes : List ℕ) → c ≢ call.Ctl number bytes) → MarksNone (IsOne pid) v j c
+      pub no-message : (pid : ℕ) → ((number : ℕ) (bytes : List ℕ) → c ≢ call.Ctl number bytes)
+          → MarksNone (IsOne pid) v j c
       no-message pid none = record {
         none = λ handle bytes held m len is there its read. absurd (none handle bytes is);
       }
 
       -- of another process than those that it traces
-      foreign-none : (pid : ℕ) → ((q : ℕ) → q < length tr.traced → (traced_at tr q).pid ≢ pid) → MarksNone (IsOne pid) v j c
+      foreign-none : (pid : ℕ) → ((q : ℕ) → q < length tr.traced → (traced_at tr q).pid ≢ pid)
+          → MarksNone (IsOne pid) v j c
       foreign-none pid apart = by (Calls.its-kind run front back j c r place kept-now hider)
         where
           by : KindNow → MarksNone (IsOne pid) v j c
@@ -505,21 +504,19 @@ module _ {n : ℕ} {who : Hiders} {controllers : List ControllerState} {first : 
             own-calm (ap is_quiet is) (traced_at tr q).pid (opens-at q step is);
       }
         where
-          closed : Closing.Closed n who controllers first h run.reached run.bytes run.legal run.own_calls run.are
-              run.und front
+          closed : Closing.Closed run front
           closed =
-              Closing.closed-at n who controllers first h run.reached run.bytes run.legal run.own_calls run.are run.und
+              Closing.closed-at run
               front (call_entry j c r ∷ back) place
 
           called-within : (q : ℕ) → called_at tr.stage tr.aside ≡ Some q → q < length tr.traced
           called-within =
-              Closing.called-within n who controllers first h run.reached run.bytes run.legal run.own_calls run.are
-              run.und front back j c r place closed hider
+              Closing.called-within run front back j c r place closed hider
 
           told-gone : (q : ℕ) → called_at tr.stage tr.aside ≡ Some q → answer_of r ≡ Gone
               → Over front (traced_at tr q).pid
           told-gone =
-              Closing.gone n who controllers first h run.reached run.bytes run.legal run.own_calls run.are run.und
+              Closing.gone run
               front back j c r place closed hider
 
           opens-at : (q : ℕ) (step : OpeningStep) → tr.stage ≡ stage.Opening q step → Calm front (traced_at tr q).pid
@@ -532,7 +529,7 @@ module _ {n : ℕ} {who : Hiders} {controllers : List ControllerState} {first : 
           let f = holds in
           let it = was in
           fed-closes (Over later_front) (λ step pid. Calm later_front pid) (Calm later_front) (λ step pid calm. calm) tr
-          r f.off f.follow f.stage f.beside (calm-reply r (run.und.unbroken front back j c r place hider)) it.looks
+          r f.off f.follow f.stage f.beside (Calls.calm-now run front back j c r place kept-now hider) it.looks
           called-so has
 
       own-later : (later : TrussState) → After later_front j later → Closes later_front later
@@ -607,7 +604,7 @@ module _ {n : ℕ} {who : Hiders} {controllers : List ControllerState} {first : 
           same =
               let k = Calls.truss-now run front back j c r place kept-now hider in
               let f = k.files in
-              last-pid j v (traced_at tr w.place) (f.each w.place w.within) x
+              last-pid j v (traced_at tr w.place) (f w.place w.within) x
               (ap (handle_of v.opens j) w.last ∙ there)
 
           ended : Over front (traced_at tr w.place).pid → Calm front x.pid

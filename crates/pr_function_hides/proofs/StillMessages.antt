@@ -29,6 +29,12 @@ stop-still =
     still-as message.Stop (first_message (spelling message.Stop [])) refl
     (read-as (spelling message.Stop []) message.Stop refl refl)
 
+pub wstop-still : BeginStill (spelling message.Wstop [])
+unfolding message_code operands nth_word word_bytes word_of message_read
+wstop-still =
+    still-as message.Wstop (first_message (spelling message.Wstop [])) refl
+    (read-as (spelling message.Wstop []) message.Wstop refl refl)
+
 pub cfault-still : BeginStill (spelling message.Cfault [])
 unfolding message_code operands nth_word word_bytes word_of message_read
 cfault-still =

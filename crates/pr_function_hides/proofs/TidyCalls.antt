@@ -1,6 +1,7 @@
-use Rattle.std.proofs.Common.{◌≡◌, ◌≢◌, ◌⊎◌, ◌<◌, ◌||◌, ◌++◌, ℕ, Bool, true, false, cond, is_ok, Option, Some, None, Ok, List, [], ◌∷◌, length, refl, sym, subst, ap, ◌∙◌, inl, inr}
+use Rattle.std.proofs.Common.{◌≡◌, ◌≢◌, ◌⊎◌, ◌<◌, ◌||◌, ◌++◌, ℕ, Bool, true, false, cond, is_ok, Some, None, Ok, List}
+use Rattle.std.proofs.Common.{[], ◌∷◌, length, refl, sym, subst, ap, ◌∙◌, inl, inr}
 use Rattle.std.proofs.lemmas.Bool.{eq-eqb, false≢true, ne_eqb}
-use Rattle.std.proofs.lemmas.Option.{same_Some, slice_get_within}
+use Rattle.std.proofs.lemmas.Option.{slice_get_within}
 use Rattle.std.specs.List.{slice_get}
 use Rattle.std.specs.Option.{option_and_then}
 use Rattle.std.specs.Prelude.{map}
@@ -27,56 +28,44 @@ use Rattle.pr_model.specs.declared.handles.Held.{Held}
 use Rattle.pr_num.specs.Messages.{first_message}
 use Rattle.pr_num.specs.Spaces.{bytes_for}
 use Rattle.pr_num.specs.declared.messages.Message.TheVariants as message
-use Rattle.pr_report_laws.proofs.Invariant.StandLemmas.{Each, each-but}
+use Rattle.pr_report_laws.proofs.Invariant.StandLemmas.{Each}
 use Rattle.pr_tool_laws.proofs.ProtocolLemmas.{fed-other, fed-own}
-use Rattle.pr_truss.specs.Asides.{marks_at}
-use Rattle.pr_truss.specs.FunctionCalls.{call_beside, function_call_of, next_function_call_of}
+use Rattle.pr_truss.specs.FunctionCalls.{next_function_call_of}
 use Rattle.pr_truss.specs.FunctionFeeding.{fed_functions}
 use Rattle.pr_truss.specs.Marks.{has_functions}
-use Rattle.pr_truss.specs.NextCalls.{call_of, next_call_of}
-use Rattle.pr_truss.specs.Processes.{newly_traced, without_last}
 use Rattle.pr_truss.specs.Replies.{answer_of}
 use Rattle.pr_truss.specs.Trusses.{TrussState, traced_at}
-use Rattle.pr_truss.specs.declared.asides.Aside.{Aside}
-use Rattle.pr_truss.specs.declared.asides.Aside.TheVariants.{Nothing, Reading, Planting, Patching}
-use Rattle.pr_truss.specs.declared.marks.Stepped.{Stepped}
 use Rattle.pr_truss.specs.declared.processes.Traced.{Traced}
-use Rattle.pr_truss.specs.declared.replies.Answer.TheVariants.{Accepted}
-use Rattle.pr_truss.specs.declared.stages.AfterClosing.TheVariants.{OpenNext, GoOn}
-use Rattle.pr_truss.specs.declared.stages.Stage.{Stage}
-use Rattle.pr_truss.specs.declared.stages.Stage.TheVariants.{Spawning, OpeningControl, Opening, Polling, ReadingStatus, ReadingText, Running, Closing, Finished}
-use Rattle.pr_truss_laws.proofs.FunctionOptionLemmas.{fed_functions-options}
-use Rattle.pr_truss_laws.proofs.ReplySteps.{lost-same}
+use Rattle.pr_truss.specs.declared.replies.Answer.TheVariants.{Accepted, Interrupted}
 use Rattle.pr_world.specs.Controllers.{after_reply, call_by, next_call, with_fed}
 use Rattle.pr_world.specs.ControllerStates.{ControllerState, FnTruss}
 use Rattle.pr_world.specs.Protocol.{controllers_after, controllers_at}
 use Rattle.pr_tool_laws.specs.OwnCalls.{IsOwnCall}
 use Rattle.pr_function_laws.proofs.BreakpointLemmas.{IsOwnEntry, foreign-entry, own-entry}
-use Rattle.pr_function_laws.proofs.SoundLemmas.{AsideIsBelow, function-sound}
+use Rattle.pr_function_laws.proofs.SoundLemmas.{AsideIsBelow}
 use Rattle.pr_function_hides.proofs.CallFacts.{calm-reply, controllers-push, open-finds, open-made, shape-of}
 use Rattle.pr_function_hides.proofs.CalledCovers.{IsAsPatched, call-still, close-other, ctl-other}
-use Rattle.pr_function_hides.proofs.FilesCalls.{Files, files-alike, holds-of, own-under}
-use Rattle.pr_function_hides.proofs.FilesWalk.{AfterAside, AfterStage, LeftFiles, SameFiles, Under, fed-under}
+use Rattle.pr_function_hides.proofs.FilesWalk.{SameFiles}
 use Rattle.pr_function_hides.proofs.MappedMemory.{mapped-owns}
 use Rattle.pr_function_hides.proofs.MarkedPatches.{patch-there}
-use Rattle.pr_function_hides.proofs.OwnCalls.{own-planted}
-use Rattle.pr_function_hides.proofs.OwnTidy.{Kind, kind}
-use Rattle.pr_function_hides.proofs.PlantedReplies.{learnt-pid}
-use Rattle.pr_function_hides.proofs.RunFlags.{flags-fed}
+use Rattle.pr_function_hides.proofs.OwnTidy.{Kind, kind, left-kind}
+use Rattle.pr_function_hides.proofs.PlantedReplies.{So}
+use Rattle.pr_function_hides.proofs.RunFlags.{FlagsOf}
 use Rattle.pr_function_hides.proofs.Unborrowed.{IsUnborrowed, unborrowed-now}
 use Rattle.pr_function_hides.proofs.WriteReplies.{mapped-user, write-granted}
-use Rattle.pr_function_hides.specs.FunctionHiders.{ArePatchable, IsTrussAt, StandAsMarked, patch_of}
-use Rattle.pr_function_hides.proofs.OwnFiles.{HoldsItsFiles, IsBeside, IsWithin}
-use Rattle.pr_function_hides.specs.TidyWrites.{IsMappedIn, IsTrussAfter}
-use Rattle.pr_function_hides.proofs.CopyFree.{replaced-bare}
-use Rattle.pr_function_hides.proofs.TidyKept.{AreMappedIn, Holder, IsRunOfTrusses, Kept, Lives, Truss}
-use Rattle.pr_function_hides.proofs.TidyEntries.{now-is, at-is, its-lawful, its-legal, its-call, its-lending, foreign-maps, later-unborrowed, lived, quiet-kept}
+use Rattle.pr_function_hides.specs.FunctionHiders.{ArePatchable, IsTrussAt, patch_of}
+use Rattle.pr_function_hides.proofs.OwnFiles.{HasItsFiles, HoldsItsFiles}
+use Rattle.pr_function_hides.specs.TidyWrites.{AreUnbroken, IsMappedIn, IsTrussAfter}
+use Rattle.pr_function_hides.proofs.TidyKept.{AreMappedIn, Course, Holder, IsRunOfTrusses, Kept, Truss, goes_on}
+use Rattle.pr_function_hides.proofs.TidyKept.{has-files, holds-calm, leaves_them, runs-so}
+use Rattle.pr_function_hides.proofs.TidyEntries.{now-is, at-is, its-lawful, its-legal, its-call, its-lending}
+use Rattle.pr_function_hides.proofs.TidyEntries.{foreign-maps, later-unborrowed, quiet-kept}
 
 -- A call of one who hides nothing leaves what is kept; and what is known of truss as it makes a call: which call it is,
 -- that its breakpoints stand as it has marked them, its files, and that its processes borrow no memory, then and later.
 
-module _ {n : ℕ} {who : Hiders} {controllers : List ControllerState} {first : TracedState} {h : List Entry}
-    (run : IsRunOfTrusses n who controllers first h)
+module _ {B : Type 0} {n : ℕ} {who : Hiders} {controllers : List ControllerState} {first : TracedState}
+    {h : List Entry} (run : IsRunOfTrusses B n who controllers first h)
     (front back : List Entry) (j : ℕ) (c : Call) (r : Reply) (place : h ≡ front ++ call_entry j c r ∷ back)
     (kept : Kept who controllers first h front) where
   none : (k : ℕ) → who.probes k ≡ false
@@ -187,8 +176,8 @@ module _ {n : ℕ} {who : Hiders} {controllers : List ControllerState} {first : 
         let names = w.sound.names in
         subst (λ (x : Options). AsideIsBelow (length x.functions) tr.aside) (sym options-is) names.aside
 
-    pub holds-now : HoldsItsFiles j tr v
-    holds-now = let w = truss-now in holds-of j (now front) w.t w.files
+    pub files-now : HasItsFiles j tr v
+    files-now = has-files truss-now
 
     pub next : next_function_call_of tr ≡ Some c
     unfolding IsOwnCall call_by next_call
@@ -208,8 +197,12 @@ module _ {n : ℕ} {who : Hiders} {controllers : List ControllerState} {first : 
     pub reply-is : own.answer.reply ≡ r
     reply-is = own.replied
 
-    pub its-kind : Kind j v c tr fits holds-now below
-    its-kind = kind j v c tr fits holds-now below next has
+    pub its-kind : Kind c tr
+    its-kind = let w = truss-now in by w.course
+      where
+        by : Course tr → Kind c tr
+        by (goes_on goes flags) = kind c tr fits goes below next has
+        by (leaves_them on there) = left-kind c tr fits below next has there
 
     abbrev pub held-of : ℕ → Held
     held-of q = record { controller = j; pid = (traced_at tr q).pid; lwp = 0; file = file.Ctl; mode = WriteExcl }
@@ -225,7 +218,7 @@ module _ {n : ℕ} {who : Hiders} {controllers : List ControllerState} {first : 
     shape q bytes address len within is read =
         subst (λ (x : Reply). ((used : ℕ) × (x ≡ reply.Used used))
         ⊎ ((answer_of x ≢ Accepted) × ((used : ℕ) → x ≢ reply.Used used))) reply-is
-        (shape-of v j (traced_at tr q).control (held-of q) (holds-now.control q within) refl bytes address 16 len read
+        (shape-of v j (traced_at tr q).control (held-of q) (files-now.control q within) refl bytes address 16 len read
         own.answer (given _ is))
 
     pub ctl-control : (f : File) → is_ctl f ≡ true → is_control f ≡ true
@@ -238,7 +231,8 @@ module _ {n : ℕ} {who : Hiders} {controllers : List ControllerState} {first : 
         (handle-writer v.opens x.number x.held lawful-now.fitting
         (handle-at v.opens x.k x.number x.held x.there) (ctl-control x.held.file x.control))
 
-    fresh : (pid : ℕ) → c ≡ call.Open pid 0 file.Ctl WriteExcl → answer_of r ≡ Accepted → (at front pid).patches ≡ []
+    pub fresh : (pid : ℕ) → c ≡ call.Open pid 0 file.Ctl WriteExcl → answer_of r ≡ Accepted
+        → (at front pid).patches ≡ []
     fresh pid is accepted = by (kept.bare pid)
       where
         by : ((at front pid).patches ≡ []) ⊎ Holder who pid v → (at front pid).patches ≡ []
@@ -247,7 +241,7 @@ module _ {n : ℕ} {who : Hiders} {controllers : List ControllerState} {first : 
             absurd (open-finds v j pid own.answer (given _ is) (ap answer_of reply-is ∙ accepted)
             (holder-writes pid x))
 
-    granted : (q : ℕ) (bytes : List ℕ) (address len : ℕ) (p : TracedProcess) (g : Patch) → q < length tr.traced
+    pub granted : (q : ℕ) (bytes : List ℕ) (address len : ℕ) (p : TracedProcess) (g : Patch) → q < length tr.traced
         → c ≡ call.Ctl (traced_at tr q).control bytes → first_message bytes ≡ Ok (message.Write address 16, len)
         → length (tail_of (message.Write address 16) bytes) ≡ 16 → live_process v.system (traced_at tr q).pid ≡ Some p
         → patch_at address (at front (traced_at tr q).pid).patches ≡ Some g → (used : ℕ) × (r ≡ reply.Used used)
@@ -261,38 +255,15 @@ module _ {n : ℕ} {who : Hiders} {controllers : List ControllerState} {first : 
         ap (λ m. is_ok (bytes_for 0 p.space address m)) long
         ∙ ap (λ m. is_ok (bytes_for 0 p.space m 16)) (sym it.1) ∙ mapped.ok in
         let got =
-        write-granted v j (traced_at tr q).control (held-of q) (holds-now.control q within) refl bytes address 16 len
+        write-granted v j (traced_at tr q).control (held-of q) (files-now.control q within) refl bytes address 16 len
         read own.answer (given _ is) p live user owns ok in (got.0, sym reply-is ∙ got.1)
-
-    stand-later : Each (λ (x : Traced). Lives (now later_front) x.pid
-        → StandAsMarked tr.options x.marks.planted (covers_called who (at front) v j c r x.pid).patches)
-        (fed_functions tr r).traced
-    stand-later =
-        let w = truss-now in
-        own-planted who none j (at front) v c r tr fits these holds-now below (Lives (now later_front))
-        (λ q within lives. lived run front e back place kept j hider q within lives)
-        (λ q within lives. w.stand q within (lived run front e back place kept j hider q within lives))
-        shape fresh
-        (λ q tells. replaced-bare run front back j c r place kept hider q tells)
-        granted next has (calm-reply r (run.und.unbroken front back j c r place hider))
-
-    files-later : Under (Files j (now later_front)) (files-alike j (now later_front)) (fed_functions tr r)
-    files-later =
-        let w = truss-now in
-        let calm = calm-reply r (run.und.unbroken front back j c r place hider) in
-        subst (λ (x : TracedState). Under (Files j x) (files-alike j x) (fed_functions tr r))
-        (own.later ∙ sym called-now)
-        (subst (λ (y : Reply). Under (Files j own.answer.state) (files-alike j own.answer.state) (fed_functions tr y))
-        reply-is
-        (own-under j v c own.answer own.is lawful-now.fitting tr w.files next has
-        (λ interrupted. calm (ap answer_of (sym reply-is) ∙ interrupted))))
 
     -- ---- its processes have no lenders
 
-    abbrev Alone : Traced → Type 0
+    abbrev pub Alone : Traced → Type 0
     Alone x = IsUnborrowed x.pid (now later_front).system
 
-    alone-alike : (x y : Traced) → SameFiles x y → Alone x → Alone y
+    pub alone-alike : (x y : Traced) → SameFiles x y → Alone x → Alone y
     alone-alike x y same it = subst (λ i. IsUnborrowed i (now later_front).system) (sym same.pid) it
 
     pub all-alone : Each Alone tr.traced
@@ -301,7 +272,7 @@ module _ {n : ℕ} {who : Hiders} {controllers : List ControllerState} {first : 
         later-unborrowed run front e back place kept (traced_at tr q).pid (w.alone q within)
 
     -- of one that is opened
-    new-alone : (pid : ℕ) → c ≡ call.Open pid 0 file.Ctl WriteExcl → answer_of r ≡ Accepted
+    pub new-alone : (pid : ℕ) → c ≡ call.Open pid 0 file.Ctl WriteExcl → answer_of r ≡ Accepted
         → IsUnborrowed pid (now later_front).system
     new-alone pid is accepted =
         later-unborrowed run front e back place kept pid
@@ -318,65 +289,7 @@ module _ {n : ℕ} {who : Hiders} {controllers : List ControllerState} {first : 
         open-finds v j pid own.answer (given _ is) (ap answer_of reply-is ∙ accepted)
         (subst (λ m. has_writer m v.opens ≡ true) same
         (handle-writer v.opens (traced_at tr i).control (held-of i) lawful-now.fitting
-        (handle-at v.opens j (traced_at tr i).control (held-of i) (holds-now.control i within)) refl))
-
-    lost-alone : (q : ℕ) → q < length tr.traced → (x : Option Traced) → without_last (traced_at tr q) ≡ x
-        → LeftFiles Alone alone-alike x (traced_at tr q)
-    lost-alone q within None is = tt
-    lost-alone q within (Some x) is =
-        let same = lost-same (traced_at tr q) x is in
-        subst (λ i. IsUnborrowed i (now later_front).system) (sym same.pid) (all-alone q within)
-
-    alone-stage : (stage : Stage) → IsWithin (length tr.traced) stage → function_call_of tr stage ≡ Some c
-        → AfterStage Alone alone-alike tr r stage
-    unfolding function_call_of call_of newly_traced
-    alone-stage (Spawning program) w is = all-alone
-    alone-stage (OpeningControl pid) w is = (
-      all-alone,
-      λ accepted. (
-        new-alone pid (sym (same_Some _ c is)) accepted,
-        new-apart pid (sym (same_Some _ c is)) accepted,
-      ),
-    )
-    alone-stage (Opening q step) w is = (
-      each-but Alone tr.traced q all-alone,
-      (
-        all-alone q w,
-        λ accepted.
-            subst (λ i. IsUnborrowed i (now later_front).system) (sym (learnt-pid (traced_at tr q) r step))
-            (all-alone q w),
-      ),
-    )
-    alone-stage Polling w is = all-alone
-    alone-stage (ReadingStatus q) w is = all-alone
-    alone-stage (ReadingText q l from len) w is = all-alone
-    alone-stage (Running q) w is = all-alone
-    alone-stage (Closing q OpenNext) w is =
-        (each-but Alone tr.traced q all-alone, lost-alone q w (without_last (traced_at tr q)) refl)
-    alone-stage (Closing q GoOn) w is =
-        (each-but Alone tr.traced q all-alone, lost-alone q w (without_last (traced_at tr q)) refl)
-    alone-stage Finished w is = all-alone
-    alone-stage _ w is = absurd w
-
-    alone-aside : (aside : Aside) → IsBeside (length tr.traced) aside → call_beside tr tr.stage aside ≡ Some c
-        → AfterAside Alone alone-alike tr r aside
-    unfolding call_beside
-    alone-aside Nothing w is = alone-stage tr.stage holds-now.stage is
-    alone-aside (Reading q i) w is = all-alone
-    alone-aside (Planting q i) w is = all-alone
-    alone-aside (Patching q plants lifts clear) w is = all-alone
-    alone-aside _ w is = absurd w
-
-    alone-later : Each Alone (fed_functions tr r).traced
-    unfolding next_function_call_of
-    alone-later =
-        let calm = calm-reply r (run.und.unbroken front back j c r place hider) in
-        let u =
-        fed-under Alone alone-alike tr r holds-now.off holds-now.follow holds-now.stage holds-now.beside
-        holds-now.apart calm has
-        (alone-aside tr.aside holds-now.beside
-        (sym (ap (λ b. cond b (call_beside tr tr.stage tr.aside) (next_call_of tr)) has) ∙ next)) in
-        u.each
+        (handle-at v.opens j (traced_at tr i).control (held-of i) (files-now.control i within)) refl))
 
     pub own-after : IsTrussAfter who controllers first h later_front j (fed_functions tr r)
     unfolding after_reply
@@ -385,24 +298,17 @@ module _ {n : ℕ} {who : Hiders} {controllers : List ControllerState} {first : 
         ap (λ (cs : List ControllerState). slice_get cs j) called-controllers
         ∙ fed-own (controllers_at controllers front) j r (FnTruss tr) w.is
 
-    pub own-truss : Truss who controllers first h later_front j
-    own-truss =
-        let w = truss-now in
-        record {
-          it = w.it;
-          t = fed_functions tr r;
-          is = own-after;
-          sound = function-sound o (λ (step : Stepped). Unit {0}) tr r w.sound
-              (λ q l told event function fresh_event at_breakpoint. tt);
-          stand = λ q within lives.
-              subst (λ (x : Options). StandAsMarked x (marks_at (fed_functions tr r) q).planted
-              (at later_front (traced_at (fed_functions tr r) q).pid).patches)
-              (sym (fed_functions-options tr r))
-              (subst (λ (cs : Covers). StandAsMarked tr.options (marks_at (fed_functions tr r) q).planted
-              (cs (traced_at (fed_functions tr r) q).pid).patches) (sym called-is) (stand-later q within lives));
-          files = files-later;
-          alone = alone-later;
-          flags =
-              flags-fed tr r holds-now.off holds-now.follow holds-now.stage holds-now.beside
-              (calm-reply r (run.und.unbroken front back j c r place hider)) w.flags has;
-        }
+-- ---- of trusses that are not interrupted
+
+module _ {n : ℕ} {who : Hiders} {controllers : List ControllerState} {first : TracedState} {h : List Entry}
+    (run : IsRunOfTrusses (AreUnbroken who h) n who controllers first h)
+    (front back : List Entry) (j : ℕ) (c : Call) (r : Reply) (place : h ≡ front ++ call_entry j c r ∷ back)
+    (kept : Kept who controllers first h front) (hider : hides who j ≡ true) where
+  pub holds-now : HoldsItsFiles j (tr run front back j c r place kept hider) (state_after first front)
+  holds-now = holds-calm (kept.trusses j hider) run.besides
+
+  pub flags-now : Each (So FlagsOf) (tr run front back j c r place kept hider).traced
+  flags-now = let w = kept.trusses j hider in runs-so w (w.calm run.besides)
+
+  pub calm-now : answer_of r ≢ Interrupted
+  calm-now = calm-reply r (run.besides.unbroken front back j c r place hider)

@@ -42,17 +42,18 @@ use Rattle.pr_function_hides.proofs.StillMessages.{BeginStill}
 use Rattle.pr_function_hides.proofs.Unborrowed.{IsUnborrowed, unborrowed-none}
 use Rattle.pr_function_hides.proofs.WriteReplies.{write-mapped}
 use Rattle.pr_function_hides.specs.FunctionHiders.{ArePatchable, IsPatchable, patch_of}
-use Rattle.pr_function_hides.proofs.OwnFiles.{HoldsItsFiles}
+use Rattle.pr_function_hides.proofs.OwnFiles.{HasItsFiles}
 use Rattle.pr_function_hides.specs.TidyWrites.{IsMappedIn}
 use Rattle.pr_function_hides.proofs.TidyKept.{AreMappedIn, Holder, IsRunOfTrusses, Kept, Lives, Truss, holder-moves}
 use Rattle.pr_function_hides.proofs.TidyEntries.{its-lawful, mapped-later, unlent-later, lived, foreign-truss, sole}
 use Rattle.pr_function_hides.proofs.TidyCalls as Calls
+use Rattle.pr_function_hides.proofs.TidyOwn.{own-truss}
 
 -- What is hidden once a call was made: of the processes of the truss that made it, of those of another, and of any
 -- other; so what is kept is kept by each call.
 
-module _ {n : ℕ} {who : Hiders} {controllers : List ControllerState} {first : TracedState} {h : List Entry}
-    (run : IsRunOfTrusses n who controllers first h)
+module _ {B : Type 0} {n : ℕ} {who : Hiders} {controllers : List ControllerState} {first : TracedState}
+    {h : List Entry} (run : IsRunOfTrusses B n who controllers first h)
     (front back : List Entry) (j : ℕ) (c : Call) (r : Reply) (place : h ≡ front ++ call_entry j c r ∷ back)
     (kept : Kept who controllers first h front) where
   abbrev at : List Entry → Covers
@@ -101,8 +102,8 @@ module _ {n : ℕ} {who : Hiders} {controllers : List ControllerState} {first : 
     abbrev below : AsideIsBelow (length tr.options.functions) tr.aside
     below = Calls.below run front back j c r place kept hider
 
-    abbrev holds-now : HoldsItsFiles j tr v
-    holds-now = Calls.holds-now run front back j c r place kept hider
+    abbrev files-now : HasItsFiles j tr v
+    files-now = Calls.files-now run front back j c r place kept hider
 
     abbrev own : IsOwnEntry j v e (record { call = c; reply = r })
     own = Calls.own run front back j c r place kept hider
@@ -113,7 +114,7 @@ module _ {n : ℕ} {who : Hiders} {controllers : List ControllerState} {first : 
     reply-is : own.answer.reply ≡ r
     reply-is = Calls.reply-is run front back j c r place kept hider
 
-    its-kind : Kind j v c tr fits holds-now below
+    its-kind : Kind c tr
     its-kind = Calls.its-kind run front back j c r place kept hider
 
     abbrev held-of : ℕ → Held
@@ -157,14 +158,14 @@ module _ {n : ℕ} {who : Hiders} {controllers : List ControllerState} {first : 
           close-apart who none (at front) v j pid number r (λ x there same. file-of number x there same)
       by-call d is never = call-still who none (at front) v j pid d r refl
 
-      by-kind : Kind j v c tr fits holds-now below
+      by-kind : Kind c tr
           → IsAsPatched (at front pid) (covers_called who (at front) v j c r pid)
       by-kind (writes m inside i f named code size bytes is) =
           subst (λ (d : Call). IsAsPatched (at front pid) (covers_called who (at front) v j d r pid)) (sym is)
           (ctl-apart who none (at front) v j pid (traced_at tr m).control _ r (λ x there same.
           none-writes (traced_at tr m).control x there
           (ap (λ (y : Held). is_writable y.mode)
-          (sym (same_Some (held-of m) x (sym (holds-now.control m inside) ∙ there)))) same))
+          (sym (same_Some (held-of m) x (sym (files-now.control m inside) ∙ there)))) same))
       by-kind (sends m inside bytes is still) =
           subst (λ (d : Call). IsAsPatched (at front pid) (covers_called who (at front) v j d r pid)) (sym is)
           (ctl-still who none (at front) v j pid (traced_at tr m).control bytes r still)
@@ -185,7 +186,7 @@ module _ {n : ℕ} {who : Hiders} {controllers : List ControllerState} {first : 
     each-truss k hider_too = elim (cases_eq j k) [
       | inl same ↦
           subst (λ m. Truss who controllers first h later_front m) same
-          (Calls.own-truss run front back j c r place kept hider)
+          (own-truss run front back j c r place kept hider)
       | inr apart ↦ others-truss k hider_too apart
     ]
 
@@ -214,7 +215,7 @@ module _ {n : ℕ} {who : Hiders} {controllers : List ControllerState} {first : 
         still-bare pid nothing
         (subst (λ (d : Call). IsAsPatched (at front pid) (covers_called who (at front) v j d r pid)) (sym is)
         (ctl-apart who none (at front) v j pid (traced_at tr m).control bytes r (λ x there same.
-        apart (ap (λ (y : Held). y.pid) (same_Some (held-of m) x (sym (holds-now.control m inside) ∙ there))
+        apart (ap (λ (y : Held). y.pid) (same_Some (held-of m) x (sym (files-now.control m inside) ∙ there))
         ∙ same))))
 
     sends-bare : (pid m : ℕ) (bytes : List ℕ) → (at front pid).patches ≡ []
@@ -241,14 +242,14 @@ module _ {n : ℕ} {who : Hiders} {controllers : List ControllerState} {first : 
 
     -- of a process that truss does not trace
     bare-apart : (pid : ℕ) → (at front pid).patches ≡ []
-        → ((m : ℕ) → m < length tr.traced → (traced_at tr m).pid ≢ pid) → Kind j v c tr fits holds-now below
+        → ((m : ℕ) → m < length tr.traced → (traced_at tr m).pid ≢ pid) → Kind c tr
         → (at later_front pid).patches ≡ []
     bare-apart pid nothing apart (writes m inside i f named code size bytes is) =
         writes-bare pid m _ nothing inside is (apart m inside)
     bare-apart pid nothing apart (sends m inside bytes is still) = sends-bare pid m bytes nothing is still
     bare-apart pid nothing apart (other never) = other-bare pid nothing never
 
-    bare-kind : (pid : ℕ) → (at front pid).patches ≡ [] → Kind j v c tr fits holds-now below
+    bare-kind : (pid : ℕ) → (at front pid).patches ≡ [] → Kind c tr
         → ((at later_front pid).patches ≡ []) ⊎ Holder who pid (now later_front)
     bare-kind pid nothing (writes m inside i f named code size bytes is) = by (cases_eq (traced_at tr m).pid pid)
       where
@@ -259,7 +260,7 @@ module _ {n : ℕ} {who : Hiders} {controllers : List ControllerState} {first : 
           hider = hider;
           number = (traced_at tr m).control;
           held = held-of m;
-          there = own-there (traced_at tr m).control (held-of m) (holds-now.control m inside) (λ closes.
+          there = own-there (traced_at tr m).control (held-of m) (files-now.control m inside) (λ closes.
               ctl-no-close (sym is ∙ closes));
           of = same;
           control = refl;
@@ -323,7 +324,7 @@ module _ {n : ℕ} {who : Hiders} {controllers : List ControllerState} {first : 
         ok =
             ap (λ xs. is_ok (bytes_for 0 was-live.0.space f.at xs))
             (sym (ap (λ xs. length xs) (write-tail f.at code low-address size are_bytes) ∙ size))
-            ∙ write-mapped v j (traced_at tr m).control (held-of m) (holds-now.control m inside) refl
+            ∙ write-mapped v j (traced_at tr m).control (held-of m) (files-now.control m inside) refl
             (spelling (message.Write f.at 16) code) f.at 16 _ read-so own.answer (given _ is) was-live.0 was-live.1
             used (reply-is ∙ got);
       }
@@ -340,7 +341,7 @@ module _ {n : ℕ} {who : Hiders} {controllers : List ControllerState} {first : 
           subst (AreMappedIn q)
           (sym (ap (λ (cs : Covers). (cs mpid).patches) called-is
           ∙ (let w = truss-now in
-          taken who none j (at front) v c r tr fits these holds-now below (Lives (now later_front))
+          taken who none j (at front) v c r tr fits these files-now below (Lives (now later_front))
           (λ x within lives. lived run front e back place kept j hider x within lives)
           (λ x within lives. w.stand x within (lived run front e back place kept j hider x within lives))
           m inside i f named code size are_bytes is used got was-live.0 was-live.1)))
@@ -360,7 +361,7 @@ module _ {n : ℕ} {who : Hiders} {controllers : List ControllerState} {first : 
           same-mapped mpid q later
           (ap (λ (x : Cover). x.patches)
           (let w = truss-now in
-          not-taken who none j (at front) v c r tr fits these holds-now below (Lives (now later_front))
+          not-taken who none j (at front) v c r tr fits these files-now below (Lives (now later_front))
           (λ x within lives. lived run front e back place kept j hider x within lives)
           (λ x within lives. w.stand x within (lived run front e back place kept j hider x within lives))
           m inside i f named code size are_bytes is refused.1 mpid))
@@ -372,7 +373,7 @@ module _ {n : ℕ} {who : Hiders} {controllers : List ControllerState} {first : 
           read-so)
 
     mapped-kind : (pid : ℕ) (q : TracedProcess) → live_process (now later_front).system pid ≡ Some q
-        → Kind j v c tr fits holds-now below → AreMappedIn q (at later_front pid).patches
+        → Kind c tr → AreMappedIn q (at later_front pid).patches
     mapped-kind pid q later (writes m inside i f named code size bytes is) = by (cases_eq (traced_at tr m).pid pid)
       where
         by : ((traced_at tr m).pid ≡ pid) ⊎ ((traced_at tr m).pid ≢ pid)
@@ -385,7 +386,7 @@ module _ {n : ℕ} {who : Hiders} {controllers : List ControllerState} {first : 
             kept-mapped pid q later
             (subst (λ (d : Call). IsAsPatched (at front pid) (covers_called who (at front) v j d r pid)) (sym is)
             (ctl-apart who none (at front) v j pid (traced_at tr m).control _ r (λ x there same.
-            apart (ap (λ (y : Held). y.pid) (same_Some (held-of m) x (sym (holds-now.control m inside) ∙ there))
+            apart (ap (λ (y : Held). y.pid) (same_Some (held-of m) x (sym (files-now.control m inside) ∙ there))
             ∙ same))))
     mapped-kind pid q later (sends m inside bytes is still) =
         kept-mapped pid q later

@@ -39,15 +39,16 @@ use Rattle.pr_function_laws.proofs.BreakpointLemmas.{foreign-entry}
 use Rattle.pr_function_laws.proofs.OpenedLemmas.{control-made, control-sole}
 use Rattle.pr_function_hides.proofs.CallFacts.{controllers-push, own-here, legal-here}
 use Rattle.pr_function_hides.proofs.CalledCovers.{IsAsPatched, covers-push, patched-self, turn-stays}
-use Rattle.pr_function_hides.proofs.FilesCalls.{foreign-under, holds-of}
+use Rattle.pr_function_hides.proofs.FilesCalls.{foreign-files}
 use Rattle.pr_function_hides.proofs.MappedMemory.{entry-maps, mapped-owns}
 use Rattle.pr_function_hides.proofs.MarkedPatches.{through-all}
 use Rattle.pr_function_hides.proofs.Unborrowed.{IsUnborrowed, entry-unborrowed, unborrowed-none, unborrowed-now}
 use Rattle.pr_function_hides.specs.FunctionHiders.{StandAsMarked}
-use Rattle.pr_function_hides.proofs.OwnFiles.{HoldsItsFiles}
+use Rattle.pr_function_hides.proofs.OwnFiles.{HasItsFiles}
 use Rattle.pr_function_hides.specs.TidyWrites.{IsMappedIn}
 use Rattle.pr_function_hides.proofs.CopyFree.{copies-bare}
-use Rattle.pr_function_hides.proofs.TidyKept.{AreMappedIn, Holder, IsRunOfTrusses, Kept, Lives, Truss, holder-moves}
+use Rattle.pr_function_hides.proofs.TidyKept.{AreMappedIn, Holder, IsRunOfTrusses, Kept, Lives, Truss, has-files}
+use Rattle.pr_function_hides.proofs.TidyKept.{holder-moves}
 use Rattle.pr_function_hides.specs.Copying.{makes_copy}
 
 -- What is kept is so one entry later, where the entry changes nothing that is hidden; so it is kept by each turn, and
@@ -60,8 +61,8 @@ replaced-copies (Made Vfork (Value value)) is = refl
 replaced-copies (Made Exec (Value value)) is = refl
 replaced-copies _ is = absurd (false≢true is)
 
-module _ {n : ℕ} {who : Hiders} {controllers : List ControllerState} {first : TracedState} {h : List Entry}
-    (run : IsRunOfTrusses n who controllers first h) where
+module _ {B : Type 0} {n : ℕ} {who : Hiders} {controllers : List ControllerState} {first : TracedState}
+    {h : List Entry} (run : IsRunOfTrusses B n who controllers first h) where
   none : (k : ℕ) → who.probes k ≡ false
   none = run.are.no_probes
 
@@ -186,8 +187,8 @@ module _ {n : ℕ} {who : Hiders} {controllers : List ControllerState} {first : 
       abbrev t : TrussState
       t = let w = truss in w.t
 
-      holds : HoldsItsFiles k t s
-      holds = let w = truss in holds-of k (now front) w.t w.files
+      holds : HasItsFiles k t s
+      holds = has-files truss
 
       -- a process that lives later lived before
       pub lived : (q : ℕ) → q < length t.traced → Lives (now next_front) (traced_at t q).pid
@@ -227,9 +228,12 @@ module _ {n : ℕ} {who : Hiders} {controllers : List ControllerState} {first : 
                 let a = stays q within in
                 subst (StandAsMarked w.t.options (marks_at w.t q).planted) (sym a.patches)
                 (w.stand q within (lived q within lives));
-            files = foreign-under k (now front) (now next_front) w.t handles w.files;
+            files = foreign-files k (now front) (now next_front) w.t handles w.files;
+            apart = w.apart;
+            follow = w.follow;
             alone = λ q within. later-unborrowed (traced_at w.t q).pid (w.alone q within);
-            flags = w.flags;
+            course = w.course;
+            calm = w.calm;
           }
 
       -- nobody else has its processes open for writing

@@ -1,4 +1,5 @@
-use Rattle.std.proofs.Common.{◌≡◌, ◌⊎◌, ℕ, true, false, Some, List, [], All}
+use Rattle.std.proofs.Common.{◌≡◌, ◌⊎◌, ℕ, true, false, Some, List, [], All, sym, ◌∙◌}
+use Rattle.std.proofs.lemmas.Bool.{false≢true}
 use Rattle.pr_hidden.specs.Covers.{Covers, Patch}
 use Rattle.pr_hidden.specs.Hiders.{Hiders, covers_at, hides, is_ctl}
 use Rattle.pr_model.specs.Handles.{handle_of}
@@ -15,26 +16,48 @@ use Rattle.pr_truss.specs.declared.processes.Traced.{Traced}
 use Rattle.pr_world.specs.ControllerStates.{ControllerState}
 use Rattle.pr_tool_laws.specs.OwnCalls.{AreOwnCalls}
 use Rattle.pr_function_laws.proofs.SoundLemmas.{IsSound}
-use Rattle.pr_function_hides.proofs.FilesCalls.{Files, files-alike}
-use Rattle.pr_function_hides.proofs.FilesWalk.{Under}
+use Rattle.pr_function_hides.proofs.FilesCalls.{Files, files-of}
+use Rattle.pr_function_hides.proofs.FilesWalk.{AreApart}
+use Rattle.pr_function_hides.proofs.LeavingStages.{IsLeft}
+use Rattle.pr_function_hides.proofs.OwnFiles.{GoesOn, HasItsFiles, HoldsItsFiles, both-hold}
 use Rattle.pr_function_hides.proofs.PlantedReplies.{So}
 use Rattle.pr_function_hides.proofs.RunFlags.{FlagsOf}
 use Rattle.pr_function_hides.proofs.Unborrowed.{IsUnborrowed}
 use Rattle.pr_function_hides.specs.FunctionHiders.{AreTrusses, IsTrussAt, StandAsMarked}
-use Rattle.pr_function_hides.specs.TidyWrites.{AreUndisturbed, IsMappedIn, IsTrussAfter}
+use Rattle.pr_function_hides.specs.SleptCopies.{NoneSleepsInCopy}
+use Rattle.pr_function_hides.specs.TidyWrites.{AreUnbroken, AreUndisturbed, IsMappedIn, IsTrussAfter}
 
 -- What is kept along a history of trusses that are undisturbed: what each of them has planted, what is hidden of whom,
--- and that the memory is mapped in which breakpoints stand.
+-- that the memory is mapped in which breakpoints stand, and whether a truss leaves its processes.
 
--- a legal history from a state that the machine reaches, in which each one who hides is a truss that is undisturbed
-pub record IsRunOfTrusses (n : ℕ) (who : Hiders) (controllers : List ControllerState) (first : TracedState)
-    (h : List Entry) : Type 0 where
+-- A legal history from a state that the machine reaches, in which each one who hides is a truss that is undisturbed;
+-- and what else is asked of it.
+pub record IsRunOfTrusses (B : Type 0) (n : ℕ) (who : Hiders) (controllers : List ControllerState)
+    (first : TracedState) (h : List Entry) : Type 0 where
   pub reached : IsReached first
+  pub awake : NoneSleepsInCopy first.system
   pub bytes : HasBytes h
   pub legal : IsLegal n first h
   pub own_calls : AreOwnCalls controllers h
   pub are : AreTrusses who controllers first
   pub und : AreUndisturbed who controllers first h
+  pub besides : B
+
+-- one in which none is interrupted
+pub calm-run : (n : ℕ) (who : Hiders) (controllers : List ControllerState) (first : TracedState) (h : List Entry)
+    → IsReached first → NoneSleepsInCopy first.system → HasBytes h → IsLegal n first h → AreOwnCalls controllers h
+    → AreTrusses who controllers first → AreUndisturbed who controllers first h → AreUnbroken who h
+    → IsRunOfTrusses (AreUnbroken who h) n who controllers first h
+calm-run n who controllers first h reached awake bytes legal own_calls are und unbroken = record {
+  reached = reached;
+  awake = awake;
+  bytes = bytes;
+  legal = legal;
+  own_calls = own_calls;
+  are = are;
+  und = und;
+  besides = unbroken;
+}
 
 -- a process lives
 abbrev pub Lives : TracedState → ℕ → Type 0
@@ -54,6 +77,11 @@ pub record Holder (who : Hiders) (pid : ℕ) (s : TracedState) : Type 0 where
   pub of : held.pid ≡ pid
   pub control : is_ctl held.file ≡ true
 
+-- Truss does not leave its processes, and runs them with such flags; or it leaves them.
+pub data Course (t : TrussState) : Type 0 where
+  goes_on : GoesOn t → Each (So FlagsOf) t.traced → Course t
+  leaves_them : t.leaving ≡ true → IsLeft t → Course t
+
 module _ (who : Hiders) (controllers : List ControllerState) (first : TracedState) (h : List Entry) where
   abbrev at : List Entry → Covers
   at front = covers_at who first front
@@ -69,9 +97,12 @@ module _ (who : Hiders) (controllers : List ControllerState) (first : TracedStat
     pub sound : IsSound it.options (λ (step : Stepped). Unit {0}) t
     pub stand : Each (λ (v : Traced). Lives (now front) v.pid
         → StandAsMarked t.options v.marks.planted (at front v.pid).patches) t.traced
-    pub files : Under (Files k (now front)) (files-alike k (now front)) t
+    pub files : Each (Files k (now front)) t.traced
+    pub apart : AreApart t.traced
+    pub follow : t.options.follow ≡ false
     pub alone : Each (λ (v : Traced). IsUnborrowed v.pid (now front).system) t.traced
-    pub flags : Each (So FlagsOf) t.traced
+    pub course : Course t
+    pub calm : AreUnbroken who h → t.leaving ≡ false
 
   -- what is so after some entries
   pub record Kept (front : List Entry) : Type 0 where
@@ -82,6 +113,29 @@ module _ (who : Hiders) (controllers : List ControllerState) (first : TracedStat
         → AreMappedIn p (at front pid).patches
     pub unlent : (pid lender : ℕ) (p : TracedProcess) → live_process (now front).system pid ≡ Some p
         → p.lender ≡ Some lender → (at front pid).patches ≡ []
+
+-- ---- what is known of a truss
+
+module _ {who : Hiders} {controllers : List ControllerState} {first : TracedState} {h front : List Entry} {k : ℕ}
+    (w : Truss who controllers first h front k) where
+  pub has-files : HasItsFiles k w.t (state_after first front)
+  has-files = files-of k (state_after first front) w.t w.files w.apart
+
+  module _ (off : w.t.leaving ≡ false) where
+    both : Course w.t → GoesOn w.t × Each (So FlagsOf) w.t.traced
+    both (goes_on goes flags) = (goes, flags)
+    both (leaves_them on at) = absurd (false≢true (sym off ∙ on))
+
+    pub stays-on : GoesOn w.t
+    stays-on = (both w.course).0
+
+    pub runs-so : Each (So FlagsOf) w.t.traced
+    runs-so = (both w.course).1
+
+  -- where none is interrupted
+  pub holds-calm : AreUnbroken who h → HoldsItsFiles k w.t (state_after first front)
+  holds-calm unbroken =
+      both-hold k w.t (state_after first front) (stays-on (w.calm unbroken)) has-files
 
 -- who holds a process goes on so, while that handle stays
 pub holder-moves : {who : Hiders} {pid : ℕ} {s u : TracedState} (x : Holder who pid s)

@@ -1,6 +1,4 @@
 use Rattle.std.proofs.Common.{◌≡◌, ◌++◌, ℕ, Option, Some, None, List, [], ◌∷◌, refl, sym, subst, ◌∙◌, inl}
-use Rattle.pr_reached.specs.ByteHistories.{HasBytes}
-use Rattle.pr_reached.specs.Reached.{IsReached}
 use Rattle.std.proofs.lemmas.List.{append-nil, append_assoc}
 use Rattle.std.proofs.lemmas.List.Elements.{All-nil}
 use Rattle.pr_hidden.specs.Covers.{Covers}
@@ -17,7 +15,6 @@ use Rattle.pr_truss.specs.Trusses.{first_truss}
 use Rattle.pr_truss.specs.declared.marks.Stepped.{Stepped}
 use Rattle.pr_truss.specs.declared.processes.Traced.{Traced}
 use Rattle.pr_world.specs.ControllerStates.{ControllerState}
-use Rattle.pr_tool_laws.specs.OwnCalls.{AreOwnCalls}
 use Rattle.pr_function_laws.proofs.SoundLemmas.{first-sound}
 use Rattle.pr_function_hides.proofs.CallFacts.{legal-here}
 use Rattle.pr_function_hides.proofs.FilesCalls.{Files, files-alike}
@@ -26,29 +23,17 @@ use Rattle.pr_function_hides.proofs.MappedMemory.{bare-patches, lender-bare, len
 use Rattle.pr_function_hides.proofs.PlantedReplies.{So, first-so-truss}
 use Rattle.pr_function_hides.proofs.RunFlags.{FlagsOf}
 use Rattle.pr_function_hides.proofs.Unborrowed.{IsUnborrowed}
-use Rattle.pr_function_hides.specs.FunctionHiders.{AreTrusses, StandAsMarked}
-use Rattle.pr_function_hides.specs.TidyWrites.{AreUndisturbed, IsMappedIn}
-use Rattle.pr_function_hides.proofs.TidyKept.{IsRunOfTrusses, Kept, Lives}
+use Rattle.pr_function_hides.specs.FunctionHiders.{StandAsMarked}
+use Rattle.pr_function_hides.specs.TidyWrites.{IsMappedIn}
+use Rattle.pr_function_hides.proofs.TidyKept.{IsRunOfTrusses, Kept, Lives, goes_on}
 use Rattle.pr_function_hides.proofs.TidyEntries.{lending-at, turn-kept, tick-kept}
 use Rattle.pr_function_hides.proofs.TidyCovers.{called-kept}
 
 -- The breakpoints that stand are those that each truss has marked; and nothing is hidden of who borrows or lends
 -- memory.
 
-module _ (n : ℕ) (who : Hiders) (controllers : List ControllerState) (first : TracedState) (h : List Entry)
-    (reached : IsReached first) (bytes : HasBytes h) (legal : IsLegal n first h)
-    (own_calls : AreOwnCalls controllers h)
-    (are : AreTrusses who controllers first) (und : AreUndisturbed who controllers first h) where
-  abbrev run : IsRunOfTrusses n who controllers first h
-  run = record {
-    reached = reached;
-    bytes = bytes;
-    legal = legal;
-    own_calls = own_calls;
-    are = are;
-    und = und;
-  }
-
+module _ {B : Type 0} {n : ℕ} {who : Hiders} {controllers : List ControllerState} {first : TracedState}
+    {h : List Entry} (run : IsRunOfTrusses B n who controllers first h) where
   abbrev at : List Entry → Covers
   at front = covers_at who first front
 
@@ -61,7 +46,8 @@ module _ (n : ℕ) (who : Hiders) (controllers : List ControllerState) (first : 
   at-first : KeptAfter []
   at-first = record {
     trusses = λ k hider.
-        let i = are.trusses k hider in
+        let i = run.are.trusses k hider in
+        let u = first-under-truss (Files k first) (files-alike k first) i.options i.follows_none in
         record {
           it = i;
           t = first_truss i.options;
@@ -69,13 +55,17 @@ module _ (n : ℕ) (who : Hiders) (controllers : List ControllerState) (first : 
           sound = first-sound i.options (λ (step : Stepped). Unit {0});
           stand = first-so-truss (λ (v : Traced). Lives first v.pid
               → StandAsMarked (first_truss i.options).options v.marks.planted (at [] v.pid).patches) i.options;
-          files = first-under-truss (Files k first) (files-alike k first) i.options i.follows_none;
+          files = u.each;
+          apart = u.apart;
+          follow = u.follow;
           alone =
-              let u =
+              let w =
               first-under-truss (λ (v : Traced). IsUnborrowed v.pid first.system)
               (λ x y same it. subst (λ m. IsUnborrowed m first.system) (sym same.pid) it) i.options i.follows_none in
-              u.each;
-          flags = first-so-truss (So FlagsOf) i.options;
+              w.each;
+          course = goes_on (record { off = u.off; follow = u.follow; stage = u.stage; beside = u.beside })
+              (first-so-truss (So FlagsOf) i.options);
+          calm = λ unbroken. u.off;
         };
     bare = λ pid. inl refl;
     no_agent = λ pid. refl;
@@ -101,7 +91,8 @@ module _ (n : ℕ) (who : Hiders) (controllers : List ControllerState) (first : 
       subst KeptAfter (append_assoc front (e ∷ []) middle)
       (walk middle (front ++ e ∷ []) back (place ∙ sym (append_assoc front (e ∷ []) (middle ++ back)))
       (entry-kept front e.actor e.act (middle ++ back) place
-      (legal-here n first front e (middle ++ back) (subst (λ (es : List Entry). IsLegal n first es) place legal)) kept))
+      (legal-here n first front e (middle ++ back) (subst (λ (es : List Entry). IsLegal n first es) place run.legal))
+      kept))
 
   pub kept-at : (front back : List Entry) → h ≡ front ++ back → Kept who controllers first h front
   kept-at front back place = walk front [] back place at-first

@@ -1,5 +1,6 @@
-use Rattle.std.proofs.Common.{◌≡◌, ◌⊎◌, ◌<◌, ◌++◌, ◌^◌, ℕ, true, false, IfOk, Option, Some, None, Result, Ok, Err, List, ◌∷◌, All, length, refl, sym, subst, ap, ◌∙◌, inl, inr, arith}
+use Rattle.std.proofs.Common.{◌≡◌, ◌⊎◌, ◌<◌, ◌++◌, ◌^◌, ℕ, true, false, IfOk, Option, Some, None, Result, Ok, Err, List, [], ◌∷◌, All, length, refl, sym, subst, ap, ◌∙◌, inl, inr, arith}
 use Rattle.std.proofs.lemmas.Bool.{false≢true}
+use Rattle.std.proofs.lemmas.Option.{none-some}
 use Rattle.std.specs.List.{slice_get}
 use Rattle.pr_api.specs.Entries.{call_entry}
 use Rattle.pr_hidden.specs.Covers.{Covers, Patch}
@@ -29,22 +30,25 @@ use Rattle.pr_truss.specs.Trusses.{TrussState, traced_at}
 use Rattle.pr_truss_laws.proofs.TakenLemmas.{target-live}
 use Rattle.pr_world.specs.ControllerStates.{ControllerState}
 use Rattle.pr_function_laws.specs.Stretches.{BeginWithWrite, is_write}
-use Rattle.pr_function_hides.proofs.MarkedPatches.{found-is, function-patch, none-at}
+use Rattle.pr_function_hides.proofs.LeavingStages.{IsLeft}
+use Rattle.pr_function_hides.proofs.CopyFree.{calm-on, function-run, opens-out, run-options}
+use Rattle.pr_function_hides.proofs.MarkedPatches.{found-is, function-patch, none-at, same-patch}
 use Rattle.pr_function_hides.proofs.OwnTidy.{Kind, other, sends, writes}
 use Rattle.pr_function_hides.proofs.OwnWrites.{write-read, write-tail}
+use Rattle.pr_function_hides.proofs.ReplacedWalk.{writes-none-so}
 use Rattle.pr_function_hides.proofs.StillMessages.{BeginStill, is_still}
 use Rattle.pr_function_hides.specs.FunctionHiders.{ArePatchable, IsPatchable, StandAsMarked, patch_of}
-use Rattle.pr_function_hides.proofs.OwnFiles.{HoldsItsFiles}
-use Rattle.pr_function_hides.proofs.TidyKept.{IsRunOfTrusses, Kept, Truss}
+use Rattle.pr_function_hides.proofs.OwnFiles.{GoesOn, HasItsFiles}
+use Rattle.pr_function_hides.proofs.TidyKept.{Course, IsRunOfTrusses, Kept, Truss, goes_on, leaves_them}
 use Rattle.pr_function_hides.proofs.CodeWalk.{CodeAt, Counted, Known, Replaced}
-use Rattle.pr_function_hides.proofs.TidyCalls.{truss-now, has, holds-now, fits, next, these, below, its-kind}
-use Rattle.pr_function_hides.proofs.WrittenFunctions.{written-known}
+use Rattle.pr_function_hides.proofs.TidyCalls.{truss-now, has, files-now, fits, next, these, below, its-kind}
+use Rattle.pr_function_hides.proofs.WrittenFunctions.{IsSoAt, written-known, written-marked}
 use Rattle.pr_parts.specs.AddressSpaces.{with_bytes}
 
 -- What truss writes is tidy: code of a function where none stands, or the breakpoint of one that it has marked.
 
-module _ {n : ℕ} {who : Hiders} {controllers : List ControllerState} {first : TracedState} {h : List Entry}
-    (run : IsRunOfTrusses n who controllers first h) where
+module _ {B : Type 0} {n : ℕ} {who : Hiders} {controllers : List ControllerState} {first : TracedState}
+    {h : List Entry} (run : IsRunOfTrusses B n who controllers first h) where
   none : (k : ℕ) → who.probes k ≡ false
   none = run.are.no_probes
 
@@ -69,8 +73,8 @@ module _ {n : ℕ} {who : Hiders} {controllers : List ControllerState} {first : 
     abbrev tw : TrussState
     tw = let w = truss_here in w.t
 
-    abbrev files : HoldsItsFiles j tw u
-    files = holds-now run front back j tc r place kept hider
+    abbrev files : HasItsFiles j tw u
+    files = files-now run front back j tc r place kept hider
 
     abbrev patchable : ArePatchable tw.options
     patchable = fits run front back j tc r place kept hider
@@ -102,8 +106,7 @@ module _ {n : ℕ} {who : Hiders} {controllers : List ControllerState} {first : 
     module _ (m : ℕ) (inside : m < length tw.traced) (i : ℕ) (f : Function)
         (named : slice_get tw.options.functions i ≡ Some f) (code : List ℕ) (size : length code ≡ 16)
         (are_bytes : All IsByte code)
-        (is : tc ≡ call.Ctl (traced_at tw m).control (spelling (message.Write f.at 16) code)) (used : ℕ)
-        (got : r ≡ reply.Used used) where
+        (is : tc ≡ call.Ctl (traced_at tw m).control (spelling (message.Write f.at 16) code)) where
       abbrev tpid : ℕ
       tpid = (traced_at tw m).pid
 
@@ -112,6 +115,13 @@ module _ {n : ℕ} {who : Hiders} {controllers : List ControllerState} {first : 
 
       abbrev ps : List Patch
       ps = (at front tpid).patches
+
+      -- the breakpoint of a function stands in a process, if that lives
+      abbrev Marked : ℕ → ℕ → Type 0
+      Marked pid function =
+          (q : TracedProcess) → live_process u.system pid ≡ Some q → (g : Function)
+          → slice_get tw.options.functions function ≡ Some g
+          → patch_at g.at (at front pid).patches ≡ Some (patch_of g)
 
       function-of : IsPatchable f
       function-of = All-at IsPatchable tw.options.functions i f named (let p = patchable in p.each)
@@ -132,48 +142,65 @@ module _ {n : ℕ} {who : Hiders} {controllers : List ControllerState} {first : 
             ap (patch_at f.at) (these run front back j tc r place kept hider)
             ∙ function-patch tw.options patchable i f named
 
-        -- where no breakpoint stands, the code does: truss has read it, or lifted the breakpoint
+        -- Where no breakpoint stands, the code does: truss has read it, or lifted the breakpoint. Where the memory was
+        -- replaced truss writes nothing.
         code-stands : patch_at f.at ps ≡ None → with_bytes f.at f.code p.space ≡ p.space
-        code-stands found = by (function-known f named)
+        code-stands found = let w = truss_here in course w.course
           where
-            function-known : Known run front j tw.options tpid i
-            function-known =
+            function-known : GoesOn tw → IsSoAt tw.options (Known run front j tw.options) tpid f.at
+            function-known goes =
                 let w = truss_here in
-                let all = counted.each j hider w.t w.is in
+                let all = counted.each j hider w.t w.is goes.off in
                 written-known j u tc tw patchable files (below run front back j tc r place kept hider)
                 (next run front back j tc r place kept hider) (has run front back j tc r place kept hider)
-                (λ pid function. Known run front j tw.options pid function) all.aside m inside i f named code size
-                are_bytes is
+                (Known run front j tw.options) m inside i f named code size are_bytes is goes all.aside
 
-            by : CodeAt run front tpid (patch_of f) ⊎ Replaced run front j tpid
+            -- a function at that address has the patch of this one
+            patch-same : {P : ℕ → ℕ → Type 0} (it : IsSoAt tw.options P tpid f.at) → patch_of it.g ≡ patch_of f
+            patch-same it = same-patch tw.options patchable it.function i it.g f it.its named it.same
+
+            -- a truss that leaves its processes writes only where a breakpoint stands
+            stands-marked : IsLeft tw → patch_at f.at ps ≡ Some (patch_of f)
+            stands-marked there =
+                let it =
+                written-marked j u tc tw patchable files (below run front back j tc r place kept hider)
+                (next run front back j tc r place kept hider) (has run front back j tc r place kept hider) Marked m
+                inside i f named code size are_bytes is
+                (λ within function marked q lives g its.
+                let w = truss_here in let d = w.stand 0 within (q, lives) in d.each function g its marked) there in
+                ap (λ a. patch_at a ps) (sym it.same) ∙ it.known p live it.g it.its
+                ∙ ap (λ (x : Patch). Some x) (patch-same it)
+
+            by : GoesOn tw → (g : Function) → patch_of g ≡ patch_of f
+                → CodeAt run front tpid (patch_of g) ⊎ Replaced run front j tpid
                 → with_bytes f.at f.code p.space ≡ p.space
-            by (inl code_at) = let it = code_at.holds p live found in it.stands
-            by (inr replaced) =
-                run.und.stands front j used f.at tpid p (patch_of f)
-                (record {
-                  back = back;
-                  handle = (traced_at tw m).control;
-                  bytes = spelling (message.Write f.at 16) code;
-                  is = place ∙ ap (λ (d : Call). front ++ call_entry j d r ∷ back) is
-                      ∙ ap (λ (x : Reply). front ++ call_entry j (call.Ctl (traced_at tw m).control
-                      (spelling (message.Write f.at 16) code)) x ∷ back) got;
-                  hides_it = hider;
-                  held = theld;
-                  there = (let w = files in w.control m inside);
-                  of = refl;
-                  target = target-live u j (traced_at tw m).control theld (let w = files in w.control m inside) refl
-                      ∙ live;
-                  size = 16;
-                  len = _;
-                  read = read;
-                }) address-is found replaced
+            by goes g same (inl code_at) =
+                let there = subst (CodeAt run front tpid) same code_at in
+                let it = there.holds p live found in it.stands
+            by goes g same (inr replaced) =
+                let w = truss_here in
+                let law =
+                writes-none-so n j (run-options run j hider) first h
+                (function-run run.legal run.reached run.own_calls run.are j hider) run.reached run.awake run.bytes
+                (opens-out run j hider) in
+                absurd
+                (law.none front back (traced_at tw m).control (spelling (message.Write f.at 16) code) r theld p f.at 16
+                (length (spelling (message.Write f.at 16) code))
+                (place ∙ ap (λ (d : Call). front ++ call_entry j d r ∷ back) is)
+                (calm-on run j hider front (call_entry j tc r ∷ back) place w.t w.is goes.off)
+                (let o = files in o.control m inside) live (replaced hider) read)
+
+            course : Course tw → with_bytes f.at f.code p.space ≡ p.space
+            course (goes_on goes flags) =
+                let it = function-known goes in by goes it.g (patch-same it) (it.known it.g it.its)
+            course (leaves_them on there) = absurd (none-some (patch_of f) (sym found ∙ stands-marked there))
 
         written-place : (o : Option Patch) → patch_at f.at ps ≡ o
             → (patch_at f.at ps ≡ Some (patch_of f)) ⊎ IsPlantable (patch_of f) ps p.space
         written-place (Some g) found =
             let w = stands in
             inl (found ∙ ap (λ (x : Patch). Some x)
-            (found-is tw.options patchable (marks_at tw m).planted ps i f g named w.all found).0)
+            (found-is tw.options patchable (marks_at tw m).planted ps i f g named w.all found))
         written-place None found =
             let w = stands in
             let q = function-of in
@@ -216,26 +243,24 @@ module _ {n : ℕ} {who : Hiders} {controllers : List ControllerState} {first : 
               (written-tidy p live))
 
     pub sent-tidy : BeginWithWrite sent → IsTidyCall who (at front) u j (call.Ctl number sent) r
-    sent-tidy begins = by r refl
+    sent-tidy begins = by r
       where
         same-call : {a b : ℕ} {xs ys : List ℕ} → call.Ctl a xs ≡ call.Ctl b ys → (a ≡ b) × (xs ≡ ys)
         same-call e = (cc, cc)
 
-        of : (used : ℕ) → r ≡ reply.Used used
-            → Kind j u tc tw patchable files (below run front back j tc r place kept hider)
-            → IsTidyControl who j (at front) u.system (handle_of u.opens j number) sent
-        of used got (writes m inside i f named code size are_bytes is) =
+        of : Kind tc tw → IsTidyControl who j (at front) u.system (handle_of u.opens j number) sent
+        of (writes m inside i f named code size are_bytes is) =
             let both = same-call is in
             subst (λ (xs : List ℕ). IsTidyControl who j (at front) u.system (handle_of u.opens j number) xs)
             (sym both.1)
             (subst (λ a. IsTidyControl who j (at front) u.system (handle_of u.opens j a)
             (spelling (message.Write f.at 16) code)) (sym both.0)
-            (control-tidy m inside i f named code size are_bytes is used got))
-        of used got (sends m inside bytes is still) =
+            (control-tidy m inside i f named code size are_bytes is))
+        of (sends m inside bytes is still) =
             let both = same-call is in
             still-tidy (subst BeginStill (sym both.1) still) begins (handle_of u.opens j number)
-        of used got (other never) = absurd (never number sent refl)
+        of (other never) = absurd (never number sent refl)
 
-        by : (x : Reply) → r ≡ x → IsTidyCall who (at front) u j (call.Ctl number sent) x
-        by (reply.Used used) got = of used got (its-kind run front back j tc r place kept hider)
-        by _ got = tt
+        by : (x : Reply) → IsTidyCall who (at front) u j (call.Ctl number sent) x
+        by (reply.Used used) = of (its-kind run front back j tc r place kept hider)
+        by _ = tt

@@ -8,7 +8,7 @@ use Rattle.pr_model.specs.Legal.{state_after}
 use Rattle.pr_model.specs.State.{TracedState}
 use Rattle.pr_model.specs.declared.events.Entry.{Entry}
 use Rattle.pr_model.specs.declared.handles.Held.{Held}
-use Rattle.pr_truss.specs.Trusses.{traced_at}
+use Rattle.pr_truss.specs.Trusses.{TrussState, traced_at}
 use Rattle.pr_truss.specs.declared.processes.Traced.{Traced}
 use Rattle.pr_truss.specs.declared.stages.AfterClosing.TheVariants.{GoOn, OpenNext}
 use Rattle.pr_truss.specs.declared.stages.Stage.{Stage}
@@ -18,6 +18,8 @@ use Rattle.pr_truss_laws.proofs.OwnLemmas.{owned}
 use Rattle.pr_function_laws.proofs.OrdinaryFiles.{run-halfway}
 use Rattle.pr_function_laws.specs.Opened.{IsFunctionRun, functions_at}
 use Rattle.pr_function_laws.specs.Ordinary.{unmarked}
+use Rattle.pr_function_hides.proofs.LeavingStages.{IsLeft, asks, awaits, closes_files, halts, has_ended, lifts_all}
+use Rattle.pr_function_hides.proofs.LeavingStages.{looks, reads_text, waits_again}
 use Rattle.pr_function_hides.proofs.OwnFiles.{IsWithin}
 
 -- Each file that truss with functions has open is of a process that it traces.
@@ -46,7 +48,7 @@ traced-some pid h (u ∷ us) some = by (u.pid == pid) refl (λ left. traced-some
         (suc more.0, (omega (arith, more.1.0), more.1.1))
 
 -- no child is set free
-none-freed : (n pid h : ℕ) (stage : Stage) → IsWithin n stage → of_stage pid h stage ≡ 0
+pub none-freed : (n pid h : ℕ) (stage : Stage) → IsWithin n stage → of_stage pid h stage ≡ 0
 none-freed n pid h (Spawning program) w = refl
 none-freed n pid h (OpeningControl child) w = refl
 none-freed n pid h (Opening q step) w = refl
@@ -59,16 +61,27 @@ none-freed n pid h (Closing q GoOn) w = refl
 none-freed n pid h Finished w = refl
 none-freed n pid h _ w = absurd w
 
+pub left-freed : (t : TrussState) (pid h : ℕ) → IsLeft t → of_stage pid h t.stage ≡ 0
+left-freed t pid h (halts at idle within) = ap (of_stage pid h) at
+left-freed t pid h (awaits until at beside within) = ap (of_stage pid h) at
+left-freed t pid h (asks at beside within) = ap (of_stage pid h) at
+left-freed t pid h (waits_again until at beside within) = ap (of_stage pid h) at
+left-freed t pid h (looks at idle within) = ap (of_stage pid h) at
+left-freed t pid h (reads_text l from len at idle within) = ap (of_stage pid h) at
+left-freed t pid h (lifts_all clear at beside within) = ap (of_stage pid h) at
+left-freed t pid h (closes_files at idle within) = ap (of_stage pid h) at
+left-freed t pid h (has_ended at idle) = ap (of_stage pid h) at
+
 -- ---- a file that it has open
 
 pub handle-traced : (n k : ℕ) (o : Options) (s : TracedState) (front back : List Entry)
     → IsFunctionRun n k o s (front ++ back)
-    → IsWithin (length (functions_at k o front).traced) (functions_at k o front).stage → (m : ℕ) (g : Held)
+    → ((pid h : ℕ) → of_stage pid h (functions_at k o front).stage ≡ 0) → (m : ℕ) (g : Held)
     → handle_of (state_after s front).opens k m ≡ Some g
     → (i : ℕ) × ((i < length (functions_at k o front).traced)
     × ((traced_at (functions_at k o front) i).pid ≡ g.pid))
 unfolding held
-handle-traced n k o s front back run within m g there =
+handle-traced n k o s front back run freed m g there =
     let way = run-halfway n k o s front back run in
     let follows = way.follows in
     let reaches = follows.reaches in
@@ -76,5 +89,4 @@ handle-traced n k o s front back run within m g there =
     let counts = owns.counts g.pid m in
     let one : owned g.pid (handle_of (state_after s front).opens k m) ≡ 1 =
     ap (owned g.pid) there ∙ ap unit (eq-eqb g.pid g.pid refl) in
-    let none = none-freed (length (functions_at k o front).traced) g.pid m (functions_at k o front).stage within in
-    traced-some g.pid m (functions_at k o front).traced (omega (arith, counts, one, none))
+    let none = freed g.pid m in traced-some g.pid m (functions_at k o front).traced (omega (arith, counts, one, none))

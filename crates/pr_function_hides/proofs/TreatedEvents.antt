@@ -86,7 +86,8 @@ module _ (q : ℕ) where
     event-over-at u l w =
         subst (At q m a) (sym (ap (λ f. with_child_or u q (cond f (child_of l) None)) w.follow)) (over-at u w)
 
-    pub shown-looks : (u : TrussState) (l : LwpStatus) (text : _) → Looks m a u → Looks m a (with_event_shown u q l text)
+    pub shown-looks : (u : TrussState) (l : LwpStatus) (text : _) → Looks m a u
+        → Looks m a (with_event_shown u q l text)
     unfolding with_event_shown
     shown-looks u l text w = record {
       follow = w.follow;

@@ -1,10 +1,8 @@
-use Rattle.std.proofs.Common.{◌≡◌, ◌<◌, ◌==◌, ◌+◌, ◌++◌, ℕ, suc, Bool, true, false, cond, nat_lt, not, Option, Some, None, List, [], ◌∷◌, length, position, append-nil, append_assoc, refl, sym, subst, ap, ◌∙◌, arith, inl, inr}
-use Rattle.std.proofs.lemmas.Bool.{cases_lt, eq-eqb, eqb-true, lt-ltb, ne_eqb}
-use Rattle.std.proofs.lemmas.List.{length-map}
+use Rattle.std.proofs.Common.{◌≡◌, ◌<◌, ◌+◌, ◌++◌, ℕ, true, not, Option, Some, None, List, [], ◌∷◌, length, position, append-nil, append_assoc, refl, sym, subst, ap, ◌∙◌, arith, inl, inr}
+use Rattle.std.proofs.lemmas.Bool.{ne_eqb}
 use Rattle.std.proofs.lemmas.List.Elements.{All-head, All-tail}
-use Rattle.std.proofs.lemmas.List.Sums.{position_or_len_is, sum_by-cons}
 use Rattle.std.proofs.lemmas.Option.{none-some, same_Some, slice_get_within}
-use Rattle.std.specs.List.{All, cons_option, position_or_len, slice_get, sum_by}
+use Rattle.std.specs.List.{All, cons_option, slice_get}
 use Rattle.pr_lawful.proofs.EndLemmas.{found-live}
 use Rattle.pr_lawful.proofs.UseLemmas.{live-lawful}
 use Rattle.pr_line.specs.Functions.{function_limit}
@@ -32,7 +30,7 @@ use Rattle.pr_reached.proofs.FitHistoryLemmas.{history-fits}
 use Rattle.pr_reached.specs.ByteHistories.{HasBytes}
 use Rattle.pr_reached.specs.Reached.{IsReached}
 use Rattle.pr_rec.specs.declared.lwps.LwpStatus.{LwpStatus}
-use Rattle.pr_report_laws.proofs.Files.WatchHistories.{Reaches, cons-exchanges, exchanges-both}
+use Rattle.pr_report_laws.proofs.Files.WatchHistories.{cons-exchanges, exchanges-both}
 use Rattle.pr_report_laws.proofs.Machine.StayingLwps.{keeps-meeting, live-by, row-leaves, settled-to}
 use Rattle.pr_report_laws.proofs.Machine.TracedPoints.{fit-process}
 use Rattle.pr_report_laws.proofs.SeenChildren.Splits.{state_after-both}
@@ -42,18 +40,17 @@ use Rattle.pr_truss.specs.FunctionEvents.{begins_at, step_of}
 use Rattle.pr_truss.specs.FunctionFeeding.{fed_functions}
 use Rattle.pr_truss.specs.Marks.{address_in, address_of}
 use Rattle.pr_truss.specs.NextCalls.{read_record}
-use Rattle.pr_truss.specs.Trusses.{TrussState, first_truss, nobody, traced_at}
+use Rattle.pr_truss.specs.Trusses.{TrussState, first_truss, traced_at}
 use Rattle.pr_truss.specs.declared.marks.Stepped.{Stepped}
 use Rattle.pr_truss.specs.declared.processes.Traced.{Traced}
 use Rattle.pr_truss.specs.declared.stages.AfterClosing.TheVariants.{GoOn}
 use Rattle.pr_truss.specs.declared.stages.Stage.{Stage}
-use Rattle.pr_truss.specs.declared.stages.Stage.TheVariants.{Polling, ReadingStatus, ReadingText, Running, Closing, Finished, FreeingChild}
+use Rattle.pr_truss.specs.declared.stages.Stage.TheVariants.{Polling, ReadingStatus, ReadingText, Running, Closing, Finished}
 use Rattle.pr_truss_laws.proofs.ForeignLemmas.{exclusive-sole}
 use Rattle.pr_truss_laws.proofs.FrameLemmas.{was-made}
 use Rattle.pr_truss_laws.proofs.HaltLemmas.{HaltsOn, others-halt, outlasts-halts}
-use Rattle.pr_truss_laws.proofs.HeldLemmas.{at_place, handles_in, held, of_stage, of_traced}
+use Rattle.pr_truss_laws.proofs.HeldLemmas.{at_place, held}
 use Rattle.pr_truss_laws.proofs.OutlastLemmas.{own-call-elsewhere}
-use Rattle.pr_truss_laws.proofs.OwnLemmas.{Owns, owned}
 use Rattle.pr_truss_laws.proofs.StillLemmas.{frozen-turns}
 use Rattle.pr_truss_laws.specs.Exchanges.{Exchange, exchange_of, exchanges}
 use Rattle.pr_truss_laws.specs.Handles.{HasNoOtherWriter, handles_of}
@@ -65,13 +62,11 @@ use Rattle.pr_function_laws.proofs.CalledLaws.{functions-both}
 use Rattle.pr_function_laws.proofs.FaultLemmas.{fault-frozen}
 use Rattle.pr_function_laws.proofs.FrontLemmas as fronts
 use Rattle.pr_function_laws.proofs.HaltingSteps.{turn-is}
-use Rattle.pr_function_laws.proofs.KeptPlaces.{Apart, AtStage, apart-at}
+use Rattle.pr_function_laws.proofs.KeptPlaces.{Apart}
 use Rattle.pr_function_laws.proofs.LiftLemmas.{Looks, met_at}
 use Rattle.pr_function_laws.proofs.MetLemmas.{event-breaks, found-function}
-use Rattle.pr_function_laws.proofs.OpenedCalls.{IsSo, lowest}
+use Rattle.pr_function_laws.proofs.OpenedCalls.{lowest}
 use Rattle.pr_function_laws.proofs.OpenedLaws.{Goes, before-goes, handle-is, status-handle, stop-function, stop-lwp, stop-there}
-use Rattle.pr_function_laws.proofs.OrdinaryFiles.{run-halfway}
-use Rattle.pr_function_laws.proofs.OrdinaryReplies.{at-ordinary}
 use Rattle.pr_function_laws.proofs.StretchLemmas.{named-acts}
 use Rattle.pr_function_laws.proofs.TurnPoints.{step-point}
 use Rattle.pr_function_laws.proofs.TurnStarts as starts
@@ -79,44 +74,21 @@ use Rattle.pr_function_laws.proofs.TurnStarts.{among-none}
 use Rattle.pr_function_laws.proofs.TurnStates.{Steps, had-no-turn}
 use Rattle.pr_function_laws.proofs.TurnWalks as walks
 use Rattle.pr_function_laws.proofs.TurnWalks.{After, AreNoReads, Comes, Files}
-use Rattle.pr_function_laws.specs.FunctionTurns.{is_process}
 use Rattle.pr_function_laws.specs.Lifted.{GoesElsewhere, HasControl, IsAtStopAtBreakpoint, ReadsOnlyLast}
 use Rattle.pr_function_laws.specs.Met.{arguments_of}
 use Rattle.pr_function_laws.specs.Opened.{IsFunctionRun, ReadsBreakpoint, WasNotInterrupted, functions_at, is_opened}
-use Rattle.pr_function_laws.specs.Ordinary.{ordinary, unmarked}
 use Rattle.pr_function_laws.specs.Runs.{functions_after}
 use Rattle.pr_function_laws.specs.Steppable.{IsSteppable}
 use Rattle.pr_function_laws.specs.ToldTurns.{AreSteppable, HasStep}
 use Rattle.pr_function_laws.specs.Turns.{IsNoTurnOf, first_arguments}
 use Rattle.pr_function_hides.proofs.StatusReads.{open-few, reads-status}
+use Rattle.pr_function_laws.proofs.TracedPlaces.{traced-there}
+pub use Rattle.pr_function_laws.proofs.ListedSteps.{place-of}
 
 -- A step that was begun is under way as truss's marks say, as long as the process lives; and the lwp of it, in its own
 -- turn, is as it was at the breakpoint.
 
 -- ---- lists
-
--- a sum that is no zero has a part that is none
-some-of : (f : Traced → ℕ) (ts : List Traced) → 0 < sum_by f ts
-    → (q : ℕ) × ((q < length ts) × (0 < f (at_place ts q)))
-some-of f [] some = absurd (omega (arith, some))
-some-of f (u ∷ us) some = elim (cases_lt 0 (f u)) [
-  | inl here ↦ (0, (omega arith, here))
-  | inr none ↦ let rest = some-of f us (omega (arith, some, none, sum_by-cons f u us)) in
-      (suc rest.0, (omega (arith, rest.1.0), rest.1.1))
-]
-
--- the place of a process of which truss has one record
-pub place-of : (pid : ℕ) (ts : List Traced) (place : ℕ) → Apart ts → place < length ts → (at_place ts place).pid ≡ pid
-    → position (is_process pid) ts ≡ Some place
-place-of pid ts place apart within own =
-    let here : position_or_len (is_process pid) ts ≡ place =
-    position_or_len_is (is_process pid) ts place nobody (omega (arith, within))
-    (λ j less. ne_eqb (at_place ts j).pid pid (λ same.
-    apart-at ts j place (omega (arith, less, within)) within (λ (one : j ≡ place). absurd (omega (arith, less, one)))
-    apart (same ∙ sym own)))
-    (λ inside. eq-eqb (at_place ts place).pid pid own) in
-    ap (λ i. cond (nat_lt i (length ts)) (Some i) None) here
-    ∙ ap (λ b. cond b (Some place) None) (lt-ltb place (length ts) within)
 
 -- the control file is one of the files of a process
 more-of : (Q : ℕ → Type 0) (o : Option ℕ) (ms : List ℕ) → All Q (cons_option o ms) → All Q ms
@@ -157,40 +129,6 @@ module _ (n k : ℕ) (o : Options) (s : TracedState) (h : List Entry) (run : IsF
       let w = g.kept in
       let low = lowest ⊥ k t.options now t.traced t.stage w.stage q within in
       let its = low.holds in its.its
-
-  -- the stage is none in which a child is set free
-  none-freed : (pid c : ℕ) (stage : Stage) → AtStage (IsSo ⊥ k t.options now) t.traced stage → of_stage pid c stage ≡ 0
-  none-freed pid c (FreeingChild child step) w = absurd w
-  none-freed pid c _ w = refl
-
-  -- a process of which truss has the control file open is one that it traces
-  pub traced-there : (pid c : ℕ) → HasControl k pid c now
-      → (q : ℕ) × ((q < length t.traced) × ((traced_at t q).pid ≡ pid))
-  unfolding held of_traced
-  traced-there pid c its =
-      let half = run-halfway n k o s front later (subst (λ es. IsFunctionRun n k o s es) is run) in
-      let follows = half.follows in
-      let reaches : Reaches k (ordinary t) now = follows.reaches in
-      let owns : Owns k (ordinary t) now = reaches.owns in
-      let g = goes-here in
-      let w = g.kept in
-      let counts : sum_by (of_traced pid c) (ordinary t).traced + of_stage pid c t.stage ≡ 1 =
-      owns.counts pid c ∙ ap (owned pid) its ∙ ap (λ b. cond b 1 0) (eq-eqb pid pid refl) in
-      let some = some-of (of_traced pid c) (ordinary t).traced
-      (omega (arith, counts, none-freed pid c t.stage w.stage)) in (
-        some.0,
-        (
-          subst (λ i. some.0 < i) (length-map t.traced unmarked) some.1.0,
-          its-pid (traced_at t some.0) (subst (λ (u : Traced). 0 < of_traced pid c u) (at-ordinary t some.0) some.1.1),
-        ),
-      )
-    where
-      by : (b : Bool) (u : Traced) (m : ℕ) → (u.pid == pid) ≡ b → 0 < cond b m 0 → u.pid ≡ pid
-      by true u m same some = eqb-true u.pid pid same
-      by false u m same some = absurd (omega (arith, some))
-
-      its-pid : (u : Traced) → 0 < of_traced pid c (unmarked u) → u.pid ≡ pid
-      its-pid u some = by (u.pid == pid) u (handles_in c (unmarked u)) refl some
 
 -- ---- a step that was begun
 

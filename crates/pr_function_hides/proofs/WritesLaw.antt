@@ -9,6 +9,7 @@ use Rattle.pr_function_hides.proofs.TidyLaw.{kept-at, lenders-at}
 use Rattle.pr_function_hides.proofs.TidySent.{sent-tidy}
 use Rattle.pr_function_hides.specs.Copying.{makes_copy}
 use Rattle.pr_function_hides.specs.FunctionHiders.{AreTrusses, StandAsMarked}
+use Rattle.pr_function_hides.specs.SleptCopies.{NoneSleepsInCopy}
 use Rattle.pr_function_hides.specs.TidyWrites.{AreUndisturbed, WritesTidily}
 use Rattle.pr_hidden.specs.Covers.{Covers}
 use Rattle.pr_hidden.specs.Hiders.{Hiders, covers_at}
@@ -28,20 +29,8 @@ use Rattle.pr_world.specs.ControllerStates.{ControllerState}
 
 -- The writes of each truss are tidy, and the breakpoints that stand are those that it has marked.
 
-module _ (n : ℕ) (who : Hiders) (controllers : List ControllerState) (first : TracedState) (h : List Entry)
-    (reached : IsReached first) (bytes : HasBytes h) (legal : IsLegal n first h)
-    (own_calls : AreOwnCalls controllers h) (are : AreTrusses who controllers first)
-    (und : AreUndisturbed who controllers first h) where
-  abbrev run : IsRunOfTrusses n who controllers first h
-  run = record {
-    reached = reached;
-    bytes = bytes;
-    legal = legal;
-    own_calls = own_calls;
-    are = are;
-    und = und;
-  }
-
+module _ {B : Type 0} {n : ℕ} {who : Hiders} {controllers : List ControllerState} {first : TracedState}
+    {h : List Entry} (run : IsRunOfTrusses B n who controllers first h) where
   abbrev at : List Entry → Covers
   at front = covers_at who first front
 
@@ -54,31 +43,45 @@ module _ (n : ℕ) (who : Hiders) (controllers : List ControllerState) (first : 
       → (at front pid).patches ≡ []
   copies-at front back pid id t place makes =
       copies-bare run front back pid id t place makes
-      (kept-at n who controllers first h reached bytes legal own_calls are und front
+      (kept-at run front
       (record { actor = Lwp pid id; act = act.Turn t } ∷ back) place)
 
-  pub writes-tidily : WritesTidily who controllers first h
-  writes-tidily = record {
+  pub run-tidily : WritesTidily who controllers first h
+  run-tidily = record {
     tidy = λ front back k handle sent r place hider begins.
         sent-tidy run front back k handle sent r place
-        (kept-at n who controllers first h reached bytes legal own_calls are und front
+        (kept-at run front
         (call_entry k (call.Ctl handle sent) r ∷ back) place) hider
         (counted-at run front (call_entry k (call.Ctl handle sent) r ∷ back) place) begins;
     turns = λ front back pid id t p l place live there.
-        turn-changes n who controllers first h legal copies-at
-        (lenders-at n who controllers first h reached bytes legal own_calls are und) front back pid id t p l place
+        turn-changes n who controllers first h run.legal copies-at (lenders-at run) front back pid id t p l place
         live there;
     kills = λ front back k pid number r place.
-        kill-tidy n who controllers first h legal copies-at
-        (lenders-at n who controllers first h reached bytes legal own_calls are und) front back k pid number r place;
+        kill-tidy n who controllers first h run.legal copies-at (lenders-at run) front back k pid number r place;
     marked = λ front back k t q p place hider is within live.
         let w =
-        let kept = kept-at n who controllers first h reached bytes legal own_calls are und front back place in
+        let kept = kept-at run front back place in
         kept.trusses k hider in
         let same : w.t ≡ t = same-truss w.t t _ w.is is in
         subst (λ (x : TrussState). q < length x.traced → live_process (now front).system (traced_at x q).pid ≡ Some p
         → StandAsMarked x.options (marks_at x q).planted (at front (traced_at x q).pid).patches) same
         (λ inside lives. w.stand q inside (p, lives)) within live;
   }
+
+-- Whether or not they are interrupted.
+pub writes-tidily : (n : ℕ) (who : Hiders) (controllers : List ControllerState) (first : TracedState) (h : List Entry)
+    → IsReached first → NoneSleepsInCopy first.system → HasBytes h → IsLegal n first h → AreOwnCalls controllers h
+    → AreTrusses who controllers first → AreUndisturbed who controllers first h → WritesTidily who controllers first h
+writes-tidily n who controllers first h reached awake bytes legal own_calls are und =
+    run-tidily {B = Unit {0}} (record {
+      reached = reached;
+      awake = awake;
+      bytes = bytes;
+      legal = legal;
+      own_calls = own_calls;
+      are = are;
+      und = und;
+      besides = tt;
+    })
 
 pub ruleset tidily = (writes-tidily)

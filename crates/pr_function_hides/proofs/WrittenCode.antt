@@ -149,20 +149,20 @@ module _ (f : Function) (patchable : IsPatchable f) where
       ∙ ap (with_bytes g.at code) stands
 
   -- after a write to this function, or to another one
-  pub written-holds : (g : Function) → IsPatchable g → (g.at ≡ f.at → g ≡ f) → (code : List ℕ) → length code ≡ 16
-      → (ps : List Patch) (p : TracedProcess) → p.borrower ≡ None
+  pub written-holds : (g : Function) → IsPatchable g → (g.at ≡ f.at → patch_of g ≡ pf) → (code : List ℕ)
+      → length code ≡ 16 → (ps : List Patch) (p : TracedProcess) → p.borrower ≡ None
       → patch_at f.at (function_written (Some (patch_of g)) code ps) ≡ None
       → (patch_at f.at ps ≡ None → HoldsCode pf p) → HoldsCode pf (with_space (with_bytes g.at code p.space) p)
   unfolding with_space
   written-holds g its one code size ps p own none was = by (cases_eq g.at f.at)
     where
-      here : g ≡ f → (b : Bool) → bytes_eq code f.code ≡ b
+      here : (b : Bool) → bytes_eq code f.code ≡ b
           → patch_at f.at (cond b (without_patch f.at ps) (with_patch pf ps)) ≡ None
           → Stands pf (with_bytes f.at code p.space)
-      here same true is it =
+      here true is it =
           subst (λ xs. Stands pf (with_bytes f.at xs p.space)) (sym ((bytes_eq-Decides code f.code).0 is))
           (code-stands p.space)
-      here same false is it = absurd (with-own pf ps it)
+      here false is it = absurd (with-own pf ps it)
 
       apart-none : g.at ≢ f.at → (b : Bool)
           → patch_at f.at (cond b (without_patch g.at ps) (with_patch (patch_of g) ps)) ≡ None
@@ -174,10 +174,10 @@ module _ (f : Function) (patchable : IsPatchable f) where
       by (inl same) = record {
         own = own;
         stands =
-            let is : g ≡ f = one same in
-            subst (λ (x : Function). Stands pf (with_bytes x.at code p.space)) (sym is)
-            (here is (bytes_eq code f.code) refl
-            (subst (λ (x : Function). patch_at f.at (function_written (Some (patch_of x)) code ps) ≡ None) is none));
+            let is : patch_of g ≡ pf = one same in
+            subst (λ (x : Patch). Stands pf (with_bytes x.at code p.space)) (sym is)
+            (here (bytes_eq code f.code) refl
+            (subst (λ (x : Patch). patch_at f.at (function_written (Some x) code ps) ≡ None) is none));
       }
       by (inr other) = record {
         own = own;

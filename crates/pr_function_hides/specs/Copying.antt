@@ -28,7 +28,12 @@ makes_copy (Made call (Value value)) = copies_memory call
 makes_copy (Woke call (Value value)) = copies_memory call
 makes_copy did = false
 
--- it is at such a call, which it has not made yet, or asleep in one
+-- it is at such a call, which it has not made yet
+abbrev pub is_at_copy : Phase → Bool
+is_at_copy (Entered call) = copies_memory call
+is_at_copy phase = false
+
+-- it is at one, or asleep in one
 abbrev pub is_in_copy : Phase → Bool
 is_in_copy (Entered call) = copies_memory call
 is_in_copy (Asleep call args since) = copies_memory call
@@ -69,7 +74,7 @@ pub record NoCopyGoesIn (pid : ℕ) (but : Option ℕ) (s : TracedState) : Type 
 
 -- no lwp of a process is at such a call
 pub record AreOutOfCopies (p : TracedProcess) : Type 0 where
-  pub each : (id : ℕ) (l : TracedLwp) → lwp_of p id ≡ Some l → is_in_copy l.phase ≡ false
+  pub each : (id : ℕ) (l : TracedLwp) → lwp_of p id ≡ Some l → is_at_copy l.phase ≡ false
 
 -- truss traces it, if it lives
 pub record IsTracedIn (o : Options) (pid : ℕ) (s : TracedState) : Type 0 where

@@ -1,5 +1,5 @@
 -- Which trusses hide breakpoints, and which of their breakpoints stand.
-use Rattle.std.specs.Prelude.{◌≡◌, ◌≢◌, ◌≤◌, ◌+◌, ◌%◌, ◌^◌, ℕ, Bool, true, false, All, List, Some, length, map, slice_get}
+use Rattle.std.specs.Prelude.{◌≡◌, ◌≤◌, ◌+◌, ◌%◌, ◌^◌, ℕ, Bool, true, false, All, List, Some, length, map, position, slice_get}
 use Rattle.std.specs.Str.{bytes_eq}
 use Rattle.pr_hidden.specs.Covers.{Patch}
 use Rattle.pr_hidden.specs.Hiders.{Hiders, hides, patch_at}
@@ -10,6 +10,7 @@ use Rattle.pr_line.specs.declared.options.Options.{Options}
 use Rattle.pr_model.specs.State.{TracedState}
 use Rattle.pr_num.specs.Limits.{instruction_size}
 use Rattle.pr_num.specs.Words.{IsByte}
+use Rattle.pr_truss.specs.FunctionEvents.{begins_at}
 use Rattle.pr_truss.specs.Marks.{breakpoint, has_function, has_functions}
 use Rattle.pr_truss.specs.Trusses.{first_truss}
 use Rattle.pr_truss_laws.specs.Handles.{HasNothingOpen}
@@ -29,12 +30,16 @@ pub record IsPatchable (f : Function) : Type 0 where
   pub bytes : All IsByte f.code
   pub other : bytes_eq breakpoint f.code ≡ false
 
--- The options name as many functions as words can, and each has an address of its own.
+-- The options name as many functions as words can, and those at one address begin with the same code.
 pub record ArePatchable (o : Options) : Type 0 where
   pub few : length o.functions ≤ function_limit
   pub each : All IsPatchable o.functions
-  pub apart : (i j : ℕ) (f g : Function) → i ≢ j → slice_get o.functions i ≡ Some f → slice_get o.functions j ≡ Some g
-      → f.at ≢ g.at
+  pub alike : (i j : ℕ) (f g : Function) → slice_get o.functions i ≡ Some f → slice_get o.functions j ≡ Some g
+      → f.at ≡ g.at → f.code ≡ g.code
+
+-- of the functions at its address this one is the first that the options name
+abbrev pub IsFirstThere : Options → ℕ → Function → Type 0
+IsFirstThere o function f = position (begins_at f.at) o.functions ≡ Some function
 
 -- ---- who hides
 
@@ -65,10 +70,13 @@ pub record IsMarked (o : Options) (set : List Bool) (p : Patch) : Type 0 where
   pub marked : has_function set function ≡ true
   pub is : p ≡ patch_of f
 
--- The breakpoints that stand are those of the functions of this set, and have no byte in common.
+-- The breakpoints that stand are those of the functions of this set, and have no byte in common. Of the functions at
+-- one address only the first is in the set.
 pub record StandAsMarked (o : Options) (set : List Bool) (ps : List Patch) : Type 0 where
   pub long : length set ≡ function_limit
   pub apart : AreApart ps
   pub all : All (IsMarked o set) ps
   pub each : (function : ℕ) (f : Function) → slice_get o.functions function ≡ Some f
       → has_function set function ≡ true → patch_at f.at ps ≡ Some (patch_of f)
+  pub first : (function : ℕ) (f : Function) → slice_get o.functions function ≡ Some f
+      → has_function set function ≡ true → IsFirstThere o function f

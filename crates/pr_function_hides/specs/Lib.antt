@@ -6,6 +6,8 @@ pub mod ListedCalls
 pub mod LiftedCopies
 pub mod OwnSteps
 pub mod PassiveOthers
+pub mod Replacing
+pub mod SleptCopies
 pub mod TidyCloses
 pub mod TidyFaults
 pub mod TidyWrites

@@ -1,5 +1,4 @@
--- That a truss with calls of functions posts no fault of its own, and what is asked of the faults that it brings about,
--- so that programs see nothing of it.
+-- That a truss with calls of functions posts no fault of its own, and clears no fault of a program.
 use Rattle.std.specs.Prelude.{◌≡◌, ◌++◌, ℕ, Bool, true, false, List, ◌∷◌, Some, IfOk}
 use Rattle.pr_api.specs.Entries.{call_entry}
 use Rattle.pr_hidden.specs.Hiders.{Hiders, covers_at, hides}
@@ -35,8 +34,9 @@ pub record PostsNoOwnFault (who : Hiders) (first : TracedState) (h : List Entry)
       → live_process (state_after first front).system pid ≡ Some p → lwp_of p id ≡ Some l
       → (covers_at who first front pid).faulted id ≡ true → l.phase ≡ Faulted f address → ⊥
 
--- An own fault is cleared: that PCRUN of one who hides finds no other fault.
-pub record AreFaultsTidy (who : Hiders) (first : TracedState) (h : List Entry) : Type 0 where
+-- PCRUN with PRCFAULT, PRSTEP or both of one who hides finds no fault but one of those who hide: if the lwp that it is
+-- aimed at is at a fault, it counts as standing at one of theirs. (Bytes that begin with no message are let pass.)
+pub record ClearsOwnFaultsAlone (who : Hiders) (first : TracedState) (h : List Entry) : Type 0 where
   pub messages : (front back : List Entry) (k handle : ℕ) (bytes : List ℕ) (r : Reply)
       → h ≡ front ++ call_entry k (call.Ctl handle bytes) r ∷ back → hides who k ≡ true → BeginWithClearing bytes
       → IsTidyCall who (covers_at who first front) (state_after first front) k (call.Ctl handle bytes) r

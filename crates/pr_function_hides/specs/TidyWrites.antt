@@ -1,23 +1,18 @@
 -- The writes of a truss that shows calls of functions are tidy, and so is what each turn changes; the breakpoints that
 -- stand are those that it has marked; and what is asked of a history for that.
-use Rattle.std.specs.Prelude.{◌≡◌, ◌≢◌, ◌<◌, ◌++◌, ℕ, true, false, All, List, ◌∷◌, None, Some, Ok, is_ok, length, option_and_then, slice_get}
+use Rattle.std.specs.Prelude.{◌≡◌, ◌≢◌, ◌<◌, ◌++◌, ℕ, true, false, All, List, ◌∷◌, None, Some, is_ok, length, slice_get}
 use Rattle.pr_api.specs.Entries.{call_entry}
 use Rattle.pr_function_hides.specs.Copying.{AreOutOfCopies}
-use Rattle.pr_function_hides.specs.CountedFunctions.{Counts, LeavesAlone, takes_memory}
+use Rattle.pr_function_hides.specs.CountedFunctions.{Counts, LeavesAlone}
 use Rattle.pr_function_hides.specs.FunctionHiders.{StandAsMarked, patch_of}
-use Rattle.pr_function_laws.specs.Lifted.{HasControl}
 use Rattle.pr_function_laws.specs.Stretches.{BeginWithWrite}
 use Rattle.pr_hidden.specs.Covers.{Covers, Patch}
 use Rattle.pr_hidden.specs.Hiders.{Hiders, covers_at, hides, patch_at}
 use Rattle.pr_hidden.specs.Following.{IsReturnable}
 use Rattle.pr_hidden.specs.Tidiness.{AreTidyChanges, IsTidyCall}
-use Rattle.pr_line.specs.declared.events.Event.{Event}
 use Rattle.pr_line.specs.declared.functions.Function.{Function}
 use Rattle.pr_model.specs.Changes.{Ending}
-use Rattle.pr_model.specs.ControlMessages.{target_of}
-use Rattle.pr_model.specs.Handles.{handle_of}
 use Rattle.pr_model.specs.Legal.{after, state_after}
-use Rattle.pr_model.specs.Replies.{bytes_in}
 use Rattle.pr_model.specs.Rows.{row_for}
 use Rattle.pr_model.specs.State.{TracedLwp, TracedProcess, TracedState, live_process, lwp_of}
 use Rattle.pr_model.specs.declared.calls.Call.{Call}
@@ -25,46 +20,32 @@ use Rattle.pr_model.specs.declared.calls.Call.TheVariants as call
 use Rattle.pr_model.specs.declared.calls.File.TheVariants.{Ctl}
 use Rattle.pr_model.specs.declared.calls.Mode.TheVariants.{WriteExcl}
 use Rattle.pr_model.specs.declared.calls.Reply.{Reply}
-use Rattle.pr_model.specs.declared.calls.Reply.TheVariants.{Fail, Used}
+use Rattle.pr_model.specs.declared.calls.Reply.TheVariants.{Fail}
 use Rattle.pr_model.specs.declared.events.Act.TheVariants.{Turn}
 use Rattle.pr_model.specs.declared.events.Actor.TheVariants.{Lwp}
 use Rattle.pr_model.specs.declared.events.Entry.{Entry}
 use Rattle.pr_model.specs.declared.events.Turned.{Turned}
-use Rattle.pr_model.specs.declared.handles.Held.{Held}
 use Rattle.pr_num.specs.Limits.{instruction_size}
-use Rattle.pr_num.specs.Messages.{first_message}
 use Rattle.pr_num.specs.Spaces.{Space, bytes_for}
 use Rattle.pr_num.specs.declared.errnos.Errno.TheVariants.{Intr}
-use Rattle.pr_num.specs.declared.messages.Message.TheVariants as message
-use Rattle.pr_parts.specs.AddressSpaces.{with_bytes}
-use Rattle.pr_rec.specs.declared.lwps.LwpStatus.{LwpStatus}
 use Rattle.pr_truss.specs.Asides.{marks_at}
-use Rattle.pr_truss.specs.FunctionEvents.{fresh_event, function_event}
-use Rattle.pr_truss.specs.Records.{status_lwp}
 use Rattle.pr_truss.specs.Replies.{answer_of}
 use Rattle.pr_truss.specs.Trusses.{TrussState, traced_at}
-use Rattle.pr_truss.specs.declared.asides.Aside.TheVariants.{Nothing, Reading}
-use Rattle.pr_truss.specs.declared.function_events.FunctionEvent.TheVariants.{Replaced}
+use Rattle.pr_truss.specs.declared.asides.Aside.TheVariants.{Reading}
 use Rattle.pr_truss.specs.declared.replies.Answer.TheVariants.{Accepted}
-use Rattle.pr_truss.specs.declared.stages.Stage.TheVariants.{ReadingStatus}
+use Rattle.pr_truss.specs.declared.stages.OpeningStep.TheVariants.{AwaitStop}
+use Rattle.pr_truss.specs.declared.stages.Stage.TheVariants.{Opening}
 use Rattle.pr_world.specs.ControllerStates.{ControllerState, FnTruss}
 use Rattle.pr_world.specs.Protocol.{controllers_at}
-
--- A reply tells truss, which reads the status of the process at a place, that its memory was replaced by exec, or that
--- a child has it too by vfork.
-pub record TellsReplaced (t : TrussState) (place : ℕ) (r : Reply) : Type 0 where
-  pub reads : t.stage ≡ ReadingStatus place
-  pub idle : t.aside ≡ Nothing
-  pub accepted : answer_of r ≡ Accepted
-  pub l : LwpStatus
-  pub told : option_and_then status_lwp (bytes_in r) ≡ Some l
-  pub event : Event
-  pub fresh : fresh_event (traced_at t place) l ≡ Some event
-  pub replaced : function_event t.options (marks_at t place) l.id event ≡ Replaced
 
 -- all bytes of the instruction of a breakpoint are mapped, whatever their protection
 pub record IsMappedIn (space : Space) (f : Patch) : Type 0 where
   pub ok : is_ok (bytes_for 0 space f.at instruction_size) ≡ true
+
+-- No call of one who hides is interrupted: with the first wait that is, a truss begins to leave its processes.
+pub record AreUnbroken (who : Hiders) (h : List Entry) : Type 0 where
+  pub unbroken : (front back : List Entry) (k : ℕ) (c : Call) (r : Reply) → h ≡ front ++ call_entry k c r ∷ back
+      → hides who k ≡ true → r ≢ Fail Intr
 
 module _ (who : Hiders) (controllers : List ControllerState) (first : TracedState) (h : List Entry) where
   -- what is hidden, the state, and truss, after some entries
@@ -78,33 +59,6 @@ module _ (who : Hiders) (controllers : List ControllerState) (first : TracedStat
   IsTrussAfter front k t = slice_get (controllers_at controllers front) k ≡ Some (FnTruss t)
 
   -- ---- what is asked
-
-  -- One who hides writes at this address of a process that lives, after these entries, and is answered so.
-  pub record WritesAt (front : List Entry) (k : ℕ) (r : Reply) (at pid : ℕ) (p : TracedProcess) : Type 0 where
-    pub back : List Entry
-    pub handle : ℕ
-    pub bytes : List ℕ
-    pub is : h ≡ front ++ call_entry k (call.Ctl handle bytes) r ∷ back
-    pub hides_it : hides who k ≡ true
-    pub held : Held
-    pub there : handle_of (state_there front).opens k handle ≡ Some held
-    pub of : held.pid ≡ pid
-    pub target : target_of (state_there front).system held ≡ Some p
-    pub size : ℕ
-    pub len : ℕ
-    pub read : first_message bytes ≡ Ok (message.Write at size, len)
-
-  -- While one who hides had the control file of a process open, an lwp of that made a vfork or an exec, which was
-  -- granted.
-  pub record WasReplaced (front : List Entry) (k pid : ℕ) : Type 0 where
-    pub before : List Entry
-    pub later : List Entry
-    pub id : ℕ
-    pub t : Turned
-    pub is : front ≡ before ++ record { actor = Lwp pid id; act = Turn t } ∷ later
-    pub takes : takes_memory t.did ≡ true
-    pub number : ℕ
-    pub control : HasControl k pid number (state_there before)
 
   -- Programs leave alone each function that counts as planted. While its breakpoint does not stand they store nothing
   -- there, and ask for no memory there; and as long as their process lives they unmap no byte of one that stands. A
@@ -131,21 +85,14 @@ module _ (who : Hiders) (controllers : List ControllerState) (first : TracedStat
         → u.aside ≡ Reading place function
         → live_process (state_there front).system (traced_at u place).pid ≡ Some p → p.borrower ≡ None
 
-  -- Programs leave the functions alone. Where a breakpoint is planted in a process whose memory was replaced, or in
-  -- whose memory a child was, the code of its function stands. No lwp of a process is at a fork, a vfork or an exec
-  -- when the wait of its opening is answered; truss waits for nothing else, as it is not interrupted.
+  -- Programs leave the functions alone. No lwp of a process is at a fork, a vfork or an exec when the wait of its
+  -- opening is granted.
   pub record AreUndisturbed : Type 0 where
     pub untouched : AreUntouched
-    pub stands : (front : List Entry) (k used at pid : ℕ) (p : TracedProcess) (f : Patch)
-        → WritesAt front k (Used used) at pid p → patch_at at (who.functions k) ≡ Some f
-        → patch_at at (hidden_after front pid).patches ≡ None → WasReplaced front k pid
-        → with_bytes f.at f.bytes p.space ≡ p.space
-    pub opens_out : (front back : List Entry) (k handle until : ℕ) (bytes : List ℕ) (r : Reply) (held : Held)
-        (p : TracedProcess) → h ≡ front ++ call_entry k (call.CtlWait handle until bytes) r ∷ back
-        → hides who k ≡ true → answer_of r ≡ Accepted → handle_of (state_there front).opens k handle ≡ Some held
-        → live_process (state_there front).system held.pid ≡ Some p → AreOutOfCopies p
-    pub unbroken : (front back : List Entry) (k : ℕ) (c : Call) (r : Reply) → h ≡ front ++ call_entry k c r ∷ back
-        → hides who k ≡ true → r ≢ Fail Intr
+    pub opens_out : (front back : List Entry) (k place until : ℕ) (c : Call) (r : Reply) (u : TrussState)
+        (p : TracedProcess) → h ≡ front ++ call_entry k c r ∷ back → hides who k ≡ true → IsTrussAfter front k u
+        → u.stage ≡ Opening place (AwaitStop until) → answer_of r ≡ Accepted
+        → live_process (state_there front).system (traced_at u place).pid ≡ Some p → AreOutOfCopies p
 
   -- ---- what is so then
 

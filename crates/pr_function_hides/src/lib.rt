@@ -1,7 +1,7 @@
 //! Laws of what truss with calls of functions (`-u`) hides from programs: the breakpoints that stand are those that it
 //! has marked, its writes are tidy, none is left in a process that lives, nor a fault of its own, it alone steps lwps,
-//! it clears faults as it runs a process and posts none of its own, and so programs see nothing of it as far as its
-//! faults are kept tidily. Each public function carries one law in its contract, and does nothing.
+//! it clears faults as it runs a process, its own alone, and posts none of its own, and so programs see nothing of it.
+//! Each public function carries one law in its contract, and does nothing.
 #![tactic(auto)]
 
 mod clears;
@@ -11,6 +11,8 @@ mod faults;
 mod hidden;
 mod lifted;
 mod lists;
+mod replaced;
+mod slept;
 mod steps;
 mod treats;
 mod writes;
@@ -21,10 +23,14 @@ pub use copies::{
     a_run_lets_one_copy_go_on, beside_truss_no_copy_goes_on, between_calls_of_truss_copies_stand,
     no_copy_is_made_before_its_entry_is_run, what_truss_read_stands_until_it_is_run,
 };
-pub use faults::truss_posts_no_own_fault;
+pub use faults::{truss_clears_its_own_faults_alone, truss_posts_no_own_fault};
 pub use hidden::truss_is_hidden;
 pub use lifted::a_copy_finds_no_breakpoint;
-pub use lists::in_each_history_calls_are_those_turns;
+pub use lists::{
+    in_each_history_calls_are_those_turns, in_each_history_events_are_those_that_came,
+};
+pub use replaced::after_a_replacement_truss_writes_nothing;
+pub use slept::no_lwp_sleeps_in_a_copy;
 pub use steps::truss_alone_steps;
 pub use treats::what_truss_does_at_an_event_comes_before_its_run;
 pub use writes::truss_writes_tidily;

@@ -145,28 +145,28 @@ module _ (k : ℕ) (o : Options) (first : TracedState) (h : List Entry) where
   plants-but pid closes u set w = tt
 
   -- where truss reads no status
-  steps-lasting : IsLastingWhere StepsAt (λ (u : Traced). ⊥)
+  steps-lasting : IsLastingWhere StepsAt (λ (u : Traced). ⊥) (λ (pid : ℕ). Unit {0})
   steps-lasting = record {
-    may_close = λ at u w. tt;
+    may_close = λ at u touched w. tt;
     reads = λ u seen w its. tt;
     may_run = λ u w seen. w;
     counts = λ u w seen some. w;
     sees = λ u m w. tt;
     meets = λ u m none w new. absurd none;
-    plants = plants-at;
+    plants = λ at u set touched. plants-at at u set;
     loosens = λ u m w. tt;
   }
 
   -- where it reads that of this process
-  but-lasting : (pid : ℕ) → IsLastingWhere (StepsBut pid) (λ (u : Traced). u.pid ≡ pid)
+  but-lasting : (pid : ℕ) → IsLastingWhere (StepsBut pid) (λ (u : Traced). u.pid ≡ pid) (λ (pid : ℕ). Unit {0})
   but-lasting pid = record {
-    may_close = λ at u w. tt;
+    may_close = λ at u touched w. tt;
     reads = λ u seen w its. tt;
     may_run = λ u w seen. w;
     counts = λ u w seen some. w;
     sees = λ u m w. tt;
     meets = λ u m same w new other. absurd (other same);
-    plants = plants-but pid;
+    plants = λ at u set touched. plants-but pid at u set;
     loosens = λ u m w. tt;
   }
 
@@ -230,8 +230,8 @@ module _ (k : ℕ) (o : Options) (first : TracedState) (h : List Entry) where
     pub other-kept : has_functions t.options ≡ true → answer_of r ≢ Interrupted → reading_now t ≡ None
         → Kept StepsAt (fed_functions t r)
     other-kept has calm none =
-        fed-kept-where StepsAt (λ (u : Traced). ⊥) steps-lasting t r w.follow w.off w.apart calm
-        (λ q idle reads. none-some q (sym none ∙ reading-at t.aside t.stage q idle reads)) has
+        fed-kept-where StepsAt (λ (u : Traced). ⊥) (λ (pid : ℕ). Unit {0}) steps-lasting t r w.follow w.off w.apart
+        calm (λ q idle reads. none-some q (sym none ∙ reading-at t.aside t.stage q idle reads)) (λ q is. tt) has
         (aside-after t.aside refl w.stage w.beside)
 
   -- ---- the reply to the read of a status
@@ -248,10 +248,12 @@ module _ (k : ℕ) (o : Options) (first : TracedState) (h : List Entry) where
 
     but-kept : EachBut Steps t.traced q → Kept (StepsBut pid) (fed_functions t r)
     but-kept others =
-        fed-kept-where (StepsBut pid) (λ (u : Traced). u.pid ≡ pid) (but-lasting pid) t r follow off apart calm
+        fed-kept-where (StepsBut pid) (λ (u : Traced). u.pid ≡ pid) (λ (pid : ℕ). Unit {0}) (but-lasting pid) t r
+        follow off apart calm
         (λ b at_idle at_stage.
         ap (λ (i : ℕ). (traced_at t i).pid) (same_Some b q
-        (sym (reading-at t.aside t.stage b at_idle at_stage) ∙ reading-at t.aside t.stage q idle reads))) has
+        (sym (reading-at t.aside t.stage b at_idle at_stage) ∙ reading-at t.aside t.stage q idle reads)))
+        (λ q is. tt) has
         (subst (AfterBeside (StepsBut pid) t r) (sym idle)
         (subst (AfterStage (StepsBut pid) t r) (sym reads)
         (within, ((λ j inside other. others j inside (λ same. other (ap (λ i. (at_place t.traced i).pid) same))), tt))))

@@ -43,7 +43,7 @@ use Rattle.pr_truss.specs.declared.stages.Stage.{Stage}
 use Rattle.pr_truss.specs.declared.stages.Stage.TheVariants.{Spawning, OpeningControl, Opening, Polling, ReadingStatus, ReadingText, Running, Closing, Finished}
 use Rattle.pr_truss_laws.proofs.HeldLemmas.{at_place, set-at}
 use Rattle.pr_function_laws.proofs.TurnReads.{fresh-new}
-use Rattle.pr_function_laws.proofs.KeptPlaces.{AfterBeside, AfterStage, Apart, AtAside, AtPlace, AtStage, IsLasting, IsLastingWhere, Kept, LeftHas, Position, Whole, apart-append, apart-remove, apart-set, closes, lasting-where, looks, opens, to_read, planted_as, position_after, rests, runs, unflagged}
+use Rattle.pr_function_laws.proofs.KeptPlaces.{AfterBeside, AfterStage, Apart, AtAside, AtPlace, AtStage, IsLasting, IsLastingWhere, Kept, LeftHas, Position, Whole, apart-append, apart-remove, apart-set, closes, lasting-where, looks, opens, to_read, planted_as, position_after, rests, runs, subject, subject_of, unflagged}
 
 -- One walk over all replies that are no interrupts, of a truss with functions that follows no children and does not
 -- leave its processes: what is so of each process, by where truss has come with it, stays so.
@@ -52,7 +52,8 @@ use Rattle.pr_function_laws.proofs.KeptPlaces.{AfterBeside, AfterStage, Apart, A
 none-old : (t : Traced) (l : LwpStatus) (e : Event) → fresh_event t l ≡ Some e → t.old ≡ 0
 none-old t l e is = let new = fresh-new t l e is in eqb-true t.old 0 new.new
 
-module _ (P : Position → Traced → Type 0) (Seen : Traced → Type 0) (lasting : IsLastingWhere P Seen) where
+module _ (P : Position → Traced → Type 0) (Seen : Traced → Type 0) (Touched : ℕ → Type 0)
+    (lasting : IsLastingWhere P Seen Touched) where
   -- all processes were opened whole, and nothing comes before the next call
   record Full (u : TrussState) : Type 0 where
     follow : u.options.follow ≡ false
@@ -65,14 +66,15 @@ module _ (P : Position → Traced → Type 0) (Seen : Traced → Type 0) (lastin
     full : Full u
     here : q < length u.traced
     sees : P looks (at_place u.traced q)
+    touched : Touched (at_place u.traced q).pid
 
   record KeptAt (q : ℕ) (u : TrussState) : Type 0 where
     kept : Kept P u
     here : AtPlace P u.traced q
 
-  place-of : (q : ℕ) (ts : List Traced) → Whole P ts → q < length ts → AtPlace P ts q
-  place-of q ts all within =
-      (within, (each-but (P rests) ts q all, lasting.may_close rests (at_place ts q) (all q within)))
+  place-of : (q : ℕ) (ts : List Traced) → Whole P ts → q < length ts → Touched (at_place ts q).pid → AtPlace P ts q
+  place-of q ts all within touched =
+      (within, (each-but (P rests) ts q all, lasting.may_close rests (at_place ts q) touched (all q within)))
 
   to : (u : TrussState) (stage : Stage) → Full u → AtStage P u.traced stage → Kept P (with_stage u stage)
   to u stage f is = record {
@@ -86,7 +88,7 @@ module _ (P : Position → Traced → Type 0) (Seen : Traced → Type 0) (lastin
   at : (q : ℕ) (u : TrussState) (stage : Stage) → Base q u → AtStage P u.traced stage → KeptAt q (with_stage u stage)
   at q u stage b is = record {
     kept = to u stage b.full is;
-    here = place-of q u.traced b.full.all b.here;
+    here = place-of q u.traced b.full.all b.here b.touched;
   }
 
   told : (q : ℕ) (u : TrussState) (report : Report) → Base q u → Base q (with_report u report)
@@ -96,6 +98,7 @@ module _ (P : Position → Traced → Type 0) (Seen : Traced → Type 0) (lastin
         full = record { follow = f.follow; off = f.off; all = f.all; idle = f.idle; apart = f.apart };
         here = b.here;
         sees = b.sees;
+        touched = b.touched;
       }
 
   -- the process there is another one with the same files
@@ -114,6 +117,8 @@ module _ (P : Position → Traced → Type 0) (Seen : Traced → Type 0) (lastin
         };
         here = omega (arith, b.here, length-set u.traced q t);
         sees = subst (P looks) (sym (set-at u.traced q t b.here)) sees;
+        touched =
+            subst Touched (sym (ap (λ (x : Traced). x.pid) (set-at u.traced q t b.here) ∙ same)) b.touched;
       }
 
   -- a new stop was looked at
@@ -166,7 +171,7 @@ module _ (P : Position → Traced → Type 0) (Seen : Traced → Type 0) (lastin
           beside = subst (AtAside P later) (sym f.idle) tt;
           apart = apart-set u.traced q v b.here refl f.apart;
         };
-        here = (inside, (others, subst (P closes) (sym same) (lasting.may_close runs v has)));
+        here = (inside, (others, subst (P closes) (sym same) (lasting.may_close runs v b.touched has)));
       })
 
   event-over-kept : (q : ℕ) (u : TrussState) (l : LwpStatus) → Base q u → KeptAt q (with_event_over u q l)
@@ -261,7 +266,7 @@ module _ (P : Position → Traced → Type 0) (Seen : Traced → Type 0) (lastin
   -- ---- closing, and when nothing is to be done for a process
 
   closing-kept : (q : ℕ) (u : TrussState) → Base q u → KeptAt q (with_closing u q)
-  closing-kept q u b = at q u (Closing q GoOn) b (place-of q u.traced (let f = b.full in f.all) b.here)
+  closing-kept q u b = at q u (Closing q GoOn) b (place-of q u.traced (let f = b.full in f.all) b.here b.touched)
 
   polls-kept : (u : TrussState) (t : Option Traced) → Full u → Kept P (polls_or_finished u t)
   polls-kept u None f = to u Finished f f.all
@@ -291,20 +296,29 @@ module _ (P : Position → Traced → Type 0) (Seen : Traced → Type 0) (lastin
 
   module _ (t : TrussState) (r : Reply) (follow : t.options.follow ≡ false) (off : t.leaving ≡ false)
       (apart : Apart t.traced) (calm : answer_of r ≢ Interrupted)
-      (seen : (q : ℕ) → t.aside ≡ Nothing → t.stage ≡ ReadingStatus q → Seen (traced_at t q)) where
+      (seen : (q : ℕ) → t.aside ≡ Nothing → t.stage ≡ ReadingStatus q → Seen (traced_at t q))
+      (touched : (q : ℕ) → subject t.stage t.aside ≡ Some q → Touched (traced_at t q).pid) where
+    -- the subject of a stage, where nothing is done beside it
+    stage-touched : t.aside ≡ Nothing → (stage : Stage) → t.stage ≡ stage → (q : ℕ) → subject_of stage ≡ Some q
+        → Touched (traced_at t q).pid
+    stage-touched idle stage is q its =
+        touched q (ap (subject t.stage) idle ∙ ap subject_of is ∙ its)
+
     module _ (idle : t.aside ≡ Nothing) where
       full : Whole P t.traced → Full t
       full all = record { follow = follow; off = off; all = all; idle = idle; apart = apart }
 
-      base : (q : ℕ) → (q < length t.traced) × (Whole P t.traced × P looks (at_place t.traced q)) → Base q t
-      base q here = record { full = full here.1.0; here = here.0; sees = here.1.1 }
+      base : (q : ℕ) → Touched (traced_at t q).pid
+          → (q < length t.traced) × (Whole P t.traced × P looks (at_place t.traced q)) → Base q t
+      base q its here = record { full = full here.1.0; here = here.0; sees = here.1.1; touched = its }
 
       -- where the status is read that a poll named
-      named-base : (q : ℕ) → Seen (traced_at t q)
+      named-base : (q : ℕ) → Seen (traced_at t q) → Touched (traced_at t q).pid
           → (q < length t.traced) × (Whole P t.traced × P to_read (at_place t.traced q)) → Base q t
-      named-base q its here = record {
+      named-base q its touched_it here = record {
         full = full here.1.0;
         here = here.0;
+        touched = touched_it;
         sees = lasting.reads (traced_at t q) its (here.1.0 q here.0) here.1.1;
       }
 
@@ -562,7 +576,7 @@ module _ (P : Position → Traced → Type 0) (Seen : Traced → Type 0) (lastin
     learnt-pid u _ = refl
 
     module _ (idle : t.aside ≡ Nothing) (q : ℕ) (step : OpeningStep) (within : q < length t.traced)
-        (others : EachBut (P rests) t.traced q) where
+        (others : EachBut (P rests) t.traced q) (its : Touched (traced_at t q).pid) where
       abbrev now : Traced
       now = learnt (traced_at t q) r step
 
@@ -577,7 +591,8 @@ module _ (P : Position → Traced → Type 0) (Seen : Traced → Type 0) (lastin
         later-within,
         (
           but-set (P rests) t.traced q now others,
-          subst (P closes) (sym (set-at t.traced q now within)) (lasting.may_close (position_after next) now has),
+          subst (P closes) (sym (set-at t.traced q now within)) (lasting.may_close (position_after next) now
+              (subst Touched (sym (learnt-pid (traced_at t q) step)) its) has),
         ),
       )
 
@@ -606,30 +621,30 @@ module _ (P : Position → Traced → Type 0) (Seen : Traced → Type 0) (lastin
       }
 
     exits-place : (idle : t.aside ≡ Nothing) (q : ℕ) (step : OpeningStep) → (within : q < length t.traced)
-        → (others : EachBut (P rests) t.traced q)
+        → (others : EachBut (P rests) t.traced q) → Touched (traced_at t q).pid
         → P (position_after (step_after t.options r step)) (learnt (traced_at t q) r step) → step ≡ opening.TraceExits
         → AtPlace P (with_step_done t q r step).traced q
     unfolding with_step_done step_after
-    exits-place idle q opening.TraceExits within others has is =
-        later-place idle q opening.TraceExits within others (step_after t.options r opening.TraceExits) has
-    exits-place idle q _ within others has is = cc
+    exits-place idle q opening.TraceExits within others its has is =
+        later-place idle q opening.TraceExits within others its (step_after t.options r opening.TraceExits) has
+    exits-place idle q _ within others its has is = cc
 
     step-kept : (idle : t.aside ≡ Nothing) (q : ℕ) (step : OpeningStep) (a : Answer) → a ≢ Interrupted
-        → (within : q < length t.traced) → (others : EachBut (P rests) t.traced q)
+        → (within : q < length t.traced) → (others : EachBut (P rests) t.traced q) → Touched (traced_at t q).pid
         → P closes (traced_at t q)
         → (a ≡ Accepted → P (position_after (step_after t.options r step)) (learnt (traced_at t q) r step))
         → Kept P (with_function_step_answered t q step r a)
     unfolding with_function_step_answered with_step_done
-    step-kept idle q step Accepted other within others has learns =
-        begun-kept q step _ (done-kept idle q step within others (step_after t.options r step) (learns refl))
-        (λ is. exits-place idle q step within others (learns refl) is)
-    step-kept idle q step (Refused errno) other within others has learns =
+    step-kept idle q step Accepted other within others its has learns =
+        begun-kept q step _ (done-kept idle q step within others its (step_after t.options r step) (learns refl))
+        (λ is. exits-place idle q step within others its (learns refl) is)
+    step-kept idle q step (Refused errno) other within others its has learns =
         refused-opening q t errno follow off idle apart (within, (others, has))
-    step-kept idle q step Gone other within others has learns =
+    step-kept idle q step Gone other within others its has learns =
         let it =
         refused-kept q t Noent follow off idle apart (within, (others, has)) in
         it.kept
-    step-kept idle q step Interrupted other within others has learns = absurd (other refl)
+    step-kept idle q step Interrupted other within others its has learns = absurd (other refl)
 
     -- ---- a row a stage
 
@@ -639,13 +654,16 @@ module _ (P : Position → Traced → Type 0) (Seen : Traced → Type 0) (lastin
     stage-kept idle (Spawning program) is all = start-kept idle program (answer_of r) calm all
     stage-kept idle (OpeningControl pid) is w = control-kept idle pid (answer_of r) calm w.0 w.1
     stage-kept idle (Opening q step) is w =
-        step-kept idle q step (answer_of r) calm w.0 w.1.0 w.1.1.0 w.1.1.1
+        step-kept idle q step (answer_of r) calm w.0 w.1.0 (stage-touched idle (Opening q step) is q refl) w.1.1.0
+        w.1.1.1
     stage-kept idle Polling is w = poll-kept idle (answer_of r) calm is w.0 w.1
     stage-kept idle (ReadingStatus q) is w =
         let its = seen q idle is in
-        let it = status-kept idle q (answer_of r) calm its (named-base idle q its w) in it.kept
+        let it = status-kept idle q (answer_of r) calm its (named-base idle q its
+        (stage-touched idle (ReadingStatus q) is q refl) w) in it.kept
     stage-kept idle (ReadingText q l from len) is w =
-        let it = text-kept idle q l len (answer_of r) calm (base idle q w) in
+        let it = text-kept idle q l len (answer_of r) calm
+        (base idle q (stage-touched idle (ReadingText q l from len) is q refl) w) in
         function-text-kept idle q _ (answer_of r) it.kept
     stage-kept idle (Running q) is w = run-kept idle q (answer_of r) refl w
     stage-kept idle (Closing q OpenNext) is w =
@@ -691,12 +709,13 @@ module _ (P : Position → Traced → Type 0) (Seen : Traced → Type 0) (lastin
     all-set ts q u within same all =
         each-set (P rests) ts q u within (each-but (P rests) ts q all) (same (all q within))
 
-    module _ (ts : List Traced) (q : ℕ) (set : List Bool) (within : q < length ts) where
+    module _ (ts : List Traced) (q : ℕ) (set : List Bool) (within : q < length ts)
+        (its : Touched (at_place ts q).pid) where
       abbrev marked : Traced
       marked = planted_as (at_place ts q) set
 
       same : (at : Position) → P at (at_place ts q) → P at marked
-      same at has = lasting.plants at (at_place ts q) set has
+      same at has = lasting.plants at (at_place ts q) set its has
 
       longer : (b : ℕ) → b < length ts → b < length (slice_set ts q marked)
       longer b inside = omega (arith, inside, length-set ts q marked)
@@ -759,7 +778,8 @@ module _ (P : Position → Traced → Type 0) (Seen : Traced → Type 0) (lastin
       apart = w.its_apart;
     }
 
-    module _ (q : ℕ) (stage : AtStage P t.traced t.stage) (here : AtPlace P t.traced q) where
+    module _ (q : ℕ) (stage : AtStage P t.traced t.stage) (here : AtPlace P t.traced q)
+        (its : Touched (at_place t.traced q).pid) where
       now-idle : Idle q idle_now
       now-idle = record {
         its_follow = follow;
@@ -776,8 +796,8 @@ module _ (P : Position → Traced → Type 0) (Seen : Traced → Type 0) (lastin
         its_off = off;
         its_idle = refl;
         its_apart = apart-set t.traced q (planted_as (traced_at t q) set) here.0 refl apart;
-        its_stage = stage-marked t.traced q set here.0 t.stage stage;
-        here = place-marked t.traced q set here.0 q here;
+        its_stage = stage-marked t.traced q set here.0 its t.stage stage;
+        here = place-marked t.traced q set here.0 its q here;
       }
 
       aside-refused : (errno : Errno) → Kept P (with_refused_opening idle_now q errno)
@@ -879,9 +899,12 @@ module _ (P : Position → Traced → Type 0) (Seen : Traced → Type 0) (lastin
     aside-kept : (aside : Aside) → t.aside ≡ aside → AfterBeside P t r aside → Kept P (with_aside_answered t r aside)
     unfolding with_aside_answered
     aside-kept Nothing is w = stage-kept is t.stage refl w
-    aside-kept (Reading q function) is w = code-kept q w.0 w.1 function (answer_of r) calm
-    aside-kept (Planting q function) is w = plant-kept q w.0 w.1 function (answer_of r) calm
-    aside-kept (Patching q plants lifts clear) is w = patch-kept q w.0 w.1.0 plants lifts clear w.1.1.1
+    aside-kept (Reading q function) is w =
+        code-kept q w.0 w.1 (touched q (ap (subject t.stage) is)) function (answer_of r) calm
+    aside-kept (Planting q function) is w =
+        plant-kept q w.0 w.1 (touched q (ap (subject t.stage) is)) function (answer_of r) calm
+    aside-kept (Patching q plants lifts clear) is w =
+        patch-kept q w.0 w.1.0 (touched q (ap (subject t.stage) is)) plants lifts clear w.1.1.1
     aside-kept _ is w = absurd w.1
 
     pub fed-kept-where : has_functions t.options ≡ true → AfterBeside P t r t.aside → Kept P (fed_functions t r)
@@ -895,5 +918,5 @@ pub fed-kept : (P : Position → Traced → Type 0) → IsLasting P → (t : Tru
     → t.options.follow ≡ false → t.leaving ≡ false → Apart t.traced → answer_of r ≢ Interrupted
     → has_functions t.options ≡ true → AfterBeside P t r t.aside → Kept P (fed_functions t r)
 fed-kept P lasting t r follow off apart calm has w =
-    fed-kept-where P (λ (u : Traced). Unit {0}) (lasting-where P lasting) t r follow off apart calm (λ q idle is. tt)
-    has w
+    fed-kept-where P (λ (u : Traced). Unit {0}) (λ (pid : ℕ). Unit {0}) (lasting-where P lasting) t r follow off apart
+    calm (λ q idle is. tt) (λ q is. tt) has w

@@ -102,6 +102,20 @@ abbrev pub IsBusy : List Bool → List Bool → Bool → Type 0
 IsBusy plants lifts clear =
     ((is_some (first_function plants) || is_some (first_function lifts)) ≡ true) × (clear ≡ false)
 
+-- The place of the process that truss opens or looks at, or in which it plants and lifts.
+abbrev pub subject_of : Stage → Option ℕ
+subject_of (Opening q step) = Some q
+subject_of (ReadingStatus q) = Some q
+subject_of (ReadingText q l from len) = Some q
+subject_of _ = None
+
+abbrev pub subject : Stage → Aside → Option ℕ
+subject stage Nothing = subject_of stage
+subject stage (Reading q function) = Some q
+subject stage (Planting q function) = Some q
+subject stage (Patching q plants lifts clear) = Some q
+subject stage _ = None
+
 -- ---- what is so of each process
 
 module _ (P : Position → Traced → Type 0) where
@@ -140,16 +154,17 @@ module _ (P : Position → Traced → Type 0) where
     pub apart : Apart t.traced
 
   -- What truss makes of its record of a process, where that is no call of its own, leaves what is so: it looks at a
-  -- stop that stood before it came, at one that is new, and plants and lifts breakpoints. It looks only at processes of
-  -- which the other thing is so.
-  pub record IsLastingWhere (Seen : Traced → Type 0) : Type 0 where
-    pub may_close : (at : Position) (u : Traced) → P at u → P closes u
+  -- stop that stood before it came, at one that is new, and plants and lifts breakpoints. It reads only processes of
+  -- which the first other thing is so; and of the ids of those that it opens or looks at, or in which it plants and
+  -- lifts, the second one is so.
+  pub record IsLastingWhere (Seen : Traced → Type 0) (Touched : ℕ → Type 0) : Type 0 where
+    pub may_close : (at : Position) (u : Traced) → Touched u.pid → P at u → P closes u
     pub reads : (u : Traced) → Seen u → P rests u → P to_read u → P looks u
     pub may_run : (u : Traced) → P rests u → P looks u → P runs u
     pub counts : (u : Traced) → P rests u → P looks u → 0 < u.old → P runs (record u { old = u.old - 1 })
     pub sees : (u : Traced) (m : Marks) → P looks u → P looks (record u { marks = m })
     pub meets : (u : Traced) (m : Marks) → Seen u → P rests u → u.old ≡ 0 → P rests (record u { marks = m })
-    pub plants : (at : Position) (u : Traced) (set : List Bool) → P at u → P at (planted_as u set)
+    pub plants : (at : Position) (u : Traced) (set : List Bool) → Touched u.pid → P at u → P at (planted_as u set)
     pub loosens : (u : Traced) (m : Marks) → P closes u → P closes (record u { marks = m })
 
   -- the same, whatever process it looks at
@@ -163,15 +178,15 @@ module _ (P : Position → Traced → Type 0) where
     pub plants : (at : Position) (u : Traced) (set : List Bool) → P at u → P at (planted_as u set)
     pub loosens : (u : Traced) (m : Marks) → P closes u → P closes (record u { marks = m })
 
-  pub lasting-where : IsLasting → IsLastingWhere (λ (u : Traced). Unit {0})
+  pub lasting-where : IsLasting → IsLastingWhere (λ (u : Traced). Unit {0}) (λ (pid : ℕ). Unit {0})
   lasting-where w = record {
-    may_close = w.may_close;
+    may_close = λ at u touched. w.may_close at u;
     reads = λ u seen. w.reads u;
     may_run = w.may_run;
     counts = w.counts;
     sees = w.sees;
     meets = λ u m seen. w.meets u m;
-    plants = w.plants;
+    plants = λ at u set touched. w.plants at u set;
     loosens = w.loosens;
   }
 

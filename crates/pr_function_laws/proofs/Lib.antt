@@ -2,6 +2,7 @@ pub mod AwayLemmas
 pub mod BegunSteps
 pub mod BreakpointCallLemmas
 pub mod BreakpointLemmas
+pub mod BusyStages
 pub mod CallLemmas
 pub mod CalledLaws
 pub mod CodeLemmas
@@ -22,6 +23,8 @@ pub mod LastLooks
 pub mod LeavingLaws
 pub mod LeavingStays
 pub mod LiftLemmas
+pub mod ListedSteps
+pub mod ListedWalk
 pub mod MarkLemmas
 pub mod MarkedFlags
 pub mod MetLemmas
@@ -45,11 +48,14 @@ pub mod OtherSteps
 pub mod OwnSteps
 pub mod PendingCalls
 pub mod PendingPlaces
+pub mod PendingReads
 pub mod PendingWalk
 pub mod PatchCalls
 pub mod PlainFlags
 pub mod PlantedLaws
+pub mod RanProcesses
 pub mod RefusedOpenings
+pub mod RestPlaces
 pub mod ReturnLemmas
 pub mod SoonLemmas
 pub mod SoundLemmas
@@ -63,6 +69,7 @@ pub mod StopTurns
 pub mod StretchLemmas
 pub mod ToldLaws
 pub mod ToldLemmas
+pub mod TracedPlaces
 pub mod TracedSets
 pub mod TrapLemmas
 pub mod TreatedLaws

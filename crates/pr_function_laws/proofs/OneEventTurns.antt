@@ -14,7 +14,7 @@ use Rattle.pr_model.specs.LwpTurns.{LwpTurn, is_held_back, settled, turn_of, wit
 use Rattle.pr_model.specs.Machines.{fault_incurred, fault_posted, stopped_as_directed, traced}
 use Rattle.pr_model.specs.Moves.{Move, moved}
 use Rattle.pr_model.specs.Moves as move
-use Rattle.pr_model.specs.Points.{after_meeting, is_traced, stop_at, stopped_at, with_others_directed, with_stop_at}
+use Rattle.pr_model.specs.Points.{after_meeting, is_traced, meets, stop_at, stopped_at, with_others_directed, with_stop_at}
 use Rattle.pr_model.specs.Readers.{has_lent}
 use Rattle.pr_model.specs.Rows.{Row, row_for}
 use Rattle.pr_model.specs.State.{TracedControl, TracedLwp, TracedProcess, TracedSystem, live_process, lwp_of, process_of, with_lwp, with_lwp_of, with_process}
@@ -298,6 +298,33 @@ module _ (s : TracedSystem) (pid : ℕ) (p : TracedProcess) (id : ℕ) (l : Trac
       (λ f same. free-there x found f (is ∙ ap (λ y. Some y) same))
       (ap (λ (c : TracedControl). has_flags c.modes async_mode) settings.control ∙ directs)
 
+  -- where it met no point that is traced, still none stands on an event
+  unmet-if : (point : Option Point) → meets p.control point ≡ false → (x : TracedProcess) → GoesOn p x
+      → HasMetNothing (after_meeting point id x)
+  unfolding after_meeting with_stop_at with_others_directed is_traced
+  unmet-if None off x goes = carried-unmet p x goes none
+  unmet-if (Some pt) off x goes =
+      let settings : HasSameSettings p x = goes.settings in
+      choice HasMetNothing (is_traced x.control pt) _ _
+      (λ traces. absurd (false≢true (sym (ap (λ (c : TracedControl). is_traced c pt) settings.control ∙ off) ∙ traces)))
+      (λ passes. carried-unmet p x goes none)
+
+  pub row-unmet : meets p.control row.point ≡ false → (q : TracedProcess)
+      → process_of (with_process pid (after_meeting row.point id) before_point) pid ≡ Some q → q.ended ≡ None
+      → HasMetNothing q
+  unfolding with_process
+  row-unmet off q found over =
+      let m =
+      mapped-some (after_meeting row.point id) (process_of before_point pid) q
+      (sym (under-change_under pid (after_meeting row.point id) before_point.processes) ∙ found) in
+      let same = meeting-same (λ (y : TracedProcess). y.ended) (λ y es. refl) row.point id m.0 in
+      let carried = row-carries pid p id l row s h no-stop suits in
+      let from = carried.from m.0 m.1.0 (sym same ∙ ap (λ (y : TracedProcess). y.ended) m.1.1 ∙ over) in
+      let was = found-live s pid p live in
+      let goes : GoesOn p m.0 =
+      subst (λ (y : TracedProcess). GoesOn y m.0) (same_Some from.0 p (sym from.1.0 ∙ was.0)) from.1.1 in
+      subst HasMetNothing m.1.1 (unmet-if row.point off m.0 goes)
+
   pub row-few : (q : TracedProcess)
       → process_of (with_process pid (after_meeting row.point id) before_point) pid ≡ Some q → q.ended ≡ None
       → HasOneEventAtMost q
@@ -341,6 +368,34 @@ module _ (s : TracedSystem) (pid : ℕ) (p : TracedProcess) (own : ℕ) (t : Lwp
             (unmet (stopped-unmet own p none))
         | inr goes ↦ row-few s pid p own it.lwp h live a free goes none directs row (row-suits s pid p own it.lwp a)
             (kind-so s pid p own it.lwp row (row-kind s pid p own it.lwp)) q
+            (ap (λ (v : LwpTurn). process_of v.system pid) (sym is) ∙ found.0) found.1
+      ]
+
+  -- a turn in which its lwp met no point that is traced
+  pub turn-unmet : HasMetNothing p → t.turned.stop ≡ false → HasMetNothing q
+  unfolding settled
+  turn-unmet none off =
+      let it = turn-taken s pid own t turn in
+      let same : it.process ≡ p = same_Some it.process p (sym it.live ∙ live) in
+      let there : lwp_of p own ≡ Some it.lwp =
+      subst (λ (y : TracedProcess). lwp_of y own ≡ Some it.lwp) same it.there in
+      let is : t ≡ settled s pid p own it.lwp (row_for s pid p own it.lwp) =
+      it.is ∙ ap (λ (y : TracedProcess). settled s pid y own it.lwp (row_for s pid y own it.lwp)) same in
+      let free : is_held_back p own it.lwp ≡ false =
+      subst (λ (y : TracedProcess). is_held_back y own it.lwp ≡ false) same it.free in
+      let a = acting s pid own p it.lwp h live there in
+      let row : Row = row_for s pid p own it.lwp in
+      let found = found-live t.system pid q later in
+      elim (cases_Bool it.lwp.control.directed) [
+        | inl will ↦ subst HasMetNothing
+            (same_Some (with_lwp_stopped own p) q
+            (sym (ap (λ (v : LwpTurn). live_process v.system pid)
+            (is ∙ ap (settled s pid p own it.lwp) (row-directed s pid p own it.lwp will)
+            ∙ stop-settled s pid p own it.lwp) ∙ stopped-live s pid p live own) ∙ later))
+            (stopped-unmet own p none)
+        | inr goes ↦ row-unmet s pid p own it.lwp h live a free goes none directs row (row-suits s pid p own it.lwp a)
+            (kind-so s pid p own it.lwp row (row-kind s pid p own it.lwp))
+            (ap (λ (v : LwpTurn). v.turned.stop) (sym is) ∙ off) q
             (ap (λ (v : LwpTurn). process_of v.system pid) (sym is) ∙ found.0) found.1
       ]
 

@@ -40,7 +40,7 @@ use Rattle.pr_function_laws.proofs.OrdinaryFiles.{Follows, MakesOwn, entry-calm,
 use Rattle.pr_function_laws.proofs.OrdinaryReplies.{at-ordinary}
 use Rattle.pr_function_laws.proofs.OrdinaryRows.{no-lwps, no-status}
 use Rattle.pr_function_laws.specs.Opened.{IsFunctionRun, functions_at}
-use Rattle.pr_function_laws.specs.Ordinary.{IsLike, TellsOfOwnFault, in_place, ordinary, ordinary_among, own_fault, refused, same}
+use Rattle.pr_function_laws.specs.Ordinary.{IsLike, SeesTo, TellsOfOwnFault, in_place, ordinary, ordinary_among, own_fault, refused, same}
 use Rattle.pr_function_laws.specs.OrdinaryRuns.{ReadsNoOwnFault, ShowsInEntry, ShowsWhatItReadsOf, nothing_new, one_more}
 use Rattle.pr_function_laws.specs.Runs.{functions_after}
 
@@ -168,11 +168,44 @@ module _ (n k : ℕ) (o : Options) (s : TracedState) (before later : List Entry)
       m.0
 
   -- nothing more is shown
+  same-shown : ordinary (with_own t (exchange_of k e)) ≡ ordinary t
+      → shown pid (functions_at k o (before ++ e ∷ [])) ≡ shown pid t
+  same-shown still =
+      ap (shown pid) (functions_at-push k o before e)
+      ∙ sym (shown-ordinary pid (with_own t (exchange_of k e))) ∙ ap (shown pid) still ∙ shown-ordinary pid t
+
   stays : ordinary (with_own t (exchange_of k e)) ≡ ordinary t → ShowsInEntry k o pid s before e
-  stays still =
-      nothing_new
-      (ap (shown pid) (functions_at-push k o before e)
-      ∙ sym (shown-ordinary pid (with_own t (exchange_of k e))) ∙ ap (shown pid) still ∙ shown-ordinary pid t)
+  stays still = nothing_new (same-shown still)
+
+  -- what is shown: nothing more, or what an exchange tells that is like the one of truss
+  pub data ShownStep : Type 0 where
+    as_before : ((x : Exchange) → exchange_of k e ≡ Some x → SeesTo t t.stage x.call)
+        → shown pid (functions_at k o (before ++ e ∷ [])) ≡ shown pid t → ShownStep
+    as_like : (x : Exchange) → exchange_of k e ≡ Some x → (y : Exchange) → IsLike t x y
+        → shown pid (functions_at k o (before ++ e ∷ []))
+        ≡ shown pid t ++ told_in (is_selected o) (read_now pid (ordinary t) y.reply) → ShownStep
+
+  step-turned : (x : Exchange) → exchange_of k e ≡ Some x → Turn t x → ShownStep
+  step-turned x own (goes_out sees over still) =
+      as_before
+      (λ z of. subst (λ (w : Exchange). SeesTo t t.stage w.call) (same_Some x z (sym own ∙ of)) sees)
+      (same-shown (ap (λ q. ordinary (with_own t q)) own ∙ still))
+  step-turned x own (goes_on y like called now) =
+      let f = follows in
+      let fit = f.fit in
+      as_like x own y like (shown-told k o before e pid x own y now fit.options)
+
+  step-by : (x : Option Exchange) → exchange_of k e ≡ x → MakesOwn t x → ShownStep
+  step-by None own made =
+      as_before (λ z of. absurd (none-some z (sym own ∙ of))) (same-shown (ap (λ q. ordinary (with_own t q)) own))
+  step-by (Some x) own made =
+      let f = follows in
+      let half = run-halfway n k o s before (e ∷ later) run in
+      step-turned x own
+      (turn o run.has run.follows_none t x f.fit made (entry-calm n k v e x half.legal.0 own))
+
+  pub shown-step : ShownStep
+  shown-step = step-by (exchange_of k e) refl next
 
   module _ (x : Exchange) (own : exchange_of k e ≡ Some x) (y : Exchange) (like : IsLike t x y)
       (called : next_call_of (ordinary t) ≡ Some y.call)

@@ -1,8 +1,5 @@
-use Rattle.std.proofs.Common.{cond, ◌≡◌, ◌≢◌, ◌<◌, ℕ, true, Option, Some, None, List, length, refl, sym, subst, ap, ◌∙◌, inl, inr}
-use Rattle.std.proofs.lemmas.Bool.{cases_eq}
+use Rattle.std.proofs.Common.{cond, ◌≡◌, ◌≢◌, ◌<◌, ℕ, true, Some, None, List, length, refl, sym, subst, ap, ◌∙◌, inl, inr}
 use Rattle.std.proofs.lemmas.Option.{none-some, same_Some}
-use Rattle.pr_line.specs.declared.events.Event.{Event}
-use Rattle.pr_line.specs.Events.{event_of}
 use Rattle.pr_line.specs.declared.options.Options.{Options}
 use Rattle.pr_model.specs.Calls.{Answer, answer_to}
 use Rattle.pr_lawful.proofs.HandleLemmas.{handle-at, handle-writer}
@@ -16,74 +13,58 @@ use Rattle.pr_model.specs.declared.calls.File.TheVariants as file
 use Rattle.pr_model.specs.declared.calls.Mode.{Mode}
 use Rattle.pr_model.specs.declared.calls.Mode.TheVariants.{WriteExcl}
 use Rattle.pr_model.specs.declared.handles.Held.{Held}
-use Rattle.pr_num.specs.ById.{under}
-use Rattle.pr_num.specs.Limits.{instruction_size}
 use Rattle.pr_num.specs.declared.messages.Message.TheVariants as message
 use Rattle.pr_report_laws.proofs.Invariant.OtherSteps.{lives-later}
-use Rattle.pr_report_laws.proofs.Machine.FrameLaws.{alone-event}
 use Rattle.pr_report_laws.proofs.Releasing.ReleaseStays.{not-allowed}
-use Rattle.pr_report_laws.specs.Positions.{HasEvent}
 use Rattle.pr_truss.specs.Replies.{answer_of}
 use Rattle.pr_truss.specs.declared.replies.Answer.TheVariants.{Accepted}
 use Rattle.pr_truss.specs.FunctionCalls.{call_beside, function_call_of, next_function_call_of}
-use Rattle.pr_truss.specs.Marks.{address_of, breakpoint, first_function, has_functions}
+use Rattle.pr_truss.specs.Marks.{first_function, has_functions}
 use Rattle.pr_truss.specs.NextCalls.{call_of, next_call_of}
 use Rattle.pr_truss.specs.Processes.{last_handle}
 use Rattle.pr_truss.specs.Trusses.{TrussState}
 use Rattle.pr_truss.specs.declared.asides.Aside.{Aside}
 use Rattle.pr_truss.specs.declared.asides.Aside.TheVariants.{Nothing, Reading, Planting, Patching}
 use Rattle.pr_truss.specs.declared.processes.Traced.{Traced}
-use Rattle.pr_truss.specs.declared.stages.AfterClosing.{AfterClosing}
 use Rattle.pr_truss.specs.declared.stages.AfterClosing.TheVariants.{OpenNext, GoOn}
 use Rattle.pr_truss.specs.declared.stages.Stage.{Stage}
 use Rattle.pr_truss.specs.declared.stages.Stage.TheVariants.{Spawning, OpeningControl, Opening, Polling, ReadingStatus, ReadingText, Running, Closing, Finished}
 use Rattle.pr_truss_laws.proofs.HeldLemmas.{at_place}
 use Rattle.pr_truss_laws.proofs.OpensLemmas.{held_by}
-use Rattle.pr_truss_laws.proofs.OutlastLemmas.{own-call-elsewhere}
-use Rattle.pr_function_laws.proofs.KeptPlaces.{AtAside, AtStage, Kept, closes}
-use Rattle.pr_function_laws.proofs.OpenedCalls.{IsMild, IsSo, acts_if, call-is, lowest, opened-acts, patch-mild, read-mild, write-mild}
-use Rattle.pr_function_laws.proofs.OpenedLemmas.{Holds, control-made, control-sole, elsewhere-goes, last-own, new-file, plain-goes}
+use Rattle.pr_truss_laws.proofs.OutlastLemmas.{Outlasts, own-call-elsewhere}
+use Rattle.pr_truss_laws.specs.Stills.{IsUndisturbed}
+use Rattle.pr_function_laws.proofs.KeptPlaces.{AtAside, AtStage, Kept}
+use Rattle.pr_function_laws.proofs.OpenedCalls.{IsSo, acts_if, call-is, lowest, opened-acts, patch-mild}
+use Rattle.pr_function_laws.proofs.OpenedLemmas.{Holds, control-made, control-sole, elsewhere-goes, last-own, new-file}
 use Rattle.pr_function_laws.proofs.PendingPlaces.{Pends}
-use Rattle.pr_function_laws.proofs.StoodCalls.{KeepsLwps, message-lwps}
 use Rattle.pr_function_laws.proofs.StretchLemmas as stretch
 use Rattle.pr_function_laws.specs.Lifted.{HasControl}
 use Rattle.pr_function_laws.specs.Stretches.{acts_by}
 
--- A call of truss leaves a process that it does not read, run or close as it was: an lwp of it that stands on an event
--- stands there still.
+-- A call of truss leaves a process that it does not read, run or close as it was.
 
--- a process whose lwps stay, with what their statuses tell
-lwps-event : (p q : TracedProcess) → KeepsLwps p q → (id : ℕ) (event : Event) → HasEvent p id event
-    → HasEvent q id event
-lwps-event p q keeps id event has = record {
-  lwp = has.lwp;
-  there = ap (under id) keeps.lwps ∙ has.there;
-  stands = has.stands;
-  tells = ap event_of (keeps.told id has.lwp) ∙ has.tells;
-  others = λ other k apart there. has.others other k apart (ap (under other) (sym keeps.lwps) ∙ there);
-}
-
--- truss has its files of a process, and an lwp of that stands on an event, if it lives
-pub record IsPending (k : ℕ) (o : Options) (was : Traced) (id : ℕ) (event : Event) (s : TracedState) : Type 0 where
+-- truss has its files of a process, and if it lives this is so of it
+pub record IsPending (k : ℕ) (o : Options) (was : Traced) (H : TracedProcess → Type 0) (s : TracedState) : Type 0 where
   pub holds : Holds k o s None was.pid was.control was.status was.lstatus was.memory
-  pub has : (q : TracedProcess) → live_process s.system was.pid ≡ Some q → HasEvent q id event
+  pub has : (q : TracedProcess) → live_process s.system was.pid ≡ Some q → H q
 
 module _ (n k : ℕ) (s : TracedState) (lawful : IsLawful s) (c : Call) (a : Answer)
     (answer : answer_to s k c ≡ Some a)
     (over : (pid : ℕ) → pid < s.system.made → live_process s.system pid ≡ None
     → live_process a.state.system pid ≡ None) (t : TrussState) (kept : Kept (IsSo ⊥ k t.options s) t) (was : Traced)
-    (pends : Kept (Pends was.pid was) t) (id : ℕ) (event : Event)
-    (here : IsPending k t.options was id event s)
-    (shut : (q : ℕ) (next : AfterClosing) → t.stage ≡ Closing q next → t.aside ≡ Nothing
-    → (at_place t.traced q).pid ≢ was.pid) where
+    (pends : Kept (Pends was.pid was) t) (H : TracedProcess → Type 0)
+    (stays : (p q : TracedProcess) → IsUndisturbed p q → H p → H q) (here : IsPending k t.options was H s) where
   abbrev o : Options
   o = t.options
 
   abbrev ts : List Traced
   ts = t.traced
 
+  -- so it is afterwards, and the process outlasts the call
   abbrev Later : Type 0
-  Later = IsPending k o was id event a.state
+  Later =
+      IsPending k o was H a.state
+      × ((p : TracedProcess) → live_process s.system was.pid ≡ Some p → Outlasts was.pid p a.state.system)
 
   its : HasControl k was.pid was.control s
   its = let h = here.holds in h.its
@@ -96,16 +77,17 @@ module _ (n k : ℕ) (s : TracedState) (lawful : IsLawful s) (c : Call) (a : Ans
       → Later
   elsewhere away =
       let sole = control-sole k was.pid was.control s lawful its in
-      record {
-        holds = elsewhere-goes n k o s lawful c a answer over was.pid away None _ _ _ _ here.holds;
-        has = λ q later.
-            let p =
-            lives-later o was.pid t s a.state
-            (λ p live. own-call-elsewhere s k was.pid c a p lawful (λ m g named there.
-            away m g (stretch.named-acts n k was.pid 0 was.control s lawful sole made c m named) there) answer live)
-            (over was.pid made) q later in
-            alone-event p.0 q p.1.1 id event (here.has p.0 p.1.0);
-      }
+      let outlasts : (p : TracedProcess) → live_process s.system was.pid ≡ Some p → Outlasts was.pid p a.state.system =
+      λ p live. own-call-elsewhere s k was.pid c a p lawful (λ m g named there.
+      away m g (stretch.named-acts n k was.pid 0 was.control s lawful sole made c m named) there) answer live in (
+        record {
+          holds = elsewhere-goes n k o s lawful c a answer over was.pid away None _ _ _ _ here.holds;
+          has = λ q later.
+              let p = lives-later o was.pid t s a.state outlasts (over was.pid made) q later in
+              stays p.0 q p.1.1 (here.has p.0 p.1.0);
+        },
+        outlasts,
+      )
 
   quiet : acts_by c ≡ None → Later
   quiet none = elsewhere (λ m held acts there. absurd (none-some m (sym none ∙ acts)))
@@ -128,30 +110,11 @@ module _ (n k : ℕ) (s : TracedState) (lawful : IsLawful s) (c : Call) (a : Ans
       let low = lowest ⊥ k o s ts t.stage w.stage q within in
       let h = low.holds in h.its
 
-  -- a message that leaves the lwps of its process
-  mild : (q : ℕ) → q < length ts → (bytes : List ℕ) → c ≡ call.Ctl (at_place ts q).control bytes → IsMild bytes
-      → Pends was.pid was closes (at_place ts q) → Later
-  mild q within bytes is begins w = elim (cases_eq (at_place ts q).pid was.pid) [
-    | inl same ↦ (let it = w same in
-        own (is ∙ ap (λ m. call.Ctl m bytes) it.control))
-    | inr other ↦ apart (at_place ts q).pid (at_place ts q).control file.Ctl WriteExcl other (ap acts_by is)
-        (control-at q within)
-  ]
-    where
-      own : c ≡ call.Ctl was.control bytes → Later
-      own sent = record {
-        holds = plain-goes n k o s lawful c a answer over was.pid was.control bytes sent its begins.0 None _ _ _
-            here.holds;
-        has = λ q later. by q later (live_process s.system was.pid) refl;
-      }
-        where
-          by : (q : TracedProcess) → live_process a.state.system was.pid ≡ Some q → (x : Option TracedProcess)
-              → live_process s.system was.pid ≡ x → HasEvent q id event
-          by q later None none = absurd (none-some q (sym (over was.pid made none) ∙ later))
-          by q later (Some p) live =
-              lwps-event p q
-              (message-lwps n k o s lawful c a answer over was bytes sent its p q live later begins.1) id event
-              (here.has p live)
+  -- a message to another process
+  sent-to : (q : ℕ) → q < length ts → (bytes : List ℕ) → c ≡ call.Ctl (at_place ts q).control bytes
+      → (at_place ts q).pid ≢ was.pid → Later
+  sent-to q within bytes is other =
+      apart (at_place ts q).pid (at_place ts q).control file.Ctl WriteExcl other (ap acts_by is) (control-at q within)
 
   -- a file of another process is closed
   closed : (q : ℕ) → q < length ts → (at_place ts q).pid ≢ was.pid
@@ -184,9 +147,9 @@ module _ (n k : ℕ) (s : TracedState) (lawful : IsLawful s) (c : Call) (a : Ans
       apart (at_place ts q).pid (at_place ts q).control file.Ctl WriteExcl w.1.1
       (ap acts_by (sym (same_Some _ c is))) (control-at q w.0)
   stage-later idle (Closing q OpenNext) at w is =
-      closed q w.0 (shut q OpenNext at idle) (sym (same_Some _ c is))
+      closed q w.0 w.1.1 (sym (same_Some _ c is))
   stage-later idle (Closing q GoOn) at w is =
-      closed q w.0 (shut q GoOn at idle) (sym (same_Some _ c is))
+      closed q w.0 w.1.1 (sym (same_Some _ c is))
   stage-later idle Finished at w is = absurd (none-some c is)
   stage-later idle _ at w is = absurd w
 
@@ -195,15 +158,14 @@ module _ (n k : ℕ) (s : TracedState) (lawful : IsLawful s) (c : Call) (a : Ans
   unfolding call_beside
   aside-later Nothing at w beside is = stage-later at t.stage refl w is
   aside-later (Reading q function) at w beside is =
-      mild q beside.0 _ (sym (same_Some _ c is)) (read-mild (address_of o function) instruction_size) beside.1.1
+      sent-to q beside.0 _ (sym (same_Some _ c is)) beside.1.1
   aside-later (Planting q function) at w beside is =
-      mild q beside.0 _ (sym (same_Some _ c is)) (write-mild (address_of o function) instruction_size breakpoint)
-      beside.1.1
+      sent-to q beside.0 _ (sym (same_Some _ c is)) beside.1.1
   aside-later (Patching q plants lifts clear) at w beside is =
       let sent =
       patch-mild ⊥ n k s lawful c a answer over t kept (λ none. absurd none) (at_place ts q).control
       (first_function plants) (first_function lifts) beside.1.0 c (same_Some _ c is) in
-      mild q beside.0.0 sent.0 sent.1.0 sent.1.1 beside.0.1.1
+      sent-to q beside.0.0 sent.0 sent.1.0 beside.0.1.1
   aside-later _ at w beside is = absurd beside
 
   -- each call that comes next

@@ -1,15 +1,17 @@
-use Rattle.std.proofs.Common.{◌≡◌, ◌≢◌, ℕ, true, Option, Some, None, refl, sym, ◌∙◌}
+use Rattle.std.proofs.Common.{◌≡◌, ◌≢◌, ℕ, Bool, true, Option, Some, None, List, refl, sym, subst, ◌∙◌}
+use Rattle.std.proofs.lemmas.Option.{none-some, same_Some}
 use Rattle.pr_model.specs.declared.calls.Reply.{Reply}
+use Rattle.pr_num.proofs.TableLemmas.{position-within}
 use Rattle.pr_report_laws.proofs.Invariant.StandLemmas.{Each}
 use Rattle.pr_truss.specs.FunctionFeeding.{fed_functions}
 use Rattle.pr_truss.specs.Marks.{has_functions}
 use Rattle.pr_truss.specs.Openings.{learnt, step_after}
 use Rattle.pr_truss.specs.Processes.{newly_traced, without_last}
 use Rattle.pr_truss.specs.Replies.{answer_of}
+use Rattle.pr_truss.specs.Stops.{has_control}
 use Rattle.pr_truss.specs.Trusses.{TrussState, traced_at}
 use Rattle.pr_truss.specs.declared.asides.Aside.{Aside}
 use Rattle.pr_truss.specs.declared.asides.Aside.TheVariants.{Nothing, Reading, Planting, Patching}
-use Rattle.pr_truss.specs.declared.marks.Marks.{Marks}
 use Rattle.pr_truss.specs.declared.processes.Traced.{Traced}
 use Rattle.pr_truss.specs.declared.replies.Answer.TheVariants.{Accepted, Interrupted}
 use Rattle.pr_truss.specs.declared.stages.AfterClosing.TheVariants.{OpenNext, GoOn}
@@ -18,73 +20,56 @@ use Rattle.pr_truss.specs.declared.stages.OpeningStep.TheVariants as opening
 use Rattle.pr_truss.specs.declared.stages.Stage.{Stage}
 use Rattle.pr_truss.specs.declared.stages.Stage.TheVariants.{Spawning, OpeningControl, Opening, Polling, ReadingStatus, ReadingText, Running, Closing, Finished}
 use Rattle.pr_truss_laws.proofs.HeldLemmas.{at_place}
-use Rattle.pr_function_laws.proofs.KeptLemmas.{fed-kept-where}
-use Rattle.pr_function_laws.proofs.KeptPlaces.{AfterBeside, AfterStage, AtAside, AtStage, IsLastingWhere, Kept, LeftHas, Position, closes, looks, opens, position_after, rests, runs, to_read}
-use Rattle.pr_num.proofs.TableLemmas.{position-within}
-use Rattle.pr_truss.specs.Stops.{has_control}
-use Rattle.pr_truss.specs.declared.stages.AfterClosing.{AfterClosing}
 use Rattle.pr_truss_laws.proofs.ReplySteps.{lost-same}
+use Rattle.pr_function_laws.proofs.KeptLemmas.{fed-kept-where}
+use Rattle.pr_function_laws.proofs.KeptPlaces.{AfterBeside, AfterStage, AtAside, AtStage, IsLastingWhere, Kept, LeftHas, Position, closes, looks, opens, planted_as, position_after, rests, runs, subject, subject_of, to_read}
 
--- A process that is not read: until truss reads its status it does not run it, and has of it what it had.
+-- A process that is not read: until truss reads its status it neither runs it nor closes its files, and has of it what
+-- it had.
 
 module _ (pid : ℕ) (was : Traced) where
-  -- truss has of the process what it had: its files, and no stop that stood before truss came
+  -- truss has of the process what it had: its files, its marks, and no stop that stood before truss came
   pub record IsSame (u : Traced) : Type 0 where
     pub control : u.control ≡ was.control
     pub status : u.status ≡ was.status
     pub lstatus : u.lstatus ≡ was.lstatus
     pub memory : u.memory ≡ was.memory
+    pub marks : u.marks ≡ was.marks
     pub new : u.old ≡ 0
 
   -- What is so of a process by where truss has come with it: it is another one; or truss has of this one what it had,
-  -- and does not look at it, nor run it.
+  -- and neither looks at it nor runs it, nor closes its files.
   abbrev pub Pends : Position → Traced → Type 0
   Pends (opens step) u = u.pid ≢ pid
   Pends rests u = u.pid ≡ pid → IsSame u
   Pends to_read u = u.pid ≡ pid → IsSame u
   Pends looks u = u.pid ≢ pid
   Pends runs u = u.pid ≢ pid
-  Pends closes u = u.pid ≡ pid → IsSame u
+  Pends closes u = u.pid ≢ pid
 
-  marked-same : (u : Traced) (m : Marks) → IsSame u → IsSame (record u { marks = m })
-  marked-same u m w = record {
-    control = w.control;
-    status = w.status;
-    lstatus = w.lstatus;
-    memory = w.memory;
-    new = w.new;
-  }
+  pends-planted : (at : Position) (u : Traced) (set : List Bool) → u.pid ≢ pid → Pends at u
+      → Pends at (planted_as u set)
+  pends-planted (opens step) u set other w = other
+  pends-planted rests u set other w = λ same. absurd (other same)
+  pends-planted to_read u set other w = λ same. absurd (other same)
+  pends-planted looks u set other w = other
+  pends-planted runs u set other w = other
+  pends-planted closes u set other w = other
 
-  pends-closes : (at : Position) (u : Traced) → Pends at u → Pends closes u
-  pends-closes (opens step) u other same = absurd (other same)
-  pends-closes rests u w same = w same
-  pends-closes to_read u w same = w same
-  pends-closes looks u other same = absurd (other same)
-  pends-closes runs u other same = absurd (other same)
-  pends-closes closes u w same = w same
-
-  pends-marked : (at : Position) (u : Traced) (m : Marks) → Pends at u → Pends at (record u { marks = m })
-  pends-marked (opens step) u m other = other
-  pends-marked rests u m w = λ same. marked-same u m (w same)
-  pends-marked to_read u m w = λ same. marked-same u m (w same)
-  pends-marked looks u m other = other
-  pends-marked runs u m other = other
-  pends-marked closes u m w = λ same. marked-same u m (w same)
-
-  -- where another process is read
-  pends-lasting : IsLastingWhere Pends (λ (u : Traced). u.pid ≢ pid)
+  -- where another process is read, and others alone are opened, looked at, planted and lifted in
+  pends-lasting : IsLastingWhere Pends (λ (u : Traced). u.pid ≢ pid) (λ (other : ℕ). other ≢ pid)
   pends-lasting = record {
-    may_close = pends-closes;
+    may_close = λ at u other w. other;
     reads = λ u other w its. other;
     may_run = λ u w other. other;
     counts = λ u w other some. other;
     sees = λ u m other. other;
-    meets = λ u m other w new. pends-marked rests u m w;
-    plants = λ at u set w. pends-marked at u _ w;
-    loosens = λ u m w. pends-marked closes u m w;
+    meets = λ u m other w new same. absurd (other same);
+    plants = pends-planted;
+    loosens = λ u m w. w;
   }
 
-  learnt-pid : (u : Traced) (r : Reply) (step : OpeningStep) → (learnt u r step).pid ≡ u.pid
+  pub learnt-pid : (u : Traced) (r : Reply) (step : OpeningStep) → (learnt u r step).pid ≡ u.pid
   unfolding learnt
   learnt-pid u r opening.OpenStatus = refl
   learnt-pid u r opening.OpenLstatus = refl
@@ -99,17 +84,15 @@ module _ (pid : ℕ) (was : Traced) where
 
   -- ---- a reply
 
-  -- no call opens the control file of the process, closes a file of it, or reads its status
+  -- no call opens the control file of the process, or reads its status
   module _ (t : TrussState) (r : Reply) (w : Kept Pends t)
       (fresh : (number : ℕ) → t.stage ≡ OpeningControl number → t.aside ≡ Nothing → answer_of r ≡ Accepted
       → (number ≢ pid) × Each (λ (u : Traced). u.pid ≢ number) t.traced)
-      (shut : (q : ℕ) (next : AfterClosing) → t.stage ≡ Closing q next → t.aside ≡ Nothing
-      → (at_place t.traced q).pid ≢ pid)
       (read : (q : ℕ) → t.aside ≡ Nothing → t.stage ≡ ReadingStatus q → (traced_at t q).pid ≢ pid) where
     left : (v : Option Traced) (u : Traced) → without_last u ≡ v → u.pid ≢ pid → LeftHas Pends v u.pid
     left None u is other = tt
     left (Some v) u is other =
-        let same = lost-same u v is in (λ its. absurd (other (sym same.pid ∙ its)), same.pid)
+        let same = lost-same u v is in (λ its. other (sym same.pid ∙ its), same.pid)
 
     stage-after : t.aside ≡ Nothing → (stage : Stage) → t.stage ≡ stage → AtStage Pends t.traced stage
         → AfterStage Pends t r stage
@@ -121,7 +104,7 @@ module _ (pid : ℕ) (was : Traced) where
       (
         all.1.0,
         (
-          pends-closes (opens step) (at_place t.traced q) all.1.1,
+          all.1.1,
           λ accepted. opened-other (step_after t.options r step) (learnt (at_place t.traced q) r step)
               (λ same. all.1.1 (sym (learnt-pid (at_place t.traced q) r step) ∙ same)),
         ),
@@ -132,13 +115,11 @@ module _ (pid : ℕ) (was : Traced) where
     stage-after idle (ReadingStatus q) is all = all
     stage-after idle (ReadingText q l from len) is all = all
     stage-after idle (Running q) is all =
-        (all.0, (all.1.0, ((λ same. absurd (all.1.1 same)), λ lives same. absurd (all.1.1 same))))
-    stage-after idle (Closing q OpenNext) is all = (
-      all.0,
-      (all.1.0, left (without_last (at_place t.traced q)) (at_place t.traced q) refl (shut q OpenNext is idle)),
-    )
+        (all.0, (all.1.0, (all.1.1, λ lives same. absurd (all.1.1 same))))
+    stage-after idle (Closing q OpenNext) is all =
+        (all.0, (all.1.0, left (without_last (at_place t.traced q)) (at_place t.traced q) refl all.1.1))
     stage-after idle (Closing q GoOn) is all =
-        (all.0, (all.1.0, left (without_last (at_place t.traced q)) (at_place t.traced q) refl (shut q GoOn is idle)))
+        (all.0, (all.1.0, left (without_last (at_place t.traced q)) (at_place t.traced q) refl all.1.1))
     stage-after idle Finished is all = all
     stage-after idle _ is all = absurd all
 
@@ -150,7 +131,34 @@ module _ (pid : ℕ) (was : Traced) where
     aside-after (Patching q plants lifts clear) is all beside = (all, beside)
     aside-after _ is all beside = absurd beside
 
+    -- it opens, looks at, plants and lifts in other processes alone
+    other-at : (b q : ℕ) → Some b ≡ Some q → (at_place t.traced b).pid ≢ pid → (at_place t.traced q).pid ≢ pid
+    other-at b q is other = subst (λ i. (at_place t.traced i).pid ≢ pid) (same_Some b q is) other
+
+    stage-other : t.aside ≡ Nothing → (stage : Stage) → t.stage ≡ stage → AtStage Pends t.traced stage → (q : ℕ)
+        → subject_of stage ≡ Some q → (traced_at t q).pid ≢ pid
+    stage-other idle (Opening b step) is all q its = other-at b q its all.1.1
+    stage-other idle (ReadingStatus b) is all q its = other-at b q its (read b idle is)
+    stage-other idle (ReadingText b l from len) is all q its = other-at b q its all.1.1
+    stage-other idle (Spawning program) is all q its = absurd (none-some q its)
+    stage-other idle (OpeningControl number) is all q its = absurd (none-some q its)
+    stage-other idle Polling is all q its = absurd (none-some q its)
+    stage-other idle (Running b) is all q its = absurd (none-some q its)
+    stage-other idle (Closing b OpenNext) is all q its = absurd (none-some q its)
+    stage-other idle (Closing b GoOn) is all q its = absurd (none-some q its)
+    stage-other idle Finished is all q its = absurd (none-some q its)
+    stage-other idle _ is all q its = absurd all
+
+    aside-other : (aside : Aside) → t.aside ≡ aside → AtAside Pends t.traced aside → (q : ℕ)
+        → subject t.stage aside ≡ Some q → (traced_at t q).pid ≢ pid
+    aside-other Nothing is beside q its = stage-other is t.stage refl w.stage q its
+    aside-other (Reading b function) is beside q its = other-at b q its beside.1.1
+    aside-other (Planting b function) is beside q its = other-at b q its beside.1.1
+    aside-other (Patching b plants lifts clear) is beside q its = other-at b q its beside.0.1.1
+    aside-other _ is beside q its = absurd beside
+
     pub still-pends : has_functions t.options ≡ true → answer_of r ≢ Interrupted → Kept Pends (fed_functions t r)
     still-pends has calm =
-        fed-kept-where Pends (λ (u : Traced). u.pid ≢ pid) pends-lasting t r w.follow w.off w.apart calm read has
+        fed-kept-where Pends (λ (u : Traced). u.pid ≢ pid) (λ (other : ℕ). other ≢ pid) pends-lasting t r w.follow
+        w.off w.apart calm read (aside-other t.aside refl w.beside) has
         (aside-after t.aside refl w.stage w.beside)

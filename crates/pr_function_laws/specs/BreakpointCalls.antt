@@ -1,4 +1,4 @@
--- The messages by which truss with calls of functions reads, plants and lifts the breakpoint of a function.
+-- The messages by which truss with calls of functions reads the code of a function, and plants and lifts its breakpoint.
 use Rattle.std.specs.Prelude.{◌≡◌, ℕ, []}
 use Rattle.pr_line.specs.declared.functions.Function.{Function}
 use Rattle.pr_line.specs.declared.options.Options.{Options}

@@ -5,13 +5,11 @@ use Rattle.pr_line.specs.declared.options.Options.{Options}
 use Rattle.pr_model.specs.Events.{events_of}
 use Rattle.pr_model.specs.Legal.{state_after}
 use Rattle.pr_model.specs.State.{TracedState}
-use Rattle.pr_model.specs.declared.calls.Call.TheVariants.{Close}
 use Rattle.pr_model.specs.declared.events.Entry.{Entry}
 use Rattle.pr_report_laws.specs.Reads.{ReadsStatusOf}
 use Rattle.pr_report_laws.specs.Shown.{LwpEvent, picked}
 use Rattle.pr_truss.specs.Trusses.{traced_at}
 use Rattle.pr_truss_laws.specs.Exchanges.{Exchange, exchanges}
-use Rattle.pr_truss_laws.specs.Handles.{handles_of}
 use Rattle.pr_function_laws.specs.Opened.{WasNotInterrupted, functions_at, is_opened}
 use Rattle.pr_function_laws.specs.OrdinaryRuns.{HasNoOldLeft}
 use Rattle.pr_function_laws.specs.ToldTurns.{IsReadAgain}
@@ -24,13 +22,8 @@ pub record HasWhole (k : ℕ) (o : Options) (front : List Entry) (place : ℕ) :
   pub opened : is_opened (functions_at k o front).stage place ≡ true
   pub new : (traced_at (functions_at k o front) place).old ≡ 0
 
--- an exchange closes none of these handles
-abbrev pub ClosesNone : List ℕ → Exchange → Type 0
-ClosesNone handles x = (number : ℕ) → x.call ≡ Close number → All (λ handle. handle ≢ number) handles
-
 -- In the entry behind these an event of the process at a place came, which the options select; behind it and these
--- between truss reads the status of the process, which lives then. Between it has not read it, was not interrupted, and
--- has closed no file of the process.
+-- between truss reads the status of the process, which lives then. Between it has not read it, and was not interrupted.
 pub record ComesAndIsRead (k : ℕ) (o : Options) (first : TracedState) (front : List Entry) (e : Entry)
     (between : List Entry) (again : Entry) (place : ℕ) (event : LwpEvent) : Type 0 where
   pub whole : HasWhole k o front place
@@ -38,10 +31,9 @@ pub record ComesAndIsRead (k : ℕ) (o : Options) (first : TracedState) (front :
       (events_of (state_after first front) e) ≡ event ∷ []
   pub exchange : Exchange
   pub read : IsReadAgain k o first front place e between again exchange
-  pub keeps : All (ClosesNone (handles_of (traced_at (functions_at k o front) place))) (exchanges k between)
 
 -- Then that read tells of that event, of the lwp that met it; and no stop is left that stood before truss came. Nothing
--- is said of an event whose process has ended by that read, or of which truss closes a file first.
+-- is said of an event whose process has ended by that read.
 pub record EventsAreRead (k : ℕ) (o : Options) (first : TracedState) (h : List Entry) : Type 0 where
   pub each : (front between later : List Entry) (e again : Entry) (place : ℕ) (event : LwpEvent)
       → h ≡ front ++ e ∷ (between ++ again ∷ later)

@@ -8,6 +8,7 @@ pub mod FunctionTurns
 pub mod Handled
 pub mod Leaving
 pub mod Lifted
+pub mod ListedEvents
 pub mod Met
 pub mod OneEvent
 pub mod Opened

@@ -20,8 +20,7 @@ pub fn at_most_one_event_is_unread()
 
 /// In each legal history of a truss with `-u`, from a state that the machine reaches: an event of a process that truss
 /// has opened, which its options select, is told by the next read of the status of the process, if the process lives
-/// then, once no stop of it is left that stood before truss came, and as long as truss is not interrupted and closes no
-/// file of the process.
+/// then, once no stop of it is left that stood before truss came, and as long as truss is not interrupted.
 #[tactic(auto, using(crate::proofs::EventReads::event_reads))]
 pub fn each_event_is_told_by_the_next_read()
     ensures { (n k : ℕ) (o : Options) (s : TracedState) (h : List Entry) → IsFunctionRun n k o s h → IsReached s

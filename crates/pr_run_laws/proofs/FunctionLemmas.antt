@@ -44,8 +44,10 @@ use Rattle.pr_run_laws.proofs.TrussOptions.{full-truss}
 use Rattle.pr_run_laws.specs.FunctionRuns.{IsFunctionTrussKept}
 use Rattle.pr_run_laws.specs.NamedFunctions.{AreShowable, IsShowable}
 use Rattle.pr_truss.specs.Asides.{marks_at}
-use Rattle.pr_function_hides.proofs.CopyWalk.{finds-so}
+use Rattle.pr_function_hides.proofs.CopyHistory.{finds-so}
+use Rattle.pr_function_hides.proofs.ReplacedWalk.{writes-none-so}
 use Rattle.pr_function_hides.proofs.OwnRuns.{function-stays}
+use Rattle.pr_function_hides.specs.SleptCopies.{NoneSleepsInCopy}
 use Rattle.pr_function_laws.proofs.KindLemmas.{event-kinds}
 use Rattle.pr_function_laws.proofs.BreakpointCallLemmas.{breakpoint-calls}
 
@@ -103,10 +105,10 @@ function-run controllers n s h k o reached none at some named legal own =
     }
 
 pub function-kept : (controllers : List ControllerState) (n : ℕ) (s : TracedState) (h : List Entry) (k : ℕ)
-    (o : Options) → IsReached s → HasBytes h → HasNothingOpen k s
+    (o : Options) → IsReached s → NoneSleepsInCopy s.system → HasBytes h → HasNothingOpen k s
     → slice_get controllers k ≡ Some (FnTruss (first_truss o)) → o.functions ≢ [] → AreShowable o → IsLegal n s h
     → AreOwnCalls controllers h → IsFunctionTrussKept controllers s h k o
-function-kept controllers n s h k o reached bytes none at some named legal own =
+function-kept controllers n s h k o reached awake bytes none at some named legal own =
     let stays = function-stays h controllers k (first_truss o) at own in
     let has = full-truss o some in
     let run = function-run controllers n s h k o reached none at some named legal own in
@@ -133,7 +135,8 @@ function-kept controllers n s h k o reached bytes none at some named legal own =
       steps = steps-read n k o s h run reached bytes (all-steppable o named);
       kinds = event-kinds o;
       messages = breakpoint-calls o;
-      copies = λ opens. finds-so n k o s h run reached bytes opens;
+      copies = λ opens. finds-so n k o s h run reached awake bytes opens;
+      replaced = λ opens. writes-none-so n k o s h run reached awake bytes opens;
       treats = treats-its-events o (exchanges k h) has run.follows_none stays.0 calm;
       leaves = leaves-its-processes n k o s h run;
       ordinary = beside;

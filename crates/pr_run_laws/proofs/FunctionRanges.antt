@@ -1,5 +1,5 @@
 -- The functions that a truss line names in a program are as the laws on truss with calls of functions ask.
-use Rattle.std.proofs.Common.{◌≡◌, ◌≢◌, ◌≤◌, ◌<◌, ◌+◌, ◌*◌, ◌++◌, ℕ, Bool, true, false, cond, Option, Some, None, List, [], ◌∷◌, length, slice_get, refl, ap, arith}
+use Rattle.std.proofs.Common.{◌≡◌, ◌≢◌, ◌≤◌, ◌<◌, ◌+◌, ◌*◌, ◌++◌, ℕ, Bool, true, false, cond, Option, Some, None, List, [], ◌∷◌, length, slice_get, refl, sym, ap, ◌∙◌, arith}
 use Rattle.std.specs.Prelude.{option_and_then}
 use Rattle.std.specs.List.{All, list_any}
 use Rattle.std.specs.Option.{IfSome}
@@ -7,8 +7,8 @@ use Rattle.std.specs.Str.{bytes_eq}
 use Rattle.std.proofs.Math.Nat.{mul-mod_right}
 use Rattle.std.proofs.lemmas.Bool.{false_from_ne_true}
 use Rattle.std.proofs.lemmas.List.{length-append}
-use Rattle.std.proofs.lemmas.List.Elements.{All-nil, All-push}
-use Rattle.std.proofs.lemmas.Option.{slice_get_within}
+use Rattle.std.proofs.lemmas.List.Elements.{All-nil, All-push, All-weaker}
+use Rattle.std.proofs.lemmas.Option.{none-some, same_Some, slice_get_within}
 use Rattle.std.proofs.lemmas.Slice.Eq.{bytes_eq-Decides}
 use Rattle.pr_line.specs.Functions.{function_limit}
 use Rattle.pr_line.specs.declared.function_names.FunctionNames.{FunctionNames}
@@ -101,82 +101,120 @@ begun-named name place x within is = record {
   };
 }
 
-function_with-named : (name : List ℕ) (place : ℕ) (o : Option Instruction)
+-- a function that is named in a program is as it is asked for, and begins with an instruction of the program
+record IsNamed (p : Program) (f : Function) : Type 0 where
+  showable : IsShowable f
+  place : ℕ
+  instruction : Instruction
+  there : slice_get p.code place ≡ Some instruction
+  at : f.at ≡ text_base + instruction_size * place
+  code : f.code ≡ instruction_bytes instruction
+
+-- so functions at one address begin with the same one
+named-alike : (p : Program) (f g : Function) → IsNamed p f → IsNamed p g → f.at ≡ g.at → f.code ≡ g.code
+named-alike p f g one two same =
+    let place : one.place ≡ two.place =
+    omega (
+      arith,
+      let here : f.at ≡ text_base + 16 * one.place = one.at in here,
+      let there : g.at ≡ text_base + 16 * two.place = two.at in there,
+      same,
+    ) in
+    let both : one.instruction ≡ two.instruction =
+    same_Some one.instruction two.instruction (sym one.there ∙ ap (slice_get p.code) place ∙ two.there) in
+    one.code ∙ ap instruction_bytes both ∙ sym two.code
+
+function_with-named : (p : Program) (name : List ℕ) (place : ℕ) (o : Option Instruction) → slice_get p.code place ≡ o
     → ((x : Instruction) → o ≡ Some x → place < code_limit)
-    → IfSome (function_with name (text_base + instruction_size * place) o) IsShowable
+    → IfSome (function_with name (text_base + instruction_size * place) o) (IsNamed p)
 unfolding function_with
-function_with-named name place None within = tt
-function_with-named name place (Some x) within = by (can_begin_function x) refl
+function_with-named p name place None there within = tt
+function_with-named p name place (Some x) there within = by (can_begin_function x) refl
   where
-    by : (b : Bool) → can_begin_function x ≡ b → IfSome (cond b (Some (function_of name place x)) None) IsShowable
-    by true is = begun-named name place x (within x refl) is
+    by : (b : Bool) → can_begin_function x ≡ b → IfSome (cond b (Some (function_of name place x)) None) (IsNamed p)
+    by true is = record {
+      showable = begun-named name place x (within x refl) is;
+      place = place;
+      instruction = x;
+      there = there;
+      at = refl;
+      code = refl;
+    }
     by false is = tt
 
 function_at-named : (p : Program) (name : List ℕ) (place : ℕ) → IsProgramInRange p
-    → IfSome (function_at p name place) IsShowable
+    → IfSome (function_at p name place) (IsNamed p)
 unfolding function_at
 function_at-named p name place range =
-    function_with-named name place (slice_get p.code place) (λ x is.
+    function_with-named p name place (slice_get p.code place) refl (λ x is.
     let limits = range.within in omega (arith, slice_get_within p.code place x is, limits.code))
 
-function_named-named : (p : Program) (name : List ℕ) → IsProgramInRange p → IfSome (function_named p name) IsShowable
+function_named-named : (p : Program) (name : List ℕ) → IsProgramInRange p → IfSome (function_named p name) (IsNamed p)
 unfolding function_named
 function_named-named p name range = of (labelled_place p.labels name)
   where
-    of : (o : Option ℕ) → IfSome (option_and_then (function_at p name) o) IsShowable
+    of : (o : Option ℕ) → IfSome (option_and_then (function_at p name) o) (IsNamed p)
     of None = tt
     of (Some place) = function_at-named p name place range
 
 -- ---- the functions of a line
 
 -- so many functions, each of them named
-record AreSoMany (n : ℕ) (fs : List Function) : Type 0 where
+record AreSoMany (p : Program) (n : ℕ) (fs : List Function) : Type 0 where
   count : length fs ≡ n
-  each : All IsShowable fs
+  each : All (IsNamed p) fs
 
 -- one function more, if there is one
-more-named : (n : ℕ) (more : Function → Option (List Function))
-    → ((f : Function) → IsShowable f → IfSome (more f) (AreSoMany n)) → (o : Option Function)
-    → IfSome o IsShowable → IfSome (option_and_then more o) (AreSoMany n)
-more-named n more on None named = tt
-more-named n more on (Some f) named = on f named
+more-named : (p : Program) (n : ℕ) (more : Function → Option (List Function))
+    → ((f : Function) → IsNamed p f → IfSome (more f) (AreSoMany p n)) → (o : Option Function)
+    → IfSome o (IsNamed p) → IfSome (option_and_then more o) (AreSoMany p n)
+more-named p n more on None named = tt
+more-named p n more on (Some f) named = on f named
 
-unless-named : (n : ℕ) (b : Bool) (o : Option (List Function)) → IfSome o (AreSoMany n)
-    → IfSome (cond b None o) (AreSoMany n)
-unless-named n true o named = tt
-unless-named n false o named = named
+unless-named : (p : Program) (n : ℕ) (b : Bool) (o : Option (List Function)) → IfSome o (AreSoMany p n)
+    → IfSome (cond b None o) (AreSoMany p n)
+unless-named p n true o named = tt
+unless-named p n false o named = named
 
 with_functions-named : (p : Program) (functions : List Function) (names : List (List ℕ)) (n : ℕ) → IsProgramInRange p
-    → All IsShowable functions → length functions + length names ≡ n
-    → IfSome (with_functions p functions names) (AreSoMany n)
+    → All (IsNamed p) functions → length functions + length names ≡ n
+    → IfSome (with_functions p functions names) (AreSoMany p n)
 unfolding with_functions
 with_functions-named p functions [] n range all count = record { count = omega (arith, count); each = all }
 with_functions-named p functions (name ∷ names) n range all count =
-    unless-named n (list_any (is_called name) functions) _
-    (more-named n (λ f. with_functions p (functions ++ f ∷ []) names)
-    (λ f named. with_functions-named p (functions ++ f ∷ []) names n range (All-push IsShowable functions f all named)
+    unless-named p n (list_any (is_called name) functions) _
+    (more-named p n (λ f. with_functions p (functions ++ f ∷ []) names)
+    (λ f named. with_functions-named p (functions ++ f ∷ []) names n range (All-push (IsNamed p) functions f all named)
     (omega (arith, count, length-append functions (f ∷ []))))
     (function_named p name) (function_named-named p name range))
 
--- What a line names: at most 16 functions, as they are asked for, and none where it names none.
+-- What a line names: at most 16 functions, as they are asked for, those at one address with the same code, and none
+-- where it names none.
 pub record AreShowableOf (o : Option FunctionNames) (fs : List Function) : Type 0 where
   pub few : length fs ≤ function_limit
   pub each : All IsShowable fs
+  pub alike : (i j : ℕ) (f g : Function) → slice_get fs i ≡ Some f → slice_get fs j ≡ Some g → f.at ≡ g.at
+      → f.code ≡ g.code
   pub none : o ≡ None → fs ≡ []
 
 module _ (asked : FunctionNames) (few : HasFewLabels asked) where
-  few-named : (o : Option (List Function)) → IfSome o (AreSoMany (length asked.labels))
+  few-named : (p : Program) (o : Option (List Function)) → IfSome o (AreSoMany p (length asked.labels))
       → IfSome o (AreShowableOf (Some asked))
-  few-named None named = tt
-  few-named (Some fs) named =
-      record { few = omega (arith, few, named.count); each = named.each; none = λ is. absurd (cc) }
+  few-named p None named = tt
+  few-named p (Some fs) named = record {
+    few = omega (arith, few, named.count);
+    each = All-weaker (IsNamed p) IsShowable (λ f it. it.showable) fs named.each;
+    alike = λ i j f g one two.
+        named-alike p f g (All-at (IsNamed p) fs i f one named.each) (All-at (IsNamed p) fs j g two named.each);
+    none = λ is. absurd (cc);
+  }
 
   in-program : (o : Option Program) → IfSome o IsProgramInRange
       → IfSome (functions_in o asked.labels) (AreShowableOf (Some asked))
   in-program None range = tt
   in-program (Some p) range =
-      few-named (with_functions p [] asked.labels)
-      (with_functions-named p [] asked.labels (length asked.labels) range (All-nil IsShowable) (omega arith))
+      few-named p (with_functions p [] asked.labels)
+      (with_functions-named p [] asked.labels (length asked.labels) range (All-nil (IsNamed p)) (omega arith))
 
 program_named-range : (names : List (List ℕ)) (programs : List Program) (name : List ℕ) → All IsProgramInRange programs
     → IfSome (program_named names programs name) IsProgramInRange
@@ -194,7 +232,12 @@ pub functions_of-named : (names : List (List ℕ)) (programs : List Program) (o 
     → All IsProgramInRange programs → IfSome o HasFewLabels → IfSome (functions_of names programs o) (AreShowableOf o)
 unfolding functions_of
 functions_of-named names programs None all few =
-    record { few = omega arith; each = All-nil IsShowable; none = λ _. refl }
+    record {
+      few = omega arith;
+      each = All-nil IsShowable;
+      alike = λ i j f g one. absurd (none-some f one);
+      none = λ _. refl;
+    }
 functions_of-named names programs (Some asked) all few =
     in-program asked few (program_named names programs asked.program)
     (program_named-range names programs asked.program all)

@@ -20,11 +20,15 @@ use Rattle.pr_probe.specs.Probes.{first_probe}
 use Rattle.pr_function_hides.proofs.ClearingLaw.{clears-running}
 use Rattle.pr_function_hides.proofs.CleanLaw.{leaves-no-fault}
 use Rattle.pr_function_hides.proofs.ClosingLaw.{leaves-none}
+use Rattle.pr_function_hides.proofs.EventsLaw.{listed-events}
 use Rattle.pr_function_hides.proofs.ListedLaw.{fetched-turns, listed-turns}
+use Rattle.pr_function_hides.proofs.ClearedLaw.{clears-alone}
 use Rattle.pr_function_hides.proofs.PostedLaw.{posts-none}
 use Rattle.pr_function_hides.proofs.HiddenTruss.{truss-hidden, truss-tidy}
+use Rattle.pr_function_hides.proofs.SleptHistories.{first-awake}
 use Rattle.pr_function_hides.proofs.StepLaw.{own-steps}
 use Rattle.pr_function_hides.proofs.WritesLaw.{writes-tidily}
+use Rattle.pr_function_hides.specs.SleptCopies.{NoneSleepsInCopy}
 use Rattle.pr_hidden.proofs.FirstLemmas.{first-untouched}
 use Rattle.pr_hidden.proofs.HistoryFollows.{hidden-first}
 use Rattle.pr_probe_laws.proofs.HiddenLaw.{alone-accepted, alone-gone, alone-hidden, alone-tidy}
@@ -129,6 +133,9 @@ transparent-tracers s h legal follows none quiet bare =
 state-reached : (s : Scenario) → IsScenarioInRange s → IsReached (first_state_of s)
 state-reached s range = first-reached s.programs (files_of s) s.spawns range.start range.range
 
+none-asleep : (s : Scenario) → NoneSleepsInCopy (first_state_of s).system
+none-asleep s = first-awake s.programs (files_of s) s.spawns
+
 -- ---- trusses
 
 -- the controller of a truss, which shows calls of functions or does not
@@ -151,8 +158,8 @@ pub functions-kept : (s : Scenario) (n : ℕ) (h : List Entry) → IsScenarioInR
     (o : Options) → slice_get s.controllers k ≡ Some (plan.Truss o) → o.functions ≢ []
     → IsFunctionTrussKept (controllers_of s) (first_state_of s) h k o
 functions-kept s n h range bytes legal own k o at some =
-    function-kept (controllers_of s) n (first_state_of s) h k o (state-reached s range) bytes (first-held s k)
-    (truss-plan s k o true at (full-truss o some)) some (plan-named s range k o at) legal own
+    function-kept (controllers_of s) n (first_state_of s) h k o (state-reached s range) (none-asleep s) bytes
+    (first-held s k) (truss-plan s k o true at (full-truss o some)) some (plan-named s range k o at) legal own
 
 -- ---- tools
 
@@ -316,46 +323,56 @@ pub writes-kept : (s : Scenario) (n : ℕ) (h : List Entry) → IsScenarioInRang
     → WriteUnseen (controllers_of s) (first_state_of s) h
 writes-kept s n h range bytes legal own =
     let reached = state-reached s range in
+    let awake = none-asleep s in
     record {
       tidily = λ who hide.
-          writes-tidily n who (controllers_of s) (first_state_of s) h reached bytes legal own
+          writes-tidily n who (controllers_of s) (first_state_of s) h reached awake bytes legal own
           (hide-trusses s range who hide);
       leaves_none = λ who hide.
-          leaves-none n who (controllers_of s) (first_state_of s) h reached bytes legal own
+          leaves-none n who (controllers_of s) (first_state_of s) h reached awake bytes legal own
           (hide-trusses s range who hide);
       clears = λ who hide.
-          clears-running n who (controllers_of s) (first_state_of s) h reached bytes legal own
+          clears-running n who (controllers_of s) (first_state_of s) h reached awake bytes legal own
           (hide-trusses s range who hide);
-      lists = λ who hide undisturbed sparing k pid o hider starts.
+      lists = λ who hide undisturbed unbroken sparing k pid o hider starts.
           let named = shown-truss s range k o starts in
           let run =
           function-run (controllers_of s) n (first_state_of s) h k o reached (first-held s k) starts named.0 named.1
           legal own in
-          listed-turns n k who (controllers_of s) o (first_state_of s) h run reached bytes (all-steppable o named.1) own
-          (hide-trusses s range who hide) hider starts undisturbed sparing pid;
-      lists_fetched = λ who hide undisturbed k pid o hider starts fetches.
+          listed-turns n k who (controllers_of s) o (first_state_of s) h run reached awake bytes
+          (all-steppable o named.1) own (hide-trusses s range who hide) hider starts undisturbed unbroken sparing pid;
+      lists_fetched = λ who hide undisturbed unbroken k pid o hider starts fetches.
           let named = shown-truss s range k o starts in
           let run =
           function-run (controllers_of s) n (first_state_of s) h k o reached (first-held s k) starts named.0 named.1
           legal own in
-          fetched-turns n k who (controllers_of s) o
-          (first_state_of s) h run reached bytes (all-steppable o named.1) own
-          (hide-trusses s range who hide) hider starts undisturbed fetches pid;
-      own_steps = λ who hide undisturbed passive.
-          own-steps n who (controllers_of s) (first_state_of s) h reached bytes legal own
-          (hide-trusses s range who hide) undisturbed passive (first-unstepped s);
-      leaves_no_fault = λ who hide undisturbed passive.
-          leaves-no-fault n who (controllers_of s) (first_state_of s) h reached bytes legal own
-          (hide-trusses s range who hide) undisturbed passive (first-unstepped s);
-      posts_none = λ who hide undisturbed passive.
-          posts-none n who (controllers_of s) (first_state_of s) h reached bytes legal own
-          (hide-trusses s range who hide) undisturbed passive (first-unstepped s);
-      tidy = λ who hide undisturbed passive faults.
-          truss-tidy n who (controllers_of s) (first_state_of s) h reached bytes legal own
-          (hide-trusses s range who hide) undisturbed passive faults (first-unstepped s);
-      hidden = λ who hide undisturbed passive faults.
-          truss-hidden n who (controllers_of s) (first_state_of s) h reached bytes legal own
-          (hide-trusses s range who hide) undisturbed passive faults
+          fetched-turns n k who (controllers_of s) o (first_state_of s) h run reached awake bytes
+          (all-steppable o named.1) own (hide-trusses s range who hide) hider starts undisturbed unbroken fetches pid;
+      events = λ who hide undisturbed unbroken k pid o hider starts.
+          let named = shown-truss s range k o starts in
+          let run =
+          function-run (controllers_of s) n (first_state_of s) h k o reached (first-held s k) starts named.0 named.1
+          legal own in
+          listed-events n k who (controllers_of s) o (first_state_of s) h hider starts unbroken run reached awake
+          bytes own (hide-trusses s range who hide) undisturbed pid;
+      own_steps = λ who hide undisturbed unbroken passive.
+          own-steps n who (controllers_of s) (first_state_of s) h reached awake bytes legal own
+          (hide-trusses s range who hide) undisturbed unbroken passive (first-unstepped s);
+      leaves_no_fault = λ who hide undisturbed unbroken passive.
+          leaves-no-fault n who (controllers_of s) (first_state_of s) h reached awake bytes legal own
+          (hide-trusses s range who hide) undisturbed unbroken passive (first-unstepped s);
+      posts_none = λ who hide undisturbed unbroken passive.
+          posts-none n who (controllers_of s) (first_state_of s) h reached awake bytes legal own
+          (hide-trusses s range who hide) undisturbed unbroken passive (first-unstepped s);
+      clears_own = λ who hide undisturbed unbroken passive.
+          clears-alone n who (controllers_of s) (first_state_of s) h reached awake bytes legal own
+          (hide-trusses s range who hide) undisturbed unbroken passive (first-unstepped s);
+      tidy = λ who hide undisturbed unbroken passive.
+          truss-tidy n who (controllers_of s) (first_state_of s) h reached awake bytes legal own
+          (hide-trusses s range who hide) undisturbed unbroken passive (first-unstepped s);
+      hidden = λ who hide undisturbed unbroken passive.
+          truss-hidden n who (controllers_of s) (first_state_of s) h reached awake bytes legal own
+          (hide-trusses s range who hide) undisturbed unbroken passive
           (first-untouched s.programs (files_of s) s.spawns);
     }
 

@@ -305,6 +305,7 @@ named-options : (asked : Asked) (functions : List Function) → AreFewAlone aske
     → AreShowableOf asked.functions functions → AreShowable (record asked.options { functions = functions })
 named-options asked functions alone named = record {
   few = named.few;
+  alike = named.alike;
   each = named.each;
   follows_none = λ some. elim alone.alone [ inl none ↦ absurd (some (named.none none)) | inr follow ↦ follow ];
 }

@@ -83,7 +83,7 @@ first-held s k = nothing-held k (first_state_of s) refl
 
 -- ---- who hides
 
--- each who hides breakpoints at places of their own is such a truss as its laws speak of
+-- each who hides breakpoints is such a truss as its laws speak of
 pub hide-trusses : (s : Scenario) → IsScenarioInRange s → (who : Hiders) → HideBreakpoints who (controllers_of s)
     → AreTrusses who (controllers_of s) (first_state_of s)
 hide-trusses s range who hide = record {
@@ -93,7 +93,6 @@ hide-trusses s range who hide = record {
       let it = hide.trusses k hides_it in
       let planned = was-planned s.controllers k it.options it.starts in
       let named = plan-named s range k it.options planned.at in
-      let places = it.places in
       record {
         options = it.options;
         starts = it.starts;
@@ -102,7 +101,7 @@ hide-trusses s range who hide = record {
         patchable = record {
           few = named.few;
           each = All-weaker IsShowable IsPatchable (λ f at. at.patchable) it.options.functions named.each;
-          apart = places.apart;
+          alike = named.alike;
         };
         hides_these = it.hides_these;
       };

@@ -6,9 +6,10 @@ use Rattle.pr_function_hides.specs.LiftedCopies.{CopiesFindNone, OpensOutOfCopie
 use Rattle.pr_function_hides.specs.ListedCalls.{FetchesBreakpoints, ListsItsTurns}
 use Rattle.pr_function_hides.specs.OwnSteps.{AreStepsOwn}
 use Rattle.pr_function_hides.specs.PassiveOthers.{AreOthersPassive}
+use Rattle.pr_function_hides.specs.Replacing.{WritesNoneOnceReplaced}
 use Rattle.pr_function_hides.specs.TidyCloses.{LeavesNoBreakpoint, LeavesNoFault}
-use Rattle.pr_function_hides.specs.TidyFaults.{AreFaultsTidy, PostsNoOwnFault}
-use Rattle.pr_function_hides.specs.TidyWrites.{AreUndisturbed, WritesTidily}
+use Rattle.pr_function_hides.specs.TidyFaults.{ClearsOwnFaultsAlone, PostsNoOwnFault}
+use Rattle.pr_function_hides.specs.TidyWrites.{AreUnbroken, AreUndisturbed, WritesTidily}
 use Rattle.pr_function_laws.specs.BreakpointCalls.{AreBreakpointCalls}
 use Rattle.pr_function_laws.specs.CalledTurns.{CallsAreTurns}
 use Rattle.pr_function_laws.specs.EventKinds.{AreEventKinds}
@@ -16,6 +17,7 @@ use Rattle.pr_function_laws.specs.EventsRead.{EventsAreRead}
 use Rattle.pr_function_laws.specs.Handled.{HandlesItsGiven}
 use Rattle.pr_function_laws.specs.Leaving.{LeavesItsProcesses}
 use Rattle.pr_function_laws.specs.Lifted.{MeetsBreakpoint, ReadsOnlyLast}
+use Rattle.pr_function_laws.specs.ListedEvents.{ListsItsEvents}
 use Rattle.pr_function_laws.specs.Met.{TellsItsCalls}
 use Rattle.pr_function_laws.specs.OneEvent.{HasOneEventEach}
 use Rattle.pr_function_laws.specs.Opened.{HoldsWhatItOpened, LiftsForOneAlone, ReadsBreakpoint, functions_at}
@@ -34,7 +36,7 @@ use Rattle.pr_line.specs.declared.options.Options.{Options}
 use Rattle.pr_model.specs.Legal.{state_after}
 use Rattle.pr_model.specs.State.{TracedState}
 use Rattle.pr_model.specs.declared.events.Entry.{Entry}
-use Rattle.pr_run_laws.specs.NamedFunctions.{AreAtOwnPlaces, AreShowable}
+use Rattle.pr_run_laws.specs.NamedFunctions.{AreShowable}
 use Rattle.pr_report_laws.specs.OwnFiles.{CallsItsFiles, ClosesControlsLast}
 use Rattle.pr_truss.specs.FunctionCalls.{next_function_call_of}
 use Rattle.pr_truss.specs.Trusses.{first_truss, traced_at}
@@ -73,7 +75,7 @@ pub record IsFunctionTrussKept (controllers : List ControllerState) (first : Tra
   pub meets : MeetsWhatWasNamed k o first
   -- Until it is interrupted, of each process that it has opened: it has its own files, alone, and traces all signals
   -- and faults; at most one event is unread, and each that the options select is told by the next read, if the process
-  -- lives then, truss has closed no file of it, and no stop is left that stood before truss came.
+  -- lives then and no stop is left that stood before truss came.
   pub opens : HoldsWhatItOpened k o first h
   pub events : HasOneEventEach k o first h
   pub reads : EventsAreRead k o first h
@@ -89,12 +91,14 @@ pub record IsFunctionTrussKept (controllers : List ControllerState) (first : Tra
       → AreBreakpointCalls o control function f
   -- In a process that it opens it plants just the functions whose code it reads there. What each event is to the
   -- breakpoints; and what it asks truss to plant and to lift, which comes before it runs the process. Where no lwp was
-  -- at a fork, a vfork or an exec when the wait of the opening was answered, such a call that is granted finds none
-  -- that it has marked as planted.
+  -- at a fork, a vfork or an exec when the wait of the opening was granted, such a call that is granted finds none that
+  -- it has marked as planted, also once truss was interrupted; and behind a vfork or an exec that was granted it sends
+  -- no PCWRITE to the process, until it is interrupted.
   pub plants : PlantsWhatItRead o (exchanges k h)
   pub kinds : (m : Marks) (id : ℕ) → AreEventKinds o m id
   pub treats : TreatsItsEvents o (exchanges k h)
-  pub copies : OpensOutOfCopies k first h → CopiesFindNone k o first h
+  pub copies : OpensOutOfCopies k o first h → CopiesFindNone k o first h
+  pub replaced : OpensOutOfCopies k o first h → WritesNoneOnceReplaced k o first h
   -- once it is interrupted it leaves its processes one after another, and lifts all that it has marked as planted
   pub leaves : LeavesItsProcesses k o h
   -- Beside its breakpoints it is a truss: without the messages and waits by which it sees to them, with those of its
@@ -118,12 +122,10 @@ pub record IsFunctionTrussKept (controllers : List ControllerState) (first : Tra
 
 -- ---- what programs see of it
 
--- The controller of a number is a truss at first, which shows calls of functions, no two of them at one place; and what
--- it hides is its breakpoints.
+-- The controller of a number is a truss at first, which shows calls of functions, and what it hides is its breakpoints.
 pub record HidesAt (who : Hiders) (controllers : List ControllerState) (k : ℕ) : Type 0 where
   pub options : Options
   pub starts : slice_get controllers k ≡ Some (FnTruss (first_truss options))
-  pub places : AreAtOwnPlaces options
   pub hides_these : who.functions k ≡ map patch_of options.functions
 
 -- The controllers that hide what they do are each such a truss, and none asks by an agent.
@@ -132,38 +134,48 @@ pub record HideBreakpoints (who : Hiders) (controllers : List ControllerState) :
   pub trusses : (k : ℕ) → hides who k ≡ true → HidesAt who controllers k
 
 -- Where those who hide what they do in a history are each a truss that shows calls of functions, on the conditions of
--- AreUndisturbed, none of them interrupted.
+-- AreUndisturbed. All but the first field ask besides that none of them is interrupted.
 pub record WriteUnseen (controllers : List ControllerState) (first : TracedState) (h : List Entry) : Type 0 where
   -- Each PCWRITE of such a truss is tidy, so that programs have the memory after it that they had before; what each
   -- turn changes is tidy, and whom controllers kill; and the breakpoints that stand in a process that it traces are
-  -- those that it has marked. None stands where it closes a file of a process that lives; and it sends no PCCFAULT.
+  -- those that it has marked; also while it leaves its processes, once it was interrupted. None stands where it closes
+  -- a file of a process that lives; and it sends no PCCFAULT.
   pub tidily : (who : Hiders) → HideBreakpoints who controllers → AreUndisturbed who controllers first h
       → WritesTidily who controllers first h
   pub leaves_none : (who : Hiders) → HideBreakpoints who controllers → AreUndisturbed who controllers first h
-      → LeavesNoBreakpoint who first h
+      → AreUnbroken who h → LeavesNoBreakpoint who first h
   pub clears : (who : Hiders) → HideBreakpoints who controllers → AreUndisturbed who controllers first h
-      → ClearByRunning who h
+      → AreUnbroken who h → ClearByRunning who h
   -- If programs leave its breakpoints alone, or what can be fetched where one is planted is its instruction, then the
   -- calls of functions that it has shown are the turns that are such calls, each once and in their order, and it lacks
   -- the last one at most.
   pub lists : (who : Hiders) → HideBreakpoints who controllers → AreUndisturbed who controllers first h
-      → IsSparing who first h → (k pid : ℕ) (o : Options) → hides who k ≡ true
+      → AreUnbroken who h → IsSparing who first h → (k pid : ℕ) (o : Options) → hides who k ≡ true
       → slice_get controllers k ≡ Some (FnTruss (first_truss o)) → ListsItsTurns k o first h pid
   pub lists_fetched : (who : Hiders) → HideBreakpoints who controllers → AreUndisturbed who controllers first h
-      → (k pid : ℕ) (o : Options) → hides who k ≡ true → slice_get controllers k ≡ Some (FnTruss (first_truss o))
-      → FetchesBreakpoints k o first h → ListsItsTurns k o first h pid
+      → AreUnbroken who h → (k pid : ℕ) (o : Options) → hides who k ≡ true
+      → slice_get controllers k ≡ Some (FnTruss (first_truss o)) → FetchesBreakpoints k o first h
+      → ListsItsTurns k o first h pid
+  -- On neither of these conditions, the events of a process that it has shown are those that came while it watched the
+  -- process, that its options select, and that are no faults of its own, each once and in their order, but for the last
+  -- one at most.
+  pub events : (who : Hiders) → HideBreakpoints who controllers → AreUndisturbed who controllers first h
+      → AreUnbroken who h → (k pid : ℕ) (o : Options) → hides who k ≡ true
+      → slice_get controllers k ≡ Some (FnTruss (first_truss o)) → ListsItsEvents k o first h pid
   -- Where each call of all others is passive, FLTTRACE comes only where such a truss has the control file open; no lwp
-  -- stands at a fault of its own where it closes a file of a process that lives; and no such fault is posted.
+  -- stands at a fault of its own where it closes a file of a process that lives; no such fault is posted; and the PCRUN
+  -- by which it clears a fault or steps an lwp finds no other fault.
   pub own_steps : (who : Hiders) → HideBreakpoints who controllers → AreUndisturbed who controllers first h
-      → AreOthersPassive who h → AreStepsOwn who first h
+      → AreUnbroken who h → AreOthersPassive who h → AreStepsOwn who first h
   pub leaves_no_fault : (who : Hiders) → HideBreakpoints who controllers → AreUndisturbed who controllers first h
-      → AreOthersPassive who h → LeavesNoFault who first h
+      → AreUnbroken who h → AreOthersPassive who h → LeavesNoFault who first h
   pub posts_none : (who : Hiders) → HideBreakpoints who controllers → AreUndisturbed who controllers first h
-      → AreOthersPassive who h → PostsNoOwnFault who first h
-  -- Where the PCRUN by which it clears a fault or steps an lwp finds no other fault, it is tidy. If programs leave its
-  -- breakpoints alone then, they see nothing of it: the steps that are not hidden are a run of the machine without
-  -- controllers, and its trace is that of the history without what is hidden.
+      → AreUnbroken who h → AreOthersPassive who h → PostsNoOwnFault who first h
+  pub clears_own : (who : Hiders) → HideBreakpoints who controllers → AreUndisturbed who controllers first h
+      → AreUnbroken who h → AreOthersPassive who h → ClearsOwnFaultsAlone who first h
+  -- So it is tidy. If programs leave its breakpoints alone then, they see nothing of it: the steps that are not hidden
+  -- are a run of the machine without controllers, and its trace is that of the history without what is hidden.
   pub tidy : (who : Hiders) → HideBreakpoints who controllers → AreUndisturbed who controllers first h
-      → AreOthersPassive who h → AreFaultsTidy who first h → IsTidy who first h
+      → AreUnbroken who h → AreOthersPassive who h → IsTidy who first h
   pub hidden : (who : Hiders) → HideBreakpoints who controllers → AreUndisturbed who controllers first h
-      → AreOthersPassive who h → AreFaultsTidy who first h → IsSparing who first h → IsHidden who first h
+      → AreUnbroken who h → AreOthersPassive who h → IsSparing who first h → IsHidden who first h

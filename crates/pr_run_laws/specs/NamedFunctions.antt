@@ -14,18 +14,16 @@ pub record IsShowable (f : Function) : Type 0 where
   pub steppable : IsSteppable f
   pub patchable : IsPatchable f
 
--- What words of truss name: at most 16 functions; and where they name some, no children are followed.
+-- What words of truss name: at most 16 functions; and where they name some, no children are followed. Two labels may
+-- stand before one instruction, and words may name both: functions at one address begin with the same code.
 pub record AreShowable (o : Options) : Type 0 where
   pub few : length o.functions ≤ function_limit
   pub each : All IsShowable o.functions
+  pub alike : (i j : ℕ) (f g : Function) → slice_get o.functions i ≡ Some f → slice_get o.functions j ≡ Some g
+      → f.at ≡ g.at → f.code ≡ g.code
   pub follows_none : o.functions ≢ [] → o.follow ≡ false
 
 -- so it is of the options of each truss
 unfoldable pub NamesShowable : Plan → Type 0
 NamesShowable (plan.Truss options) = AreShowable options
 NamesShowable _ = Unit {0}
-
--- No two functions begin at one place. Two labels may stand before one instruction, and words may name both.
-pub record AreAtOwnPlaces (o : Options) : Type 0 where
-  pub apart : (i j : ℕ) (f g : Function) → i ≢ j → slice_get o.functions i ≡ Some f → slice_get o.functions j ≡ Some g
-      → f.at ≢ g.at

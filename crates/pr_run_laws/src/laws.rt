@@ -20,8 +20,8 @@ pub fn histories_of_runs_are_kept()
 
 /// A scenario that was read from a text is in range: its first state is one that can be started, of programs and files
 /// in range, and what its scripts write is bytes. Of the options of each of its trusses, at most 16 functions are
-/// named, each of which begins with the bytes of an instruction that is neither a system call nor a breakpoint; and
-/// where some are, no children are followed.
+/// named, each of which begins with the bytes of an instruction that is neither a system call nor a breakpoint, the
+/// same as any other at its address; and where some are, no children are followed.
 pub fn scenarios_that_were_read_are_in_range()
     ensures { (input : List ℕ) (s : Scenario) → scenario_of input ≡ Ok s → IsScenarioInRange s }
 {}
