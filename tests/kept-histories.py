@@ -8,10 +8,11 @@ requests from the Nth on refused, and once with the Nth alone. Where that ends w
 - it is as long as the run was when memory ran out, which runs of K turns tell, of which no request is refused: a
   request behind theirs leaves K entries at least. Where nothing is printed, what they ask for behind their last entry
   is the same for each K, and then the length is known but for one entry. Else it is at least what a run of one turn
-  asks for there;
+  asks for there, and so the length is only known to be no less than some K;
 - `check` calls it legal.
 
-With -j the order is another one in each run: each history is only judged.
+So it is with `run -q` and with `plain`, which goes over the whole history behind its last entry, and so counts as one
+that prints. With -j the order is another one in each run: each history is only judged.
 
 It copies the crates below, with what this checkout has built of them, and proves and builds the program there in some
 minutes; --in FOLDER keeps that copy for a later call. WORKERS tells how many runs there are at once. It needs rt and a C
@@ -261,8 +262,9 @@ def main():
     os.makedirs(room, exist_ok=True)
     program, checks = asked.program or build(room), Checks()
     make_library(room)
-    for name, text, prints, turns_made in scenarios():
-        swept(checks, Scenario(program, ["run", "-q"], text, room, turns_made), name, prints, asked.most)
+    for name, text, prints, most in scenarios():
+        swept(checks, Scenario(program, ["run", "-q"], text, room, most), name, prints, asked.most)
+        swept(checks, Scenario(program, ["plain"], text, room, most), name, True, asked.most)
     for name, text in ("many things", MANY_THINGS), ("lendings", LENDINGS):
         judged(checks, Scenario(program, ["run", "-q", "-j", "2"], text.encode(), room, 400), name, asked.most)
     if not asked.room:

@@ -1,5 +1,5 @@
--- What programs see of a run, with what is kept for it.
-use Rattle.std.proofs.Common.{◌≡◌, ◌∙◌, ℕ, List, Option, Result, Ok, Err, IfOk, IsOkAnd, flat_map, length, map, sym, ap, subst, arith}
+-- What programs see of a run.
+use Rattle.std.proofs.Common.{◌≡◌, ◌∙◌, ℕ, true, false, List, Option, Result, Ok, Err, IfOk, IsOk, is_ok, flat_map, length, map, refl, sym, ap, subst, arith}
 use Rattle.std.proofs.Math.Path.{fun_ext}
 use Rattle.std.proofs.lemmas.List.{length-map}
 use Rattle.pr_api.specs.Views.{kernel_of}
@@ -15,7 +15,6 @@ use Rattle.pr_model.specs.UntracedMachine.{traced_step}
 use Rattle.pr_model.specs.UntracedSteps.{untraced_steps, untraced_trace}
 use Rattle.pr_model.specs.declared.events.Entry.{Entry}
 use Rattle.pr_model.specs.declared.steps.Step.{Step}
-use Rattle.pr_num.specs.declared.memory.NoMemory.{NoMemory}
 use Rattle.pr_output.specs.Output.{plain_run_text}
 use Rattle.pr_output.specs.declared.reports.Report.{Report}
 use Rattle.pr_run_laws.proofs.KeptLemmas.{first-told}
@@ -30,9 +29,7 @@ use Rattle.pr_world.specs.Worlds.{WorldState}
 use Rattle.pr_serve.proofs.OnwardLemmas.{run-short}
 use Rattle.pr_serve.specs.Answers.{RunText, plain_shown, ran, seen_shown, untraced_shown}
 use Rattle.pr_serve.specs.Giving.{Responds}
-use Rattle.pr_serve.specs.Hidings.{hider_of, hiders_in}
-use Rattle.pr_serve.specs.Kept.{CanPlay, IsKeptOf, kept_shown}
-use Rattle.pr_serve.specs.declared.hidings.Hiding.{Hiding}
+use Rattle.pr_serve.specs.Hidings.{IsOf, hider_of, hiders_in}
 use Rattle.pr_serve.specs.declared.outcomes.Status.{Status}
 
 -- ---- the history of a run is legal
@@ -54,40 +51,27 @@ run-legal s =
     subst (λ (n : ℕ). IsLegal n (first_state_of s) w.kernel.history) (length-map s.controllers controller_of)
     (subst (IsLegal (length (controllers_of s)) (first_state_of s)) (sym (led-history s w led)) (led-run s w led).legal)
 
--- ---- what is kept of a scenario
+-- the history of a run is one of its scenario
+pub run-of-it : (s : Scenario) → IsWithinLimits s → IsOf s (run_of s).kernel.history
+run-of-it s limits = record {
+  limits = limits;
+  few = omega (arith, run-short s s.turns, limits.most);
+  legal = run-legal s;
+}
+
+-- ---- a scenario that is read again
 
 -- The scenario that an input is read as is there again: no line of it is refused.
-pub not-refused : (r : Result Scenario ScenFault) (e : ScenRefusal) (fault : ScenFault) (P : Scenario → Type 0)
-    → e ≡ refusal.Fault fault → Stops e r → IsOkAnd r P → ⊥
-not-refused r e fault P is stops ok =
-    subst (λ (x : Result Scenario ScenFault). IsOkAnd x P) (subst (λ (x : ScenRefusal). Stops x r) is stops) ok
+pub not-refused : (r : Result Scenario ScenFault) (e : ScenRefusal) (fault : ScenFault) → e ≡ refusal.Fault fault
+    → Stops e r → IsOk r → ⊥
+not-refused r e fault is stops ok =
+    let refused : r ≡ Err fault = subst (λ (x : ScenRefusal). Stops x r) is stops in
+    let never : true ≡ false = sym ok ∙ ap is_ok refused in
+    cc
 
--- it is kept of the scenario that an input is read as
-pub kept-read : (r : Result Hiding NoMemory) (read : Result Scenario ScenFault) (s : Scenario) → read ≡ Ok s
-    → IfOk r (IsKeptOf s) → IfOk r (λ kept. IfOk read (λ t. IsKeptOf t kept))
-kept-read (Ok kept) read s is of =
-    subst (λ (x : Result Scenario ScenFault). IfOk x (λ t. IsKeptOf t kept)) (sym is) of
-kept-read (Err e) read s is of = tt
-
--- it can play the run
-pub kept-plays : (s : Scenario) (kept : Hiding) → IsWithinLimits s → IsKeptOf s kept
-    → CanPlay kept (run_of s).kernel.history
-kept-plays s kept limits is =
-    let h = (run_of s).kernel.history in
-    let none = ap length is.history in
-    record {
-      controllers = omega (arith, is.count, limits.controllers);
-      places = omega (arith, none, is.places, run-short s s.turns);
-      legal =
-          subst (λ (n : ℕ). IsLegal n kept.kern.state h) (sym is.count)
-          (subst (λ (t : TracedState). IsLegal (length s.controllers) t h) (sym is.state) (run-legal s));
-    }
-
--- and what programs see of it is what `plain` writes
-pub kept-plain : (s : Scenario) (kept : Hiding) → IsKeptOf s kept → kept_shown kept ≡ plain_shown s
-kept-plain s kept is =
-    ap (λ (who : List Hider). seen_shown (hiders_of who) kept.kern.state) is.hiders
-    ∙ ap (seen_shown (hiders_in s)) is.state
+-- and it is the same
+pub same-again : (r : Result Scenario ScenFault) (s t : Scenario) → r ≡ Ok s → r ≡ Ok t → s ≡ t
+same-again r s t read again = subst (λ (x : Result Scenario ScenFault). IfOk x (λ u. s ≡ u)) (sym read ∙ again) refl
 
 -- ---- where nobody hides anything, all is seen
 

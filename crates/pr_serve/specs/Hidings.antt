@@ -1,4 +1,4 @@
-use Rattle.std.specs.Prelude.{List, map}
+use Rattle.std.specs.Prelude.{◌<◌, ◌^◌, List, length, map}
 use Rattle.pr_hidden.specs.Covers.{Patch}
 use Rattle.pr_hidden.specs.HiddenSteps.{IsHidden}
 use Rattle.pr_hidden.specs.Hiders.{Hiders}
@@ -7,9 +7,10 @@ use Rattle.pr_hide.specs.Hidings.{hiders_of}
 use Rattle.pr_hide.specs.declared.hiders.Hider.{Hider}
 use Rattle.pr_hide.specs.declared.hiders.Hider.TheVariants.{Functions, Nothing, Probe}
 use Rattle.pr_line.specs.declared.functions.Function.{Function}
+use Rattle.pr_model.specs.Legal.{IsLegal}
 use Rattle.pr_model.specs.declared.events.Entry.{Entry}
 use Rattle.pr_run_laws.specs.ScenarioRuns.{first_state_of}
-use Rattle.pr_scen.specs.Scenarios.{Scenario}
+use Rattle.pr_scen.specs.Scenarios.{IsWithinLimits, Scenario}
 use Rattle.pr_scen.specs.declared.plans.Plan.{Plan}
 use Rattle.pr_scen.specs.declared.plans.Plan.TheVariants as plan
 
@@ -31,6 +32,12 @@ hider_of (plan.Probe pid) = Probe
 -- the controllers of a scenario that hide what they do, by their numbers
 abbrev pub hiders_in : Scenario → Hiders
 hiders_in s = hiders_of (map hider_of s.controllers)
+
+-- A history of a scenario that can be played on a new kernel, whether a run made it or not: it is legal.
+pub record IsOf (s : Scenario) (h : List Entry) : Type 0 where
+  pub limits : IsWithinLimits s
+  pub few : length h < 2 ^ 32
+  pub legal : IsLegal (length s.controllers) (first_state_of s) h
 
 -- Programs see nothing of those who hide in a history, on three conditions: other calls are passive, programs leave alone
 -- what is hidden, and those who hide are tidy. Then the steps that are not hidden are a run of the machine without

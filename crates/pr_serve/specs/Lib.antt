@@ -8,7 +8,6 @@ pub mod Giving
 pub mod Hidings
 pub mod Histories
 pub mod Inputs
-pub mod Kept
 pub mod Made
 pub mod Parts
 pub mod Reports

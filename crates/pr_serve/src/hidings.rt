@@ -1,12 +1,15 @@
-//! What the controllers of a scenario hide of what they do.
-ghost use Rattle.std.specs.Prelude.{◌≡◌, map, IfOk};
+//! What the controllers of a scenario hide of what they do, and what is left of a history without it.
+ghost use Rattle.std.specs.Prelude.{◌≡◌, ◌<◌, ◌^◌, [], length, map, IfOk};
+ghost use Rattle.pr_hidden.specs.HiddenSteps.{hidden_steps};
+ghost use Rattle.pr_model.specs.Legal.{IsLegal};
+ghost use Rattle.pr_run_laws.specs.ScenarioRuns.{first_state_of};
 ghost use Rattle.pr_scen.specs.Scenarios.{IsWithinLimits};
-ghost use Rattle.pr_serve.specs.Hidings.{hider_of, patch_of};
-ghost use Rattle.pr_serve.specs.Kept.{IsKeptOf};
+ghost use Rattle.pr_serve.specs.Hidings.{hider_of, hiders_in, patch_of};
 
 use pr_hide::{Hider, Patch};
 use pr_kern::Kern;
 use pr_line::Function;
+use pr_model::{History, Steps};
 use pr_num::{Bytes, NoMemory, Table};
 use pr_scen::{Plan, Scenario};
 use std::alloc::Global;
@@ -57,35 +60,37 @@ pub fn hiders_of(alloc: Global, plans: &[Plan]) -> Result<Vec<Hider>, NoMemory>
     Ok(who)
 }
 
-/// What is kept of a scenario of which controllers hide something: what each of them hides, and a kernel that is to play
-/// the run again.
-#[derive(Drop)]
-pub struct Hiding {
-    pub who: Vec<Hider>,
-    pub kern: Kern,
-    pub controllers: u32,
-}
-
-/// What is kept of a scenario of which the controllers hide this.
+/// A kernel in the first state of a scenario, with places for so many entries.
 #[tactic(auto, using(crate::proofs::RunLemmas::runs))]
-pub fn hiding_of(alloc: Global, who: Vec<Hider>, scenario: Scenario) -> Result<Hiding, NoMemory>
-    requires limits { IsWithinLimits scenario }
-    requires hiders { who.items ≡ map hider_of scenario.controllers }
-    ensures { IfOk result (IsKeptOf scenario) }
+fn kern_of(alloc: Global, scenario: Scenario, places: u32) -> Result<Kern, NoMemory>
+    requires { IsWithinLimits scenario }
+    ensures state { IfOk result (λ kern. kern.state ≡ first_state_of scenario) }
+    ensures history { IfOk result (λ kern. kern.history ≡ []) }
+    ensures places { IfOk result (λ kern. kern.places ≡ places) }
 {
     let Scenario {
-        turns,
+        turns: _,
         programs,
         files,
         spawns,
-        controllers,
+        controllers: _,
         schedule: _,
     } = scenario;
-    let controllers = controllers.len() as u32;
-    let kern = Kern::new(alloc, programs, files, spawns.as_slice(), turns)?;
-    Ok(Hiding {
-        who,
-        kern,
-        controllers,
-    })
+    Kern::new(alloc, programs, files, spawns.as_slice(), places)
+}
+
+/// The untraced steps of a history of a scenario without what its controllers hide: of each truss the breakpoints at
+/// the functions whose calls it shows, and the faults of stepping over these; and of apfiles its agent. The history is a
+/// legal one of that scenario, whether a run made it or not. It is played on a new kernel, of which memory may run out.
+pub fn strip_hidden(alloc: Global, scenario: Scenario, history: &History) -> Result<Steps, NoMemory>
+    requires limits { IsWithinLimits scenario }
+    requires few { length history.now.entries < 2 ^ 32 }
+    requires legal { IsLegal (length scenario.controllers) (first_state_of scenario) history.now.entries }
+    ensures { IfOk result (λ steps.
+        steps ≡ hidden_steps (hiders_in scenario) (first_state_of scenario) history.now.entries) }
+{
+    let who = hiders_of(alloc, scenario.controllers.as_slice())?;
+    let controllers = scenario.controllers.len() as u32;
+    let kern = kern_of(alloc, scenario, history.len() as u32)?;
+    pr_hide::strip_hidden(alloc, who.as_slice(), kern, controllers, history)
 }

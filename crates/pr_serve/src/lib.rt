@@ -1,4 +1,5 @@
 //! What the program does: `serve` carries out what its words ask for, from a source to a sink, and says how that ended.
+//! And `strip_hidden`, what programs see of a history of a scenario.
 #![tactic(auto)]
 
 mod answers;
@@ -20,5 +21,6 @@ mod showings;
 mod stripping;
 mod wrongs;
 
+pub use hidings::strip_hidden;
 pub use outcomes::{Outcome, Status, number};
 pub use serving::serve;

@@ -2,21 +2,21 @@
 ghost use Rattle.std.specs.Prelude.{List};
 ghost use Rattle.std.specs.List.{flat_map};
 ghost use Rattle.pr_hidden.specs.HiddenSteps.{hidden_steps, hidden_trace};
-ghost use Rattle.pr_hide.specs.Hidings.{hiders_of};
 ghost use Rattle.pr_model.specs.UntracedMachine.{traced_step};
 ghost use Rattle.pr_model.specs.UntracedSteps.{untraced_steps, untraced_trace};
 ghost use Rattle.pr_model.specs.declared.events.Entry.{Entry};
 ghost use Rattle.pr_output.specs.Output.{plain_run_text};
 ghost use Rattle.pr_output.specs.Puts.{Puts};
-ghost use Rattle.pr_serve.specs.Answers.{RunText, run_shown, untraced_shown};
-ghost use Rattle.pr_serve.specs.Kept.{CanPlay, kept_shown};
+ghost use Rattle.pr_run_laws.specs.ScenarioRuns.{first_state_of};
+ghost use Rattle.pr_serve.specs.Answers.{RunText, plain_shown, run_shown, untraced_shown};
+ghost use Rattle.pr_serve.specs.Hidings.{IsOf, hiders_in};
 
 use crate::commands::Showing;
-use crate::hidings::Hiding;
-use pr_hide::strip_hidden;
+use crate::hidings::strip_hidden;
 use pr_io::Sink;
 use pr_model::{History, Steps};
 use pr_output::{Cut, Report, write_plain, write_run};
+use pr_scen::Scenario;
 use pr_strip::{strip, trace, trace_of_steps};
 use std::alloc::Global;
 
@@ -82,12 +82,17 @@ impl Shows for Stripped {
     }
 }
 
-/// What programs see of the run.
-#[tactic(auto, unfolding(crate::specs::Answers::seen_shown))]
-impl Shows for Hiding {
-    ghost text = { kept_shown };
+/// What programs see of a run of this scenario.
+#[derive(Drop)]
+pub struct Seen {
+    pub scenario: Scenario,
+}
 
-    ghost fits = { CanPlay };
+#[tactic(auto, unfolding(crate::specs::Answers::seen_shown))]
+impl Shows for Seen {
+    ghost text = { λ seen. plain_shown seen.scenario };
+
+    ghost fits = { λ seen. IsOf seen.scenario };
 
     fn write<K: Sink>(
         self,
@@ -97,7 +102,7 @@ impl Shows for Hiding {
         status: u8,
         sink: &mut K,
     ) -> Result<(), Cut> {
-        write_seen(alloc, self, history, status, sink)
+        write_seen(alloc, self.scenario, history, status, sink)
     }
 }
 
@@ -125,24 +130,19 @@ fn write_steps<K: Sink>(alloc: Global, steps: &Steps, status: u8, sink: &mut K) 
     write_plain(alloc, sink, steps.as_slice(), trace.as_slice(), status)
 }
 
-/// Writes the steps of a history and its trace without what is hidden, and a status.
+/// Writes the steps of a history of a scenario and its trace, each without what is hidden, and a status.
 fn write_seen<K: Sink>(
     alloc: Global,
-    hiding: Hiding,
+    scenario: Scenario,
     history: &History,
     status: u8,
     sink: &mut K,
 ) -> Result<(), Cut>
-    requires { CanPlay hiding history.now.entries }
+    requires { IsOf scenario history.now.entries }
     ensures { Puts result (K.written sink.old) (K.written sink.new) (K.faults sink.old) (K.faults sink.new)
-        (plain_run_text (hidden_steps (hiders_of hiding.who.items) hiding.kern.state history.now.entries)
-        (hidden_trace (hiders_of hiding.who.items) hiding.kern.state history.now.entries) status) }
+        (plain_run_text (hidden_steps (hiders_in scenario) (first_state_of scenario) history.now.entries)
+        (hidden_trace (hiders_in scenario) (first_state_of scenario) history.now.entries) status) }
 {
-    let Hiding {
-        who,
-        kern,
-        controllers,
-    } = hiding;
-    let steps = strip_hidden(alloc, who.as_slice(), kern, controllers, history)?;
+    let steps = strip_hidden(alloc, scenario, history)?;
     write_steps(alloc, &steps, status, sink)
 }

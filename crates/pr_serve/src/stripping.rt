@@ -1,5 +1,5 @@
 //! What the command `plain` answers to an input.
-ghost use Rattle.std.specs.Prelude.{◌≡◌, ◌≤◌, length, map, Ok, IfOk, IfSome, IsOkAnd};
+ghost use Rattle.std.specs.Prelude.{◌≡◌, ◌≤◌, length, map, Ok, IfOk, IfSome, IsOk};
 ghost use Rattle.pr_num.specs.Limits.{scenario_limit};
 ghost use Rattle.pr_run_laws.specs.ScenarioRuns.{run_of};
 ghost use Rattle.pr_scen.specs.Scenarios.{IsWithinLimits};
@@ -8,14 +8,13 @@ ghost use Rattle.pr_serve.specs.Giving.{Responds};
 ghost use Rattle.pr_serve.specs.Hidings.{hider_of};
 ghost use Rattle.pr_serve.specs.Histories.{RanOutEarly, in_rounds};
 ghost use Rattle.pr_serve.specs.Inputs.{scenario_of_input};
-ghost use Rattle.pr_serve.specs.Kept.{IsKeptOf};
 ghost use Rattle.pr_serve.specs.Made.{StoppedRun};
 
-use crate::hidings::{Hiding, hiders_of, hiding_of};
+use crate::hidings::hiders_of;
 use crate::inputs::{scenario_in, scenario_of_input};
 use crate::outcomes::{Ending, Status, out_of_memory, without_history};
 use crate::responses::{refuse_at, run_scenario};
-use crate::showings::Stripped;
+use crate::showings::{Seen, Stripped};
 use pr_hide::{Hider, hide_nothing};
 use pr_io::Sink;
 use pr_model::History;
@@ -23,23 +22,22 @@ use pr_num::{Bytes, NoMemory};
 use pr_scen::{ScenRefusal, Scenario};
 use std::alloc::Global;
 
-/// What is kept of the scenario of an input, which is read again for it, where its controllers hide this.
-fn kept_of_input(alloc: Global, who: Vec<Hider>, input: Option<Bytes>) -> Result<Hiding, NoMemory>
+/// The scenario of an input that is read a second time.
+fn scenario_again(alloc: Global, input: Option<Bytes>) -> Result<Scenario, NoMemory>
     requires few { IfSome input (λ bytes. length bytes ≤ scenario_limit) }
-    requires hiders { IsOkAnd (scenario_of_input input) (λ s. who.items ≡ map hider_of s.controllers) }
-    ensures { IfOk result (λ kept. IfOk (scenario_of_input input) (λ s. IsKeptOf s kept)) }
+    requires read { IsOk (scenario_of_input input) }
+    ensures { IfOk result (λ s. scenario_of_input input ≡ Ok s) }
 {
     match scenario_of_input(alloc, input) {
-        Ok(scenario) => hiding_of(alloc, who, scenario),
+        Ok(scenario) => Ok(scenario),
         Err(ScenRefusal::Fault(_)) => unreachable!(),
         Err(ScenRefusal::NoMemory) => Err(NoMemory),
     }
 }
 
-/// Answers a scenario of which some controllers hide this: its run is made, and what programs see of it is written.
+/// Answers a scenario of which controllers hide something: its run is made, and what programs see of it is written.
 fn strip_hiding<K: Sink>(
     alloc: Global,
-    who: Vec<Hider>,
     input: Option<Bytes>,
     scenario: Scenario,
     sink: &mut K,
@@ -47,14 +45,13 @@ fn strip_hiding<K: Sink>(
     requires few { IfSome input (λ bytes. length bytes ≤ scenario_limit) }
     requires read { scenario_of_input input ≡ Ok scenario }
     requires limits { IsWithinLimits scenario }
-    requires hiders { who.items ≡ map hider_of scenario.controllers }
     ensures { Responds (ran (plain_shown scenario) (run_of scenario))
         (StoppedRun scenario result.history.entries (K.written sink.old) (K.written sink.new))
         result.status result.history.entries
         (K.written sink.old) (K.written sink.new) (K.faults sink.old) (K.faults sink.new) }
 {
-    match kept_of_input(alloc, who, input) {
-        Ok(kept) => run_scenario(alloc, kept, scenario, sink),
+    match scenario_again(alloc, input) {
+        Ok(again) => run_scenario(alloc, Seen { scenario: again }, scenario, sink),
         Err(error) => out_of_memory(error, History::new(alloc)),
     }
 }
@@ -80,7 +77,7 @@ fn strip_run<K: Sink>(
     if hide_nothing(who.as_slice()) {
         run_scenario(alloc, Stripped, scenario, sink)
     } else {
-        strip_hiding(alloc, who, input, scenario, sink)
+        strip_hiding(alloc, input, scenario, sink)
     }
 }
 

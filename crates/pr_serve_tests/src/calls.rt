@@ -1,5 +1,11 @@
 //! Calls of `serve`, and scenarios for them.
-use pr_io::{Gate, MemSink, MemSource};
+ghost use Rattle.std.specs.Prelude.{◌≡◌, length, IfOk, Ok};
+ghost use Rattle.pr_model.specs.Legal.{IsLegal};
+ghost use Rattle.pr_run_laws.specs.ScenarioRuns.{first_state_of};
+ghost use Rattle.pr_scen.specs.Reading.{scenario_of};
+ghost use Rattle.pr_scen.specs.Scenarios.{Scenario};
+
+use pr_io::{Gate, MemSink, MemSource, OpenGate};
 use pr_model::History;
 use pr_num::{Bytes, NoMemory};
 use pr_plain::{write_entry, write_heading};
@@ -29,12 +35,14 @@ pub const STUCK: &str =
 pub const MUCH: usize = 65_536;
 
 /// A source of these bytes, of which these reads fail.
-pub fn source(alloc: Global, input: &[u8], fails: &[u64]) -> Result<MemSource, NoMemory> {
+pub fn source(alloc: Global, input: &[u8], fails: &[u64]) -> Result<MemSource, NoMemory>
+    ensures { IfOk result (λ source. source.left ≡ input.now) }
+{
     let bytes = Bytes::from_vec(input.to_vec(alloc)?);
     Ok(MemSource::new(bytes, fails.to_vec(alloc)?))
 }
 
-/// Calls `serve` with these words.
+/// Calls `serve` with these words. The history that it leaves is a legal one of the scenario that its source has.
 pub fn call<R: Threads + Wait + Sync, G: Gate + Sync>(
     rt: &R,
     alloc: Global,
@@ -42,7 +50,10 @@ pub fn call<R: Threads + Wait + Sync, G: Gate + Sync>(
     source: &mut MemSource,
     sink: &mut MemSink,
     gate: &G,
-) -> Result<Outcome, NoMemory> {
+) -> Result<Outcome, NoMemory>
+    ensures { IfOk result (λ outcome. (s : Scenario) → scenario_of source.old.left ≡ Ok s
+        → IsLegal (length s.controllers) (first_state_of s) outcome.history.entries) }
+{
     let mut all = Vec::new(alloc);
     for word in words {
         all.push(word.to_string(alloc)?)?;
@@ -70,4 +81,20 @@ pub fn is_made_of(text: &[u8], first: &str, second: &str) -> bool {
         Some(rest) => text.starts_with(first.as_bytes()) && rest == second.as_bytes(),
         None => false,
     }
+}
+
+/// Whether `check` finds a history legal from the first state of a scenario.
+pub fn is_legal<R: Threads + Wait + Sync>(
+    rt: &R,
+    alloc: Global,
+    scenario: &str,
+    history: &History,
+) -> Result<bool, NoMemory> {
+    let mut input = scenario.as_bytes().to_vec(alloc)?;
+    input.extend_from_slice(b"%history\n")?;
+    input.extend_from_slice(text_of(alloc, history)?.as_slice())?;
+    let mut source = source(alloc, input.as_slice(), &[])?;
+    let mut sink = MemSink::new(alloc, MUCH, Vec::new(alloc))?;
+    let outcome = call(rt, alloc, &["check"], &mut source, &mut sink, &OpenGate)?;
+    Ok(outcome.status == 0)
 }

@@ -7,6 +7,25 @@ use std::sync::Wait;
 use std::test::Fail;
 use std::thread::Threads;
 
+/// A process that a script stops, looks at and runs: `cases/program/stopped-once.in`.
+const STOPPED: &str = "turns 100
+program p
+sys getpid
+set r1, 0
+sys exit
+end
+spawn p
+script
+open a 1 ctl w
+write a dstop
+write a wstop
+open s 1 status r
+read s 104 32
+write a run
+close a
+end
+";
+
 /// A process that makes more moves than a block of lines has room for.
 const LONG: &str = "turns 5500\nprogram p\nagain:\njmp again\nend\nspawn p\n";
 
@@ -124,7 +143,7 @@ fn sound_reads<R: Threads + Wait + Sync>(
 #[test]
 fn each_write_may_fail(rt: HostRuntime) -> Result<(), Fail> {
     let alloc = rt.alloc();
-    for (input, least) in [(ALONE, 3), (REFUSED, 1), (LONG, 4)] {
+    for (input, least) in [(ALONE, 3), (STOPPED, 3), (REFUSED, 1), (LONG, 4)] {
         let (sound, writes) = sound_writes(&rt, alloc, input.as_bytes())?;
         assert_eq!(rt; sound, writes, "{input}");
         assert!(rt; least <= writes, "{input}");
@@ -132,16 +151,18 @@ fn each_write_may_fail(rt: HostRuntime) -> Result<(), Fail> {
     Ok(())
 }
 
-// An input of three pieces, and the end of it.
+// Inputs of one piece and of three, and the end of each.
 #[test]
 fn each_read_may_fail(rt: HostRuntime) -> Result<(), Fail> {
     let alloc = rt.alloc();
-    let mut input = ALONE.as_bytes().to_vec(alloc)?;
-    for _ in 0..5_000 {
-        input.extend_from_slice(REMARK.as_bytes())?;
+    for (input, remarks, pieces) in [(STOPPED, 0, 1u64), (STOPPED, 5_000, 3), (ALONE, 5_000, 3)] {
+        let mut text = input.as_bytes().to_vec(alloc)?;
+        for _ in 0..remarks {
+            text.extend_from_slice(REMARK.as_bytes())?;
+        }
+        let (sound, reads) = sound_reads(&rt, alloc, text.as_slice())?;
+        assert_eq!(rt; sound, reads, "{input}");
+        assert_eq!(rt; reads, pieces.saturating_add(1), "{input}");
     }
-    let (sound, reads) = sound_reads(&rt, alloc, input.as_slice())?;
-    assert_eq!(rt; sound, reads);
-    assert_eq!(rt; reads, 4);
     Ok(())
 }

@@ -9,6 +9,8 @@ mod each_end;
 #[cfg(test)]
 mod failures;
 #[cfg(test)]
+mod seen;
+#[cfg(test)]
 mod statuses;
 #[cfg(test)]
 mod threads;

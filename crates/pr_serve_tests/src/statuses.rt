@@ -1,6 +1,7 @@
 //! What no clause says: that a call whose ends are sound has the status, the text and the history of its input.
 use crate::calls::{
-    ALONE, ALONE_HISTORY, CUT, CUT_HISTORY, MUCH, STUCK, call, is_made_of, source, text_of,
+    ALONE, ALONE_HISTORY, CUT, CUT_HISTORY, MUCH, STUCK, call, is_legal, is_made_of, source,
+    text_of,
 };
 use pr_io::{MemSink, OpenGate};
 use std::alloc::Global;
@@ -109,6 +110,26 @@ fn each_status_comes_with_its_text_and_its_history(rt: HostRuntime) -> Result<()
         (["frob"].as_slice(), ALONE, 1, USAGE, "", ""),
     ] {
         sees(&rt, alloc, words, input, status, (first, second), history)?;
+    }
+    Ok(())
+}
+
+// In which order two threads make the moves is not known: there are as many, and the history is legal.
+#[test]
+fn a_run_on_threads_has_its_status_and_its_history(rt: HostRuntime) -> Result<(), Fail> {
+    let alloc = rt.alloc();
+    let words = ["run", "-q", "-j", "2"];
+    for (input, status, text, entries) in [
+        (CUT, 3, "status 3\n", 3usize),
+        (STUCK, 4, "status 4\n", 4),
+    ] {
+        let mut source = source(alloc, input.as_bytes(), &[])?;
+        let mut sink = MemSink::new(alloc, MUCH, Vec::new(alloc))?;
+        let outcome = call(&rt, alloc, &words, &mut source, &mut sink, &OpenGate)?;
+        assert_eq!(rt; outcome.status, status, "{input}");
+        assert_eq!(rt; sink.bytes(), text.as_bytes(), "{input}");
+        assert_eq!(rt; outcome.history.len(), entries, "{input}");
+        assert!(rt; is_legal(&rt, alloc, input, &outcome.history)?, "{input}");
     }
     Ok(())
 }

@@ -1,6 +1,6 @@
 //! What no clause says: that several workers make a run with `-j`, each at the gate that `serve` was given.
-use crate::calls::{MUCH, call, is_made_of, source, text_of};
-use pr_io::{Gate, MemSink, OpenGate};
+use crate::calls::{MUCH, call, is_legal, is_made_of, source};
+use pr_io::{Gate, MemSink};
 use pr_model::{Actor, Entry, History};
 use pr_num::NoMemory;
 use std::alloc::Global;
@@ -99,15 +99,23 @@ status 0
 /// How many controllers it has.
 const CONTROLLERS: u32 = 3;
 
-// How often a worker looks whether the others have come.
+// How often a worker looks whether the others have come, before its first turn and before its second one.
 const LOOKS: u32 = 10_000_000;
 
-/// A gate at which all workers of a run wait for one another before their first turns. It counts how often each of them
-/// passes, and how many have met all others.
+const LOOKS_AGAIN: u32 = 1_000_000;
+
+/// In how many runs at most the workers are to meet before their second turns. A run whose threads begin late goes on
+/// with one of them, so that one run may tell nothing.
+const TRIES: u32 = 5;
+
+/// A gate at which all workers of a run wait for one another before their first turns, and before their second ones
+/// until one of them has given up. It counts how often each of them passes, and how many have met all others then.
 #[derive(Drop)]
 struct Meeting {
     passes: Vec<AtomicU64>,
     met: AtomicU64,
+    met_again: AtomicU64,
+    given_up: AtomicU64,
 }
 
 impl Meeting {
@@ -119,22 +127,43 @@ impl Meeting {
         Ok(Meeting {
             passes,
             met: AtomicU64::new(0),
+            met_again: AtomicU64::new(0),
+            given_up: AtomicU64::new(0),
         })
     }
 
-    fn have_all_come(&self) -> bool {
+    /// Whether all workers have come to a turn.
+    fn have_all_come(&self, turn: u64) -> bool {
         self.passes
             .iter()
-            .all(|passes| passes.load(Ordering::SeqCst) != 0)
+            .all(|passes| turn < passes.load(Ordering::SeqCst))
+    }
+
+    /// Whether all workers come to a turn before a worker has looked so often.
+    fn sees_all_come(&self, turn: u64, looks: u32) -> bool {
+        for _ in 0..looks {
+            if self.have_all_come(turn) {
+                return true;
+            }
+            thread::yield_now();
+        }
+        false
     }
 
     fn meet(&self) {
-        for _ in 0..LOOKS {
-            if self.have_all_come() {
-                self.met.fetch_add(1, Ordering::SeqCst);
-                break;
-            }
-            thread::yield_now();
+        if self.sees_all_come(0, LOOKS) {
+            self.met.fetch_add(1, Ordering::SeqCst);
+        }
+    }
+
+    fn meet_again(&self) {
+        if self.given_up.load(Ordering::SeqCst) != 0 {
+            return;
+        }
+        if self.sees_all_come(1, LOOKS_AGAIN) {
+            self.met_again.fetch_add(1, Ordering::SeqCst);
+        } else {
+            self.given_up.fetch_add(1, Ordering::SeqCst);
         }
     }
 
@@ -160,8 +189,10 @@ impl Gate for Meeting {
     fn pass(&self, worker: u32, turn: u64) {
         if let Some(passes) = self.passes.get(worker as usize) {
             passes.fetch_add(1, Ordering::SeqCst);
-            if turn == 0 {
-                self.meet();
+            match turn {
+                0 => self.meet(),
+                1 => self.meet_again(),
+                _ => {}
             }
         }
     }
@@ -188,22 +219,6 @@ fn entries_of(history: &History, controller: Option<u32>) -> u64 {
     count
 }
 
-/// Whether `check` finds a history legal from the first state of a scenario.
-fn is_legal<R: Threads + Wait + Sync>(
-    rt: &R,
-    alloc: Global,
-    scenario: &str,
-    history: &History,
-) -> Result<bool, NoMemory> {
-    let mut input = scenario.as_bytes().to_vec(alloc)?;
-    input.extend_from_slice(b"%history\n")?;
-    input.extend_from_slice(text_of(alloc, history)?.as_slice())?;
-    let mut source = source(alloc, input.as_slice(), &[])?;
-    let mut sink = MemSink::new(alloc, MUCH, Vec::new(alloc))?;
-    let outcome = call(rt, alloc, &["check"], &mut source, &mut sink, &OpenGate)?;
-    Ok(outcome.status == 0)
-}
-
 /// Sees that each move was made after a pass of the worker to which it falls.
 fn sees_passes(rt: &impl Abort, gate: &Meeting, history: &History, processors: u32) {
     for controller in 0..CONTROLLERS {
@@ -216,13 +231,14 @@ fn sees_passes(rt: &impl Abort, gate: &Meeting, history: &History, processors: u
     assert!(rt; 0 < entries && entries <= passes);
 }
 
-/// Sees that all workers of a run on so many processors meet, and that the run is a legal one.
+/// Sees that all workers of a run on so many processors meet before their first turns, and that the run is a legal one.
+/// Whether they meet before their second turns too.
 fn sees_meeting<R: Threads + Wait + Sync + Abort>(
     rt: &R,
     alloc: Global,
     number: &str,
     processors: u32,
-) -> Result<(), Fail> {
+) -> Result<bool, Fail> {
     let workers = processors.saturating_add(CONTROLLERS);
     let gate = Meeting::new(alloc, workers)?;
     let mut source = source(alloc, BUSY.as_bytes(), &[])?;
@@ -234,14 +250,32 @@ fn sees_meeting<R: Threads + Wait + Sync + Abort>(
     assert_eq!(rt; gate.met.load(Ordering::SeqCst), workers as u64);
     sees_passes(rt, &gate, &outcome.history, processors);
     assert!(rt; is_legal(rt, alloc, BUSY, &outcome.history)?);
-    Ok(())
+    Ok(gate.met_again.load(Ordering::SeqCst) == workers as u64)
 }
 
-// All workers are at the gate at one time, so as many threads make the run.
+/// Whether the workers of one of some runs meet before their second turns.
+fn is_seen_to_go_on<R: Threads + Wait + Sync + Abort>(
+    rt: &R,
+    alloc: Global,
+    number: &str,
+    processors: u32,
+) -> Result<bool, Fail> {
+    for _ in 0..TRIES {
+        if sees_meeting(rt, alloc, number, processors)? {
+            return Ok(true);
+        }
+    }
+    Ok(false)
+}
+
+// All workers are at the gate at one time, and again once each has had a turn, so as many threads make the run.
 #[test]
 fn all_workers_meet_at_the_gate(rt: HostRuntime) -> Result<(), Fail> {
     for (number, processors) in [("1", 1u32), ("2", 2), ("16", 16)] {
-        sees_meeting(&rt, rt.alloc(), number, processors)?;
+        assert!(rt;
+            is_seen_to_go_on(&rt, rt.alloc(), number, processors)?,
+            "{number}"
+        );
     }
     Ok(())
 }

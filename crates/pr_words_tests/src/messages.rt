@@ -1,5 +1,5 @@
-//! What no clause says: messages as bytes written by hand, both ways, and bytes that are no message. Those that stand in
-//! a case are not here.
+//! What no clause says: messages as bytes written by hand, both ways, where they stand in no case; and bytes that are no
+//! message, each with its fault, of which a case shows that the answer is EINVAL.
 use hex::FromHexError;
 use pr_msg::*;
 use std::alloc::{AllocError, Global};
@@ -134,9 +134,61 @@ const ENCODINGS: [(Message, &[u8], &[&str]); 13] = [
 ];
 
 /// Bytes that are no message, in parts, and why.
-const FAULTS: [(&[&str], MsgFault); 5] = [
+const FAULTS: [(&[&str], MsgFault); 24] = [
     (&[], MsgFault::Short),
-    // PCWATCH of size 0 with flags 16
+    (&["00000000000000"], MsgFault::Short),
+    (&["0000000000000000"], MsgFault::UnknownOp),
+    (&["1800000000000000"], MsgFault::UnknownOp),
+    (&["0200000000000001"], MsgFault::UnknownOp),
+    (&["0500000000000000"], MsgFault::Short),
+    // PCRUN 32, PCSET 16, PCTWSTOP 1,000,000,001, PCSSIG 40, PCKILL 0, PCUNKILL 9, PCSTRACE with bit 39
+    (
+        &["0500000000000000", "2000000000000000"],
+        MsgFault::BadOperand { word: 1 },
+    ),
+    (
+        &["1000000000000000", "1000000000000000"],
+        MsgFault::BadOperand { word: 1 },
+    ),
+    (
+        &["0400000000000000", "01ca9a3b00000000"],
+        MsgFault::BadOperand { word: 1 },
+    ),
+    (
+        &["0800000000000000", "2800000000000000"],
+        MsgFault::BadOperand { word: 1 },
+    ),
+    (
+        &["0900000000000000", "0000000000000000"],
+        MsgFault::BadOperand { word: 1 },
+    ),
+    (
+        &["0a00000000000000", "0900000000000000"],
+        MsgFault::BadOperand { word: 1 },
+    ),
+    (
+        &["0c00000000000000", "0000000080000000"],
+        MsgFault::BadOperand { word: 1 },
+    ),
+    // PCWATCH of size 0 with flags 1, beyond 2^64, of size 0 with flags 16, with flags 8, with flags 16
+    (
+        &[
+            "1400000000000000",
+            "0000000000000000",
+            "0000000000000000",
+            "0100000000000000",
+        ],
+        MsgFault::BadOperand { word: 2 },
+    ),
+    (
+        &[
+            "1400000000000000",
+            "f8ffffffffffffff",
+            "1000000000000000",
+            "0100000000000000",
+        ],
+        MsgFault::BadOperand { word: 2 },
+    ),
     (
         &[
             "1400000000000000",
@@ -146,7 +198,37 @@ const FAULTS: [(&[&str], MsgFault); 5] = [
         ],
         MsgFault::BadOperand { word: 2 },
     ),
-    // PCWRITE without its byte, without its padding, with other padding
+    (
+        &[
+            "1400000000000000",
+            "0000000000000000",
+            "0100000000000000",
+            "0800000000000000",
+        ],
+        MsgFault::BadOperand { word: 3 },
+    ),
+    (
+        &[
+            "1400000000000000",
+            "0000000000000000",
+            "0100000000000000",
+            "1000000000000000",
+        ],
+        MsgFault::BadOperand { word: 3 },
+    ),
+    // PCREAD of no byte and of 4,097, PCWRITE of no byte, without its byte, without its padding, with other padding
+    (
+        &["1600000000000000", "0000000000000000", "0000000000000000"],
+        MsgFault::BadOperand { word: 2 },
+    ),
+    (
+        &["1600000000000000", "0000000000000000", "0110000000000000"],
+        MsgFault::BadOperand { word: 2 },
+    ),
+    (
+        &["1700000000000000", "0000000000000000", "0000000000000000"],
+        MsgFault::BadOperand { word: 2 },
+    ),
     (
         &["1700000000000000", "0000000000000000", "0100000000000000"],
         MsgFault::Short,

@@ -1,17 +1,16 @@
-use Rattle.std.proofs.Common.{rules, ◌∙◌, List, ap}
-use Rattle.pr_hidden.specs.HiddenSteps.{hidden_steps}
-use Rattle.pr_hide.specs.Hidings.{hiders_of}
-use Rattle.pr_hide.specs.declared.hiders.Hider.{Hider}
+use Rattle.std.proofs.Common.{rules}
 use Rattle.pr_output.proofs.Joined.{Puts-nothing}
+use Rattle.pr_run_laws.specs.ScenarioRuns.{first_state_of}
 use Rattle.pr_serve.proofs.GivingLemmas.{puts-same}
 use Rattle.pr_serve.proofs.SeenLemmas.{steps-seen}
+use Rattle.pr_serve.specs.Hidings.{hiders_in}
 use Rattle.pr_serve.proofs.showings.write_seen.Goals as goal
 
-pub strip_hidden-requires-clause-controllers : goal.strip_hidden-requires-clause-controllers
-strip_hidden-requires-clause-controllers g c = c.requires.controllers
+pub strip_hidden-requires-clause-limits : goal.strip_hidden-requires-clause-limits
+strip_hidden-requires-clause-limits g c = c.requires.limits
 
-pub strip_hidden-requires-clause-places : goal.strip_hidden-requires-clause-places
-strip_hidden-requires-clause-places g c = c.requires.places
+pub strip_hidden-requires-clause-few : goal.strip_hidden-requires-clause-few
+strip_hidden-requires-clause-few g c = c.requires.few
 
 pub strip_hidden-requires-clause-legal : goal.strip_hidden-requires-clause-legal
 strip_hidden-requires-clause-legal g c = c.requires.legal
@@ -21,9 +20,8 @@ returns-in_err-steps g c = Puts-nothing _ _ _ _ (search rules)
 
 pub returns : goal.returns
 returns g c =
-    let kept = c.args.hiding in
-    let h = c.args.history.now.entries in
-    let hides = ap (λ (who : List Hider). hidden_steps (hiders_of who) kept.kern.state h) c.as_slice.ensures.value in
+    let s = c.args.scenario in
     puts-same _ _ _ _ _ _ _
-    (steps-seen (hiders_of kept.who.items) kept.kern.state h c.in_ok-steps.steps c.args.status (c.in_ok-steps.ensures ∙ hides))
+    (steps-seen (hiders_in s) (first_state_of s) c.args.history.now.entries c.in_ok-steps.steps c.args.status
+    c.in_ok-steps.ensures)
     c.write_steps.ensures

@@ -1,30 +1,25 @@
-use Rattle.std.proofs.Common.{rules, ◌≡◌, inl, IfOk, IsOkAnd, Result, map, refl, subst, sym}
+use Rattle.std.proofs.Common.{rules, ◌≡◌, inl, ap, is_ok, refl, subst, sym}
 use Rattle.pr_run_laws.specs.ScenarioRuns.{run_of}
 use Rattle.pr_scen.specs.Scenarios.{Scenario}
-use Rattle.pr_scen.specs.Refusals.{ScenFault}
 use Rattle.pr_serve.proofs.GivingLemmas.{gives-nothing}
-use Rattle.pr_serve.proofs.SeenLemmas.{kept-plain, kept-plays, ran-alike}
+use Rattle.pr_serve.proofs.SeenLemmas.{ran-alike, run-of-it, same-again}
 use Rattle.pr_serve.specs.Answers.{plain_shown}
-use Rattle.pr_serve.specs.Hidings.{hider_of}
-use Rattle.pr_serve.specs.Kept.{IsKeptOf, kept_shown}
+use Rattle.pr_serve.specs.Hidings.{IsOf}
 use Rattle.pr_serve.proofs.stripping.strip_hiding.Goals as goal
 
-pub kept_of_input-requires-clause-hiders : goal.kept_of_input-requires-clause-hiders
-kept_of_input-requires-clause-hiders g c =
-    subst (λ (r : Result Scenario ScenFault). IsOkAnd r (λ s. c.args.who.items ≡ map hider_of s.controllers)) (sym c.requires.read)
-    c.requires.hiders
+pub scenario_again-requires-clause-read : goal.scenario_again-requires-clause-read
+scenario_again-requires-clause-read g c = ap is_ok c.requires.read
 
 pub run_scenario-requires-clause-fits : goal.run_scenario-requires-clause-fits
 run_scenario-requires-clause-fits g c =
-    kept-plays _ _ c.requires.limits
-    (subst (λ (r : Result Scenario ScenFault). IfOk r (λ s. IsKeptOf s c.in-Ok.kept)) c.requires.read c.in-Ok.ensures)
+    let same = same-again _ _ _ c.requires.read c.in-Ok.ensures in
+    subst (λ (s : Scenario). IsOf s (run_of c.args.scenario).kernel.history) same (run-of-it _ c.requires.limits)
 
 pub returns-in-Ok : goal.returns-in-Ok
 returns-in-Ok g c =
-    let kept : IsKeptOf c.args.scenario c.in-Ok.kept =
-    subst (λ (r : Result Scenario ScenFault). IfOk r (λ s. IsKeptOf s c.in-Ok.kept)) c.requires.read c.in-Ok.ensures in
-    ran-alike (kept_shown c.in-Ok.kept) (plain_shown c.args.scenario) (run_of c.args.scenario) _ _ _ _ _ _ _
-    (kept-plain _ _ kept) c.run_scenario.ensures
+    let same = same-again _ _ _ c.requires.read c.in-Ok.ensures in
+    ran-alike (plain_shown c.in-Ok.again) (plain_shown c.args.scenario) (run_of c.args.scenario) _ _ _ _ _ _ _
+    (ap plain_shown (sym same)) c.run_scenario.ensures
 
 pub returns-in-Err : goal.returns-in-Err
 returns-in-Err g c =
