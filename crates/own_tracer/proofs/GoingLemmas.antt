@@ -20,29 +20,29 @@ use Rattle.pr_model.specs.declared.events.Entry.{Entry}
 use Rattle.pr_model.specs.declared.events.Turned.{Turned}
 use Rattle.pr_num.proofs.SearchLemmas.{find-passes}
 use Rattle.pr_num.specs.Limits.{clock_limit}
-use Rattle.own_tracer.specs.Going.{AllLeaveMemory, Goes, IsTold, Stands, only_controls}
+use Rattle.own_tracer.specs.Going.{AllLeaveMemory, Goes, Stands, TellsState, only_controls}
 use Rattle.own_tracer.specs.Stances.{Keeps}
 
 -- How a kernel goes on: by a call, by a turn, by a tick, and by several of them.
 
 -- ---- a kernel that tells its machine
 
-pub told-machine : (k : KernelView) (t : IsTold k) → k.machine ≡ Some t.state
+pub told-machine : (k : KernelView) (t : TellsState k) → k.machine ≡ Some t.state
 unfolding kernel_of
 told-machine k t = ap (λ (x : KernelView). x.machine) t.told
 
-told-clock : (k : KernelView) (t : IsTold k) → k.clock ≡ t.state.system.clock
+told-clock : (k : KernelView) (t : TellsState k) → k.clock ≡ t.state.system.clock
 unfolding kernel_of
 told-clock k t = ap (λ (x : KernelView). x.clock) t.told
 
-told-ready : (k : KernelView) (t : IsTold k) (c : Call) → k.is_ready 0 c ≡ is_some (answer_to t.state 0 c)
+told-ready : (k : KernelView) (t : TellsState k) (c : Call) → k.is_ready 0 c ≡ is_some (answer_to t.state 0 c)
 unfolding kernel_of
 told-ready k t c = ap (λ (x : KernelView). x.is_ready 0 c) t.told
 
-abbrev told-by : (k : KernelView) (s : TracedState) → IsLawfulView k → k.machine ≡ Some s → IsTold k
+abbrev told-by : (k : KernelView) (s : TracedState) → IsLawfulView k → k.machine ≡ Some s → TellsState k
 told-by k s lawful is = record { state = s; told = lawful.told s is }
 
-pub told-state : (k : KernelView) (t : IsTold k) (s : TracedState) → k.machine ≡ Some s → t.state ≡ s
+pub told-state : (k : KernelView) (t : TellsState k) (s : TracedState) → k.machine ≡ Some s → t.state ≡ s
 told-state k t s is = same_Some t.state s (sym (told-machine k t) ∙ is)
 
 -- opens, closes and writes are always ready
@@ -59,12 +59,12 @@ answered-at-once s (call.Close handle) at_once = refl
 answered-at-once s (call.Ctl handle bytes) at_once = refl
 answered-at-once s _ at_once = cc
 
-pub ready-at-once : (k : KernelView) → IsTold k → (c : Call) → never_waits c ≡ true → k.is_ready 0 c ≡ true
+pub ready-at-once : (k : KernelView) → TellsState k → (c : Call) → never_waits c ≡ true → k.is_ready 0 c ≡ true
 ready-at-once k t c at_once = told-ready k t c ∙ answered-at-once t.state c at_once
 
 -- ---- one entry
 
-one-entry : (R : TracedState → Type 0) (old new : KernelView) (t : IsTold old) (e : Entry) (u : TracedState)
+one-entry : (R : TracedState → Type 0) (old new : KernelView) (t : TellsState old) (e : Entry) (u : TracedState)
     → new.history ≡ old.history ++ e ∷ [] → new.places ≡ old.places → IsLegalEntry 1 t.state e
     → u ≡ after t.state e → new.machine ≡ Some u → AllLeaveMemory (e ∷ []) → IsLawfulView new → R u → Goes R old new
 one-entry R old new t e u history places legal made now memory lawful holds = record {
@@ -78,7 +78,7 @@ one-entry R old new t e u history places legal made now memory lawful holds = re
 }
 
 -- a call
-module _ (c : Call) (old new : KernelView) (called : IsCalled 0 c old new) (t : IsTold old) where
+module _ (c : Call) (old new : KernelView) (called : IsCalled 0 c old new) (t : TellsState old) where
   pub answered : IsAnswer 0 c called.reply new.machine t.state
   answered =
       let P : Option TracedState → Type 0 = λ o. IfSome o (IsAnswer 0 c called.reply new.machine) in
@@ -91,7 +91,7 @@ module _ (c : Call) (old new : KernelView) (called : IsCalled 0 c old new) (t : 
   pub made-is : answer_to t.state 0 c ≡ Some made
   made-is = answered.1
 
-  pub call-told : IsLawfulView new → IsTold new
+  pub call-told : IsLawfulView new → TellsState new
   call-told lawful = told-by new answered.0 lawful answered.2
 
   legal-call : IsLegalEntry 1 t.state (call_entry 0 c called.reply)

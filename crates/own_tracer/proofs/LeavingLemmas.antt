@@ -24,7 +24,7 @@ use Rattle.pr_truss_laws.proofs.TakenLemmas.{ctl-is}
 use Rattle.own_tracer.proofs.GoingLemmas.{call-goes, call-told, goes-on, made, made-is}
 use Rattle.own_tracer.proofs.HoldingLemmas.{plain-holds}
 use Rattle.own_tracer.proofs.OrderLemmas.{closes-control, order-reads, orders-control, releases, spared, still-spared}
-use Rattle.own_tracer.specs.Going.{Goes, IsTold, Stands}
+use Rattle.own_tracer.specs.Going.{Goes, Stands, TellsState}
 use Rattle.own_tracer.specs.Orders.{message_of, order_call}
 use Rattle.own_tracer.specs.Stances.{HasLeft, Holds, HoldsNothing, gripped}
 use Rattle.own_tracer.specs.declared.attaching.Grip.{Grip}

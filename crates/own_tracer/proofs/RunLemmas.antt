@@ -27,9 +27,9 @@ use Rattle.own_tracer.proofs.HoldingLemmas.{Opened, holds-kept, holds-lawful, no
 use Rattle.own_tracer.proofs.OrderLemmas.{opens-control, orders-control, polls-control}
 use Rattle.own_tracer.specs.Calls.{open_call, was_taken}
 use Rattle.own_tracer.specs.Faults.{Injected, after_order, order_of}
-use Rattle.own_tracer.specs.Going.{AllLeaveMemory, Goes, IsTold, Stands, only_controls}
+use Rattle.own_tracer.specs.Going.{AllLeaveMemory, Goes, Stands, TellsState, only_controls}
 use Rattle.own_tracer.specs.Orders.{order_call}
-use Rattle.own_tracer.specs.Running.{InHand, IsInjected, IsInjectedRun, IsKeptOut}
+use Rattle.own_tracer.specs.Running.{GotNoHold, InHand, IsInjected, IsInjectedRun}
 use Rattle.own_tracer.specs.Stances.{HasAttached, HasLeft, Holds, HoldsNothing, Keeps, LeftIf}
 use Rattle.own_tracer.specs.declared.attaching.Grip.{Grip}
 use Rattle.own_tracer.specs.declared.faults.Faults.{Faults}
@@ -157,7 +157,7 @@ left-nothing true pid k stands = record { is = stands.is; holds = stands.holds.n
 left-nothing false pid k stands = stands
 
 pub injected : (attached : Bool) (pid : ℕ) (a b c : KernelView)
-    → (attached ≡ false → IsKeptOut a.places a.history b.history) → Goes (LeftIf attached pid) a b
+    → (attached ≡ false → GotNoHold a.places a.history b.history) → Goes (LeftIf attached pid) a b
     → Goes HoldsNothing b c → IsInjected pid a c
 injected attached pid a b c out before after = record {
   middle = b;
@@ -219,7 +219,7 @@ run-is pid first places new i =
           (i.after.legal (state_after first beside) left));
       memory = subst AllLeaveMemory (sym parts) (memory-append beside alone i.before.memory i.after.memory);
       attached = i.attached;
-      out = λ is. subst (λ (h : List Entry). IsKeptOut places [] h) i.before.history (i.out is);
+      out = λ is. subst (λ (h : List Entry). GotNoHold places [] h) i.before.history (i.out is);
       left =
           subst (LeftIf i.attached pid)
           (told-state i.middle i.before.stands.is (state_after first beside) left) i.before.stands.holds;

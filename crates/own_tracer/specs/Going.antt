@@ -17,13 +17,13 @@ use Rattle.pr_num.specs.declared.messages.MsgFault.{MsgFault}
 -- ---- where a kernel stands
 
 -- A kernel tells its machine, which is in this state.
-pub record IsTold (k : KernelView) : Type 0 where
+pub record TellsState (k : KernelView) : Type 0 where
   pub state : TracedState
   pub told : k ≡ kernel_of state k.history k.places
 
 -- The same, and something holds of that state.
 pub record Stands (R : TracedState → Type 0) (k : KernelView) : Type 0 where
-  pub is : IsTold k
+  pub is : TellsState k
   pub holds : R is.state
 
 -- ---- calls that change no memory

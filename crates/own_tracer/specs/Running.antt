@@ -22,20 +22,20 @@ pub record InHand (g : Grip) (old new : KernelView) : Type 0 where
 
 -- Why the injector did not get hold of a process: there were too few places to come and to leave, or the last call was
 -- its open, which was refused.
-pub record IsKeptOut (places : ℕ) (before after : List Entry) : Type 0 where
+pub record GotNoHold (places : ℕ) (before after : List Entry) : Type 0 where
   pub why : (places < length before + 5) ⊎ (option_and_then opened_in (last_reply_of after) ≡ None)
 
--- The injector got hold of a process and has left it, or was kept out; and then the programs went on alone.
+-- The injector got hold of a process and has left it, or got no hold; and then the programs went on alone.
 pub record IsInjected (pid : ℕ) (old new : KernelView) : Type 0 where
   pub middle : KernelView
   pub attached : Bool
-  pub out : attached ≡ false → IsKeptOut old.places old.history middle.history
+  pub out : attached ≡ false → GotNoHold old.places old.history middle.history
   pub before : Goes (LeftIf attached pid) old middle
   pub after : Goes HoldsNothing middle new
 
 -- A history from this state, with so many places: it is legal, changes no memory but by turns, and at its end the
 -- injector has nothing open. It has two parts: after the first one the injector has left the process,
--- unless it was kept out.
+-- unless it got no hold of it.
 pub record IsInjectedRun (pid places : ℕ) (first : TracedState) (h : List Entry) : Type 0 where
   pub beside : List Entry
   pub alone : List Entry
@@ -43,7 +43,7 @@ pub record IsInjectedRun (pid places : ℕ) (first : TracedState) (h : List Entr
   pub legal : IsLegal 1 first h
   pub memory : AllLeaveMemory h
   pub attached : Bool
-  pub out : attached ≡ false → IsKeptOut places [] beside
+  pub out : attached ≡ false → GotNoHold places [] beside
   pub left : LeftIf attached pid (state_after first beside)
   pub nothing : HoldsNothing (state_after first h)
 

@@ -5,7 +5,7 @@ ghost use Rattle.pr_api.specs.Entries.{last_reply_of};
 ghost use Rattle.pr_api.specs.Steps.{IsCalled};
 ghost use Rattle.pr_model.specs.Replies.{opened_in};
 ghost use Rattle.own_tracer.specs.Calls.{open_call, was_taken};
-ghost use Rattle.own_tracer.specs.Going.{IsTold};
+ghost use Rattle.own_tracer.specs.Going.{TellsState};
 ghost use Rattle.own_tracer.specs.Orders.{order_call};
 
 use crate::orders::{Order, order_call};
@@ -24,7 +24,7 @@ pub fn ask<Q: Kernel>(kern: &mut Q, call: Call) -> Result<(), NoMemory>
     ensures called { OnOk result (IsCalled 0 call (Q.view kern.old) (Q.view kern.new)) }
     ensures longer { OnOk result (length (Q.view kern.new).history ≡ length (Q.view kern.old).history + 1) }
     ensures places { OnOk result ((Q.view kern.new).places ≡ (Q.view kern.old).places) }
-    ensures told { OnOk result (IsTold (Q.view kern.old) → IsTold (Q.view kern.new)) }
+    ensures told { OnOk result (TellsState (Q.view kern.old) → TellsState (Q.view kern.new)) }
 {
     kern.call(INJECTOR, call)
 }
@@ -43,13 +43,13 @@ pub fn send<Q: Kernel>(
     control: u32,
     order: Order,
 ) -> Result<bool, NoMemory>
-    requires told { IsTold (Q.view kern.old) }
+    requires told { TellsState (Q.view kern.old) }
     requires place { length (Q.view kern.old).history < (Q.view kern.old).places }
     ensures called { OnOk result (IsCalled 0 (order_call control order) (Q.view kern.old) (Q.view kern.new)) }
     ensures taken { IfOk result (λ taken. taken ≡ was_taken (last_reply_of (Q.view kern.new).history)) }
     ensures longer { OnOk result (length (Q.view kern.new).history ≡ length (Q.view kern.old).history + 1) }
     ensures places { OnOk result ((Q.view kern.new).places ≡ (Q.view kern.old).places) }
-    ensures told { OnOk result (IsTold (Q.view kern.new)) }
+    ensures told { OnOk result (TellsState (Q.view kern.new)) }
 {
     ask(kern, order_call(alloc, control, order)?)?;
     Ok(was_taken(kern))
@@ -64,14 +64,14 @@ fn last_opened<Q: Kernel>(kern: &Q) -> Option<u32>
 
 /// Opens the control file of a process, for this controller alone; `None` where that is refused.
 pub fn open_control<Q: Kernel>(kern: &mut Q, pid: u32) -> Result<Option<u32>, NoMemory>
-    requires told { IsTold (Q.view kern.old) }
+    requires told { TellsState (Q.view kern.old) }
     requires place { length (Q.view kern.old).history < (Q.view kern.old).places }
     ensures called { OnOk result (IsCalled 0 (open_call pid) (Q.view kern.old) (Q.view kern.new)) }
     ensures opened { IfOk result (λ control. control
         ≡ option_and_then opened_in (last_reply_of (Q.view kern.new).history)) }
     ensures longer { OnOk result (length (Q.view kern.new).history ≡ length (Q.view kern.old).history + 1) }
     ensures places { OnOk result ((Q.view kern.new).places ≡ (Q.view kern.old).places) }
-    ensures told { OnOk result (IsTold (Q.view kern.new)) }
+    ensures told { OnOk result (TellsState (Q.view kern.new)) }
 {
     ask(
         kern,

@@ -1,7 +1,7 @@
 //! The injector and the programs, in turn.
 ghost use Rattle.std.specs.Prelude.{◌≡◌, ◌≢◌, ◌≤◌, ◌+◌, false, length, IfOk, OnOk};
 ghost use Rattle.own_tracer.specs.Going.{Goes, Stands};
-ghost use Rattle.own_tracer.specs.Running.{IsInjected, IsKeptOut};
+ghost use Rattle.own_tracer.specs.Running.{GotNoHold, IsInjected};
 ghost use Rattle.own_tracer.specs.Stances.{HasLeft, Holds, HoldsNothing, LeftIf};
 
 use crate::attaching::{Grip, attach};
@@ -83,7 +83,7 @@ fn inject_all<Q: Kernel>(
     requires stands { Stands HoldsNothing (Q.view kern.old) }
     requires pid { pid ≢ 0 }
     ensures goes { IfOk result (λ attached. Goes (LeftIf attached pid) (Q.view kern.old) (Q.view kern.new)) }
-    ensures out { IfOk result (λ attached. attached ≡ false → IsKeptOut (Q.view kern.old).places
+    ensures out { IfOk result (λ attached. attached ≡ false → GotNoHold (Q.view kern.old).places
         (Q.view kern.old).history (Q.view kern.new).history) }
 {
     if kern.places() - kern.entries() < 5 {

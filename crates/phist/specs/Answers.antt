@@ -34,31 +34,31 @@ pub record Answered : Type 0 where
 unfoldable pub refused_at : ℕ → List ℕ → Answered
 refused_at line kind = record { status = Refused; text = refusal_text line kind }
 
--- what is told of a history, before which this is known: all of it, or a part
-unfoldable pub told_text : Work → Names → List Entry → List ℕ
-told_text Tells names es = text_of names es
-told_text (Selects s) names es = selected_text s names es
-told_text (Draws c s) names es = []
-told_text (Spells line) names es = []
-told_text Explains names es = []
+-- what is shown of a history in words, before which this is known: all of it, or a part
+unfoldable pub shown_text : Work → Names → List Entry → List ℕ
+shown_text Tells names es = text_of names es
+shown_text (Selects s) names es = selected_text s names es
+shown_text (Draws c s) names es = []
+shown_text (Spells line) names es = []
+shown_text Explains names es = []
 
--- the history is told in words
+-- the history is shown in words
 unfoldable pub in_words : Work → Names → List Entry → Answered
-in_words work names es = record { status = Done; text = told_text work names es }
+in_words work names es = record { status = Done; text = shown_text work names es }
 
 -- it is drawn; or it has too many rows for that
 unfoldable pub drawn_or : Option (List ℕ) → Answered
 drawn_or None = record { status = Refused; text = codes "more than 5,000 entries: take a part by -n FROM-TO\n" }
 drawn_or (Some text) = record { status = Done; text = text }
 
-unfoldable pub told : Work → Names → List Entry → Answered
-told (Draws c s) names es = drawn_or (chart_of c s names es)
-told work names es = in_words work names es
+unfoldable pub shown : Work → Names → List Entry → Answered
+shown (Draws c s) names es = drawn_or (chart_of c s names es)
+shown work names es = in_words work names es
 
 -- the answer to a history that was read, or to the first line that is wrong
 abbrev pub answer_of : Work → Names → Result (List Entry) ℕ → Answered
 answer_of work names (Err line) = refused_at line (codes "BadHistory")
-answer_of work names (Ok es) = told work names es
+answer_of work names (Ok es) = shown work names es
 
 -- the answer to a history that stands alone
 abbrev pub answer_alone : Work → List ℕ → Answered

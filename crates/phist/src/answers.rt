@@ -3,7 +3,7 @@ ghost use Rattle.std.specs.Prelude.{◌≡◌, ◌≢◌, ◌≤◌, Err, ◌+�
 ghost use Rattle.pr_num.specs.Limits.{checked_limit};
 ghost use Rattle.pr_output.specs.Output.{refusal_text};
 ghost use Rattle.pr_plain.specs.EntryReading.{history_of};
-ghost use Rattle.phist.specs.Answers.{IsAnswerStatus, answer_alone, answer_at, answer_of, answer_to, answer_to_text, begins_history, drawn_or, in_words, refused_at, spelled, spelled_or, told, told_text};
+ghost use Rattle.phist.specs.Answers.{IsAnswerStatus, answer_alone, answer_at, answer_of, answer_to, answer_to_text, begins_history, drawn_or, in_words, refused_at, shown, shown_text, spelled, spelled_or};
 
 use crate::inputs::Unread;
 use crate::sources::names_of;
@@ -52,9 +52,14 @@ fn refuse(alloc: Global, line: u32, kind: &[u8]) -> Result<Answer, NoMemory>
 }
 
 /// What is told of a history, before which this is known.
-#[tactic(auto, unfolding(crate::specs::Answers::told_text))]
-fn told_text(alloc: Global, work: &Work, names: Names, history: &History) -> Result<Bytes, NoMemory>
-    ensures { IfOk result (λ text. text ≡ told_text work.now names history.now.entries) }
+#[tactic(auto, unfolding(crate::specs::Answers::shown_text))]
+fn shown_text(
+    alloc: Global,
+    work: &Work,
+    names: Names,
+    history: &History,
+) -> Result<Bytes, NoMemory>
+    ensures { IfOk result (λ text. text ≡ shown_text work.now names history.now.entries) }
 {
     match work {
         Work::Tells => text_of(alloc, names, history),
@@ -97,7 +102,7 @@ fn tell_in_words(
         record { status = a.status; text = a.text } ≡ in_words work.now names history.now.entries) }
     ensures status { IfOk result (λ a. IsAnswerStatus a.status) }
 {
-    let text = told_text(alloc, work, names, history)?;
+    let text = shown_text(alloc, work, names, history)?;
     Ok(Answer {
         status: Status::Done,
         text,
@@ -105,10 +110,10 @@ fn tell_in_words(
 }
 
 /// What is answered to a history, before which this is known.
-#[tactic(auto, unfolding(crate::specs::Answers::told))]
+#[tactic(auto, unfolding(crate::specs::Answers::shown))]
 fn tell(alloc: Global, work: &Work, names: Names, history: &History) -> Result<Answer, NoMemory>
     ensures answer { IfOk result (λ a.
-        record { status = a.status; text = a.text } ≡ told work.now names history.now.entries) }
+        record { status = a.status; text = a.text } ≡ shown work.now names history.now.entries) }
     ensures status { IfOk result (λ a. IsAnswerStatus a.status) }
 {
     match work {

@@ -10,37 +10,37 @@ use Rattle.pr_mem.specs.declared.faults.MemFault.{MemFault}
 use Rattle.pr_num.specs.Limits.{path_limit}
 use Rattle.pr_model.specs.MemoryCalls.{path_at}
 use Rattle.pr_parts.specs.AddressSpaces.{text_at, text_behind, text_with}
-use Rattle.pr_call.specs.Paths.{path_told}
+use Rattle.pr_call.specs.Paths.{path_read}
 
 -- Paths, by the text that was read.
 
-path-by : (space : Space) (at : ℕ) (r : Result (Option (List ℕ)) BadByte) → text_at space at path_limit ≡ r → path_at space at ≡ path_told r
+path-by : (space : Space) (at : ℕ) (r : Result (Option (List ℕ)) BadByte) → text_at space at path_limit ≡ r → path_at space at ≡ path_read r
 unfolding path_at
 path-by space at (Err bad) e = rw e refl
 path-by space at (Ok None) e = rw e refl
 path-by space at (Ok (Some [])) e = rw e refl
 path-by space at (Ok (Some (b ∷ bytes))) e = rw e refl
 
-path-of : (space : Space) (at : ℕ) → path_told (text_at space at path_limit) ≡ path_at space at
+path-of : (space : Space) (at : ℕ) → path_read (text_at space at path_limit) ≡ path_at space at
 path-of space at = sym (path-by space at (text_at space at path_limit) refl)
 
-told-err : (r : Result (Option (List ℕ)) BadByte) (fault : MemFault) → Err fault ≡ text_answer r → Err Fault ≡ path_told r
+told-err : (r : Result (Option (List ℕ)) BadByte) (fault : MemFault) → Err fault ≡ text_answer r → Err Fault ≡ path_read r
 told-err (Err bad) fault e = refl
 told-err (Ok None) fault e = absurd (cc)
 told-err (Ok (Some text)) fault e = absurd (cc)
 
-told-none : (r : Result (Option (List ℕ)) BadByte) → Ok None ≡ text_answer r → Err Inval ≡ path_told r
+told-none : (r : Result (Option (List ℕ)) BadByte) → Ok None ≡ text_answer r → Err Inval ≡ path_read r
 told-none (Err bad) e = absurd (cc)
 told-none (Ok None) e = refl
 told-none (Ok (Some text)) e = absurd (cc)
 
-told-empty : (r : Result (Option (List ℕ)) BadByte) → Ok (Some 0) ≡ text_answer r → Err Inval ≡ path_told r
+told-empty : (r : Result (Option (List ℕ)) BadByte) → Ok (Some 0) ≡ text_answer r → Err Inval ≡ path_read r
 told-empty (Err bad) e = absurd (cc)
 told-empty (Ok None) e = absurd (cc)
 told-empty (Ok (Some [])) e = refl
 told-empty (Ok (Some (b ∷ bytes))) e = absurd (let wrong : 0 ≡ length (b ∷ bytes) = cc in omega arith)
 
-told-some : (r : Result (Option (List ℕ)) BadByte) (n : ℕ) (old new : List ℕ) → Ok (Some n) ≡ text_answer r → n ≢ 0 → new ≡ with_text r old → Ok (take n new) ≡ path_told r
+told-some : (r : Result (Option (List ℕ)) BadByte) (n : ℕ) (old new : List ℕ) → Ok (Some n) ≡ text_answer r → n ≢ 0 → new ≡ with_text r old → Ok (take n new) ≡ path_read r
 told-some (Err bad) n old new e some is = absurd (cc)
 told-some (Ok None) n old new e some is = absurd (cc)
 told-some (Ok (Some [])) n old new e some is = absurd (some (cc))
@@ -105,7 +105,7 @@ record HasSize (name : List ℕ) (n : ℕ) : Type 0 where
   pub some : 1 ≤ length name
   pub few : length name < n
 
-told-sized : (r : Result (Option (List ℕ)) BadByte) (n : ℕ) (name : List ℕ) → ((text : List ℕ) → r ≡ Ok (Some text) → length text < n) → Ok name ≡ path_told r → HasSize name n
+told-sized : (r : Result (Option (List ℕ)) BadByte) (n : ℕ) (name : List ℕ) → ((text : List ℕ) → r ≡ Ok (Some text) → length text < n) → Ok name ≡ path_read r → HasSize name n
 told-sized (Err bad) n name short e = absurd (cc)
 told-sized (Ok None) n name short e = absurd (cc)
 told-sized (Ok (Some [])) n name short e = absurd (cc)

@@ -9,9 +9,9 @@ abbrev pub path_meant : Result ℕ Errno → List ℕ → Result (List ℕ) Errn
 path_meant (Ok len) out = Ok (take len out)
 path_meant (Err e) out = Err e
 
--- what is told of a text as a path
-abbrev pub path_told : Result (Option (List ℕ)) BadByte → Result (List ℕ) Errno
-path_told (Err bad) = Err Fault
-path_told (Ok None) = Err Inval
-path_told (Ok (Some [])) = Err Inval
-path_told (Ok (Some (b ∷ bytes))) = Ok (b ∷ bytes)
+-- what was read of a text, as a path
+abbrev pub path_read : Result (Option (List ℕ)) BadByte → Result (List ℕ) Errno
+path_read (Err bad) = Err Fault
+path_read (Ok None) = Err Inval
+path_read (Ok (Some [])) = Err Inval
+path_read (Ok (Some (b ∷ bytes))) = Ok (b ∷ bytes)

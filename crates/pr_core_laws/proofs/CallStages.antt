@@ -31,7 +31,7 @@ use Rattle.pr_core_laws.proofs.GcoreStages.{open_at}
 use Rattle.pr_core_laws.proofs.KeptParts.{accepted-kept, moves_files}
 use Rattle.pr_core_laws.proofs.RefusalStages.{call-row, control-file}
 use Rattle.pr_core_laws.proofs.RunAgainStages.{Control, keeps-memory}
-use Rattle.pr_core_laws.specs.GcoreCalls.{IsGcoreCall, MakesItsCalls, runs}
+use Rattle.pr_core_laws.specs.GcoreCalls.{IsGcoreCall, MakesGcoreCalls, runs}
 
 -- gcore makes the calls of its table, refused or not.
 
@@ -41,8 +41,8 @@ module _ (k pid : ℕ) where
   abbrev MayMake : TracedState → Entry → Type 0
   MayMake s e = (c : Call) (r : Reply) → e ≡ call_entry k c r → IsGcoreCall k pid s c ⊎ IsClose c
 
-  pub makes-more : (s : TracedState) (h : List Entry) (e : Entry) → MakesItsCalls k pid s h
-      → MayMake (state_after s h) e → MakesItsCalls k pid s (h ++ e ∷ [])
+  pub makes-more : (s : TracedState) (h : List Entry) (e : Entry) → MakesGcoreCalls k pid s h
+      → MayMake (state_after s h) e → MakesGcoreCalls k pid s (h ++ e ∷ [])
   makes-more s [] e it may = (may, tt)
   makes-more s (d ∷ h) e it may = (it.0, makes-more (after s d) h e it.1 may)
 

@@ -60,7 +60,7 @@ use Rattle.pr_core_laws.proofs.ReadLemmas.{status-gone, status-there}
 use Rattle.pr_core_laws.proofs.RefusalStages.{CauseOf, HasCause, IsCause, Why, by_refusal, by_status, called-why, why-still}
 use Rattle.pr_core_laws.proofs.RequestStages.{AtNow, AtStage, fed-at, over-refused}
 use Rattle.pr_core_laws.proofs.RunAgainStages.{Control, Leads, called-leads, control-run, leads-still}
-use Rattle.pr_core_laws.specs.GcoreCalls.{MakesItsCalls}
+use Rattle.pr_core_laws.specs.GcoreCalls.{MakesGcoreCalls}
 use Rattle.pr_core_laws.specs.Refused.{HasReason, IsReason, TellsWhy, lent, refused as by_call}
 
 -- How gcore ends: it has run its process again, or has taken back its request, and tells why it was refused.
@@ -85,7 +85,7 @@ module _ (n k pid : ℕ) (first : TracedState) where
     asked : AtNow (asks_in h) g
     leads : g.refusal ≡ None → Leads n k pid first h (state_after first h) g g.stage
     why : Why n k pid first h g
-    makes : MakesItsCalls k pid first h
+    makes : MakesGcoreCalls k pid first h
     out : Out n k pid first (state_after first h) g
 
   So : List Entry → ControllerState → Type 0
@@ -303,6 +303,6 @@ gcore-tells-why controllers n k pid s h g e lawful ranged bytes starts legal fol
 pub gcore-makes-calls : (controllers : List ControllerState) (n k pid : ℕ) (s : TracedState) (h : List Entry)
     (g : GcoreState) → IsLawful s → slice_get controllers k ≡ Some (Gcore (first_gcore pid)) → IsLegal n s h
     → AreOwnCalls controllers h → slice_get (controllers_at controllers h) k ≡ Some (Gcore g)
-    → MakesItsCalls k pid s h
+    → MakesGcoreCalls k pid s h
 gcore-makes-calls controllers n k pid s h g lawful starts legal follows ends =
     (on-its-way n k pid s controllers h g lawful starts legal follows ends).makes

@@ -43,8 +43,8 @@ pub data IsGcoreCall (k pid : ℕ) (s : TracedState) : Call → Type 0 where
       → IsGcoreCall k pid s (call.Read handle from len)
 
 -- each call of a controller in a history is one of these, in the state that it finds, or a close
-abbrev pub MakesItsCalls : ℕ → ℕ → TracedState → List Entry → Type 0
-MakesItsCalls k pid s [] = Unit {0}
-MakesItsCalls k pid s (e ∷ es) =
+abbrev pub MakesGcoreCalls : ℕ → ℕ → TracedState → List Entry → Type 0
+MakesGcoreCalls k pid s [] = Unit {0}
+MakesGcoreCalls k pid s (e ∷ es) =
     ((c : Call) (r : Reply) → e ≡ call_entry k c r → IsGcoreCall k pid s c ⊎ IsClose c)
-    × MakesItsCalls k pid (after s e) es
+    × MakesGcoreCalls k pid (after s e) es

@@ -1,7 +1,7 @@
 ghost use Rattle.std.specs.Prelude.{◌≡◌, ℕ, IsSome, List, None, Some, false, slice_get, true};
 ghost use Rattle.pr_core.specs.CoreText.{printed};
 ghost use Rattle.pr_core.specs.Gcores.{GcoreState, first_gcore, has_ended};
-ghost use Rattle.pr_core_laws.specs.GcoreCalls.{MakesItsCalls};
+ghost use Rattle.pr_core_laws.specs.GcoreCalls.{MakesGcoreCalls};
 ghost use Rattle.pr_core_laws.specs.Refused.{TellsWhy};
 ghost use Rattle.pr_model.specs.Lawful.{IsLawful};
 ghost use Rattle.pr_model.specs.Legal.{IsLegal};
@@ -60,5 +60,5 @@ pub fn gcore_makes_its_own_calls()
     ensures { (controllers : List ControllerState) (n k pid : ℕ) (s : TracedState) (h : List Entry) (g : GcoreState)
         → IsLawful s → slice_get controllers k ≡ Some (cores.Gcore (first_gcore pid)) → IsLegal n s h
         → AreOwnCalls controllers h → slice_get (controllers_at controllers h) k ≡ Some (cores.Gcore g)
-        → MakesItsCalls k pid s h }
+        → MakesGcoreCalls k pid s h }
 {}

@@ -28,7 +28,7 @@ use Rattle.pr_world.specs.ControllerStates.{ControllerState}
 use Rattle.pr_world.specs.Controllers.{is_clock_awaited}
 use Rattle.pr_world.specs.Moves.{Does, IsMachines, Leads, entry_of}
 use Rattle.pr_world.specs.Protocol.{controllers_after}
-use Rattle.pr_world.specs.Runs.{IsTold, after_moves, after_next}
+use Rattle.pr_world.specs.Runs.{TellsMachine, after_moves, after_next}
 use Rattle.pr_world.specs.Worlds.{Pick, WorldState, can_act, first_lwp, first_scheduled, in_rounds, next_in_round}
 use Rattle.pr_world.specs.Worlds.{next_in_rounds, next_pick, with_pick}
 use Rattle.pr_drive.specs.Alone.{IsPartOfRun, OnlyLetOthers, lets_others}
@@ -36,7 +36,7 @@ use Rattle.pr_drive.specs.Exchanges.{Answers, GoesFor, GoesUntil, MadeAll, MadeF
 use Rattle.pr_tool_laws.specs.OwnCalls.{IsOwnCall}
 use Rattle.pr_drive.specs.Going.{IsMove, Moved, MovesIf, SeatsState, Stayed, after_entry, can_move}
 use Rattle.pr_drive.specs.Going.{has_place, outside_of, world_of}
-use Rattle.pr_drive.specs.Rounds.{AreSteps, AreStepsOn, FinishesRound, FollowsSchedule, IsAtRest, IsStepOn}
+use Rattle.pr_drive.specs.Rounds.{AreSteps, AreStepsOn, FinishesRound, GoesBySchedule, IsAtRest, IsStepOn}
 use Rattle.pr_drive.specs.Rounds.{Rests, RoundsState, after_step, after_steps, first_controllers, first_place, last_at}
 use Rattle.pr_drive.specs.Rounds.{next_from, next_left, next_on, place_behind}
 use Rattle.pr_drive.specs.declared.places.Place.TheVariants as place
@@ -136,7 +136,7 @@ same-act n w v t Clock (Tick m) (Called c r) count legal own other does = absurd
 same-act n w v t Clock (Tick m) (Turn did) count legal own other does = absurd other
 same-act n w v t _ _ act' count legal own other does = absurd legal
 
-world-told : (s : SeatsState) (schedule : List Actor) (last : Option Actor) → IsTold (world s schedule last)
+world-told : (s : SeatsState) (schedule : List Actor) (last : Option Actor) → TellsMachine (world s schedule last)
 unfolding kernel_of
 world-told s schedule last = record { machine = s.kernel.state; is = refl }
 
@@ -490,7 +490,7 @@ follows-if : (s : Scenario) (moved : Bool) (a : Actor) (rest : List Actor) (b m 
 follows-if s true a rest b m far h = follows-moved s a rest b m far h
 follows-if s false a rest b m far h = follows-stayed s a rest b m far h
 
-follows-all : (s : Scenario) (actors : List Actor) (b c : SeatsState) → Followed s b actors → FollowsSchedule actors b c
+follows-all : (s : Scenario) (actors : List Actor) (b c : SeatsState) → Followed s b actors → GoesBySchedule actors b c
     → Followed s c []
 follows-all s [] b c far same = subst (λ (x : SeatsState). Followed s x []) (sym same) far
 follows-all s (a ∷ actors) b c far h =

@@ -27,7 +27,7 @@ use Rattle.pr_world.proofs.ProtocolLemmas.{controllers_at-count}
 use Rattle.pr_world.specs.ControllerStates.{ControllerState}
 use Rattle.pr_world.specs.Protocol.{controllers_after, controllers_at}
 use Rattle.pr_drive.specs.Exchanges.{Answers, AnswersCall, GaveUp, GoesFor, GoesUntil}
-use Rattle.pr_drive.specs.Exchanges.{Made, MadeMessages, MakesNone, MovesNot, MovesOne}
+use Rattle.pr_drive.specs.Exchanges.{CallsNone, Made, MadeMessages, MovesNot, MovesOne}
 use Rattle.pr_drive.specs.Going.{Called as OutsideCalled, SeatsState, after_entries, after_entry}
 use Rattle.pr_drive.specs.Going.{outside_of}
 use Rattle.pr_drive.specs.Rounds.{AreStepsOn, RoundsState, after_steps, first_controllers}
@@ -224,7 +224,7 @@ messages-keep (text ∷ texts) script after a b lines made =
     let more = fed-has script made.0 one.next.made.made.called.answer.reply lines one.next.got in
     keeps-then a.seats m.seats b.seats first (messages-keep texts made.0 after m b more made.2.1)
 
-none-keep : (script : ScriptState) (a b : RoundsState) (text : List ℕ) → MakesNone script a b text
+none-keep : (script : ScriptState) (a b : RoundsState) (text : List ℕ) → CallsNone script a b text
     → Keeps a.seats b.seats
 none-keep script a b text (inl ended) = keeps-same a.seats b.seats (ap (λ (r : RoundsState). r.seats) ended.same)
 none-keep script a b text (inr back) = waits-keep back.call a b back.taken_back.gave_up

@@ -16,7 +16,7 @@ use Rattle.pr_world.proofs.MoveLemmas.{last-reply}
 use Rattle.pr_world.specs.Controllers.{wait_end_of}
 use Rattle.pr_drive.specs.Exchanges.{AnswersCall, AnswersMessages, AnswersNext, GoesFor, GoesUntil, GaveUp}
 use Rattle.pr_drive.specs.Exchanges.{HasNoneReady, IsNever, Made}
-use Rattle.pr_drive.specs.Exchanges.{MadeMessage, MadeMessages, MadeNext, MakesIf, MakesNone, MovesNot, MovesOne}
+use Rattle.pr_drive.specs.Exchanges.{CallsIf, CallsNone, MadeMessage, MadeMessages, MadeNext, MovesNot, MovesOne}
 use Rattle.pr_drive.specs.Exchanges.{MovesOthers, NoneReadyBefore, RunsOthers, Waited, WaitsFor}
 use Rattle.pr_drive.specs.Exchanges.{WaitsIf, Writes, all_of, came_text, is_answered_now, is_open, polls_of, wait_of}
 use Rattle.pr_drive.specs.Going.{Called, Moved, MovesIf, NobodyMoves, NoneCanMove, SeatsState, Stayed, has_place}
@@ -139,11 +139,11 @@ makes-one c a b d waited called place = record
 made-goes : (c : Call) (a b : RoundsState) (made : Made c a b) → Goes (wait_end_of c) a.seats made.ready.seats
 made-goes c a b made = waits-goes made.rounds c a made.ready made.waits
 
-pub made-true : (made : Bool) (c : Call) (a b : RoundsState) → made ≡ true → MakesIf made c a b → Made c a b
-made-true made c a b is h = subst (λ (m : Bool). MakesIf m c a b) is h
+pub made-true : (made : Bool) (c : Call) (a b : RoundsState) → made ≡ true → CallsIf made c a b → Made c a b
+made-true made c a b is h = subst (λ (m : Bool). CallsIf m c a b) is h
 
-pub made-false : (made : Bool) (c : Call) (a b : RoundsState) → made ≡ false → MakesIf made c a b → GaveUp c a b
-made-false made c a b is h = subst (λ (m : Bool). MakesIf m c a b) is h
+pub made-false : (made : Bool) (c : Call) (a b : RoundsState) → made ≡ false → CallsIf made c a b → GaveUp c a b
+made-false made c a b is h = subst (λ (m : Bool). CallsIf m c a b) is h
 
 pub made-written : (c : Call) (a b : RoundsState) (before after : List ℕ) → Made c a b
     → ForSome (last_reply_of b.seats.kernel.history) (λ reply. after ≡ before ++ reply_line reply)
@@ -256,7 +256,7 @@ pub messages-end : (made : Bool) (script now after : ScriptState) (a b d : Round
     → made ≡ false → MadeSoFar script now a b before middle → Writes middle behind (AnswersNext made now after b d)
     → Writes before behind (AnswersMessages script a d)
 messages-end made script now after a b d before middle behind is far h =
-    let last : MakesNone now b d h.text = subst (λ (m : Bool). AnswersNext m now after b d h.text) is h.is in
+    let last : CallsNone now b d h.text = subst (λ (m : Bool). AnswersNext m now after b d h.text) is h.is in
     record {
       text = all_of far.texts ++ h.text;
       written = h.written ∙ ap (λ (r : List ℕ). r ++ h.text) far.written

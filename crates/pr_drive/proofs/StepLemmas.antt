@@ -11,7 +11,7 @@ use Rattle.pr_scen.specs.Scenarios.{Scenario}
 use Rattle.pr_world.specs.Controllers.{wait_end_of}
 use Rattle.pr_drive.specs.Exchanges.{GoesFor, GoesUntil, MadeAll, MadeFewer, StopsAtRest, StopsReady, WaitsFor}
 use Rattle.pr_drive.specs.Going.{MovesIf, SeatsState, after_entries}
-use Rattle.pr_drive.specs.Rounds.{AreSteps, AreStepsOn, FinishesRound, FollowsSchedule, GoesRound, IsStep}
+use Rattle.pr_drive.specs.Rounds.{AreSteps, AreStepsOn, FinishesRound, GoesBySchedule, GoesRound, IsStep}
 use Rattle.pr_drive.specs.Rounds.{IsStepOn, MovesOn, Rests, RoundsState, Steps, after_step, after_steps}
 use Rattle.pr_drive.specs.Rounds.{first_controllers}
 use Rattle.pr_drive.specs.Served.{Begins}
@@ -81,7 +81,7 @@ waits-goes (suc n) c a b waits =
     goes-then (wait_end_of c) a.seats waits.0.seats b.seats (waits-goes n c a waits.0 waits.1.0)
     (round-goes (wait_end_of c) waits.0 b waits.1.1.1)
 
-pub follows-goes : (actors : List Actor) (a b : SeatsState) → FollowsSchedule actors a b → Goes 0 a b
+pub follows-goes : (actors : List Actor) (a b : SeatsState) → GoesBySchedule actors a b → Goes 0 a b
 follows-goes [] a b same = stayed-goes 0 a b same
 follows-goes (actor ∷ actors) a b h =
     goes-then 0 a h.1 b (if-goes 0 actor h.0 a h.1 h.2.0) (follows-goes actors h.1 b h.2.1)
@@ -221,8 +221,8 @@ drop-past (suc i) (x ∷ xs) past = drop-past i xs (omega (arith, past))
 
 -- What the actors from a place on do comes behind what those before it did.
 abbrev pub LeadsOn : List Actor → ℕ → SeatsState → SeatsState → Type 0
-LeadsOn actors i first now = (last : SeatsState) → FollowsSchedule (drop i actors) now last
-    → FollowsSchedule actors first last
+LeadsOn actors i first now = (last : SeatsState) → GoesBySchedule (drop i actors) now last
+    → GoesBySchedule actors first last
 
 pub follow-more : (actors : List Actor) (i : ℕ) (x : Actor) (moved : Bool) (first a b : SeatsState) → i < length actors
     → x ≡ slice_index_or actors i x
@@ -230,18 +230,18 @@ pub follow-more : (actors : List Actor) (i : ℕ) (x : Actor) (moved : Bool) (fi
 follow-more actors i x moved first a b within at far one = λ last rest.
     let here : slice_get actors i ≡ Some x = slice_get-get_or actors i x within ∙ ap Some (sym at) in
     far last
-    (subst (λ (xs : List Actor). FollowsSchedule xs a last) (sym (drop-at actors i x here))
+    (subst (λ (xs : List Actor). GoesBySchedule xs a last) (sym (drop-at actors i x here))
     (moved, b, (one, rest)))
 
 pub follow-end : (actors : List Actor) (i : ℕ) (first now : SeatsState) → length actors ≤ i → LeadsOn actors i first now
-    → FollowsSchedule actors first now
+    → GoesBySchedule actors first now
 follow-end actors i first now past far = far now
-    (subst (λ (xs : List Actor). FollowsSchedule xs now now) (sym (drop-past i actors past)) refl)
+    (subst (λ (xs : List Actor). GoesBySchedule xs now now) (sym (drop-past i actors past)) refl)
 
 -- how a session begins
 pub begins-so : (s : Scenario) (seats : SeatsState) (schedule : List Actor) (a b c d : RoundsState)
     → seats ≡ first_seats s → schedule ≡ s.schedule → a ≡ record { seats = seats; place = first_controllers }
-    → FollowsSchedule schedule a.seats b.seats → b.place ≡ a.place → FinishesRound 0 b c → d ≡ c → Begins s d
+    → GoesBySchedule schedule a.seats b.seats → b.place ≡ a.place → FinishesRound 0 b c → d ≡ c → Begins s d
 begins-so s seats schedule a b c d first all starts follows place round end =
     let at : a.seats ≡ first_seats s = ap (λ (r : RoundsState). r.seats) starts ∙ first in
     let from : b ≡ record { seats = b.seats; place = first_controllers } =
@@ -249,8 +249,8 @@ begins-so s seats schedule a b c d first all starts follows place round end =
     (place ∙ ap (λ (r : RoundsState). r.place) starts) in
     record {
       followed = b.seats;
-      schedule = subst (λ (x : SeatsState). FollowsSchedule s.schedule x b.seats) at
-          (subst (λ (xs : List Actor). FollowsSchedule xs a.seats b.seats) all follows);
+      schedule = subst (λ (x : SeatsState). GoesBySchedule s.schedule x b.seats) at
+          (subst (λ (xs : List Actor). GoesBySchedule xs a.seats b.seats) all follows);
       round = subst (λ (r : RoundsState). FinishesRound 0 r d) from
           (subst (λ (r : RoundsState). FinishesRound 0 b r) (sym end) round);
     }

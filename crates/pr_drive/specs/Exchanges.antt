@@ -52,9 +52,9 @@ pub record GaveUp (c : Call) (old new : RoundsState) : Type 0 where
   pub rests : IsAtRest (wait_end_of c) last new
   pub never : IsNever c new.seats
 
-abbrev pub MakesIf : Bool → Call → RoundsState → RoundsState → Type 0
-MakesIf true c old new = Made c old new
-MakesIf false c old new = GaveUp c old new
+abbrev pub CallsIf : Bool → Call → RoundsState → RoundsState → Type 0
+CallsIf true c old new = Made c old new
+CallsIf false c old new = GaveUp c old new
 
 -- A call is ready, and there is a place for its entry.
 pub record IsReady (c : Call) (s : SeatsState) : Type 0 where
@@ -124,12 +124,12 @@ pub record IsTakenBack (script : ScriptState) (old new : RoundsState) (text : Li
   pub taken_back : TookBack call old new text
 
 -- no call was made: there is none, or it is never answered
-abbrev pub MakesNone : ScriptState → RoundsState → RoundsState → List ℕ → Type 0
-MakesNone script old new text = HasEnded script old new text ⊎ IsTakenBack script old new text
+abbrev pub CallsNone : ScriptState → RoundsState → RoundsState → List ℕ → Type 0
+CallsNone script old new text = HasEnded script old new text ⊎ IsTakenBack script old new text
 
 abbrev pub AnswersNext : Bool → ScriptState → ScriptState → RoundsState → RoundsState → List ℕ → Type 0
 AnswersNext true script after old new text = MadeNext script after old new text
-AnswersNext false script after old new text = MakesNone script old new text
+AnswersNext false script after old new text = CallsNone script old new text
 
 -- the texts of all
 abbrev pub all_of : List (List ℕ) → List ℕ
@@ -142,7 +142,7 @@ pub record AnswersMessages (script : ScriptState) (old new : RoundsState) (text 
   pub reached : RoundsState
   pub made : MadeMessages script after old reached replies
   pub last : List ℕ
-  pub end : MakesNone after reached new last
+  pub end : CallsNone after reached new last
   pub whole : text ≡ all_of replies ++ last
 
 -- ---- moves of others

@@ -105,10 +105,10 @@ pub record GoesRound (until : ℕ) (old new : RoundsState) : Type 0 where
   pub some : 0 < length goes.entries
 
 -- The actors of a schedule moved in their order, each if it could; no round goes on by that.
-abbrev pub FollowsSchedule : List Actor → SeatsState → SeatsState → Type 0
-FollowsSchedule [] old new = new ≡ old
-FollowsSchedule (actor ∷ actors) old new =
-    (moved : Bool) × (m : SeatsState) × (MovesIf moved 0 actor old m × FollowsSchedule actors m new)
+abbrev pub GoesBySchedule : List Actor → SeatsState → SeatsState → Type 0
+GoesBySchedule [] old new = new ≡ old
+GoesBySchedule (actor ∷ actors) old new =
+    (moved : Bool) × (m : SeatsState) × (MovesIf moved 0 actor old m × GoesBySchedule actors m new)
 
 -- ---- past the outside's turn
 

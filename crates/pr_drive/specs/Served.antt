@@ -20,7 +20,7 @@ use Rattle.pr_drive.specs.Beside.{IsKeptBeside}
 use Rattle.pr_drive.specs.Going.{SeatsState}
 use Rattle.pr_drive.specs.Inputs.{Asked, AskedInVain, FoundEnd, Input, Took, from_start}
 use Rattle.pr_drive.specs.Reports.{reports_from}
-use Rattle.pr_drive.specs.Rounds.{FinishesRound, FollowsSchedule, RoundsState, first_controllers}
+use Rattle.pr_drive.specs.Rounds.{FinishesRound, GoesBySchedule, RoundsState, first_controllers}
 use Rattle.pr_drive.specs.Sessions.{AnsweredAll, AnsweredSome, AnsweredUnread, IsHistoryFrom, Stand}
 use Rattle.pr_drive.specs.Starts.{first_seats}
 use Rattle.pr_drive.specs.Statuses.{EndsAs, number}
@@ -104,7 +104,7 @@ IsAbove (above.Wrong kind) text old new = WrongAbove kind old new
 -- and went by up to that turn.
 pub record Begins (s : Scenario) (first : RoundsState) : Type 0 where
   pub followed : SeatsState
-  pub schedule : FollowsSchedule s.schedule (first_seats s) followed
+  pub schedule : GoesBySchedule s.schedule (first_seats s) followed
   pub round : FinishesRound 0 (record { seats = followed; place = first_controllers }) first
 
 -- The scenario of a text, which has so many lines, was read, and the others have had their turn. So many lines stand
@@ -225,9 +225,9 @@ pub record AnsweredLines (old : Ends) (left replies : Option (List ℕ)) (s : Sc
   pub kept : IsKeptBeside s last.kernel.history
   pub alone : OnlyLetOthers answered.exchanges → IsPartOfRun s last.kernel.history
 
--- A session was told whole: the replies to its lines, and behind them its history, what the controllers print, and the
+-- A session was written: the replies to its lines, and behind them its history, what the controllers print, and the
 -- status, which says how it ended.
-pub record WasTold (quiet : Bool) (old new : Ends) (status : Status) : Type 0 where
+pub record WroteSession (quiet : Bool) (old new : Ends) (status : Status) : Type 0 where
   pub scenario : Scenario
   pub last : SeatsState
   pub replies : Option (List ℕ)
@@ -235,7 +235,7 @@ pub record WasTold (quiet : Bool) (old new : Ends) (status : Status) : Type 0 wh
   pub told : TellsEnd quiet last status replies new.written
 
 abbrev pub WasDriven : Bool → Ends → Ends → Status → Type 0
-WasDriven quiet old new status = WasRefused old new status ⊎ WasTold quiet old new status
+WasDriven quiet old new status = WasRefused old new status ⊎ WroteSession quiet old new status
 
 -- ---- a session that is cut off
 

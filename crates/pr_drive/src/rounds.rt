@@ -3,7 +3,7 @@
 //! clock, controllers; and then it is the outside's turn.
 ghost use Rattle.std.specs.Prelude.{◌≡◌, ◌<◌, true, false, length, IfOk, OnOk};
 ghost use Rattle.pr_drive.specs.Going.{NoneCanMove, SomeCanMove};
-ghost use Rattle.pr_drive.specs.Rounds.{FinishesRound, FollowsSchedule, GoesOnIf, GoesRound, IsAtRest, Rests, StepsIf};
+ghost use Rattle.pr_drive.specs.Rounds.{FinishesRound, GoesBySchedule, GoesOnIf, GoesRound, IsAtRest, Rests, StepsIf};
 ghost use Rattle.pr_drive.specs.Rounds.{first_controllers};
 
 use crate::places::{Place, place_behind};
@@ -40,7 +40,7 @@ impl Rounds {
 
     /// The actors of a schedule move, each if it can.
     pub fn follow(&mut self, schedule: &[Actor]) -> Result<(), NoMemory>
-        ensures follows { OnOk result (FollowsSchedule schedule.now self.old.seats self.new.seats) }
+        ensures follows { OnOk result (GoesBySchedule schedule.now self.old.seats self.new.seats) }
         ensures place { self.new.place ≡ self.old.place }
     {
         for actor in schedule {

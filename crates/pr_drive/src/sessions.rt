@@ -4,7 +4,7 @@ ghost use Rattle.std.specs.Option.{ForSome};
 ghost use Rattle.pr_api.specs.Entries.{last_reply_of};
 ghost use Rattle.pr_asks.specs.Replies.{count_line, reply_line};
 ghost use Rattle.pr_drive.specs.Exchanges.{Answers, AnswersCall, AnswersMessages, AnswersNext, GoesFor, GoesUntil};
-ghost use Rattle.pr_drive.specs.Exchanges.{MakesIf, MovesNot, MovesOne, MovesOthers, RunsOthers, WaitsIf, Writes};
+ghost use Rattle.pr_drive.specs.Exchanges.{CallsIf, MovesNot, MovesOne, MovesOthers, RunsOthers, WaitsIf, Writes};
 ghost use Rattle.pr_drive.specs.Exchanges.{wait_of};
 ghost use Rattle.pr_drive.specs.Going.{SomeCanMove};
 ghost use Rattle.pr_drive.specs.Rounds.{FinishesRound};
@@ -66,7 +66,7 @@ impl Session {
 
     /// Makes a call, after a wait where it is not ready. Says whether it was made.
     fn make_call(&mut self, call: Call) -> Result<bool, NoMemory>
-        ensures { IfOk result (λ made. MakesIf made call self.old self.new) }
+        ensures { IfOk result (λ made. CallsIf made call self.old self.new) }
     {
         let ready = self.wait_for(&call)?;
         if !ready {

@@ -1,4 +1,5 @@
-use Rattle.std.proofs.Common.{◌≡◌, ◌≢◌, ◌⊎◌, ◌<◌, ◌++◌, ℕ, Bool, true, false, cond, Option, Some, None, List, [], ◌∷◌, length, refl, sym, subst, ap, ◌∙◌, inl, inr}
+use Rattle.std.proofs.Common.{◌≡◌, ◌≢◌, ◌⊎◌, ◌<◌, ◌++◌, ℕ, Bool, true, false, cond, Option, Some, None, List, [], ◌∷◌}
+use Rattle.std.proofs.Common.{length, refl, sym, subst, ap, ◌∙◌, inl, inr}
 use Rattle.std.proofs.lemmas.Bool.{eqb-true, false≢true}
 use Rattle.std.proofs.lemmas.Option.{none-some, same_Some}
 use Rattle.pr_api.specs.Entries.{call_entry}
@@ -6,11 +7,12 @@ use Rattle.pr_function_hides.proofs.CallFacts.{close-bare, close-done}
 use Rattle.pr_function_hides.proofs.CalledCovers.{IsAsPatched}
 use Rattle.pr_function_hides.proofs.CleanCovers.{IsClean, called-clean}
 use Rattle.pr_function_hides.proofs.ClosingCalls.{IsLastMode, last-mode}
-use Rattle.pr_function_hides.proofs.ClosingLaw as Closing
 use Rattle.pr_function_hides.proofs.ClosingStages.{stage-stays}
 use Rattle.pr_function_hides.proofs.ClosingWalk.{ClosesSo, Lifts, LooksSo, StageSo, is_opening}
 use Rattle.pr_function_hides.proofs.FilesCalls.{Files}
-use Rattle.pr_function_hides.proofs.HaltedOpenings.{Follows, HaltsIn, follows, goes, is_halted, keeps_halting, passes-halts, sent-halts, step-halts, stop-halts, stops}
+use Rattle.pr_function_hides.proofs.GoingCalls.{Going}
+use Rattle.pr_function_hides.proofs.HaltedOpenings.{Follows, HaltsIn, follows, goes, is_halted, keeps_halting}
+use Rattle.pr_function_hides.proofs.HaltedOpenings.{passes-halts, sent-halts, step-halts, stop-halts, stops}
 use Rattle.pr_function_laws.proofs.KnownFiles.{Knows}
 use Rattle.pr_function_hides.proofs.LiftedCovers.{lift-bare}
 use Rattle.pr_function_hides.proofs.OwnCalls.{opening-stays}
@@ -19,8 +21,9 @@ use Rattle.pr_function_hides.proofs.OwnWrites.{code-is, named-at, write-is}
 use Rattle.pr_function_hides.proofs.SentMessages.{Admits, Clears, Sends, aside-sends}
 use Rattle.pr_function_hides.proofs.TidyCalls as Calls
 use Rattle.pr_function_hides.proofs.TidyEntries.{its-lawful, its-legal}
-use Rattle.pr_function_hides.proofs.TidyKept.{IsRunOfTrusses, Kept}
-use Rattle.pr_function_hides.specs.TidyWrites.{AreUnbroken}
+use Rattle.pr_function_hides.proofs.TidyKept.{Kept}
+use Rattle.pr_function_hides.proofs.TidyLaw.{kept-at}
+use Rattle.pr_function_hides.specs.RunsOfTrusses.{IsRunOfTrusses}
 use Rattle.pr_function_laws.proofs.BreakpointLemmas.{IsOwnEntry}
 use Rattle.pr_function_laws.proofs.KeptPlaces.{AtAside, Kept as KeptPlaces}
 use Rattle.pr_function_laws.proofs.MarkLemmas.{first-below}
@@ -128,10 +131,12 @@ admits-keeping = record {
   write = λ at. refl;
 }
 
-module _ {n : ℕ} {who : Hiders} {controllers : List ControllerState} {first : TracedState} {h : List Entry}
-    (run : IsRunOfTrusses (AreUnbroken who h) n who controllers first h)
-    (front back : List Entry) (j : ℕ) (c : Call) (r : Reply) (place : h ≡ front ++ call_entry j c r ∷ back)
-    (kept : Kept who controllers first h front) where
+module _ {n : ℕ} {who : Hiders} {controllers : List ControllerState} {first : TracedState}
+    {h : List Entry} (run : IsRunOfTrusses n who controllers first h)
+    (front back : List Entry) (j : ℕ) (c : Call) (r : Reply) (place : h ≡ front ++ call_entry j c r ∷ back) where
+  abbrev kept : Kept who controllers first h front
+  kept = kept-at run front (call_entry j c r ∷ back) place
+
   abbrev later_front : List Entry
   later_front = front ++ call_entry j c r ∷ []
 
@@ -150,7 +155,7 @@ module _ {n : ℕ} {who : Hiders} {controllers : List ControllerState} {first : 
       subst (λ (cs : Covers). IsClean (cs pid)) (sym called-covers)
       (called-clean who run.are.no_probes before v j pid c r clean)
 
-  module _ (hider : hides who j ≡ true) where
+  module _ (hider : hides who j ≡ true) (on : Going run front back j c r place hider) where
     abbrev t : TrussState
     t = Calls.tr run front back j c r place kept hider
 
@@ -158,7 +163,7 @@ module _ {n : ℕ} {who : Hiders} {controllers : List ControllerState} {first : 
     own = Calls.own run front back j c r place kept hider
 
     abbrev holds : HoldsItsFiles j t v
-    holds = Calls.holds-now run front back j c r place kept hider
+    holds = on.holds
 
     abbrev pid_at : ℕ → ℕ
     pid_at q = (traced_at t q).pid
@@ -276,12 +281,7 @@ module _ {n : ℕ} {who : Hiders} {controllers : List ControllerState} {first : 
     -- ---- before the call of a stage
 
     known : KeptPlaces Knows t
-    known =
-        let w = Calls.truss-now run front back j c r place kept hider in
-        let it =
-        Closing.closed-at run front
-        (call_entry j c r ∷ back) place j hider t w.is in
-        it.known
+    known = let w = on.facts in w.knows
 
     -- something is left to plant or to lift
     keeps-clears : (aside : Aside) → AtAside Knows t.traced aside

@@ -1,4 +1,5 @@
-use Rattle.std.proofs.Common.{◌≡◌, ◌≢◌, ◌⊎◌, ◌<◌, ◌++◌, ℕ, Bool, true, false, Some, List, [], ◌∷◌, length, refl, sym, subst, ap, ◌∙◌, inl, inr}
+use Rattle.std.proofs.Common.{◌≡◌, ◌≢◌, ◌⊎◌, ◌<◌, ◌++◌, ℕ, Bool, true, false, Some, List, [], ◌∷◌, length, refl, sym}
+use Rattle.std.proofs.Common.{subst, ap, ◌∙◌, inl, inr}
 use Rattle.std.proofs.lemmas.Bool.{false≢true}
 use Rattle.std.proofs.lemmas.Option.{none-some, same_Some}
 use Rattle.std.specs.List.{slice_get}
@@ -9,21 +10,20 @@ use Rattle.pr_function_hides.proofs.CleanCovers.{IsClean, bare-not-own, stopped-
 use Rattle.pr_function_hides.proofs.ClosingStages.{stage-stays}
 use Rattle.pr_function_hides.proofs.ClosingWalk.{StageSo}
 use Rattle.pr_function_hides.proofs.HaltedOpenings.{is_halted}
-use Rattle.pr_function_hides.proofs.OwnFiles.{HoldsItsFiles}
+use Rattle.pr_function_hides.proofs.OwnFiles.{GoesOn, HasItsFiles}
 use Rattle.pr_function_hides.proofs.StepLaw.{trace-marked}
-use Rattle.pr_function_hides.proofs.StepWalk.{Calm, Stepped, stepped-at}
+use Rattle.pr_function_hides.proofs.StepWalk.{Calm, steps-at}
 use Rattle.pr_function_hides.proofs.TidyEntries.{at-is, its-lawful, its-legal, lived, now-is, tick-covers, turn-covers}
-use Rattle.pr_function_hides.proofs.TidyKept.{Holder, IsRunOfTrusses, Kept, Truss, holder-moves, holds-calm}
+use Rattle.pr_function_hides.proofs.TidyKept.{Kept, Truss, has-files, stays-on}
 use Rattle.pr_function_hides.proofs.TidyLaw.{kept-at}
 use Rattle.pr_probe_laws.proofs.MarkTurns.{IsOne, unmarked-lwp}
-use Rattle.pr_function_hides.specs.TidyWrites.{AreUnbroken, IsTrussAfter}
-use Rattle.pr_function_laws.proofs.BreakpointLemmas.{foreign-entry}
+use Rattle.pr_function_hides.specs.RunsOfTrusses.{IsRunOfTrusses}
+use Rattle.pr_function_hides.specs.TidyWrites.{IsTrussAfter}
 use Rattle.pr_function_laws.proofs.OpenedLemmas.{control-made, control-sole}
 use Rattle.pr_hidden.specs.Covers.{Covers}
 use Rattle.pr_hidden.specs.Hiders.{Hiders, covers_after, covers_at, hides, is_own}
 use Rattle.pr_hidden.specs.Tidiness.{IsPassiveBut}
 use Rattle.pr_model.proofs.TurnLemmas.{turn-taken}
-use Rattle.pr_model.specs.Handles.{handle_of}
 use Rattle.pr_model.specs.Lawful.{IsLawful}
 use Rattle.pr_model.specs.Legal.{IsLegalEntry, after, state_after}
 use Rattle.pr_model.specs.LwpTurns.{LwpTurn, settled, turn_of}
@@ -40,6 +40,7 @@ use Rattle.pr_probe_laws.specs.StepMarks.{IsUnstepped}
 use Rattle.pr_truss.specs.Trusses.{TrussState, traced_at}
 use Rattle.pr_truss.specs.declared.stages.AfterClosing.TheVariants.{OpenNext}
 use Rattle.pr_truss.specs.declared.stages.OpeningStep.{OpeningStep}
+use Rattle.pr_truss.specs.declared.stages.Stage.{Stage}
 use Rattle.pr_truss.specs.declared.stages.Stage.TheVariants as stage
 use Rattle.pr_truss_laws.proofs.HaltLemmas.{HaltsOn, goes_on, killed, others-halt}
 use Rattle.pr_truss_laws.proofs.OverLemmas.{stays-over}
@@ -52,8 +53,8 @@ use Rattle.pr_world.specs.Protocol.{controllers_after, controllers_at}
 -- lwp runs while a breakpoint stands. So none does in one whose control file nobody who hides has open, in one that
 -- truss is still opening, or in one whose opening was refused. What turns, ticks, and what others do leave of that.
 
-module _ {n : ℕ} {who : Hiders} {controllers : List ControllerState} {first : TracedState} {h : List Entry}
-    (run : IsRunOfTrusses (AreUnbroken who h) n who controllers first h) (passive : IsPassiveBut who h)
+module _ {n : ℕ} {who : Hiders} {controllers : List ControllerState} {first : TracedState}
+    {h : List Entry} (run : IsRunOfTrusses n who controllers first h) (passive : IsPassiveBut who h)
     (unstepped : IsUnstepped first.system) where
   abbrev here : List Entry → TracedState
   here front = state_after first front
@@ -73,9 +74,6 @@ module _ {n : ℕ} {who : Hiders} {controllers : List ControllerState} {first : 
   abbrev CalmAt : List Entry → ℕ → Type 0
   CalmAt front pid = Calm run passive unstepped front pid
 
-  stepped : (front back : List Entry) → h ≡ front ++ back → Stepped run passive unstepped front
-  stepped = stepped-at run passive unstepped
-
   -- no lwp of it incurs FLTTRACE
   abbrev NeverTraps : List Entry → ℕ → Type 0
   NeverTraps front pid = CalmAt front pid ⊎ Over who first front pid
@@ -83,9 +81,10 @@ module _ {n : ℕ} {who : Hiders} {controllers : List ControllerState} {first : 
   abbrev IsStanding : List Entry → ℕ → Type 0
   IsStanding front pid = Bare who first front pid ⊎ Halts who first front pid
 
-  pub record Cleaned (front : List Entry) : Type 0 where
-    pub bare : (pid : ℕ) → Clean who first front pid ⊎ Holder who pid (here front)
-    pub trusses : (k : ℕ) → hides who k ≡ true → (t : TrussState) → After front k t → Closes who first front t
+  -- of each truss that goes on
+  abbrev pub Cleaned : List Entry → Type 0
+  Cleaned front =
+      (k : ℕ) → hides who k ≡ true → (t : TrussState) → After front k t → t.leaving ≡ false → Closes who first front t
 
   -- ---- a turn
 
@@ -179,8 +178,8 @@ module _ {n : ℕ} {who : Hiders} {controllers : List ControllerState} {first : 
       abbrev t : TrussState
       t = let w = truss in w.t
 
-      files : HoldsItsFiles k t s
-      files = holds-calm truss run.besides
+      files : HasItsFiles k t s
+      files = has-files truss
 
       made-at : (q : ℕ) → q < length t.traced → (traced_at t q).pid < s.system.made
       made-at q within =
@@ -192,9 +191,6 @@ module _ {n : ℕ} {who : Hiders} {controllers : List ControllerState} {first : 
       over-later q within over =
           ap (λ (x : TracedState). live_process x.system (traced_at t q).pid) later-is
           ∙ stays-over n s e (traced_at t q).pid lawful-here legal-entry (made-at q within) over
-
-      pub before : Closes who first front t
-      before = let w = truss in cleaned.trusses k hider w.t w.is
 
       -- a process that it opens or leaves halts so still
       halts-later : (q : ℕ) → q < length t.traced → actor ≢ Controller k → Halts who first front (traced_at t q).pid
@@ -218,29 +214,76 @@ module _ {n : ℕ} {who : Hiders} {controllers : List ControllerState} {first : 
           by (killed z none stands status) = absurd (none-some x (sym none ∙ there))
 
       -- who opens or leaves a process has run nothing in it
-      calm-opening : (q : ℕ) (step : OpeningStep) → t.stage ≡ stage.Opening q step
-          → NeverTraps front (traced_at t q).pid
-      calm-opening q step at =
-          let w = truss in
-          let st = stepped front (e ∷ back) place in
-          let it = st.trusses k hider w.t w.is in
-          inl (subst
-          (StageSo (Over who first front) (λ (x : OpeningStep) (pid : ℕ). CalmAt front pid) (CalmAt front) t) at
-          it.stage)
 
-      calm-leaving : (q : ℕ) → t.stage ≡ stage.Closing q OpenNext → NeverTraps front (traced_at t q).pid
-      calm-leaving q at =
-          let w = truss in
-          let st = stepped front (e ∷ back) place in
-          let it = st.trusses k hider w.t w.is in
-          by (subst
-          (StageSo (Over who first front) (λ (x : OpeningStep) (pid : ℕ). CalmAt front pid) (CalmAt front) t) at
-          it.stage)
-        where
-          by : StageSo (Over who first front) (λ (x : OpeningStep) (pid : ℕ). CalmAt front pid) (CalmAt front) t
-              (stage.Closing q OpenNext) → NeverTraps front (traced_at t q).pid
-          by (inl over) = inr over
-          by (inr it) = inl it.0
+      module _ (off : t.leaving ≡ false) where
+        pub before : Closes who first front t
+        before = let w = truss in cleaned k hider w.t w.is off
+
+        abbrev CalmStage : Stage → Type 0
+        CalmStage at =
+            StageSo (Over who first front) (λ (x : OpeningStep) (pid : ℕ). CalmAt front pid) (CalmAt front) t at
+
+        calm-stage : CalmStage t.stage
+        calm-stage =
+            let w = truss in
+            let st = steps-at run passive unstepped front (e ∷ back) place in
+            let it = st.trusses k hider w.t w.is off in
+            let so = it.closing in so.stage
+
+        calm-opening : (q : ℕ) (step : OpeningStep) → t.stage ≡ stage.Opening q step
+            → NeverTraps front (traced_at t q).pid
+        calm-opening q step at = inl (subst CalmStage at calm-stage)
+
+        calm-leaving : (q : ℕ) → t.stage ≡ stage.Closing q OpenNext → NeverTraps front (traced_at t q).pid
+        calm-leaving q at = by (subst CalmStage at calm-stage)
+          where
+            by : CalmStage (stage.Closing q OpenNext) → NeverTraps front (traced_at t q).pid
+            by (inl over) = inr over
+            by (inr it) = inl it.0
+
+        stays-closes : actor ≢ Controller k
+            → ((q : ℕ) → q < length t.traced → NeverTraps front (traced_at t q).pid
+            → IsStanding front (traced_at t q).pid → Clean who first front (traced_at t q).pid
+            → Clean who first next_front (traced_at t q).pid)
+            → ((q : ℕ) → q < length t.traced
+            → IsAsPatched (covers front (traced_at t q).pid) (covers next_front (traced_at t q).pid))
+            → Closes who first next_front t
+        stays-closes other clean stays =
+            let w = truss in
+            let g : GoesOn t = stays-on w off in
+            let was = before in
+            record {
+              stage = stage-stays (Over who first front) (Over who first next_front) (Opens who first front)
+                  (Opens who first next_front) (Leaves who first front) (Leaves who first next_front) t over-later
+                  t.stage g.stage opens leaves was.stage;
+              looks = was.looks;
+            }
+          where
+            bare-later : (q : ℕ) → q < length t.traced → Bare who first front (traced_at t q).pid
+                → Bare who first next_front (traced_at t q).pid
+            bare-later q within bare = let a = stays q within in a.patches ∙ bare
+
+            opens : (q : ℕ) (step : OpeningStep) → q < length t.traced → t.stage ≡ stage.Opening q step
+                → Opens who first front step (traced_at t q).pid
+                → Opens who first next_front step (traced_at t q).pid
+            opens q step within at w = (
+              clean q within (calm-opening q step at)
+                  (either-stands who first front (is_halted step) (traced_at t q).pid w.1) w.0,
+              by (is_halted step) w.1,
+            )
+              where
+                by : (b : Bool) → Stands who first front b (traced_at t q).pid
+                    → Stands who first next_front b (traced_at t q).pid
+                by true halts = halts-later q within other halts
+                by false bare = bare-later q within bare
+
+            leaves : (q : ℕ) → q < length t.traced → t.stage ≡ stage.Closing q OpenNext
+                → Leaves who first front (traced_at t q).pid → Leaves who first next_front (traced_at t q).pid
+            leaves q within at w = (clean q within (calm-leaving q at) w.1 w.0, by w.1)
+              where
+                by : IsStanding front (traced_at t q).pid → IsStanding next_front (traced_at t q).pid
+                by (inl bare) = inl (bare-later q within bare)
+                by (inr halts) = inr (halts-later q within other halts)
 
       pub foreign-closes : actor ≢ Controller k
           → ((q : ℕ) → q < length t.traced → NeverTraps front (traced_at t q).pid → IsStanding front (traced_at t q).pid
@@ -248,43 +291,11 @@ module _ {n : ℕ} {who : Hiders} {controllers : List ControllerState} {first : 
           → ((q : ℕ) → q < length t.traced
           → IsAsPatched (covers front (traced_at t q).pid) (covers next_front (traced_at t q).pid))
           → slice_get (controllers_at controllers next_front) k ≡ slice_get (controllers_at controllers front) k
-          → (later : TrussState) → After next_front k later → Closes who first next_front later
+          → (later : TrussState) → After next_front k later → later.leaving ≡ false → Closes who first next_front later
       foreign-closes other clean stays same later is =
           let w = truss in
-          let f = files in
-          let was = before in
-          subst (Closes who first next_front) (same-truss t later _ w.is (sym same ∙ is))
-          (record {
-            stage = stage-stays (Over who first front) (Over who first next_front) (Opens who first front)
-                (Opens who first next_front) (Leaves who first front) (Leaves who first next_front) t over-later t.stage
-                f.stage opens leaves was.stage;
-            looks = was.looks;
-          })
-        where
-          bare-later : (q : ℕ) → q < length t.traced → Bare who first front (traced_at t q).pid
-              → Bare who first next_front (traced_at t q).pid
-          bare-later q within bare = let a = stays q within in a.patches ∙ bare
-
-          opens : (q : ℕ) (step : OpeningStep) → q < length t.traced → t.stage ≡ stage.Opening q step
-              → Opens who first front step (traced_at t q).pid → Opens who first next_front step (traced_at t q).pid
-          opens q step within at w = (
-            clean q within (calm-opening q step at)
-                (either-stands who first front (is_halted step) (traced_at t q).pid w.1) w.0,
-            by (is_halted step) w.1,
-          )
-            where
-              by : (b : Bool) → Stands who first front b (traced_at t q).pid
-                  → Stands who first next_front b (traced_at t q).pid
-              by true halts = halts-later q within other halts
-              by false bare = bare-later q within bare
-
-          leaves : (q : ℕ) → q < length t.traced → t.stage ≡ stage.Closing q OpenNext
-              → Leaves who first front (traced_at t q).pid → Leaves who first next_front (traced_at t q).pid
-          leaves q within at w = (clean q within (calm-leaving q at) w.1 w.0, by w.1)
-            where
-              by : IsStanding front (traced_at t q).pid → IsStanding next_front (traced_at t q).pid
-              by (inl bare) = inl (bare-later q within bare)
-              by (inr halts) = inr (halts-later q within other halts)
+          subst (λ (u : TrussState). u.leaving ≡ false → Closes who first next_front u)
+          (same-truss t later _ w.is (sym same ∙ is)) (λ off. stays-closes off other clean stays)
 
   -- ---- turns and ticks
 
@@ -292,64 +303,27 @@ module _ {n : ℕ} {who : Hiders} {controllers : List ControllerState} {first : 
       (place : h ≡ front ++ record { actor = Lwp acting id; act = act.Turn turned } ∷ back) → Cleaned front
       → Cleaned (front ++ record { actor = Lwp acting id; act = act.Turn turned } ∷ [])
   unfolding controllers_after
-  turn-cleaned front back acting id turned place cleaned = record {
-    bare = λ pid. by pid (cleaned.bare pid);
-    trusses = λ k hider later is.
-        foreign-closes front (Lwp acting id) (act.Turn turned) back place cleaned k hider (λ same. cc)
-        (λ q within calm stands clean.
-        clean-turned front back acting id turned place _ calm stands clean)
-        (λ q within. turn-covers run front back acting id turned place kept-now _)
-        (ap (λ (cs : List ControllerState). slice_get cs k) (controllers-push controllers front e)) later is;
-  }
-    where
-      e : Entry
-      e = record { actor = Lwp acting id; act = act.Turn turned }
-
-      kept-now : KeptAfter front
-      kept-now = kept front (e ∷ back) place
-
-      moved : (pid : ℕ) → Holder who pid (here front) → Holder who pid (here (front ++ e ∷ []))
-      moved pid x =
-          holder-moves x
-          (ap (λ (y : TracedState). handle_of y.opens x.k x.number) (now-is run front e back place kept-now)
-          ∙ (let f = foreign-entry n x.k (here front) e (its-legal run front e back place kept-now) refl in
-          f.handles x.number) ∙ x.there)
-
-      by : (pid : ℕ) → Clean who first front pid ⊎ Holder who pid (here front)
-          → Clean who first (front ++ e ∷ []) pid ⊎ Holder who pid (here (front ++ e ∷ []))
-      by pid (inr x) = inr (moved pid x)
-      by pid (inl clean) =
-          of (let st = stepped front (e ∷ back) place in st.bare pid) (let w = kept-now in w.bare pid)
-        where
-          of : CalmAt front pid ⊎ Holder who pid (here front)
-              → Bare who first front pid ⊎ Holder who pid (here front)
-              → Clean who first (front ++ e ∷ []) pid ⊎ Holder who pid (here (front ++ e ∷ []))
-          of (inl calm) (inl bare) =
-              inl (clean-turned front back acting id turned place pid (inl calm) (inl bare) clean)
-          of (inr x) it = inr (moved pid x)
-          of it (inr x) = inr (moved pid x)
+  turn-cleaned front back acting id turned place cleaned k hider later is off =
+      let e : Entry = record { actor = Lwp acting id; act = act.Turn turned } in
+      foreign-closes front (Lwp acting id) (act.Turn turned) back place cleaned k hider (λ same. cc)
+      (λ q within calm stands clean. clean-turned front back acting id turned place _ calm stands clean)
+      (λ q within. turn-covers run front back acting id turned place (kept front (e ∷ back) place) _)
+      (ap (λ (cs : List ControllerState). slice_get cs k) (controllers-push controllers front e)) later is off
 
   pub tick-cleaned : (front back : List Entry) (moment : ℕ)
       (place : h ≡ front ++ record { actor = Clock; act = act.Tick moment } ∷ back) → Cleaned front
       → Cleaned (front ++ record { actor = Clock; act = act.Tick moment } ∷ [])
   unfolding controllers_after
-  tick-cleaned front back moment place cleaned = record {
-    bare = λ pid. by pid (cleaned.bare pid);
-    trusses = λ k hider later is.
-        foreign-closes front Clock (act.Tick moment) back place cleaned k hider (λ same. cc)
-        (λ q within calm stands clean. clean-later _ clean)
-        (λ q within. stays _)
-        (ap (λ (cs : List ControllerState). slice_get cs k) (controllers-push controllers front e)) later is;
-  }
+  tick-cleaned front back moment place cleaned k hider later is off =
+      foreign-closes front Clock (act.Tick moment) back place cleaned k hider (λ same. cc)
+      (λ q within calm stands clean. clean-later _ clean) (λ q within. stays _)
+      (ap (λ (cs : List ControllerState). slice_get cs k) (controllers-push controllers front e)) later is off
     where
       e : Entry
       e = record { actor = Clock; act = act.Tick moment }
 
-      kept-now : KeptAfter front
-      kept-now = kept front (e ∷ back) place
-
       covers-same : covers (front ++ e ∷ []) ≡ covers front
-      covers-same = tick-covers run front back moment place kept-now
+      covers-same = tick-covers run front back moment place (kept front (e ∷ back) place)
 
       stays : (pid : ℕ) → IsAsPatched (covers front pid) (covers (front ++ e ∷ []) pid)
       stays pid = record {
@@ -359,12 +333,3 @@ module _ {n : ℕ} {who : Hiders} {controllers : List ControllerState} {first : 
 
       clean-later : (pid : ℕ) → Clean who first front pid → Clean who first (front ++ e ∷ []) pid
       clean-later pid clean = subst (λ (cs : Covers). IsClean (cs pid)) (sym covers-same) clean
-
-      by : (pid : ℕ) → Clean who first front pid ⊎ Holder who pid (here front)
-          → Clean who first (front ++ e ∷ []) pid ⊎ Holder who pid (here (front ++ e ∷ []))
-      by pid (inl clean) = inl (clean-later pid clean)
-      by pid (inr x) =
-          inr (holder-moves x
-          (ap (λ (y : TracedState). handle_of y.opens x.k x.number) (now-is run front e back place kept-now)
-          ∙ (let f = foreign-entry n x.k (here front) e (its-legal run front e back place kept-now) refl in
-          f.handles x.number) ∙ x.there))

@@ -1,31 +1,34 @@
-use Rattle.std.proofs.Common.{◌≡◌, ◌≢◌, ◌⊎◌, ◌<◌, ◌++◌, ℕ, Bool, true, false, cond, Some, None, List, [], ◌∷◌, length, refl, sym, subst, ap, ◌∙◌, inl, inr}
-use Rattle.std.proofs.lemmas.Bool.{cases_eq}
+use Rattle.std.proofs.Common.{◌≡◌, ◌≢◌, ◌⊎◌, ◌<◌, ◌++◌, ℕ, Bool, true, false, Some, None, List, [], ◌∷◌, length, refl}
+use Rattle.std.proofs.Common.{sym, subst, ap, ◌∙◌, inl, inr}
+use Rattle.std.proofs.lemmas.Bool.{cases_Bool, cases_eq}
 use Rattle.std.proofs.lemmas.List.{append-nil, append_assoc}
 use Rattle.std.proofs.lemmas.Option.{none-some, same_Some}
 use Rattle.std.specs.List.{slice_get}
 use Rattle.pr_api.specs.Entries.{call_entry}
-use Rattle.pr_function_hides.proofs.CallFacts.{close-done, controllers-push, legal-here, open-finds, same-truss}
+use Rattle.pr_function_hides.proofs.CallFacts.{controllers-push, legal-here, open-finds, same-truss}
 use Rattle.pr_function_hides.proofs.CalledCovers.{IsAsPatched, call-still}
-use Rattle.pr_function_hides.proofs.CleanCalls.{Bare, Clean, Closes, Leaves, Opens, Over, clean-called, ends-done, opens-leaves, stage-on, stands-next}
-use Rattle.pr_function_hides.proofs.CleanCovers.{IsClean, closed-clean}
+use Rattle.pr_function_hides.proofs.CleanCalls.{Bare, Clean, Closes, Leaves, Opens, Over, clean-called, ends-done}
+use Rattle.pr_function_hides.proofs.CleanCalls.{opens-leaves, stage-on, stands-next}
 use Rattle.pr_function_hides.proofs.CleanTurns.{Cleaned, before, foreign-closes, over-later, tick-cleaned, turn-cleaned}
-use Rattle.pr_function_hides.proofs.ClosingLaw as Closing
-use Rattle.pr_function_hides.proofs.ClosingWalk.{CalledSo, StageSo, called_at, fed-closes, first-closes}
-use Rattle.pr_function_hides.proofs.OwnFiles.{HoldsItsFiles, IsWithin}
+use Rattle.pr_function_hides.proofs.ClosingWalk.{CalledSo, StageSo, fed-closes, first-closes}
+use Rattle.pr_function_hides.proofs.CountedPlaces.{held-at}
+use Rattle.pr_function_hides.proofs.GoingCalls.{Going, going, told-over}
+use Rattle.pr_function_hides.proofs.OwnFiles.{IsWithin}
+use Rattle.pr_function_hides.proofs.StepsGoing.{called-within}
 use Rattle.pr_function_hides.proofs.TidyCalls as Calls
 use Rattle.pr_function_hides.proofs.TidyCovers as Called
-use Rattle.pr_function_hides.proofs.TidyKept.{Holder, IsRunOfTrusses, Kept, holder-moves}
+use Rattle.pr_function_hides.proofs.TidyKept.{Holder, Kept}
 use Rattle.pr_function_hides.proofs.TidyLaw.{kept-at}
-use Rattle.pr_function_hides.specs.TidyWrites.{AreUnbroken, IsTrussAfter}
+use Rattle.pr_function_hides.proofs.TidyOwn.{went-on}
+use Rattle.pr_function_hides.specs.RunsOfTrusses.{IsRunOfTrusses}
+use Rattle.pr_function_hides.specs.TidyWrites.{IsTrussAfter}
 use Rattle.pr_hidden.specs.Covers.{Covers}
 use Rattle.pr_hidden.specs.Hiders.{Hiders, covers_at, covers_called, hides}
 use Rattle.pr_hidden.specs.Tidiness.{IsPassiveBut}
 use Rattle.pr_model.specs.Calls.{answer_to}
-use Rattle.pr_model.specs.Handles.{handle_of}
 use Rattle.pr_model.specs.Legal.{IsLegal, IsLegalEntry, state_after}
 use Rattle.pr_model.specs.State.{TracedState}
 use Rattle.pr_model.specs.declared.calls.Call.{Call}
-use Rattle.pr_model.specs.declared.calls.Call.TheVariants as call
 use Rattle.pr_model.specs.declared.calls.Reply.{Reply}
 use Rattle.pr_model.specs.declared.events.Act.{Act}
 use Rattle.pr_model.specs.declared.events.Act.TheVariants as act
@@ -34,15 +37,15 @@ use Rattle.pr_model.specs.declared.events.Actor.TheVariants.{Clock, Controller, 
 use Rattle.pr_model.specs.declared.events.Entry.{Entry}
 use Rattle.pr_probe_laws.specs.StepMarks.{IsUnstepped}
 use Rattle.pr_tool_laws.proofs.ProtocolLemmas.{fed-own}
-use Rattle.pr_truss.specs.FunctionCalls.{call_beside, function_call_of, next_function_call_of}
+use Rattle.pr_truss.specs.FunctionCalls.{function_call_of}
 use Rattle.pr_truss.specs.FunctionFeeding.{fed_functions}
-use Rattle.pr_truss.specs.NextCalls.{call_of, next_call_of, open_control}
+use Rattle.pr_truss.specs.NextCalls.{call_of, open_control}
 use Rattle.pr_truss.specs.Processes.{without_last}
 use Rattle.pr_truss.specs.Replies.{answer_of}
 use Rattle.pr_truss.specs.Trusses.{TrussState, first_truss, traced_at}
 use Rattle.pr_truss.specs.declared.asides.Aside.TheVariants.{Nothing}
 use Rattle.pr_truss.specs.declared.processes.Traced.{Traced}
-use Rattle.pr_truss.specs.declared.replies.Answer.TheVariants.{Accepted, Gone}
+use Rattle.pr_truss.specs.declared.replies.Answer.TheVariants.{Accepted}
 use Rattle.pr_truss.specs.declared.stages.AfterClosing.{AfterClosing}
 use Rattle.pr_truss.specs.declared.stages.OpeningStep.{OpeningStep}
 use Rattle.pr_truss.specs.declared.stages.OpeningStep.TheVariants as opening
@@ -53,10 +56,10 @@ use Rattle.pr_world.specs.Controllers.{after_reply}
 use Rattle.pr_world.specs.Protocol.{controllers_after, controllers_at}
 
 -- The calls of truss, and of others, leave no lwp at a fault of one who hides but in a process that truss has opened
--- whole; and so it is along the history.
+-- whole; and so it is along the history, as long as the truss goes on.
 
-module _ {n : ℕ} {who : Hiders} {controllers : List ControllerState} {first : TracedState} {h : List Entry}
-    (run : IsRunOfTrusses (AreUnbroken who h) n who controllers first h) (passive : IsPassiveBut who h)
+module _ {n : ℕ} {who : Hiders} {controllers : List ControllerState} {first : TracedState}
+    {h : List Entry} (run : IsRunOfTrusses n who controllers first h) (passive : IsPassiveBut who h)
     (unstepped : IsUnstepped first.system) where
   abbrev here : List Entry → TracedState
   here front = state_after first front
@@ -90,67 +93,17 @@ module _ {n : ℕ} {who : Hiders} {controllers : List ControllerState} {first : 
     kept-now = kept front (call_entry j c r ∷ back) place
 
     clean-now : (pid : ℕ) → Clean who first front pid → Clean who first later_front pid
-    clean-now = clean-called run front back j c r place kept-now
-
-    -- ---- who holds what then
-
-    module _ (pid : ℕ) (x : Holder who pid v) (same : j ≡ x.k) where
-      hider-own : hides who j ≡ true
-      hider-own = subst (λ i. hides who i ≡ true) (sym same) x.hider
-
-      there-own : handle_of v.opens j x.number ≡ Some x.held
-      there-own = ap (λ i. handle_of v.opens i x.number) same ∙ x.there
-
-      stays-mine : c ≢ call.Close x.number → Holder who pid (here later_front)
-      stays-mine keeps =
-          holder-moves x
-          (ap (λ i. handle_of (here later_front).opens i x.number) (sym same)
-          ∙ Called.own-there run front back j c r place kept-now hider-own x.number x.held there-own keeps)
-
-      -- it is closed: nothing is hidden of it then
-      closed-mine : c ≡ call.Close x.number → Clean who first later_front pid
-      closed-mine closes =
-          let own = Calls.own run front back j c r place kept-now hider-own in
-          subst (λ (cs : Covers). IsClean (cs pid))
-          (sym (Calls.called-is run front back j c r place kept-now
-          ∙ ap (λ (d : Call). covers_called who (covers front) v j d r) closes
-          ∙ ap (λ (y : Reply). covers_called who (covers front) v j (call.Close x.number) y)
-          (sym own.replied
-          ∙ close-done v j x.number x.held there-own own.answer (ap (answer_to v j) (sym closes) ∙ own.is))))
-          (closed-clean who run.are.no_probes (covers front) v j pid x.number x.held there-own x.of x.control hider-own)
-
-      mine : (d : Call) → c ≡ d → Clean who first later_front pid ⊎ Holder who pid (here later_front)
-      mine (call.Close number) is = of (cases_eq number x.number)
-        where
-          of : (number ≡ x.number) ⊎ (number ≢ x.number)
-              → Clean who first later_front pid ⊎ Holder who pid (here later_front)
-          of (inl this) = inl (closed-mine (is ∙ ap call.Close this))
-          of (inr differs) = inr (stays-mine (λ closes. differs (close-same (sym is ∙ closes))))
-            where
-              close-same : call.Close number ≡ call.Close x.number → number ≡ x.number
-              close-same e = cc
-      mine d is = inr (stays-mine (λ closes. let e : d ≡ call.Close x.number = sym is ∙ closes in cc))
-
-    bare-now : (pid : ℕ) → Clean who first front pid ⊎ Holder who pid v
-        → Clean who first later_front pid ⊎ Holder who pid (here later_front)
-    bare-now pid (inl clean) = inl (clean-now pid clean)
-    bare-now pid (inr x) = by (cases_eq j x.k)
-      where
-        by : (j ≡ x.k) ⊎ (j ≢ x.k) → Clean who first later_front pid ⊎ Holder who pid (here later_front)
-        by (inl same) = mine pid x same c refl
-        by (inr apart) =
-            inr (holder-moves x
-            (Calls.foreign-handles run front back j c r place kept-now x.k x.number apart ∙ x.there))
+    clean-now = clean-called run front back j c r place
 
     -- ---- the other trusses
 
     others-close : (k : ℕ) (its : hides who k ≡ true) → j ≢ k → (later : TrussState) → After later_front k later
-        → Closes who first later_front later
-    others-close k its apart later is =
+        → later.leaving ≡ false → Closes who first later_front later
+    others-close k its apart later is off =
         foreign-closes run passive unstepped front (Controller j) (act.Call c r) back place cleaned k its
         (λ same. apart (controller-same same)) (λ q within calm stands clean. clean-now _ clean)
         (λ q within. stays q within (hides who j) refl)
-        (Calls.foreign-same run front back j c r place kept-now k apart) later is
+        (Calls.foreign-same run front back j c r place kept-now k apart) later is off
       where
         controller-same : {a b : ℕ} → Controller a ≡ Controller b → a ≡ b
         controller-same e = cc
@@ -165,36 +118,24 @@ module _ {n : ℕ} {who : Hiders} {controllers : List ControllerState} {first : 
         stays q within false bare =
             Calls.other-stays run front back j c r place kept-now bare (traced_at its_truss q).pid
 
-    -- ---- the truss that makes it
+    -- ---- the truss that makes it, where it goes on
 
-    module _ (hider : hides who j ≡ true) where
+    module _ (hider : hides who j ≡ true) (on : Going run front back j c r place hider) where
       abbrev tr : TrussState
       tr = Calls.tr run front back j c r place kept-now hider
 
-      abbrev holds : HoldsItsFiles j tr v
-      holds = Calls.holds-now run front back j c r place kept-now hider
-
       was : Closes who first front tr
-      was = before run passive unstepped front (Controller j) (act.Call c r) back place cleaned j hider
-
-      beside-is : call_beside tr tr.stage tr.aside ≡ Some c
-      unfolding next_function_call_of
-      beside-is =
-          sym (ap (λ b. cond b (call_beside tr tr.stage tr.aside) (next_call_of tr))
-          (Calls.has run front back j c r place kept-now hider))
-          ∙ Calls.next run front back j c r place kept-now hider
+      was = before run passive unstepped front (Controller j) (act.Call c r) back place cleaned j hider on.off
 
       opening-is : (pid : ℕ) → tr.stage ≡ stage.OpeningControl pid → tr.aside ≡ Nothing → c ≡ open_control pid
-      unfolding call_beside function_call_of call_of
+      unfolding function_call_of call_of
       opening-is pid is idle =
-          same_Some c (open_control pid)
-          (sym beside-is ∙ ap (call_beside tr tr.stage) idle ∙ ap (function_call_of tr) is)
+          same_Some c (open_control pid) (sym (on.call idle) ∙ ap (function_call_of tr) is)
 
-      -- a process that it begins to open
+      -- a process that it begins to open: nobody who hides had the control file of it open
       begins : (pid : ℕ) → tr.stage ≡ stage.OpeningControl pid → tr.aside ≡ Nothing → answer_of r ≡ Accepted
           → Opens who first later_front opening.OpenStatus pid
-      begins pid is idle accepted =
-          (clean-now pid (of (cleaned.bare pid)), bare (let w = kept-now in w.bare pid))
+      begins pid is idle accepted = (clean-now pid clean, bare (let w = kept-now in w.bare pid))
         where
           opens : c ≡ open_control pid
           opens = opening-is pid is idle
@@ -206,9 +147,11 @@ module _ {n : ℕ} {who : Hiders} {controllers : List ControllerState} {first : 
               (ap answer_of own.replied ∙ accepted)
               (Calls.holder-writes run front back j c r place kept-now hider pid x))
 
-          of : Clean who first front pid ⊎ Holder who pid v → Clean who first front pid
-          of (inl clean) = clean
-          of (inr x) = never x
+          clean : Clean who first front pid
+          clean id = elim (cases_Bool ((covers front pid).faulted id)) [
+            | inl counts ↦ never (held-at run front (call_entry j c r ∷ back) place pid id counts)
+            | inr none ↦ none
+          ]
 
           bare : Bare who first front pid ⊎ Holder who pid v → Bare who first later_front pid
           bare (inr x) = never x
@@ -229,30 +172,16 @@ module _ {n : ℕ} {who : Hiders} {controllers : List ControllerState} {first : 
         closes = λ q following x is left. closes q following x is left;
         gone = λ q here_at told.
             over-later run passive unstepped front (Controller j) (act.Call c r) back place cleaned j hider q
-            (called-within q here_at) (told-gone q here_at told);
+            (let f = on.holds in called-within tr f.stage f.beside q here_at)
+            (told-over run front back j c r place hider on q here_at told);
         begins = begins;
         steps = λ q step following is idle accepted behind.
-            stands-next run front back j c r place kept-now hider q (within-is q step is) step is idle accepted
+            stands-next run front back j c r place hider on q (within-is q step is) step is idle accepted
             following behind (opens-at q step is);
       }
         where
-          closed : Closing.Closed run front
-          closed =
-              Closing.closed-at run
-              front (call_entry j c r ∷ back) place
-
-          called-within : (q : ℕ) → called_at tr.stage tr.aside ≡ Some q → q < length tr.traced
-          called-within =
-              Closing.called-within run front back j c r place closed hider
-
-          told-gone : (q : ℕ) → called_at tr.stage tr.aside ≡ Some q → answer_of r ≡ Gone
-              → Over who first front (traced_at tr q).pid
-          told-gone =
-              Closing.gone run
-              front back j c r place closed hider
-
           within-is : (q : ℕ) (step : OpeningStep) → tr.stage ≡ stage.Opening q step → q < length tr.traced
-          within-is q step is = let f = holds in subst (IsWithin (length tr.traced)) is f.stage
+          within-is q step is = let f = on.holds in subst (IsWithin (length tr.traced)) is f.stage
 
           opens-at : (q : ℕ) (step : OpeningStep) → tr.stage ≡ stage.Opening q step
               → Opens who first front step (traced_at tr q).pid
@@ -262,19 +191,19 @@ module _ {n : ℕ} {who : Hiders} {controllers : List ControllerState} {first : 
 
           stays : (tr.aside ≢ Nothing) ⊎ (answer_of r ≢ Accepted) → Later tr.stage
           stays (inl busy) =
-              stage-on run front back j c r place kept-now hider was (λ q step is idle. absurd (busy idle))
+              stage-on run front back j c r place hider on was (λ q step is idle. absurd (busy idle))
               (λ q is idle. absurd (busy idle))
           stays (inr refused) =
-              stage-on run front back j c r place kept-now hider was (λ q step is idle start. refused)
+              stage-on run front back j c r place hider on was (λ q step is idle start. refused)
               (λ q is idle last none.
-              refused (ends-done run front back j c r place kept-now hider q
-              (let f = holds in subst (IsWithin (length tr.traced)) is f.stage) is idle last))
+              refused (ends-done run front back j c r place hider on q
+              (let f = on.holds in subst (IsWithin (length tr.traced)) is f.stage) is idle last))
 
           closes : (q : ℕ) (following : AfterClosing) (x : Traced) → tr.stage ≡ stage.Closing q following
               → without_last (traced_at tr q) ≡ Some x → Later (stage.Closing q following)
           closes q following x is left =
               subst Later is
-              (stage-on run front back j c r place kept-now hider was
+              (stage-on run front back j c r place hider on was
               (λ b step at idle. absurd (apart-stages (sym at ∙ is)))
               (λ b at idle last none.
               none-some x
@@ -289,35 +218,32 @@ module _ {n : ℕ} {who : Hiders} {controllers : List ControllerState} {first : 
 
       own-closes : Closes who first later_front (fed_functions tr r)
       own-closes =
-          let f = holds in
+          let f = on.holds in
           let it = was in
           fed-closes (Over who first later_front) (Opens who first later_front) (Leaves who first later_front)
-          (opens-leaves who first later_front) tr r f.off f.follow f.stage f.beside
-          (Calls.calm-now run front back j c r place kept-now hider) it.looks called-so
-          (Calls.has run front back j c r place kept-now hider)
+          (opens-leaves who first later_front) tr r f.off f.follow f.stage f.beside on.calm it.looks called-so on.has
 
-      own-later : (later : TrussState) → After later_front j later → Closes who first later_front later
-      unfolding after_reply controllers_after
-      own-later later is =
-          let w = Calls.truss-now run front back j c r place kept-now hider in
-          subst (Closes who first later_front)
-          (same-truss (fed_functions tr r) later _
-          (ap (λ (cs : List ControllerState). slice_get cs j) (controllers-push controllers front (call_entry j c r))
-          ∙ fed-own (controllers_at controllers front) j r (FnTruss tr) w.is) is)
-          own-closes
+    own-later : hides who j ≡ true → (later : TrussState) → After later_front j later → later.leaving ≡ false
+        → Closes who first later_front later
+    unfolding after_reply controllers_after
+    own-later hider later is =
+        let w = Calls.truss-now run front back j c r place kept-now hider in
+        subst (λ (u : TrussState). u.leaving ≡ false → Closes who first later_front u)
+        (same-truss (fed_functions w.t r) later _
+        (ap (λ (cs : List ControllerState). slice_get cs j) (controllers-push controllers front (call_entry j c r))
+        ∙ fed-own (controllers_at controllers front) j r (FnTruss w.t) w.is) is)
+        (λ off.
+        let went = went-on run front back j c r place kept-now hider off in
+        own-closes hider (going run front back j c r place hider went.0 went.1))
 
     called-cleaned : CleanedAt later_front
-    called-cleaned = record {
-      bare = λ pid. bare-now pid (cleaned.bare pid);
-      trusses = λ k its later is. by k its later is (cases_eq j k);
-    }
+    called-cleaned k its later is = by (cases_eq j k)
       where
-        by : (k : ℕ) → hides who k ≡ true → (later : TrussState) → After later_front k later → (j ≡ k) ⊎ (j ≢ k)
-            → Closes who first later_front later
-        by k its later is (inl same) =
+        by : (j ≡ k) ⊎ (j ≢ k) → later.leaving ≡ false → Closes who first later_front later
+        by (inl same) =
             own-later (subst (λ i. hides who i ≡ true) (sym same) its) later
             (subst (λ i. After later_front i later) (sym same) is)
-        by k its later is (inr apart) = others-close k its apart later is
+        by (inr apart) = others-close k its apart later is
 
   -- ---- the history
 
@@ -345,13 +271,10 @@ module _ {n : ℕ} {who : Hiders} {controllers : List ControllerState} {first : 
       cleaned))
 
   at-first : CleanedAt []
-  at-first = record {
-    bare = λ pid. inl (λ id. refl);
-    trusses = λ k hider t is.
-        let i = run.are.trusses k hider in
-        subst (Closes who first []) (same-truss (first_truss i.options) t _ i.starts is)
-        (first-closes (Over who first []) (Opens who first []) (Leaves who first []) i.options);
-  }
+  at-first k hider t is off =
+      let i = run.are.trusses k hider in
+      subst (Closes who first []) (same-truss (first_truss i.options) t _ i.starts is)
+      (first-closes (Over who first []) (Opens who first []) (Leaves who first []) i.options)
 
   pub cleaned-at : (front back : List Entry) → h ≡ front ++ back → CleanedAt front
   cleaned-at front back place = walk front [] back place at-first

@@ -1,7 +1,12 @@
-use Rattle.std.proofs.Common.{◌≡◌, ◌≢◌, ◌<◌, ◌⊎◌, ℕ, Bool, true, false, cond, is_some, Option, Some, None, length, refl, sym, ap, ◌∙◌, inl, inr}
+use Rattle.std.proofs.Common.{◌≡◌, ◌≢◌, ◌<◌, ◌⊎◌, ℕ, Bool, true, false, cond, is_some, Option, Some, None, length, refl}
+use Rattle.std.proofs.Common.{sym, ap, ◌∙◌, inl, inr}
 use Rattle.std.proofs.lemmas.Option.{none-some, same_Some}
+use Rattle.pr_function_hides.proofs.BareStages.{BareIf, IsBare}
 use Rattle.pr_function_hides.proofs.FilesCalls.{Files}
+use Rattle.pr_function_hides.proofs.LeavingStages.{IsLeft, asks, awaits, closes_files, halts, has_ended}
+use Rattle.pr_function_hides.proofs.LeavingStages.{lifts_all, looks, reads_text, waits_again}
 use Rattle.pr_function_hides.proofs.OwnFiles.{IsBeside, IsWithin}
+use Rattle.pr_function_laws.proofs.PatchCalls.{next-beside, next-staged}
 use Rattle.pr_model.specs.Handles.{handle_of, is_writable}
 use Rattle.pr_model.specs.Replies.{number_of}
 use Rattle.pr_model.specs.State.{TracedState}
@@ -11,13 +16,15 @@ use Rattle.pr_model.specs.declared.calls.File.{File}
 use Rattle.pr_model.specs.declared.calls.File.TheVariants as file
 use Rattle.pr_model.specs.declared.calls.Mode.TheVariants.{Read}
 use Rattle.pr_model.specs.declared.handles.Held.{Held}
+use Rattle.pr_truss.specs.Asides.{marks_at}
 use Rattle.pr_truss.specs.FunctionCalls.{call_beside, function_call_of, next_function_call_of, patch_call}
-use Rattle.pr_truss.specs.Marks.{first_function, has_functions}
+use Rattle.pr_truss.specs.Marks.{first_function, has_functions, no_functions}
 use Rattle.pr_truss.specs.NextCalls.{call_of, next_call_of, opening_call}
 use Rattle.pr_truss.specs.Processes.{last_handle, without_last}
 use Rattle.pr_truss.specs.Trusses.{TrussState, traced_at}
 use Rattle.pr_truss.specs.declared.asides.Aside.{Aside}
-use Rattle.pr_truss.specs.declared.asides.Aside.TheVariants.{Nothing, Reading, Planting, Patching}
+use Rattle.pr_truss.specs.declared.asides.Aside.TheVariants.{Nothing, Reading, Planting, Patching, AwaitingStop, Asking}
+use Rattle.pr_truss.specs.declared.asides.Aside.TheVariants.{AwaitingAgain}
 use Rattle.pr_truss.specs.declared.marks.Marks.{Marks}
 use Rattle.pr_truss.specs.declared.processes.Traced.{Traced}
 use Rattle.pr_truss.specs.declared.stages.AfterClosing.{AfterClosing}
@@ -25,7 +32,9 @@ use Rattle.pr_truss.specs.declared.stages.AfterClosing.TheVariants.{OpenNext, Go
 use Rattle.pr_truss.specs.declared.stages.OpeningStep.{OpeningStep}
 use Rattle.pr_truss.specs.declared.stages.OpeningStep.TheVariants as opening
 use Rattle.pr_truss.specs.declared.stages.Stage.{Stage}
-use Rattle.pr_truss.specs.declared.stages.Stage.TheVariants.{Spawning, OpeningControl, Opening, Polling, ReadingStatus, ReadingText, Running, Closing, Finished}
+use Rattle.pr_truss.specs.declared.stages.Stage.TheVariants.{Spawning, OpeningControl, Opening, Polling, ReadingStatus}
+use Rattle.pr_truss.specs.declared.stages.Stage.TheVariants.{ReadingText, Running, Closing, Unfollowing, ReadingLwps}
+use Rattle.pr_truss.specs.declared.stages.Stage.TheVariants.{Finished}
 use Rattle.pr_truss_laws.proofs.OpensLemmas.{held_by}
 
 -- Truss closes a file only as it closes those of a process that it traces, the last one first, and nothing comes before
@@ -181,3 +190,41 @@ module _ (t : TrussState) (number : ℕ) where
   is-closing stage beside has next =
       closing-aside stage t.aside refl beside
       (sym (ap (λ b. cond b (call_beside t t.stage t.aside) (next_call_of t)) has) ∙ next)
+
+  -- ---- where it leaves its processes
+
+  -- of the first one, in which nothing is planted, or which has ended
+  module _ (Ended : ℕ → Type 0) (has : has_functions t.options ≡ true)
+      (next : next_function_call_of t ≡ Some (call.Close number)) where
+    abbrev First : Type 0
+    First =
+        (0 < length t.traced) × ((last_handle (traced_at t 0) ≡ number) × IsBare Ended (traced_at t 0))
+
+    staged : (stage : Stage) → t.stage ≡ stage → t.aside ≡ Nothing
+        → function_call_of t stage ≡ Some (call.Close number)
+    staged stage at idle = sym (next-staged t.options has t stage refl idle at) ∙ next
+
+    beside : (aside : Aside) → t.aside ≡ aside → call_beside t t.stage aside ≡ Some (call.Close number)
+    beside aside is = sym (next-beside t.options has t refl ∙ ap (call_beside t t.stage) is) ∙ next
+
+    patch-never : (q : ℕ) (plant lift : Option ℕ)
+        → Some (patch_call t.options (traced_at t q).control plant lift) ≡ Some (call.Close number) → First
+    patch-never q (Some function) lift is = never _ (λ m e. cc) is
+    patch-never q None (Some function) is = never _ (λ m e. cc) is
+    patch-never q None None is = never _ (λ m e. cc) is
+
+    pub left-closing : (w : IsLeft t) → BareIf Ended t w → First
+    unfolding call_beside function_call_of call_of
+    left-closing (closes_files at idle within) bare =
+        (within, (closing 0 (staged (Closing 0 GoOn) at idle), bare))
+    left-closing (halts at idle within) bare = never _ (λ m e. cc) (staged Unfollowing at idle)
+    left-closing (awaits until at is within) bare = never _ (λ m e. cc) (beside (AwaitingStop until) is)
+    left-closing (asks at is within) bare = never _ (λ m e. cc) (beside Asking is)
+    left-closing (waits_again until at is within) bare = never _ (λ m e. cc) (beside (AwaitingAgain until) is)
+    left-closing (looks at idle within) bare = never _ (λ m e. cc) (staged ReadingLwps at idle)
+    left-closing (reads_text l from len at idle within) bare =
+        never _ (λ m e. cc) (staged (ReadingText 0 l from len) at idle)
+    left-closing (lifts_all clear at is within) bare =
+        patch-never 0 (first_function no_functions) (first_function (marks_at t 0).planted)
+        (beside (Patching 0 no_functions (marks_at t 0).planted clear) is)
+    left-closing (has_ended at idle) bare = absurd (none-some _ (staged Finished at idle))

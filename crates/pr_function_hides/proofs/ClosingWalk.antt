@@ -1,8 +1,9 @@
-use Rattle.std.proofs.Common.{◌≡◌, ◌≢◌, ◌⊎◌, ◌<◌, ◌+◌, ◌||◌, ℕ, Bool, true, false, cond, is_some, nat_lt, Option, Some, None, List, [], ◌∷◌, ◌++◌, length, refl, sym, subst, ap, ◌∙◌, inl, inr}
+use Rattle.std.proofs.Common.{◌≡◌, ◌≢◌, ◌⊎◌, ◌<◌, ◌+◌, ◌||◌, ℕ, Bool, true, false, cond, is_some, nat_lt, Option, Some}
+use Rattle.std.proofs.Common.{None, List, [], ◌∷◌, ◌++◌, length, refl, sym, subst, ap, ◌∙◌, inl, inr}
 use Rattle.std.proofs.lemmas.Bool.{cases_Bool, cases_eq, false≢true}
 use Rattle.std.proofs.lemmas.List.{get_or-set_other, get_or_push}
 use Rattle.std.specs.List.{slice_get, slice_set}
-use Rattle.pr_function_hides.proofs.FunctionSets.{first-none, has-without, without-keeps}
+use Rattle.pr_function_hides.proofs.FunctionSets.{first-none, has-without, none-second, without-keeps}
 use Rattle.pr_function_hides.specs.Copying.{IsEmpty}
 use Rattle.pr_function_hides.proofs.OwnFiles.{IsBeside, IsWithin}
 use Rattle.pr_function_hides.proofs.PlantedReplies.{learnt-pid, lost-marks}
@@ -16,21 +17,38 @@ use Rattle.pr_num.specs.declared.errnos.Errno.{Errno}
 use Rattle.pr_num.specs.declared.errnos.Errno.TheVariants.{Noent}
 use Rattle.pr_rec.specs.declared.lwps.LwpStatus.{LwpStatus}
 use Rattle.pr_truss.specs.Asides.{marks_at, patching, with_aside, with_lifts, with_marks, with_patches}
-use Rattle.pr_truss.specs.Closings.{after_closing, closed_or_removed, polls_or_finished, with_closed, with_closing, with_going_on, with_next_left, with_next_opening}
+use Rattle.pr_truss.specs.Closings.{after_closing, closed_or_removed, polls_or_finished, with_closed, with_closing}
+use Rattle.pr_truss.specs.Closings.{with_going_on, with_next_left, with_next_opening}
 use Rattle.pr_truss.specs.Feeding.{fed, with_reply}
 use Rattle.pr_truss.specs.FunctionEvents.{fresh_event, function_event}
-use Rattle.pr_truss.specs.FunctionFeeding.{after_first, after_patch, fed_functions, is_code, planted_if, with_aside_answered, with_code_answered, with_code_read, with_function_reply, with_function_step_answered, with_functions_begun, with_next_function, with_patch_answered, with_pending_told, with_plant_answered, with_planted, with_refused_opening, without_planted}
-use Rattle.pr_truss.specs.FunctionStops.{after_function_text, with_call_shown, with_copy_begun, with_copy_ended, with_fresh_event, with_function_event, with_function_run_answered, with_function_status_answered, with_function_stop, with_function_stop_read, with_function_text_answered, with_last_event, with_last_stop, with_memory_replaced, with_other_event, with_step_begun, with_step_completed, with_trap_over}
+use Rattle.pr_truss.specs.FunctionFeeding.{after_first, after_patch, fed_functions, is_code, planted_if}
+use Rattle.pr_truss.specs.FunctionFeeding.{with_aside_answered, with_code_answered, with_code_read, with_function_reply}
+use Rattle.pr_truss.specs.FunctionFeeding.{with_function_step_answered, with_functions_begun, with_next_function}
+use Rattle.pr_truss.specs.FunctionFeeding.{with_patch_answered, with_pending_told, with_plant_answered, with_planted}
+use Rattle.pr_truss.specs.FunctionFeeding.{with_refused_opening, without_planted}
+use Rattle.pr_truss.specs.FunctionStops.{after_function_text, with_call_shown, with_copy_begun, with_copy_ended}
+use Rattle.pr_truss.specs.FunctionStops.{with_fresh_event, with_function_event, with_function_run_answered}
+use Rattle.pr_truss.specs.FunctionStops.{with_function_status_answered, with_function_stop, with_function_stop_read}
+use Rattle.pr_truss.specs.FunctionStops.{with_function_text_answered, with_last_event, with_last_stop}
+use Rattle.pr_truss.specs.FunctionStops.{with_memory_replaced, with_other_event, with_step_begun, with_step_completed}
+use Rattle.pr_truss.specs.FunctionStops.{with_trap_over}
 use Rattle.pr_truss.specs.Marks.{code_of, first_function, has_function, has_functions, no_functions, without_function}
-use Rattle.pr_truss.specs.Openings.{at_step, learnt, step_after, with_control, with_control_answered, with_refused_control, with_refused_start, with_refused_step, with_start_answered, with_step_done}
+use Rattle.pr_truss.specs.Openings.{at_step, learnt, step_after, with_control, with_control_answered}
+use Rattle.pr_truss.specs.Openings.{with_refused_control, with_refused_start, with_refused_step, with_start_answered}
+use Rattle.pr_truss.specs.Openings.{with_step_done}
 use Rattle.pr_truss.specs.Processes.{newly_traced, without_last}
 use Rattle.pr_truss.specs.Records.{child_of}
 use Rattle.pr_truss.specs.Replies.{answer_of}
-use Rattle.pr_truss.specs.Stops.{after_text, asked_range, followed_child, text_of, with_child_or, with_event, with_event_over, with_event_shown, with_old_stop_over, with_poll_answered, with_polled, with_run_answered, with_status_answered, with_stop, with_stop_over, with_text_answered, with_text_or_shown}
-use Rattle.pr_truss.specs.Trusses.{TrussState, first_of_program, first_truss, idle, nobody, opening_or, traced_at, with_traced, without_traced}
+use Rattle.pr_truss.specs.Stops.{after_text, asked_range, followed_child, text_of, with_child_or, with_event}
+use Rattle.pr_truss.specs.Stops.{with_event_over, with_event_shown, with_old_stop_over, with_poll_answered, with_polled}
+use Rattle.pr_truss.specs.Stops.{with_run_answered, with_status_answered, with_stop, with_stop_over, with_text_answered}
+use Rattle.pr_truss.specs.Stops.{with_text_or_shown}
+use Rattle.pr_truss.specs.Trusses.{TrussState, first_of_program, first_truss, idle, nobody, opening_or, traced_at}
+use Rattle.pr_truss.specs.Trusses.{with_traced, without_traced}
 use Rattle.pr_truss.specs.declared.asides.Aside.TheVariants.{Nothing, Reading, Planting, Patching}
 use Rattle.pr_truss.specs.declared.asides.Aside.{Aside}
-use Rattle.pr_truss.specs.declared.function_events.FunctionEvent.TheVariants.{Other, AtBreakpoint, Completed, TraceTrap, BeforeCopy, AfterCopy, Replaced}
+use Rattle.pr_truss.specs.declared.function_events.FunctionEvent.TheVariants.{Other, AtBreakpoint, Completed, TraceTrap}
+use Rattle.pr_truss.specs.declared.function_events.FunctionEvent.TheVariants.{BeforeCopy, AfterCopy, Replaced}
 use Rattle.pr_truss.specs.declared.function_events.FunctionEvent.{FunctionEvent}
 use Rattle.pr_truss.specs.declared.marks.Marks.{Marks}
 use Rattle.pr_truss.specs.declared.processes.Traced.{Traced}
@@ -40,7 +58,8 @@ use Rattle.pr_truss.specs.declared.stages.AfterClosing.TheVariants.{OpenNext, Go
 use Rattle.pr_truss.specs.declared.stages.AfterClosing.{AfterClosing}
 use Rattle.pr_truss.specs.declared.stages.OpeningStep.TheVariants as opening
 use Rattle.pr_truss.specs.declared.stages.OpeningStep.{OpeningStep}
-use Rattle.pr_truss.specs.declared.stages.Stage.TheVariants.{Spawning, OpeningControl, Opening, Polling, ReadingStatus, ReadingText, Running, Closing, Finished}
+use Rattle.pr_truss.specs.declared.stages.Stage.TheVariants.{Spawning, OpeningControl, Opening, Polling, ReadingStatus}
+use Rattle.pr_truss.specs.declared.stages.Stage.TheVariants.{ReadingText, Running, Closing, Finished}
 use Rattle.pr_truss.specs.declared.stages.Stage.{Stage}
 use Rattle.pr_truss_laws.proofs.HeldLemmas.{at_place, set-at}
 use Rattle.pr_truss_laws.proofs.ReplySteps.{lost-same}
@@ -298,11 +317,8 @@ module _ (Over : ℕ → Type 0) (Opens : OpeningStep → ℕ → Type 0) (Leave
         → (is_some (first_function no_functions) || is_some (first_function planted) || false) ≡ b
         → Lifts q (cond b (Patching q no_functions planted false) Nothing) planted
     lifts-so q planted true is = (refl, (refl, λ i has. has))
-    lifts-so q planted false is = first-none planted (none-there (first_function planted) is)
-      where
-        none-there : (o : Option ℕ) → (is_some (first_function no_functions) || is_some o || false) ≡ false → o ≡ None
-        none-there None it = refl
-        none-there (Some i) it = absurd (false≢true (sym it))
+    lifts-so q planted false is =
+        first-none planted (none-second (first_function no_functions) (first_function planted) false is)
 
     refused-so : (u : TrussState) (q : ℕ) (errno : Errno) → Leaves (traced_at u q).pid
         → ClosesSo (with_refused_opening u q errno)
@@ -687,11 +703,6 @@ module _ (Over : ℕ → Type 0) (Opens : OpeningStep → ℕ → Type 0) (Leave
                 let other = has-without (marks_at t q).planted function i has in
                 without-keeps lifts function i other.apart (w.1.1 i other.has)
 
-            none-left : (a b : Option ℕ) → (is_some a || is_some b || clear) ≡ false → b ≡ None
-            none-left None None it = refl
-            none-left None (Some i) it = absurd (false≢true (sym it))
-            none-left (Some j) b it = absurd (false≢true (sym it))
-
             by : (b : Bool)
                 → (is_some (first_function plants) || is_some (first_function (without_function lifts function))
                 || clear)
@@ -700,7 +711,7 @@ module _ (Over : ℕ → Type 0) (Opens : OpeningStep → ℕ → Type 0) (Leave
                 (without_function (marks_at t q).planted function)
             by true is = (refl, (w.1.0, less))
             by false is = λ i.
-                let gone = first-none (without_function lifts function) (none-left _ _ is) in
+                let gone = first-none (without_function lifts function) (none-second _ _ clear is) in
                 elim (cases_Bool (has_function (without_function (marks_at t q).planted function) i)) [
                   | inl has ↦ absurd (false≢true (sym (gone i) ∙ less i has))
                   | inr none ↦ none

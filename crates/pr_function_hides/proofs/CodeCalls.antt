@@ -5,25 +5,28 @@ use Rattle.std.specs.List.{slice_get}
 use Rattle.std.specs.Prelude.{map}
 use Rattle.pr_api.specs.Entries.{call_entry}
 use Rattle.pr_function_hides.proofs.CalledCovers.{IsAsPatched, call-still, close-apart, ctl-apart, ctl-still}
-use Rattle.pr_function_hides.proofs.CodeWalk.{CodeAt, Counted, Known, Replaced, beside-code, kept-there, replaced-later}
-use Rattle.pr_function_hides.proofs.CountedWalk.{AsideIn, BesideSo, MarksIn, StageSo, TrussIn, truss-later}
+use Rattle.pr_function_hides.proofs.CodeWalk.{CodeAt, Counted, Known, Replaced, Shown, beside-code, kept-there, replaced-later}
+use Rattle.pr_function_hides.proofs.CountedWalk.{AsideSo, BesideSo, MarksIn, StageSo, TrussSo, truss-later}
 use Rattle.pr_function_hides.proofs.MarkedPatches.{same-patch}
 use Rattle.pr_function_hides.proofs.OwnCalls.{IsLast, last-is, not-taken, taken}
 use Rattle.pr_function_hides.proofs.OwnFiles.{GoesOn, HasItsFiles, IsBeside, IsWithin}
 use Rattle.pr_function_hides.proofs.OwnTidy.{Kind, other, sends, writes}
 use Rattle.pr_function_hides.proofs.OwnWrites.{code-is, write-read, write-tail}
+use Rattle.pr_function_hides.proofs.PlantedCode.{plants-code}
 use Rattle.pr_function_hides.proofs.PlantedReplies.{LeftSo, So}
-use Rattle.pr_function_hides.proofs.ReadCode.{read-holds}
+use Rattle.pr_function_hides.proofs.ReadCode.{read-shows}
 use Rattle.pr_function_hides.proofs.SpaceEdits.{EntryRelates}
 use Rattle.pr_function_hides.proofs.StillMessages.{BeginStill, is_still}
 use Rattle.pr_function_hides.proofs.TidyCalls as Calls
 use Rattle.pr_function_hides.proofs.TidyEntries.{lived}
 use Rattle.pr_function_hides.proofs.TidyOwn.{went-on}
-use Rattle.pr_function_hides.proofs.TidyKept.{IsRunOfTrusses, Kept, Lives, Truss}
+use Rattle.pr_function_hides.proofs.TidyKept.{Kept, Lives, Truss}
 use Rattle.pr_function_hides.proofs.TurnCode.{HoldsCode, holds-same}
+use Rattle.pr_function_hides.proofs.TurnStands.{Stands}
 use Rattle.pr_function_hides.proofs.WrittenCode as Written
 use Rattle.pr_function_hides.proofs.WrittenCode.{Writes, refuses, stores, written-holds}
 use Rattle.pr_function_hides.specs.FunctionHiders.{ArePatchable, IsPatchable, patch_of}
+use Rattle.pr_function_hides.specs.RunsOfTrusses.{IsRunOfTrusses}
 use Rattle.pr_function_laws.proofs.BreakpointLemmas.{IsOwnEntry}
 use Rattle.pr_function_laws.proofs.SoundLemmas.{AsideIsBelow}
 use Rattle.pr_hidden.specs.Covers.{Cover, Covers, Patch}
@@ -36,6 +39,7 @@ use Rattle.pr_model.specs.Changes.{with_space}
 use Rattle.pr_model.specs.ControlMessages.{tail_of}
 use Rattle.pr_model.specs.Handles.{handle_of}
 use Rattle.pr_model.specs.Legal.{after, state_after}
+use Rattle.pr_model.specs.Readers.{space_seen}
 use Rattle.pr_model.specs.Replies.{bytes_in}
 use Rattle.pr_model.specs.State.{TracedProcess, TracedState, live_process}
 use Rattle.pr_model.specs.declared.calls.Call.{Call}
@@ -79,8 +83,8 @@ use Rattle.pr_world.specs.ControllerStates.{ControllerState}
 -- The code of a function that counts as planted stands, or its breakpoint does, also after each call of truss: it reads
 -- the code before it plants the breakpoint, and lifts it by writing the code.
 
-module _ {B : Type 0} {n : ℕ} {who : Hiders} {controllers : List ControllerState} {first : TracedState}
-    {h : List Entry} (run : IsRunOfTrusses B n who controllers first h)
+module _ {n : ℕ} {who : Hiders} {controllers : List ControllerState} {first : TracedState}
+    {h : List Entry} (run : IsRunOfTrusses n who controllers first h)
     (front back : List Entry) (j : ℕ) (c : Call) (r : Reply) (place : h ≡ front ++ call_entry j c r ∷ back)
     (hider : hides who j ≡ true) (spaces : HaveAddressSpaces (state_after first front).system) where
   abbrev at : List Entry → Covers
@@ -456,7 +460,10 @@ module _ {B : Type 0} {n : ℕ} {who : Hiders} {controllers : List ControllerSta
     abbrev New : ℕ → ℕ → Type 0
     New pid i = Known run later_front j o pid i
 
-    known : TrussIn Old t
+    abbrev Next : ℕ → ℕ → Type 0
+    Next pid i = Shown run later_front o pid i
+
+    known : TrussSo Old (λ pid i. Shown run front o pid i) (λ pid i. Unit {0}) t
     known = let w = truss in counted.each j hider w.t w.is goes.off
 
     known-later : (q i : ℕ) → q < length t.traced → Spares (traced_at t q).pid → Old (traced_at t q).pid i
@@ -480,13 +487,13 @@ module _ {B : Type 0} {n : ℕ} {who : Hiders} {controllers : List ControllerSta
         }
 
     aside-before : (aside : Aside) → t.aside ≡ aside → IsBeside (length t.traced) aside
-        → call_beside t t.stage aside ≡ Some c → AsideIn Old t.traced aside → AsideIn New t.traced aside
+        → call_beside t t.stage aside ≡ Some c
+        → AsideSo Old (λ pid i. Shown run front o pid i) (λ pid i. Unit {0}) t.traced aside
+        → AsideSo New (λ pid i. Unit {0}) (λ pid i. Unit {0}) t.traced aside
     unfolding call_beside
     aside-before Nothing is_aside w is it = tt
     aside-before (Reading q i) is_aside w is it = tt
-    aside-before (Planting q i) is_aside w is it =
-        let never : ClosesNone = closes-none _ is (λ number same. cc) in
-        (known-later q i w (none-spares never (traced_at t q).pid) it.0, tt)
+    aside-before (Planting q i) is_aside w is it = (tt, tt)
     aside-before (Patching q plants lifts clear) is_aside w is it =
         let never : ClosesNone = patch-none q (first_function plants) (first_function lifts) is in (
           (λ i marked. known-later q i w (none-spares never (traced_at t q).pid) (it.0 i marked)),
@@ -501,24 +508,26 @@ module _ {B : Type 0} {n : ℕ} {who : Hiders} {controllers : List ControllerSta
     -- ---- the code that was read
 
     learns : (q i : ℕ) → t.aside ≡ Reading q i → answer_of r ≡ Accepted
-        → is_code (code_of o i) (bytes_in r) ≡ true → New (traced_at t q).pid i
+        → is_code (code_of o i) (bytes_in r) ≡ true → Next (traced_at t q).pid i
     unfolding call_beside address_of
-    learns q i reading accepted read f named = inl (record {
-      holds = λ s later bare.
+    learns q i reading accepted read f named = record {
+      shown = λ s later.
           let was = lived run front e back place kept j hider q within (s, later) in
-          let lent =
-          (let w = truss in run.und.untouched.owns front back j c r w.t q i was.0 place hider w.is reading was.1) in
           let it =
-          read-holds v j (traced_at t q).control (held-of q) (files.control q within) refl f (patchable-of i f named)
-          own.answer given was.0 was.1 lent
-          (spaces.own (traced_at t q).pid was.0 (live_process-found v.system _ was.0 was.1))
+          read-shows v j (traced_at t q).control (held-of q) (files.control q within) refl f (patchable-of i f named)
+          own.answer given was.0 was.1
+          (spaces.shown (traced_at t q).pid was.0 (live_process-found v.system _ was.0 was.1))
           (ap answer_of own.replied ∙ accepted)
           (ap (λ (x : Reply). is_code f.code (bytes_in x)) own.replied
           ∙ ap (λ xs. is_code xs (bytes_in r)) (sym (code-is o i f named)) ∙ read) in
-          subst (HoldsCode (patch_of f))
-          (same_Some was.0 s (sym was.1 ∙ sym (ap (λ x. live_process x (traced_at t q).pid) it.0)
-          ∙ answer-later (traced_at t q).pid ∙ later)) it.1;
-    })
+          let same : now later_front ≡ own.answer.state = called-now ∙ sym own.later in
+          let alike : was.0 ≡ s =
+          same_Some was.0 s (sym was.1 ∙ sym (ap (λ x. live_process x (traced_at t q).pid) it.0)
+          ∙ answer-later (traced_at t q).pid ∙ later) in
+          subst (λ x. Stands (patch_of f) (space_seen x s))
+          (sym (ap (λ (x : TracedState). x.system) same ∙ it.0))
+          (subst (λ (x : TracedProcess). Stands (patch_of f) (space_seen v.system x)) alike it.1);
+    }
       where
         within : q < length t.traced
         within = subst (IsBeside (length t.traced)) reading goes.beside
@@ -532,14 +541,23 @@ module _ {B : Type 0} {n : ℕ} {who : Hiders} {controllers : List ControllerSta
         given : answer_to v j (call.Ctl (traced_at t q).control (spelling (message.Read f.at 16) [])) ≡ Some own.answer
         given = Calls.given run front back j c r place kept hider _ (sym (same_Some _ c call-is))
 
+    -- ---- a breakpoint that was planted
+
+    grants : (q i : ℕ) → t.aside ≡ Planting q i → answer_of r ≡ Accepted → New (traced_at t q).pid i
+    grants q i planting accepted f named =
+        inl (plants-code run front back j c r place hider q
+        (subst (IsBeside (length t.traced)) planting goes.beside) i f named planting beside-is accepted)
+
     -- ---- the reply
 
-    pub called-in : TrussIn (λ pid i. Known run later_front j (fed_functions t r).options pid i) (fed_functions t r)
+    pub called-in : TrussSo (λ pid i. Known run later_front j (fed_functions t r).options pid i)
+        (λ pid i. Shown run later_front (fed_functions t r).options pid i) (λ pid i. Unit {0}) (fed_functions t r)
     called-in =
         let w = known in
-        subst (λ (x : Options). TrussIn (λ pid i. Known run later_front j x pid i) (fed_functions t r))
+        subst (λ (x : Options). TrussSo (λ pid i. Known run later_front j x pid i)
+        (λ pid i. Shown run later_front x pid i) (λ pid i. Unit {0}) (fed_functions t r))
         (sym (fed_functions-options t r))
-        (truss-later New (λ pid i. Unit {0}) t r goes.off goes.follow goes.stage goes.beside
+        (truss-later New Next (λ pid i. Unit {0}) t r goes.off goes.follow goes.stage goes.beside
         (went-on run front back j c r place kept hider stays).1 has (marks-so goes (MarksIn New) marks-later)
         (aside-before t.aside refl goes.beside beside-is w.aside) learns (λ pid. tt)
-        (λ q i at accepted other. tt) (λ q i at accepted. tt))
+        (λ q i at accepted other. tt) (λ q i at accepted. tt) grants)

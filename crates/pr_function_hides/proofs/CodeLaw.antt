@@ -5,10 +5,10 @@ use Rattle.std.specs.List.{slice_get}
 use Rattle.pr_api.specs.Entries.{call_entry}
 use Rattle.pr_function_hides.proofs.CallFacts.{controllers-push, legal-here, same-truss}
 use Rattle.pr_function_hides.proofs.CodeCalls.{called-in}
-use Rattle.pr_function_hides.proofs.CodeWalk.{Counted, Known, After, foreign-in, kept-there}
-use Rattle.pr_function_hides.proofs.CountedWalk.{TrussIn, first-so}
+use Rattle.pr_function_hides.proofs.CodeWalk.{Counted, Known, Shown, After, foreign-in, kept-there}
+use Rattle.pr_function_hides.proofs.CountedWalk.{TrussSo, first-so}
 use Rattle.pr_function_hides.proofs.TidyCalls as Calls
-use Rattle.pr_function_hides.proofs.TidyKept.{IsRunOfTrusses}
+use Rattle.pr_function_hides.specs.RunsOfTrusses.{IsRunOfTrusses}
 use Rattle.pr_function_laws.proofs.OpenedLaws.{bytes-front}
 use Rattle.pr_hidden.specs.Hiders.{Hiders, hides}
 use Rattle.pr_model.specs.Legal.{IsLegal, IsLegalEntry, state_after}
@@ -32,21 +32,25 @@ use Rattle.pr_world.specs.Protocol.{controllers_after, controllers_at}
 -- Along a history of trusses that are undisturbed the code of each function that counts as planted stands, or its
 -- breakpoint does, as long as the memory of its process is not replaced.
 
-module _ {B : Type 0} {n : ℕ} {who : Hiders} {controllers : List ControllerState} {first : TracedState}
-    {h : List Entry} (run : IsRunOfTrusses B n who controllers first h) where
+module _ {n : ℕ} {who : Hiders} {controllers : List ControllerState} {first : TracedState}
+    {h : List Entry} (run : IsRunOfTrusses n who controllers first h) where
   pub spaces : (front back : List Entry) → h ≡ front ++ back → HaveAddressSpaces (state_after first front).system
   spaces front back place =
       history-spaces n first front (let x = run.reached in x.lawful) (let x = run.reached in x.in_range)
       (bytes-front front back (subst HasBytes place run.bytes))
       (front-legal n first front back (subst (λ (es : List Entry). IsLegal n first es) place run.legal))
 
+  -- what is so of a truss
+  abbrev So : List Entry → ℕ → TrussState → Type 0
+  So front k t = TrussSo (Known run front k t.options) (Shown run front t.options) (λ pid i. Unit {0}) t
+
   at-first : Counted run []
   at-first = record {
     each = λ k hider t is off.
         let i = run.are.trusses k hider in
-        subst (λ (x : TrussState). TrussIn (Known run [] k x.options) x)
-        (same-truss (first_truss i.options) t _ i.starts is)
-        (first-so (Known run [] k (first_truss i.options).options) (λ pid i. Unit {0}) i.options);
+        subst (So [] k) (same-truss (first_truss i.options) t _ i.starts is)
+        (first-so (Known run [] k (first_truss i.options).options) (Shown run [] (first_truss i.options).options)
+        (λ pid i. Unit {0}) i.options);
   }
 
   -- an entry that is no call of a controller
@@ -72,7 +76,7 @@ module _ {B : Type 0} {n : ℕ} {who : Hiders} {controllers : List ControllerSta
   }
     where
       by : (k : ℕ) → hides who k ≡ true → (t : TrussState) → After run (front ++ call_entry j c r ∷ []) k t
-          → t.leaving ≡ false → (j ≡ k) ⊎ (j ≢ k) → TrussIn (Known run (front ++ call_entry j c r ∷ []) k t.options) t
+          → t.leaving ≡ false → (j ≡ k) ⊎ (j ≢ k) → So (front ++ call_entry j c r ∷ []) k t
       by k hider t is off (inr apart) =
           foreign-in run front (Controller j) (act.Call c r) back place k hider
           (Calls.foreign-same run front back j c r place (kept-there run front (call_entry j c r ∷ back) place) k apart)
@@ -87,8 +91,8 @@ module _ {B : Type 0} {n : ℕ} {who : Hiders} {controllers : List ControllerSta
           let is_now : fed_functions (Calls.tr run front back j c r place kept hides_it) r ≡ t =
           same-truss (fed_functions (Calls.tr run front back j c r place kept hides_it) r) t _
           (Calls.own-after run front back j c r place kept hides_it) now in
-          subst (λ i. TrussIn (Known run (front ++ call_entry j c r ∷ []) i t.options) t) same
-          (subst (λ (x : TrussState). TrussIn (Known run (front ++ call_entry j c r ∷ []) j x.options) x) is_now
+          subst (λ i. So (front ++ call_entry j c r ∷ []) i t) same
+          (subst (So (front ++ call_entry j c r ∷ []) j) is_now
           (called-in run front back j c r place hides_it (spaces front (call_entry j c r ∷ back) place) counted
           (subst (λ (x : TrussState). x.leaving ≡ false) (sym is_now) off)))
 

@@ -1,22 +1,29 @@
 use Rattle.std.proofs.Common.{◌≡◌, ◌≢◌, ◌⊎◌, ◌<◌, ◌≤◌, ◌+◌, ◌^◌, ◌++◌, ℕ, Bool, true, false, Option, Some, None, List, [], ◌∷◌, length, refl, sym, subst, ap, ◌∙◌, arith, inl, inr}
-use Rattle.std.proofs.lemmas.Bool.{cases_eq}
+use Rattle.std.proofs.lemmas.Bool.{cases_Bool, cases_eq}
 use Rattle.std.proofs.lemmas.List.{append_assoc}
 use Rattle.std.proofs.lemmas.Option.{none-some}
 use Rattle.std.specs.List.{slice_get}
 use Rattle.pr_function_hides.proofs.CallFacts.{same-truss}
 use Rattle.pr_function_hides.proofs.CopyCounts.{opened-or-none, takes-copies}
 use Rattle.pr_function_hides.proofs.CopyFree.{copies-on, goes-on-there, run-options, truss-is}
-use Rattle.pr_function_hides.proofs.CountedWalk.{AsideIn, TrussIn}
-use Rattle.pr_function_hides.proofs.OwnFiles.{HasItsFiles, IsBeside}
+use Rattle.pr_function_hides.proofs.CopyCalls.{planting-starts}
+use Rattle.pr_function_hides.proofs.CopyPlaces.{FitsSo}
+use Rattle.pr_function_hides.proofs.CountedFollows.{truss-weaker}
+use Rattle.pr_function_hides.proofs.CountedWalk.{TrussSo}
+use Rattle.pr_function_hides.proofs.LentMemory.{shown-later}
+use Rattle.pr_function_hides.proofs.OwnFiles.{HasItsFiles}
 use Rattle.pr_function_hides.proofs.MarkedPatches.{patch-there}
 use Rattle.pr_function_hides.proofs.SpaceEdits.{EntryRelates, entry-relates}
-use Rattle.pr_function_hides.proofs.TidyEntries.{its-lawful, its-legal, lived, now-is, sole}
-use Rattle.pr_function_hides.proofs.TidyKept.{IsRunOfTrusses, Kept, Lives, Truss, has-files, stays-on}
+use Rattle.pr_function_hides.proofs.TidyEntries.{its-lawful, its-legal, lending-at, lived, now-is, sole}
+use Rattle.pr_function_hides.proofs.TidyKept.{Kept, Lives, Truss, has-files, stays-on}
 use Rattle.pr_function_hides.proofs.TidyLaw.{kept-at}
 use Rattle.pr_function_hides.proofs.TurnCode.{HoldsCode, holds-same, turn-holds}
-use Rattle.pr_function_hides.specs.CountedFunctions.{Counts, again, is_next, lifted, stepped, takes_memory}
+use Rattle.pr_function_hides.proofs.TurnStands.{Stands}
+use Rattle.pr_function_hides.proofs.UnlentFiles.{never-borrowed}
+use Rattle.pr_function_hides.specs.CountedFunctions.{Counts, takes_memory, to_plant}
 use Rattle.pr_function_hides.specs.FunctionHiders.{ArePatchable, IsMarked, IsPatchable, patch_of}
 use Rattle.pr_function_hides.specs.Replacing.{WasReplaced}
+use Rattle.pr_function_hides.specs.RunsOfTrusses.{IsRunOfTrusses}
 use Rattle.pr_function_hides.specs.TidyWrites.{IsTrussAfter}
 use Rattle.pr_hidden.specs.Covers.{Covers, Patch}
 use Rattle.pr_hidden.specs.Hiders.{Hiders, covers_at, hides, patch_at}
@@ -29,6 +36,7 @@ use Rattle.pr_model.specs.Handles.{handle_of, is_control}
 use Rattle.pr_model.specs.Lawful.{IsFitting, IsLawful}
 use Rattle.pr_model.specs.Legal.{IsLegalEntry, after, state_after}
 use Rattle.pr_model.specs.LwpTurns.{LwpTurn, turn_of}
+use Rattle.pr_model.specs.Readers.{space_seen}
 use Rattle.pr_model.specs.State.{TracedProcess, TracedState, live_process}
 use Rattle.pr_model.specs.declared.events.Act.{Act}
 use Rattle.pr_model.specs.declared.events.Act.TheVariants as act
@@ -42,44 +50,18 @@ use Rattle.pr_probe_laws.proofs.HiddenFacts.{legal-turn}
 use Rattle.pr_truss.specs.Asides.{marks_at}
 use Rattle.pr_truss.specs.Marks.{has_function}
 use Rattle.pr_truss.specs.Trusses.{TrussState, traced_at}
-use Rattle.pr_truss.specs.declared.asides.Aside.{Aside}
-use Rattle.pr_truss.specs.declared.asides.Aside.TheVariants.{Planting, Patching}
+use Rattle.pr_truss.specs.declared.asides.Aside.TheVariants.{Planting}
 use Rattle.pr_world.specs.ControllerStates.{ControllerState}
 use Rattle.pr_world.specs.Protocol.{controllers_at}
 
 -- The code of a function that counts as planted stands, or its breakpoint does, as long as the memory of its process is
--- not replaced and truss does not leave its processes: what others do leaves it.
-
--- ---- what is so of each function follows from another thing
-
-module _ (P Q : ℕ → ℕ → Type 0) (t : TrussState)
-    (each : (q i : ℕ) → q < length t.traced
-    → (has_function (marks_at t q).planted i ≡ true) ⊎ Counts t q i → P (traced_at t q).pid i → Q (traced_at t q).pid i)
-    (beside : IsBeside (length t.traced) t.aside) where
-  pub truss-weaker : TrussIn P t → TrussIn Q t
-  truss-weaker w = record {
-    marks = λ q within.
-        let m = w.marks q within in
-        record {
-          planted = λ i has. each q i within (inl has) (m.planted i has);
-          lifted = λ i has. each q i within (inr (lifted has)) (m.lifted i has);
-          stepped = λ step is. each q step.function within (inr (stepped step is refl)) (m.stepped step is);
-        };
-    aside = by t.aside refl beside w.aside;
-  }
-    where
-      by : (a : Aside) → t.aside ≡ a → IsBeside (length t.traced) a → AsideIn P t.traced a → AsideIn Q t.traced a
-      by (Planting q i) at within it = (each q i within (inr (is_next at)) it.0, tt)
-      by (Patching q plants lifts clear) at within it = (
-        (λ i has. each q i within (inr (again plants lifts clear at (inl has))) (it.0 i has)),
-        (λ i has. each q i within (inr (again plants lifts clear at (inr has))) (it.1 i has)),
-      )
-      by _ at within it = tt
+-- not replaced and truss does not leave its processes: what others do leaves it. So it is in what controllers are shown
+-- of a process, from the read of the code of a function on, until its breakpoint is planted for the first time.
 
 -- ---- along a history
 
-module _ {B : Type 0} {n : ℕ} {who : Hiders} {controllers : List ControllerState} {first : TracedState}
-    {h : List Entry} (run : IsRunOfTrusses B n who controllers first h) where
+module _ {n : ℕ} {who : Hiders} {controllers : List ControllerState} {first : TracedState}
+    {h : List Entry} (run : IsRunOfTrusses n who controllers first h) where
   abbrev at : List Entry → Covers
   at front = covers_at who first front
 
@@ -106,12 +88,20 @@ module _ {B : Type 0} {n : ℕ} {who : Hiders} {controllers : List ControllerSta
   Known front k o pid i =
       (f : Function) → slice_get o.functions i ≡ Some f → CodeAt front pid (patch_of f) ⊎ Replaced front k pid
 
+  -- controllers are shown the code of a function in the process of an id
+  pub record ShownAt (front : List Entry) (pid : ℕ) (f : Patch) : Type 0 where
+    pub shown : (p : TracedProcess) → live_process (now front).system pid ≡ Some p
+        → Stands f (space_seen (now front).system p)
+
+  abbrev pub Shown : List Entry → Options → ℕ → ℕ → Type 0
+  Shown front o pid i = (f : Function) → slice_get o.functions i ≡ Some f → ShownAt front pid (patch_of f)
+
   abbrev pub After : List Entry → ℕ → TrussState → Type 0
   After front k t = IsTrussAfter who controllers first h front k t
 
   pub record Counted (front : List Entry) : Type 0 where
     pub each : (k : ℕ) → hides who k ≡ true → (t : TrussState) → After front k t → t.leaving ≡ false
-        → TrussIn (Known front k t.options) t
+        → TrussSo (Known front k t.options) (Shown front t.options) (λ pid i. Unit {0}) t
 
   -- ---- an entry
 
@@ -302,7 +292,8 @@ module _ {B : Type 0} {n : ℕ} {who : Hiders} {controllers : List ControllerSta
               turn-holds (patch_of f) inside own s.system id (record { system = taken.0; turned = turned }) taken.1
               leaves
               (λ p l live there going.
-              run.und.untouched.spares front back own id turned p l k w.t q i f its-place live there going hider w.is
+              run.undisturbed.untouched.spares front back own id turned p l k w.t q i f its-place live there
+              going hider w.is
               within refl (counts was before) named before)
               was.0 was.1 (code.holds was.0 was.1 before) r
               (sym (turned-now (record { system = taken.0; turned = turned }) taken.1)
@@ -469,12 +460,60 @@ module _ {B : Type 0} {n : ℕ} {who : Hiders} {controllers : List ControllerSta
             by (inr replaced) = inr (replaced-later k own replaced)
             by (inl code) = of actor did refl refl legal-entry code
 
+        -- what it was shown of a function that it is to plant
+        shown-stays : t.leaving ≡ false → (q i : ℕ) → q < length t.traced → t.aside ≡ Planting q i
+            → Shown front t.options (traced_at t q).pid i → Shown next_front t.options (traced_at t q).pid i
+        shown-stays stays q i within planting known f named = record {
+          shown = λ x later.
+              let was = lived run front e back place kept-here k hider q within (x, later) in
+              let w = truss in
+              let copies = copies-on run k hider front (e ∷ back) place w.t w.is stays in
+              let it = known f named in
+              subst (λ (u : TracedState). Stands (patch_of f) (space_seen u.system x)) (sym later-is)
+              (shown-later n k (run-options run k hider) t s
+              (goes-on-there run k hider front (e ∷ back) place w.t w.is stays)
+              (lending-at run front (e ∷ back) place) q within
+              (planting-starts q i t.stage (subst (λ a. FitsSo a t.stage) planting copies.fits)) (patch_of f) inside
+              actor did legal-entry foreign
+              (λ acting id turned p l acts does live there going borrowed.
+              run.undisturbed.untouched.spares_lent front back acting id turned p l k w.t q i f (entry-at acts does)
+              live there
+              going hider w.is within borrowed (to_plant planting) named)
+              (λ j handle bytes r held address size len acts does taken there controls borrowed read.
+              elim (cases_Bool (hides who j)) [
+                | inl hides_too ↦
+                    absurd (never-borrowed run j hides_too front (e ∷ back) place handle held there controls _ borrowed)
+                | inr hides_not ↦
+                    run.undisturbed.untouched.unwritten front back j handle bytes r held k w.t q i f address size len
+                    (entry-at acts does) hides_not taken there hider w.is within borrowed (to_plant planting) named read
+              ])
+              was.0 was.1 x (ap (λ (u : TracedState). live_process u.system (traced_at t q).pid) (sym later-is) ∙ later)
+              (it.shown was.0 was.1));
+        }
+          where
+            patchable : IsPatchable f
+            patchable = let x = fits in All-at IsPatchable t.options.functions i f named x.each
+
+            inside : AreWithin (patch_of f ∷ [])
+            inside =
+                let size : length f.code ≡ 16 = patchable.size in
+                let most : f.at + 16 ≤ 2 ^ 64 = patchable.within in
+                (omega (arith, size, most), tt)
+
+            entry-at : {a : Actor} {d : Act} → actor ≡ a → did ≡ d
+                → h ≡ front ++ record { actor = a; act = d } ∷ back
+            entry-at {a = a} acts does =
+                place ∙ ap (λ (y : Actor). front ++ record { actor = y; act = did } ∷ back) acts
+                ∙ ap (λ (y : Act). front ++ record { actor = a; act = y } ∷ back) does
+
         pub foreign-in : Counted front → (later : TrussState) → After next_front k later → later.leaving ≡ false
-            → TrussIn (Known next_front k later.options) later
+            → TrussSo (Known next_front k later.options) (Shown next_front later.options) (λ pid i. Unit {0}) later
         foreign-in counted later is off =
             let w = truss in
             let same : t ≡ later = same-truss t later _ is-later is in
             let stays : t.leaving ≡ false = subst (λ (x : TrussState). x.leaving ≡ false) (sym same) off in
-            subst (λ (x : TrussState). TrussIn (Known next_front k x.options) x) same
-            (truss-weaker (Known front k t.options) (Known next_front k t.options) t (each-later stays)
+            subst (λ (x : TrussState). TrussSo (Known next_front k x.options) (Shown next_front x.options)
+            (λ pid i. Unit {0}) x) same
+            (truss-weaker (Known front k t.options) (Known next_front k t.options) (Shown front t.options)
+            (Shown next_front t.options) t (each-later stays) (shown-stays stays)
             (let g = stays-on w stays in g.beside) (counted.each k hider w.t w.is stays))

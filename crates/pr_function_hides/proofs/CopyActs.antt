@@ -1,4 +1,5 @@
-use Rattle.std.proofs.Common.{◌≡◌, ◌≢◌, ◌<◌, ◌==◌, ◌&&◌, ◌⊎◌, ℕ, Bool, true, false, cond, not, Ok, Option, Some, None, List, [], length, refl, sym, subst, ap, ◌∙◌, inl, inr}
+use Rattle.std.proofs.Common.{◌≡◌, ◌≢◌, ◌<◌, ◌==◌, ◌&&◌, ◌⊎◌, ℕ, Bool, true, false, cond, not, Ok, Option, Some, None}
+use Rattle.std.proofs.Common.{List, [], length, refl, sym, subst, ap, ◌∙◌, inl, inr}
 use Rattle.std.proofs.lemmas.Bool.{eqb-true}
 use Rattle.std.proofs.lemmas.Option.{none-some, same_Some}
 use Rattle.std.specs.List.{slice_set}
@@ -24,7 +25,9 @@ use Rattle.pr_model.specs.declared.calls.Reply.{Reply}
 use Rattle.pr_model.specs.declared.calls.Reply.TheVariants as reply
 use Rattle.pr_model.specs.declared.handles.Held.{Held}
 use Rattle.pr_num.proofs.ByIdLaws.{All-under}
-use Rattle.pr_num.specs.Messages.{bad_operand, encoded_length, first_message, in_columns, message_code, message_read, nth_word, one_word, operand_count, operands, spelling, tail_length, unpadded_length, with_tail}
+use Rattle.pr_num.specs.Messages.{bad_operand, encoded_length, first_message, in_columns, message_code, message_read}
+use Rattle.pr_num.specs.Messages.{nth_word, one_word, operand_count, operands, spelling, tail_length, unpadded_length}
+use Rattle.pr_num.specs.Messages.{with_tail}
 use Rattle.pr_num.specs.Words.{word_bytes, word_of}
 use Rattle.pr_num.specs.declared.errnos.Errno.TheVariants.{Busy}
 use Rattle.pr_num.specs.declared.messages.Message.TheVariants as message
@@ -62,7 +65,7 @@ use Rattle.pr_function_hides.proofs.CopyPlaces.{IsRunFlags, both, clears, no_fla
 abbrev IsReadSo : ℕ → Type 0
 IsReadSo flags = first_message (spelling (message.Run flags) []) ≡ Ok (message.Run flags, 16)
 
-run-read : (flags : ℕ) → IsRunFlags flags → IsReadSo flags
+pub run-read : (flags : ℕ) → IsRunFlags flags → IsReadSo flags
 unfolding first_message message_read message_code operands nth_word word_bytes word_of one_word in_columns bad_operand
     with_tail encoded_length unpadded_length operand_count tail_length
 run-read flags (no_flags is) = subst IsReadSo (sym is) refl

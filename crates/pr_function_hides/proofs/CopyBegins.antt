@@ -1,4 +1,5 @@
-use Rattle.std.proofs.Common.{◌≡◌, ◌<◌, ℕ, true, false, cond, Option, Some, None, length, refl, sym, subst, ap, ◌∙◌, inl, inr}
+use Rattle.std.proofs.Common.{◌≡◌, ◌<◌, ℕ, true, false, cond, Option, Some, None, length, refl, sym, subst, ap, ◌∙◌}
+use Rattle.std.proofs.Common.{inl, inr}
 use Rattle.std.proofs.lemmas.Bool.{cases_eq, false≢true, ne_eqb}
 use Rattle.std.proofs.lemmas.Option.{none-some, same_Some}
 use Rattle.pr_line.specs.declared.options.Options.{Options}
@@ -10,7 +11,8 @@ use Rattle.pr_model.specs.declared.calls.Reply.{Reply}
 use Rattle.pr_report_laws.proofs.Invariant.StandLemmas.{Each}
 use Rattle.pr_truss.specs.Feeding.{with_reply}
 use Rattle.pr_truss.specs.FunctionCalls.{call_beside, function_call_of, next_function_call_of, patch_call}
-use Rattle.pr_truss.specs.FunctionFeeding.{fed_functions, with_aside_answered, with_function_reply, with_function_step_answered}
+use Rattle.pr_truss.specs.FunctionFeeding.{fed_functions, with_aside_answered, with_function_reply}
+use Rattle.pr_truss.specs.FunctionFeeding.{with_function_step_answered}
 use Rattle.pr_truss.specs.Marks.{first_function, has_functions}
 use Rattle.pr_truss.specs.NextCalls.{call_of, next_call_of, opening_call}
 use Rattle.pr_truss.specs.Openings.{with_stop_seen}
@@ -24,7 +26,8 @@ use Rattle.pr_truss.specs.declared.replies.Answer.TheVariants.{Interrupted}
 use Rattle.pr_truss.specs.declared.stages.OpeningStep.{OpeningStep}
 use Rattle.pr_truss.specs.declared.stages.OpeningStep.TheVariants as opening
 use Rattle.pr_truss.specs.declared.stages.Stage.{Stage}
-use Rattle.pr_truss.specs.declared.stages.Stage.TheVariants.{Spawning, OpeningControl, Opening, Polling, ReadingStatus, ReadingText, Running, Closing, Finished}
+use Rattle.pr_truss.specs.declared.stages.Stage.TheVariants.{Spawning, OpeningControl, Opening, Polling, ReadingStatus}
+use Rattle.pr_truss.specs.declared.stages.Stage.TheVariants.{ReadingText, Running, Closing, Finished}
 use Rattle.pr_function_laws.proofs.KeptPlaces.{AtAside, AtStage, Position}
 use Rattle.pr_function_laws.proofs.OpenedCalls.{IsSo, lowest}
 use Rattle.pr_function_laws.proofs.OpenedLaws.{Goes}
@@ -38,14 +41,15 @@ use Rattle.pr_function_hides.proofs.CopyLeaves.{Leaves, apart-alike}
 use Rattle.pr_function_hides.proofs.CopyLeavingCalls.{quiet}
 use Rattle.pr_function_hides.proofs.CopyLeavingReplies.{Comes, LeavesOn, comes-seen, fed-is, interrupt-left, same-less}
 use Rattle.pr_function_hides.proofs.CopyLeft.{IsLeaving, LeavesSo, has_none, is_to_stop, less-leaving, traces_still}
-use Rattle.pr_function_hides.proofs.CopyPlaces.{CopiesSo, OpensSo, RestsSo, counted, early, is_about, rests_new, rests_old, stopped}
+use Rattle.pr_function_hides.proofs.CopyPlaces.{CopiesSo, OpensSo, RestsSo, counted, early, is_about, rests_new}
+use Rattle.pr_function_hides.proofs.CopyPlaces.{rests_old, stopped}
 
 -- The first interrupt: truss was waiting for the stop of a process that it opens, or for any of those that it has
 -- opened, and begins to leave them as they stand.
 
 -- ---- the calls that wait
 
-waits-act : (c : Call) → may_wait c ≡ true → acts_by c ≡ None
+pub waits-act : (c : Call) → may_wait c ≡ true → acts_by c ≡ None
 waits-act (call.CtlWait handle until bytes) waits = refl
 waits-act (call.Poll handles) waits = refl
 waits-act (call.Until moment) waits = refl

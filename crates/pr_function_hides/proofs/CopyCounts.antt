@@ -15,7 +15,7 @@ use Rattle.pr_truss.specs.Asides.{marks_at}
 use Rattle.pr_truss.specs.FunctionEvents.{copies_memory}
 use Rattle.pr_truss.specs.Marks.{has_function}
 use Rattle.pr_truss.specs.Trusses.{TrussState, traced_at}
-use Rattle.pr_truss.specs.declared.asides.Aside.TheVariants.{Nothing, Planting, Patching}
+use Rattle.pr_truss.specs.declared.asides.Aside.TheVariants.{Nothing, Patching}
 use Rattle.pr_truss.specs.declared.stages.OpeningStep.{OpeningStep}
 use Rattle.pr_truss.specs.declared.stages.Stage.{Stage}
 use Rattle.pr_truss.specs.declared.stages.Stage.TheVariants.{Opening, Closing}
@@ -25,7 +25,7 @@ use Rattle.pr_function_hides.proofs.CopyEnds.{halted-none, still-none}
 use Rattle.pr_function_hides.proofs.CopyForeign.{opening-halts, soon-still}
 use Rattle.pr_function_hides.proofs.CopyPlaces.{ClosesSo, CopiesSo, FitsSo, IsBareMarks, OpensSo, StandingSo, closes_so, counted, early, halted, is_about, is_early, opens_so, rests_so, runs_so, stopped, unplanted}
 use Rattle.pr_function_hides.specs.Copying.{makes_copy}
-use Rattle.pr_function_hides.specs.CountedFunctions.{Counts, again, is_next, lifted, stepped, takes_memory}
+use Rattle.pr_function_hides.specs.CountedFunctions.{Counts, again, lifted, stepped, takes_memory}
 
 -- Where a fork, a vfork or an exec of a process is granted that truss opens or closes, none of its functions is planted
 -- or counts as planted.
@@ -51,17 +51,16 @@ module _ (n k : ℕ) (o : Options) (t : TrussState) (s : TracedState) (g : Goes 
   abbrev Counted : ℕ → Type 0
   Counted i = (has_function (marks_at t place).planted i ≡ true) ⊎ Counts t place i
 
-  no-counts : {A : Type 0} → IsBareMarks (marks_at t place) → ((i : ℕ) → t.aside ≢ Planting place i)
+  no-counts : {A : Type 0} → IsBareMarks (marks_at t place)
       → ((plants lifts : List Bool) (clear : Bool) → t.aside ≢ Patching place plants lifts clear) → (i : ℕ)
       → Counted i → A
-  no-counts m plants_none patches_none i (inl has) =
+  no-counts m patches_none i (inl has) =
       let l = m.lifted in absurd (false≢true (sym (l.none_planted i) ∙ has))
-  no-counts m plants_none patches_none i (inr (lifted has)) =
+  no-counts m patches_none i (inr (lifted has)) =
       absurd (false≢true (sym (m.left i) ∙ has))
-  no-counts m plants_none patches_none i (inr (stepped step is_step same)) =
+  no-counts m patches_none i (inr (stepped step is_step same)) =
       let l = m.lifted in absurd (none-some step (sym l.no_step ∙ is_step))
-  no-counts m plants_none patches_none i (inr (is_next at)) = absurd (plants_none i at)
-  no-counts m plants_none patches_none i (inr (again plants lifts clear at some)) =
+  no-counts m patches_none i (inr (again plants lifts clear at some)) =
       absurd (patches_none plants lifts clear at)
 
   -- truss has opened the process then and does not close it, or none of its functions counts
@@ -78,26 +77,22 @@ module _ (n k : ℕ) (o : Options) (t : TrussState) (s : TracedState) (g : Goes 
           of _ is = refl
 
       -- in the first steps of an opening nothing comes before a call
-      opens : (step : OpeningStep) → t.stage ≡ Opening place step → is_early step ≡ true
-          → IsBareMarks (marks_at t place) → (i : ℕ) → Counted i → ⊥
-      opens step at first bare =
+      opens : (step : OpeningStep) → t.stage ≡ Opening place step → IsBareMarks (marks_at t place) → (i : ℕ)
+          → Counted i → ⊥
+      opens step at bare =
           no-counts bare
-          (λ i beside.
-          let fits = subst (FitsSo (Planting place i)) at (subst (λ y. FitsSo y t.stage) beside cs.fits) in
-          false≢true (sym (ap is_early fits.1) ∙ first))
           (λ plants lifts clear beside.
           subst (FitsSo (Patching place plants lifts clear)) at (subst (λ y. FitsSo y t.stage) beside cs.fits))
 
       closes : t.aside ≡ Nothing → IsBareMarks (marks_at t place) → (i : ℕ) → Counted i → ⊥
       closes idle bare =
           no-counts bare
-          (λ i beside. let both : Planting place i ≡ Nothing = sym beside ∙ idle in cc)
           (λ plants lifts clear beside.
           let both : Patching place plants lifts clear ≡ Nothing = sym beside ∙ idle in cc)
 
       of-opens : (p : TracedProcess) → live_process s.system pid ≡ Some p → (step : OpeningStep)
           → t.stage ≡ Opening place step → OpensSo step (traced_at t place) p → (i : ℕ) → Counted i → ⊥
-      of-opens p live step at (early first m) = opens step at first m
+      of-opens p live step at (early first m) = opens step at m
       of-opens p live step at (stopped reads out) =
           halted-none n k o t s g cs place within id turn is makes p live
           (opening-halts n k o t s g place step at p live (ap is_early reads))

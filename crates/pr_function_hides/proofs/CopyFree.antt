@@ -1,7 +1,7 @@
-use Rattle.std.proofs.Common.{◌≡◌, ◌⊎◌, ◌<◌, ◌==◌, ◌++◌, ℕ, Bool, true, false, cond, Some, None, Option, List, [], ◌∷◌, length, append_assoc, refl, sym, subst, ap, ◌∙◌, inl, inr}
+use Rattle.std.proofs.Common.{◌≡◌, ◌≢◌, ◌⊎◌, ◌<◌, ◌==◌, ◌++◌, ℕ, Bool, true, false, cond, Some, None, Option, List, []}
+use Rattle.std.proofs.Common.{◌∷◌, length, refl, sym, subst, ap, ◌∙◌, inl, inr}
 use Rattle.std.proofs.lemmas.Bool.{eq-eqb, eqb-true, false≢true}
-use Rattle.std.proofs.lemmas.List.{append-nil}
-use Rattle.std.proofs.lemmas.List.Elements.{All-cons, All-head, All-nil, All-tail}
+use Rattle.std.proofs.lemmas.List.Elements.{All-cons, All-head, All-nil}
 use Rattle.std.proofs.lemmas.Option.{none-some, same_Some}
 use Rattle.std.specs.List.{All, cons_option}
 use Rattle.pr_api.specs.Entries.{call_entry}
@@ -10,9 +10,13 @@ use Rattle.pr_hidden.specs.Hiders.{Hiders, covers_at, hides}
 use Rattle.pr_line.specs.declared.options.Options.{Options}
 use Rattle.pr_model.specs.Legal.{IsLegal, IsLegalEntry, state_after}
 use Rattle.pr_model.specs.LwpTurns.{turn_of}
+use Rattle.pr_model.specs.Handles.{handle_of}
 use Rattle.pr_model.specs.State.{TracedProcess, TracedState, live_process}
+use Rattle.pr_model.specs.declared.handles.Held.{Held}
 use Rattle.pr_model.specs.declared.calls.Call.{Call}
 use Rattle.pr_model.specs.declared.calls.Reply.{Reply}
+use Rattle.pr_model.specs.declared.calls.Reply.TheVariants as reply
+use Rattle.pr_num.specs.declared.errnos.Errno.TheVariants.{Intr}
 use Rattle.pr_model.specs.declared.events.Act.{Act}
 use Rattle.pr_model.specs.declared.events.Act.TheVariants as act
 use Rattle.pr_model.specs.declared.events.Actor.{Actor}
@@ -27,34 +31,35 @@ use Rattle.pr_truss.specs.Asides.{marks_at}
 use Rattle.pr_truss.specs.FunctionEvents.{function_event}
 use Rattle.pr_truss.specs.Trusses.{TrussState, first_truss, traced_at}
 use Rattle.pr_truss.specs.declared.marks.Stepped.{Stepped}
-use Rattle.pr_truss.specs.declared.asides.Aside.TheVariants.{Reading}
 use Rattle.pr_truss.specs.declared.stages.Stage.TheVariants.{ReadingStatus}
 use Rattle.pr_truss_laws.proofs.HeldLemmas.{of_stage}
 use Rattle.pr_truss_laws.specs.Exchanges.{Exchange, exchange_in, exchange_of, exchanges}
 use Rattle.pr_world.specs.ControllerStates.{ControllerState, FnTruss}
 use Rattle.pr_world.specs.Protocol.{controllers_after}
-use Rattle.pr_function_laws.proofs.MarkedFlags.{no-flags-at-read}
+use Rattle.pr_function_laws.proofs.KeptPlaces.{Kept as KeptPlaces}
+use Rattle.pr_function_laws.proofs.KnownFiles.{Knows}
+use Rattle.pr_function_laws.proofs.LeavingLaws.{calm-exchanges}
+use Rattle.pr_function_laws.proofs.MarkedFlags.{is_waiting, no-flags-at-read, no-flags-at-wait}
 use Rattle.pr_function_laws.proofs.SoundLemmas.{first-sound}
 use Rattle.pr_function_laws.proofs.OpenedLaws.{Goes, before-goes, bytes-front}
 use Rattle.pr_function_laws.specs.Opened.{IsFunctionRun, WasNotInterrupted, functions_at}
-use Rattle.pr_function_laws.specs.Runs.{MakesCalls}
+use Rattle.pr_function_laws.specs.Runs.{MakesFunctionCalls}
 use Rattle.pr_function_laws.specs.Soon.{IsCalm}
 use Rattle.pr_function_hides.proofs.CallFacts.{legal-here, same-truss}
 use Rattle.pr_function_hides.proofs.CopyPlaces.{CopiesSo}
 use Rattle.pr_function_hides.proofs.CopyHistory.{finds-so, stays-calm}
 use Rattle.pr_function_hides.proofs.CopyWalk.{stands-after}
-use Rattle.pr_function_hides.proofs.CountedWalk.{TrussIn}
-use Rattle.pr_function_hides.proofs.FirstFunctions.{IsFirstOf}
-use Rattle.pr_function_hides.proofs.FirstWalk.{firsts-after}
 use Rattle.pr_function_hides.proofs.LeavingStages.{TellsLast}
 use Rattle.pr_function_hides.proofs.OwnRuns.{function-stays}
-use Rattle.pr_function_hides.proofs.TidyKept.{Course, Holder, IsRunOfTrusses, Kept, Lives, Truss, goes_on, leaves_them}
+use Rattle.pr_function_hides.proofs.TidyKept.{Course, Holder, Kept, Lives, Truss, goes_on, leaves_them}
 use Rattle.pr_function_hides.proofs.TracedHandles.{handle-traced, left-freed, none-freed}
 use Rattle.pr_function_hides.specs.Copying.{IsEmpty, makes_copy}
 use Rattle.pr_function_hides.specs.FunctionHiders.{AreTrusses, IsMarked, IsTrussAt}
 use Rattle.pr_function_hides.specs.LiftedCopies.{CopiesFindNone, OpensOutOfCopies}
-use Rattle.pr_function_hides.specs.TidyWrites.{AreUnbroken, IsTrussAfter}
+use Rattle.pr_function_hides.specs.RunsOfTrusses.{IsRunOfTrusses}
+use Rattle.pr_function_hides.specs.TidyWrites.{IsTrussAfter}
 use Rattle.pr_function_hides.proofs.ToldReplaced.{TellsReplaced}
+use Rattle.pr_function_hides.proofs.YoungOpenings.{Young}
 
 -- A fork, a vfork and an exec that is granted finds no breakpoint of those who hide, and neither does the read of the
 -- exit of a vfork or an exec that was.
@@ -68,7 +73,7 @@ none-marked o set (p ∷ ps) none all =
 
 -- ---- an exchange of a controller, and its entry
 
-entry-is : (k : ℕ) (e : Entry) (x : Exchange) → exchange_of k e ≡ Some x → e ≡ call_entry k x.call x.reply
+pub entry-is : (k : ℕ) (e : Entry) (x : Exchange) → exchange_of k e ≡ Some x → e ≡ call_entry k x.call x.reply
 entry-is k e x own = by e.actor e.act own
   where
     by : (actor : Actor) (did : Act) → exchange_in k actor did ≡ Some x
@@ -137,8 +142,27 @@ module _ {who : Hiders} {controllers : List ControllerState} {first : TracedStat
       same : (a b : TrussState) → Some (FnTruss a) ≡ Some (FnTruss b) → a ≡ b
       same a b e = cc
 
-module _ {B : Type 0} {n : ℕ} {who : Hiders} {controllers : List ControllerState} {first : TracedState}
-    {h : List Entry} (run : IsRunOfTrusses B n who controllers first h) where
+-- no exchange of a controller was interrupted if no call of it was
+pub unbroken-calm : (k : ℕ) (front : List Entry)
+    → ((before between : List Entry) (c : Call) (r : Reply) → front ≡ before ++ call_entry k c r ∷ between
+    → r ≢ reply.Fail Intr) → All WasNotInterrupted (exchanges k front)
+unbroken-calm k [] unbroken = subst (All WasNotInterrupted) (sym (no-exchanges k)) (All-nil WasNotInterrupted)
+unbroken-calm k (e ∷ front) unbroken =
+    subst (All WasNotInterrupted) (sym (cons-exchanges k e front))
+    (by (exchange_of k e) refl
+    (unbroken-calm k front (λ before between c r is. unbroken (e ∷ before) between c r (ap (λ es. e ∷ es) is))))
+  where
+    by : (x : Option Exchange) → exchange_of k e ≡ x → All WasNotInterrupted (exchanges k front)
+        → All WasNotInterrupted (cons_option x (exchanges k front))
+    by None own rest = rest
+    by (Some x) own rest =
+        All-cons WasNotInterrupted x (exchanges k front)
+        (record {
+          unbroken = unbroken [] front x.call x.reply (ap (λ (y : Entry). y ∷ front) (entry-is k e x own));
+        }) rest
+
+module _ {n : ℕ} {who : Hiders} {controllers : List ControllerState} {first : TracedState}
+    {h : List Entry} (run : IsRunOfTrusses n who controllers first h) where
   abbrev at : List Entry → Covers
   at front = covers_at who first front
 
@@ -157,7 +181,8 @@ module _ {B : Type 0} {n : ℕ} {who : Hiders} {controllers : List ControllerSta
       out = λ front back e x place until p at own waits accepted live.
           let there : h ≡ front ++ call_entry k x.call x.reply ∷ back =
           at ∙ ap (λ (y : Entry). front ++ y ∷ back) (entry-is k e x own) in
-          run.und.opens_out front back k place until x.call x.reply (functions_at k (run-options k hider) front) p there
+          run.undisturbed.opens_out front back k place until x.call x.reply (functions_at k (run-options k hider) front)
+          p there
           hider
           (truss-at run.own_calls run.are k hider front (call_entry k x.call x.reply ∷ back)
           there) waits accepted live;
@@ -174,6 +199,18 @@ module _ {B : Type 0} {n : ℕ} {who : Hiders} {controllers : List ControllerSta
         stays-calm n k (run-options k hider) first h its-run run.reached run.awake run.bytes opens-out front back place
         (subst (λ (u : TrussState). u.leaving ≡ false) (truss-is run.own_calls run.are k hider front back place t is)
         off)
+
+    -- and where it was not interrupted it does not leave them
+    pub off-on : (front back : List Entry) → h ≡ front ++ back → (t : TrussState)
+        → IsTrussAfter who controllers first h front k t → All WasNotInterrupted (exchanges k front)
+        → t.leaving ≡ false
+    off-on front back place t is calm =
+        subst (λ (u : TrussState). u.leaving ≡ false)
+        (sym (truss-is run.own_calls run.are k hider front back place t is))
+        (let g =
+        before-goes n k (run-options k hider) first h its-run front back place calm (Unit {0}) (λ r. run.reached)
+        (λ r. bytes-front front back (subst HasBytes place run.bytes)) in
+        let w = g.kept in w.off)
 
     -- then it has its files of its processes, and traces those that it has opened
     pub goes-on-there : (front back : List Entry) → h ≡ front ++ back → (t : TrussState)
@@ -195,34 +232,55 @@ module _ {B : Type 0} {n : ℕ} {who : Hiders} {controllers : List ControllerSta
         subst (λ (u : TrussState). CopiesSo u (now front).system)
         (sym (truss-is run.own_calls run.are k hider front back place t is)) st.copies
 
-    -- and of the functions at one address it has planted the first alone
-    pub firsts-on : (front back : List Entry) → h ≡ front ++ back → (t : TrussState)
-        → IsTrussAfter who controllers first h front k t → t.leaving ≡ false → TrussIn (IsFirstOf t.options) t
-    firsts-on front back place t is off =
-        let i = run.are.trusses k hider in
-        let calm = calm-on front back place t is off in
-        let goes =
-        before-goes n k (run-options k hider) first h its-run front back place calm ⊥ (λ none. absurd none)
-        (λ none. absurd none) in
-        let firsts =
-        firsts-after n k (run-options k hider) first h its-run run.reached run.awake run.bytes opens-out i.patchable
-        owns front back place calm in
-        subst (λ (u : TrussState). TrussIn (IsFirstOf u.options) u)
+    -- and it has opened their files
+    pub known-on : (front back : List Entry) → h ≡ front ++ back → (t : TrussState)
+        → IsTrussAfter who controllers first h front k t → t.leaving ≡ false → KeptPlaces Knows t
+    known-on front back place t is off =
+        let st =
+        stands-after n k (run-options k hider) first h its-run run.reached run.awake run.bytes opens-out front back
+        place (calm-on front back place t is off) in
+        subst (KeptPlaces Knows) (sym (truss-is run.own_calls run.are k hider front back place t is)) st.known
+
+    -- and one that it opens is not attached before its stop
+    pub young-on : (front back : List Entry) → h ≡ front ++ back → (t : TrussState)
+        → IsTrussAfter who controllers first h front k t → t.leaving ≡ false → KeptPlaces Young t
+    young-on front back place t is off =
+        let st =
+        stands-after n k (run-options k hider) first h its-run run.reached run.awake run.bytes opens-out front back
+        place (calm-on front back place t is off) in
+        subst (KeptPlaces Young) (sym (truss-is run.own_calls run.are k hider front back place t is)) st.young
+
+    -- where it waits for a stop, it would run no process with run flags
+    pub plain-wait : (front back : List Entry) → h ≡ front ++ back → (t : TrussState)
+        → IsTrussAfter who controllers first h front k t → t.leaving ≡ false → is_waiting t.stage ≡ true → (q : ℕ)
+        → (marks_at t q).flags ≡ 0
+    plain-wait front back place t is =
+        subst (λ (u : TrussState). u.leaving ≡ false → is_waiting u.stage ≡ true → (q : ℕ) → (marks_at u q).flags ≡ 0)
         (sym (truss-is run.own_calls run.are k hider front back place t is))
-        (subst (λ (p : Options). TrussIn (IsFirstOf p) (functions_at k (run-options k hider) front)) (sym goes.options)
-        firsts)
-      where
-        owns : (before later : List Entry) (e : Entry) (x : Exchange) (q function : ℕ) (p : TracedProcess)
-            → h ≡ before ++ e ∷ later → exchange_of k e ≡ Some x
-            → (functions_at k (run-options k hider) before).aside ≡ Reading q function
-            → live_process (now before).system (traced_at (functions_at k (run-options k hider) before) q).pid ≡ Some p
-            → p.borrower ≡ None
-        owns before later e x q function p at own reading live =
-            let u = run.und in
-            let un = u.untouched in
-            un.owns before later k x.call x.reply (functions_at k (run-options k hider) before) q function p
-            (at ∙ ap (λ (y : Entry). before ++ y ∷ later) (entry-is k e x own)) hider
-            (truss-at run.own_calls run.are k hider before (e ∷ later) at) reading live
+        (λ stays waits q.
+        let o = run-options k hider in
+        let f = its-run in
+        let both : exchanges k h ≡ exchanges k front ++ exchanges k back =
+        ap (exchanges k) place ∙ exchanges-both k front back in
+        no-flags-at-wait o f.has f.follows_none (exchanges k front) (exchanges k back) q
+        (subst (MakesFunctionCalls (first_truss o)) both f.makes)
+        (subst (All IsCalm) both (calm-exchanges h n k first run.legal)) stays waits)
+
+    -- where it reads the status of a process, it would run that with no run flags
+    pub plain-read : (front back : List Entry) → h ≡ front ++ back → (t : TrussState)
+        → IsTrussAfter who controllers first h front k t → t.leaving ≡ false → (q : ℕ) → t.stage ≡ ReadingStatus q
+        → (marks_at t q).flags ≡ 0
+    plain-read front back place t is =
+        subst (λ (u : TrussState). u.leaving ≡ false → (q : ℕ) → u.stage ≡ ReadingStatus q → (marks_at u q).flags ≡ 0)
+        (sym (truss-is run.own_calls run.are k hider front back place t is))
+        (λ stays q reads.
+        let o = run-options k hider in
+        let f = its-run in
+        let both : exchanges k h ≡ exchanges k front ++ exchanges k back =
+        ap (exchanges k) place ∙ exchanges-both k front back in
+        no-flags-at-read o f.has f.follows_none (exchanges k front) (exchanges k back) q
+        (subst (MakesFunctionCalls (first_truss o)) both f.makes)
+        (subst (All IsCalm) both (calm-exchanges h n k first run.legal)) stays reads)
 
   -- it is at no stage at which a child is set free
   freed : (k : ℕ) (front : List Entry) (w : Truss who controllers first h front k) (pid number : ℕ)
@@ -232,6 +290,27 @@ module _ {B : Type 0} {n : ℕ} {who : Hiders} {controllers : List ControllerSta
       by : Course w.t → of_stage pid number w.t.stage ≡ 0
       by (goes_on goes flags) = none-freed (length w.t.traced) pid number w.t.stage goes.stage
       by (leaves_them on at_place) = left-freed w.t pid number at_place
+
+  -- a process of which it has a file open is one that it traces
+  pub handle-place : (front back : List Entry) → h ≡ front ++ back → (kept : Kept who controllers first h front)
+      → (k : ℕ) (hider : hides who k ≡ true) (number : ℕ) (held : Held)
+      → handle_of (now front).opens k number ≡ Some held
+      → let w = kept.trusses k hider in
+      (q : ℕ) × ((q < length w.t.traced) × ((traced_at w.t q).pid ≡ held.pid))
+  handle-place front back place kept k hider number held there =
+      let w = kept.trusses k hider in
+      let same = truss-is run.own_calls run.are k hider front back place w.t w.is in
+      let found =
+      handle-traced n k (run-options k hider) first front back
+      (subst (IsFunctionRun n k (run-options k hider) first) place
+      (function-run run.legal run.reached run.own_calls run.are k hider))
+      (λ p m. subst (λ (t : TrussState). of_stage p m t.stage ≡ 0) same (freed k front w p m)) number held there in (
+        found.0,
+        (
+          subst (λ (t : TrussState). found.0 < length t.traced) (sym same) found.1.0,
+          ap (λ (t : TrussState). (traced_at t found.0).pid) same ∙ found.1.1,
+        ),
+      )
 
   -- ---- a call that is granted
 
@@ -262,19 +341,15 @@ module _ {B : Type 0} {n : ℕ} {who : Hiders} {controllers : List ControllerSta
           truss-is run.own_calls run.are x.k x.hider front
           (record { actor = Lwp pid id; act = act.Turn turned } ∷ back) place w.t w.is in
           let found =
-          handle-traced n x.k (run-options x.k x.hider) first front
-          (record { actor = Lwp pid id; act = act.Turn turned } ∷ back)
-          (subst (IsFunctionRun n x.k (run-options x.k x.hider) first) place
-          (function-run run.legal run.reached run.own_calls run.are x.k x.hider))
-          (λ p m. subst (λ (t : TrussState). of_stage p m t.stage ≡ 0) same (freed x.k front w p m)) x.number x.held
-          x.there in
-          of x w found.0 (subst (λ (t : TrussState). found.0 < length t.traced) (sym same) found.1.0)
-          (ap (λ (t : TrussState). (traced_at t found.0).pid) same ∙ found.1.1 ∙ x.of)
+          handle-place front (record { actor = Lwp pid id; act = act.Turn turned } ∷ back) place kept x.k x.hider
+          x.number x.held x.there in
+          of x w found.0 found.1.0 (found.1.1 ∙ x.of)
           (subst (λ (t : TrussState). IsEmpty (marks_at t found.0).planted) (sym same)
           (let f = finds x.k x.hider in
           f.copies front back found.0 id turned
           (place ∙ ap (λ i. front ++ record { actor = Lwp i id; act = act.Turn turned } ∷ back)
-          (sym (found.1.1 ∙ x.of))) found.1.0 makes))
+          (sym (ap (λ (t : TrussState). (traced_at t found.0).pid) (sym same) ∙ found.1.1 ∙ x.of)))
+          (subst (λ (t : TrussState). found.0 < length t.traced) same found.1.0) makes))
         where
           of : (x : Holder who pid (now front)) (w : Truss who controllers first h front x.k) (q : ℕ)
               → q < length w.t.traced → (traced_at w.t q).pid ≡ pid → IsEmpty (marks_at w.t q).planted
@@ -359,58 +434,3 @@ module _ {B : Type 0} {n : ℕ} {who : Hiders} {controllers : List ControllerSta
         told.fresh
         (ap (λ (y : Options). function_event y (marks_at there 0) told.l.id told.event) (sym options-are)
         ∙ told.replaced))
-
--- ---- one that is not interrupted
-
-module _ {n : ℕ} {who : Hiders} {controllers : List ControllerState} {first : TracedState} {h : List Entry}
-    (run : IsRunOfTrusses (AreUnbroken who h) n who controllers first h) (k : ℕ) (hider : hides who k ≡ true) where
-  calm-from : (front pre back : List Entry) → h ≡ pre ++ (front ++ back) → All WasNotInterrupted (exchanges k front)
-  calm-from [] pre back place =
-      subst (All WasNotInterrupted) (sym (no-exchanges k)) (All-nil WasNotInterrupted)
-  calm-from (e ∷ front) pre back place =
-      subst (All WasNotInterrupted) (sym (cons-exchanges k e front))
-      (by (exchange_of k e) refl
-      (calm-from front (pre ++ e ∷ []) back (place ∙ sym (append_assoc pre (e ∷ []) (front ++ back)))))
-    where
-      by : (x : Option Exchange) → exchange_of k e ≡ x → All WasNotInterrupted (exchanges k front)
-          → All WasNotInterrupted (cons_option x (exchanges k front))
-      by None own rest = rest
-      by (Some x) own rest =
-          All-cons WasNotInterrupted x (exchanges k front)
-          (record {
-            unbroken = run.besides.unbroken pre (front ++ back) k x.call x.reply
-                (place ∙ ap (λ (y : Entry). pre ++ y ∷ (front ++ back)) (entry-is k e x own)) hider;
-          }) rest
-
-  -- how its processes stand
-  pub copies-so : (front back : List Entry) → h ≡ front ++ back → (t : TrussState)
-      → IsTrussAfter who controllers first h front k t → CopiesSo t (state_after first front).system
-  copies-so front back place t is =
-      let st =
-      stands-after n k (run-options run k hider) first h (its-run run k hider) run.reached run.awake run.bytes
-      (opens-out run k hider) front back place (calm-from front [] back place) in
-      subst (λ (u : TrussState). CopiesSo u (state_after first front).system)
-      (sym (truss-is run.own_calls run.are k hider front back place t is)) st.copies
-
-  calm-all : (xs : List Exchange) → All WasNotInterrupted xs → All IsCalm xs
-  calm-all [] all = All-nil IsCalm
-  calm-all (x ∷ xs) all =
-      let head = All-head WasNotInterrupted x xs all in
-      All-cons IsCalm x xs (record { waits = λ fails. absurd (head.unbroken fails) })
-      (calm-all xs (All-tail WasNotInterrupted x xs all))
-
-  -- where it reads the status of a process, it would run that with no run flags
-  pub plain-read : (front back : List Entry) → h ≡ front ++ back → (t : TrussState)
-      → IsTrussAfter who controllers first h front k t → t.leaving ≡ false → (q : ℕ) → t.stage ≡ ReadingStatus q
-      → (marks_at t q).flags ≡ 0
-  plain-read front back place t is =
-      subst (λ (u : TrussState). u.leaving ≡ false → (q : ℕ) → u.stage ≡ ReadingStatus q → (marks_at u q).flags ≡ 0)
-      (sym (truss-is run.own_calls run.are k hider front back place t is))
-      (λ stays q reads.
-      let o = run-options run k hider in
-      let f = its-run run k hider in
-      let both : exchanges k h ≡ exchanges k front ++ exchanges k back =
-      ap (exchanges k) place ∙ exchanges-both k front back in
-      no-flags-at-read o f.has f.follows_none (exchanges k front) (exchanges k back) q
-      (subst (MakesCalls (first_truss o)) both f.makes)
-      (subst (All IsCalm) both (calm-all (exchanges k h) (calm-from h [] [] (sym (append-nil h))))) stays reads)

@@ -1,4 +1,5 @@
-use Rattle.std.proofs.Common.{◌≡◌, ◌<◌, ℕ, Bool, true, false, IfOk, Ok, Err, None, Some, Option, List, [], Result, refl, sym, subst, ap, ◌∙◌}
+use Rattle.std.proofs.Common.{◌≡◌, ◌<◌, ℕ, Bool, true, false, IfOk, Ok, Err, None, Some, Option, List, [], Result, refl}
+use Rattle.std.proofs.Common.{sym, subst, ap, ◌∙◌}
 use Rattle.std.proofs.lemmas.Bool.{false≢true, or_right}
 use Rattle.std.proofs.lemmas.Option.{same_Some}
 use Rattle.pr_keeps.proofs.MessageLemmas.{message-edit}
@@ -15,12 +16,14 @@ use Rattle.pr_model.specs.ControlMessages.{tail_of}
 use Rattle.pr_model.specs.Lawful.{IsLawful}
 use Rattle.pr_model.specs.Messages.{at_process}
 use Rattle.pr_model.specs.Running.{with_directive, without_fault}
-use Rattle.pr_model.specs.State.{TracedControl, TracedLwp, TracedProcess, TracedState, TracedSystem, live_process, with_lwp}
+use Rattle.pr_model.specs.State.{TracedControl, TracedLwp, TracedProcess, TracedState, TracedSystem, live_process}
+use Rattle.pr_model.specs.State.{lwp_of, with_lwp}
 use Rattle.pr_model.specs.declared.calls.Call.{Call}
 use Rattle.pr_model.specs.declared.calls.Call.TheVariants as call
 use Rattle.pr_model.specs.declared.lwps.Phase.{Phase}
 use Rattle.pr_model.specs.declared.lwps.Phase.TheVariants.{Asleep, Entered, Exiting, Faulted, User}
 use Rattle.pr_num.specs.ById.{map_each}
+use Rattle.pr_num.specs.declared.faults.Flt.{Flt}
 use Rattle.pr_num.specs.Messages.{first_message, message_code, message_read, nth_word, operands, spelling}
 use Rattle.pr_num.specs.Spaces.{Space}
 use Rattle.pr_num.specs.Words.{word_bytes, word_of}
@@ -39,6 +42,7 @@ use Rattle.pr_function_hides.proofs.CopyLeft.{IsLeftSo, left-join, same-left}
 use Rattle.pr_function_hides.proofs.CopyOuts.{change-so, map-so}
 use Rattle.pr_function_hides.proofs.CopyRuns.{IsOut, fault-out}
 use Rattle.pr_function_hides.proofs.CopyTurns.{alike-clear}
+use Rattle.pr_function_hides.proofs.OwnFaults.{never-cleared}
 use Rattle.pr_function_hides.specs.Copying.{HasNoCopyGoing, IsNot}
 
 -- The messages by which truss leaves a process let no fork, vfork or exec of it go on, leave what is set on it, and let
@@ -88,15 +92,18 @@ record IsLeftLwp (l k : TracedLwp) : Type 0 where
   clear : HasNoCopyGoing l → HasNoCopyGoing k
   out : IsOut l → IsOut k
   stops : will_stop l ≡ true → will_stop k ≡ true
+  fault : (f : Flt) (a : ℕ) → k.phase ≡ Faulted f a → (l.phase ≡ Faulted f a) × (k.control.stop ≡ l.control.stop)
 
 same-lwp : (l : TracedLwp) → IsLeftLwp l l
-same-lwp l = record { clear = λ h. h; out = λ h. h; stops = λ h. h }
+same-lwp l = record { clear = λ h. h; out = λ h. h; stops = λ h. h; fault = λ f a at. (at, refl) }
 
 next-lwp : (l k j : TracedLwp) → IsLeftLwp l k → IsLeftLwp k j → IsLeftLwp l j
 next-lwp l k j a b = record {
   clear = λ h. b.clear (a.clear h);
   out = λ h. b.out (a.out h);
   stops = λ h. b.stops (a.stops h);
+  fault = λ f x at.
+      let two = b.fault f x at in let one = a.fault f x two.0 in (one.0, two.1 ∙ one.1);
 }
 
 directed-lwp : (l : TracedLwp) → IsLeftLwp l (with_directive l)
@@ -105,6 +112,7 @@ directed-lwp l = record {
   clear = λ h. alike-clear l _ refl refl h;
   out = λ h. h;
   stops = λ h. or_right (stands_still l) true refl;
+  fault = λ f a at. (at, refl);
 }
 
 -- an lwp at a fault is at no call
@@ -122,7 +130,12 @@ faultless-clear l h = by l.phase h
 
 faultless-lwp : (l : TracedLwp) → IsLeftLwp l (without_fault l)
 unfolding without_fault
-faultless-lwp l = record { clear = faultless-clear l; out = fault-out l; stops = λ h. h }
+faultless-lwp l = record {
+  clear = faultless-clear l;
+  out = fault-out l;
+  stops = λ h. h;
+  fault = λ f a at. absurd (never-cleared l f a at);
+}
 
 keeps-current : (m : Message) → is_leaving m ≡ true → clears_current m ≡ true → ⊥
 keeps-current message.Stop leaves clears = false≢true clears
@@ -164,6 +177,13 @@ module _ (p : TracedProcess) (f : TracedLwp → TracedLwp) (edited : (l : Traced
   abbrev Out : ℕ → TracedLwp → Type 0
   Out n l = IsOut l
 
+  -- where it is at a fault it was at it before, on the same stop
+  abbrev Was : ℕ → TracedLwp → Type 0
+  Was n k =
+      (g : Flt) (a : ℕ) → k.phase ≡ Faulted g a
+      → (l : TracedLwp)
+      × ((lwp_of p n ≡ Some l) × ((l.phase ≡ Faulted g a) × (k.control.stop ≡ l.control.stop)))
+
   lwp-clear : (but : Option ℕ) (n : ℕ) (l : TracedLwp) → IsClear but n l → IsClear but n (f l)
   lwp-clear but n l h other = let w = edited l in w.clear (h other)
 
@@ -172,6 +192,15 @@ module _ (p : TracedProcess) (f : TracedLwp → TracedLwp) (edited : (l : Traced
 
   lwp-stops : (n : ℕ) (l : TracedLwp) → will_stop l ≡ true → will_stop (f l) ≡ true
   lwp-stops n l h = let w = edited l in w.stops h
+
+  lwp-was : (n : ℕ) (l : TracedLwp) → Was n l → Was n (f l)
+  lwp-was n l h g a at =
+      let w = edited l in
+      let two = w.fault g a at in
+      let one = h g a two.0 in (one.0, (one.1.0, (one.1.1.0, two.1 ∙ one.1.1.1)))
+
+  was-there : (n : ℕ) (l : TracedLwp) → lwp_of p n ≡ Some l → Was n l
+  was-there n l there g a at = (l, (there, (at, refl)))
 
   one-left : (id : ℕ) → IsLeftSo p (with_lwp id f p)
   unfolding with_lwp
@@ -184,6 +213,7 @@ module _ (p : TracedProcess) (f : TracedLwp → TracedLwp) (edited : (l : Traced
     };
     out = λ all. record { each = change-so Out id f lwp-out p.lwps all.each };
     halting = λ all. record { each = change-so Stops id f lwp-stops p.lwps all.each };
+    faults = λ n k g a there at. change-so Was id f lwp-was p.lwps was-there n k there g a at;
   }
 
   each-left : IsLeftSo p (record p { lwps = map_each f p.lwps })
@@ -196,6 +226,7 @@ module _ (p : TracedProcess) (f : TracedLwp → TracedLwp) (edited : (l : Traced
     };
     out = λ all. record { each = map-so Out f lwp-out p.lwps all.each };
     halting = λ all. record { each = map-so Stops f lwp-stops p.lwps all.each };
+    faults = λ n k g a there at. map-so Was f lwp-was p.lwps was-there n k there g a at;
   }
 
 -- its memory is written
@@ -207,6 +238,7 @@ written-left p space = record {
   clear = λ but all. record { each = λ n l other there. all.each n l other there };
   out = λ all. record { each = λ n l there. all.each n l there };
   halting = λ all. record { each = λ n l there. all.each n l there };
+  faults = λ n k f a there at. (k, (there, (at, refl)));
 }
 
 sets-none : {m : Message} {c d : TracedControl} → ControlEdit m c d → is_leaving m ≡ true → ⊥

@@ -1,4 +1,4 @@
-use Rattle.std.proofs.Common.{◌≡◌, ℕ, true, false, Option, Some, None, refl, sym, subst, ap, ◌∙◌, inl, inr}
+use Rattle.std.proofs.Common.{◌≡◌, ℕ, true, Option, Some, None, refl, sym, subst, ap, ◌∙◌, inl, inr}
 use Rattle.std.proofs.lemmas.Bool.{cases_Bool, false≢true}
 use Rattle.std.proofs.lemmas.Option.{same_Some}
 use Rattle.pr_line.specs.declared.options.Options.{Options}
@@ -21,7 +21,9 @@ use Rattle.pr_function_hides.proofs.CopyOuts.{HaveNoCopyBegun, alone-out, haltin
 use Rattle.pr_function_hides.proofs.CopySets.{traced-stops}
 use Rattle.pr_function_hides.proofs.CopyTurns.{alone-clear, turn-clear, turn-makes-none}
 use Rattle.pr_function_hides.proofs.FilesWalk.{SameFiles, same-join}
-use Rattle.pr_function_hides.specs.Copying.{CopiesStand, HaveNoCopyGoing, IsEmpty, IsLifted, PlantsNone, StopsAtCopies, bare, makes_copy, none_goes, one_goes}
+use Rattle.pr_function_hides.proofs.OwnFaults.{FaultsStay, alone-old, faults-join, faults-old, faults-same}
+use Rattle.pr_function_hides.specs.Copying.{CopiesStand, HaveNoCopyGoing, IsEmpty, IsLifted, PlantsNone, StopsAtCopies}
+use Rattle.pr_function_hides.specs.Copying.{bare, makes_copy, none_goes, one_goes}
 
 -- How the forks, vforks and execs of a process stand that truss leaves, or has still to leave.
 
@@ -135,13 +137,15 @@ module _ (k : ℕ) (o : Options) (s : TracedState) where
 
 -- ---- a process that is not run
 
--- what is set on it is the same, it goes on to stop, and where no such call of it goes on none does later
+-- What is set on it is the same, it goes on to stop, and where no such call of it goes on none does later. An lwp of it
+-- that is at a fault was at it before, on the same stop.
 pub record IsLeftSo (p q : TracedProcess) : Type 0 where
   pub ended : q.ended ≡ p.ended
   pub control : q.control ≡ p.control
   pub clear : (but : Option ℕ) → HaveNoCopyGoing but p → HaveNoCopyGoing but q
   pub out : HaveNoCopyBegun p → HaveNoCopyBegun q
   pub halting : IsHalting p → IsHalting q
+  pub faults : FaultsStay p q
 
 pub same-left : (p q : TracedProcess) → q ≡ p → IsLeftSo p q
 same-left p q same = record {
@@ -150,6 +154,7 @@ same-left p q same = record {
   clear = λ but all. subst (HaveNoCopyGoing but) (sym same) all;
   out = λ all. subst HaveNoCopyBegun (sym same) all;
   halting = λ all. subst IsHalting (sym same) all;
+  faults = subst (FaultsStay p) (sym same) (faults-same p);
 }
 
 pub left-join : (p q r : TracedProcess) → IsLeftSo p q → IsLeftSo q r → IsLeftSo p r
@@ -159,6 +164,7 @@ left-join p q r a b = record {
   clear = λ but all. b.clear but (a.clear but all);
   out = λ all. b.out (a.out all);
   halting = λ all. b.halting (a.halting all);
+  faults = faults-join p q r a.faults b.faults;
 }
 
 -- others leave it alone
@@ -169,10 +175,11 @@ alone-left p q alone = record {
   clear = λ but all. alone-clear but p q alone all;
   out = λ all. alone-out p q alone all;
   halting = λ all. alone-halting p q alone all;
+  faults = faults-old p q (alone-old p q alone);
 }
 
 module _ (o : Options) (m : Marks) (p q : TracedProcess) (w : IsLeftSo p q) where
-  left-copies : CopiesStand m p → CopiesStand m q
+  pub left-copies : CopiesStand m p → CopiesStand m q
   left-copies (none_goes all) = none_goes (w.clear None all)
   left-copies (one_goes id lifted all) = one_goes id lifted (w.clear (Some id) all)
   left-copies (bare lifted none) = bare lifted none
@@ -198,7 +205,7 @@ module _ (o : Options) (m : Marks) (s : TracedSystem) (pid : ℕ) (p : TracedPro
   turn-finds-none makes (traces_still traces (bare lifted none)) = lifted.none_planted
 
   module _ (q : TracedProcess) (later : live_process t.system pid ≡ Some q) where
-    traces-turn : TracesAll o p.control → TracesAll o q.control
+    pub traces-turn : TracesAll o p.control → TracesAll o q.control
     traces-turn h =
         let same = turn-settings s pid p own t lawful live turn q later in
         let stops = h.stops in
@@ -211,7 +218,7 @@ module _ (o : Options) (m : Marks) (s : TracedSystem) (pid : ℕ) (p : TracedPro
     clear-turn : (but : Option ℕ) → StopsAtCopies p.control → HaveNoCopyGoing but p → HaveNoCopyGoing but q
     clear-turn but stops all = turn-clear s pid p own t lawful live turn but all stops q later
 
-    copies-turn : StopsAtCopies p.control → CopiesStand m p → CopiesStand m q
+    pub copies-turn : StopsAtCopies p.control → CopiesStand m p → CopiesStand m q
     copies-turn stops (none_goes all) = none_goes (clear-turn None stops all)
     copies-turn stops (one_goes id lifted all) = one_goes id lifted (clear-turn (Some id) stops all)
     copies-turn stops (bare lifted none) = bare lifted none

@@ -53,7 +53,7 @@ pub record IsOf (p : TracedProcess) (es : List (ℕ × TracedLwp)) (l : LwpStatu
   pub there : under id es ≡ Some lwp
   pub is : lwpstatus_of p id lwp ≡ l
 
-first-of : (p : TracedProcess) (low : ℕ) (es : List (ℕ × TracedLwp)) → rises_from low es ≡ true → (l : LwpStatus)
+pub first-of : (p : TracedProcess) (low : ℕ) (es : List (ℕ × TracedLwp)) → rises_from low es ≡ true → (l : LwpStatus)
     → slice_get (filter is_on_event (statuses_of_lwps p es)) 0 ≡ Some l → IsOf p es l
 first-of p low [] rises l is = absurd (none-some l is)
 first-of p low (e ∷ es) rises l is =

@@ -1,4 +1,5 @@
-use Rattle.std.proofs.Common.{◌≡◌, ◌≢◌, ◌<◌, ◌||◌, ◌-◌, ◌∷◌, [], ◌++◌, ℕ, zero, suc, Bool, true, false, cond, is_some, nat_lt, Option, Some, None, List, length, refl, sym, subst, ap, ◌∙◌, arith}
+use Rattle.std.proofs.Common.{◌≡◌, ◌≢◌, ◌<◌, ◌||◌, ◌-◌, ◌∷◌, [], ◌++◌, ℕ, zero, suc, Bool, true, false, cond, is_some}
+use Rattle.std.proofs.Common.{nat_lt, Option, Some, None, List, length, refl, sym, subst, ap, ◌∙◌, arith}
 use Rattle.std.proofs.lemmas.Bool.{false≢true, ne_eqb}
 use Rattle.std.proofs.lemmas.List.{get_or_push}
 use Rattle.std.proofs.lemmas.Option.{same_Some}
@@ -22,17 +23,21 @@ use Rattle.pr_num.specs.declared.errnos.Errno.{Errno}
 use Rattle.pr_num.specs.declared.errnos.Errno.TheVariants.{Noent}
 use Rattle.pr_num.specs.declared.messages.Message.TheVariants as message
 use Rattle.pr_report_laws.proofs.Invariant.StandLemmas.{Each, EachBut, but-append, but-set, each-set}
-use Rattle.pr_report_laws.proofs.Machine.ControlLaws.{entries-read, exits-read, faults-read, follow-reads, run-reads, signals-read, wait-stays}
+use Rattle.pr_report_laws.proofs.Machine.ControlLaws.{entries-read, exits-read, faults-read, follow-reads, run-reads}
+use Rattle.pr_report_laws.proofs.Machine.ControlLaws.{signals-read, wait-stays}
 use Rattle.pr_report_laws.proofs.Machine.RunLaws.{run-live, run-quiet, run-waits}
 use Rattle.pr_report_laws.proofs.Machine.StoppedLaws.{waits-stopped}
 use Rattle.pr_report_laws.specs.AtBirth.{met_in}
 use Rattle.pr_truss.specs.Asides.{marks_at, patching, with_aside, with_lifts}
 use Rattle.pr_truss.specs.FunctionCalls.{function_call_of, with_copying}
-use Rattle.pr_truss.specs.FunctionFeeding.{with_function_step_answered, with_functions_begun, with_next_function, with_refused_opening}
+use Rattle.pr_truss.specs.FunctionFeeding.{with_function_step_answered, with_functions_begun, with_next_function}
+use Rattle.pr_truss.specs.FunctionFeeding.{with_refused_opening}
 use Rattle.pr_truss.specs.Marks.{first_function, no_functions, no_marks}
 use Rattle.pr_truss.specs.Messages.{message_call, traced_entries, traced_exits}
 use Rattle.pr_truss.specs.NextCalls.{call_of, opening_call}
-use Rattle.pr_truss.specs.Openings.{learnt, pid_in, step_after, with_control, with_control_answered, with_refused_control, with_refused_start, with_refused_step, with_start_answered, with_step_done}
+use Rattle.pr_truss.specs.Openings.{learnt, pid_in, step_after, with_control, with_control_answered}
+use Rattle.pr_truss.specs.Openings.{with_refused_control, with_refused_start, with_refused_step, with_start_answered}
+use Rattle.pr_truss.specs.Openings.{with_step_done}
 use Rattle.pr_truss.specs.Processes.{newly_traced}
 use Rattle.pr_truss.specs.Records.{event_stops}
 use Rattle.pr_truss.specs.Replies.{answer_of}
@@ -59,11 +64,16 @@ use Rattle.pr_function_laws.proofs.StoodCalls.{BeginLeavingLwps, KeepsLwps, leav
 use Rattle.pr_function_laws.specs.OneEvent.{unmet}
 use Rattle.pr_function_laws.specs.Stretches.{acts_by}
 use Rattle.pr_function_hides.proofs.CopyActs.{lwps-counted-now}
-use Rattle.pr_function_hides.proofs.CopyFeeds.{IsNext, IsRestedSo, all-rest, but-one, going-next, opening-next, opens-of, rests-of}
+use Rattle.pr_function_hides.proofs.CopyFeeds.{IsNext, IsRestedSo, all-rest, but-one, going-next, opening-next}
+use Rattle.pr_function_hides.proofs.CopyFeeds.{opens-of, rests-of}
 use Rattle.pr_function_hides.proofs.CopyForeign.{opening-halts, opening-stands, opens-at}
 use Rattle.pr_function_hides.proofs.CopyOuts.{HaveNoCopyBegun, out-clear, run-out}
-use Rattle.pr_function_hides.proofs.CopyOwn.{OwnCall, control-away, has-control, is-off, is-unfollowed, later, others-rested, quiet-away, same-lwps, same-state, stood-there}
-use Rattle.pr_function_hides.proofs.CopyPlaces.{ClosesSo, CopiesSo, FitsSo, IsBareMarks, IsClean, IsCountedOut, IsRunFlags, OpensSo, RestsSo, StandingSo, closes_so, counted, counted-lwps, early, halted, is_about, is_early, no_flags, opens_so, rests_new, rests_old, stopped, unplanted}
+use Rattle.pr_function_hides.proofs.CopyOwn.{OwnCall, control-away, has-control, is-off, is-unfollowed, later}
+use Rattle.pr_function_hides.proofs.CopyOwn.{others-rested, quiet-away, same-lwps, same-state, stood-there}
+use Rattle.pr_function_hides.proofs.CopyPlaces.{ClosesSo, CopiesSo, FitsSo, IsBareMarks, IsClean, IsCountedOut}
+use Rattle.pr_function_hides.proofs.CopyPlaces.{IsRunFlags, OpensSo, RestsSo, StandingSo, closes_so, counted}
+use Rattle.pr_function_hides.proofs.CopyPlaces.{counted-lwps, early, halted, is_about, is_early, no_flags, opens_so}
+use Rattle.pr_function_hides.proofs.CopyPlaces.{rests_new, rests_old, stopped, unplanted}
 use Rattle.pr_function_hides.proofs.FunctionSets.{first-has, has-none}
 use Rattle.pr_function_hides.proofs.PlantedReplies.{learnt-marks, learnt-pid}
 use Rattle.pr_function_hides.proofs.TreatedEvents.{first-of-none}
@@ -82,7 +92,7 @@ bare-marks = record {
 
 -- ---- where an opening has come
 
-early-marks : (step : OpeningStep) (v : Traced) (p : TracedProcess) → is_early step ≡ true → OpensSo step v p
+pub early-marks : (step : OpeningStep) (v : Traced) (p : TracedProcess) → is_early step ≡ true → OpensSo step v p
     → IsBareMarks v.marks
 early-marks step v p is (early at m) = m
 early-marks step v p is (stopped at out) = absurd (false≢true (sym (ap is_early at) ∙ is))

@@ -30,8 +30,8 @@ use Rattle.pr_truss.specs.declared.replies.Answer.TheVariants.{Interrupted}
 abbrev pub Any : Traced → Type 0
 Any v = Unit {0}
 
-pub any-alike : (u v : Traced) → SameFiles u v → v.marks ≡ u.marks → Any u → Any v
-any-alike u v same marks any = tt
+pub any-alike : (u v : Traced) → SameFiles u v → v.attached ≡ u.attached → v.marks ≡ u.marks → Any u → Any v
+any-alike u v same attached marks any = tt
 
 -- where truss stood so when it was interrupted: the process has its old stops still, and truss knows its file of the
 -- lwps
@@ -39,8 +39,10 @@ pub record IsStill (t : TrussState) (v : Traced) : Type 0 where
   pub old : HasOld t v.pid → v.old ≢ 0
   pub known : IsThere v.lstatus
 
-pub as-still : (t : TrussState) (u v : Traced) → SameFiles u v → v.old ≡ u.old → IsStill t u → IsStill t v
-as-still t u v same old it = record {
+pub as-still : (t : TrussState) (u v : Traced) → SameFiles u v → v.attached ≡ u.attached → v.old ≡ u.old
+    → v.seen ≡ u.seen → IsStill t u
+    → IsStill t v
+as-still t u v same attached old seen it = record {
   old = λ has none. it.old (subst (HasOld t) same.pid has) (sym old ∙ none);
   known = let x = it.known in record { number = x.number; is = same.lstatus ∙ x.is };
 }
@@ -73,7 +75,7 @@ still-fed t u r has follow w =
 
 -- ---- the first interrupt
 
-may-can : (c : Call) → may_wait c ≡ true → can_wait c ≡ true
+pub may-can : (c : Call) → may_wait c ≡ true → can_wait c ≡ true
 may-can (call.CtlWait handle until bytes) waits = refl
 may-can (call.Poll handles) waits = refl
 may-can (call.Until moment) waits = refl
@@ -108,6 +110,8 @@ module _ (t : TrussState) (known : Kept Knows t) (c : Call) (r : Reply) (has : h
         (sym (next-beside t.options has t refl) ∙ next) in
         begins-left Any any-alike (IsStill t) (as-still t) t r known.follow has apart (λ q within. tt)
         (λ q within.
+        record { old = has-old q within; known = let w = all-known at.1 q within in w.lstatus })
+        (λ q step opens within.
         record { old = has-old q within; known = let w = all-known at.1 q within in w.lstatus }) interrupted c
         (may-can c waits) (stage-within Knows t.traced t.stage known.stage)
         (aside-within Knows t.traced t.aside known.beside) next

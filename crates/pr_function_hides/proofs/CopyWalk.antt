@@ -1,4 +1,5 @@
-use Rattle.std.proofs.Common.{◌≡◌, ◌≢◌, ◌<◌, ◌++◌, ℕ, true, Option, Some, None, List, [], ◌∷◌, length, append-nil, append_assoc, refl, sym, subst, ap, ◌∙◌, arith}
+use Rattle.std.proofs.Common.{◌≡◌, ◌≢◌, ◌<◌, ◌++◌, ℕ, true, Option, Some, None, List, [], ◌∷◌, length, append-nil}
+use Rattle.std.proofs.Common.{append_assoc, refl, sym, subst, ap, ◌∙◌, arith}
 use Rattle.std.proofs.lemmas.List.Elements.{All-cons, All-head, All-nil, All-tail}
 use Rattle.std.proofs.lemmas.Option.{same_Some}
 use Rattle.std.specs.List.{All, cons_option}
@@ -45,7 +46,7 @@ use Rattle.pr_function_laws.proofs.KeptPlaces.{Kept}
 use Rattle.pr_function_laws.proofs.OpenedCalls.{control-fresh}
 use Rattle.pr_function_laws.proofs.OpenedLaws.{Goes, before-goes, bytes-front, calls-rest}
 use Rattle.pr_function_laws.specs.Opened.{IsFunctionRun, WasNotInterrupted, functions_at}
-use Rattle.pr_function_laws.specs.Runs.{MakesCalls, functions_after}
+use Rattle.pr_function_laws.specs.Runs.{MakesFunctionCalls, functions_after}
 use Rattle.pr_function_hides.proofs.CallFacts.{legal-here}
 use Rattle.pr_function_hides.proofs.CopyCalls.{call-copies}
 use Rattle.pr_function_hides.proofs.CopyEnds.{copy-finds-lifted, gone-there}
@@ -55,6 +56,7 @@ use Rattle.pr_function_hides.proofs.CopyPlaces.{CopiesSo}
 use Rattle.pr_function_hides.proofs.CopyOuts.{none-begun}
 use Rattle.pr_function_hides.proofs.CopyReading.{read-lives, replaced-lifted}
 use Rattle.pr_function_hides.proofs.SleptHistories.{history-awake}
+use Rattle.pr_function_hides.proofs.YoungOpenings.{Young, young-fed, young-first}
 use Rattle.pr_function_laws.proofs.KnownFiles.{Knows, known-fed, known-first}
 use Rattle.pr_function_hides.specs.Copying.{IsEmpty, IsLifted, makes_copy}
 use Rattle.pr_function_hides.specs.LiftedCopies.{OpensOutOfCopies}
@@ -78,6 +80,7 @@ module _ (n k : ℕ) (o : Options) (s : TracedState) (h : List Entry) (run : IsF
   -- what is so after some entries
   pub record StandsAfter (front : List Entry) : Type 0 where
     pub known : Kept Knows (truss front)
+    pub young : Kept Young (truss front)
     pub copies : CopiesSo (truss front) (now front).system
 
   -- ---- before the first call
@@ -110,6 +113,8 @@ module _ (n k : ℕ) (o : Options) (s : TracedState) (h : List Entry) (run : IsF
   at-first = record {
     known = subst (λ xs. Kept Knows (functions_after (first_truss o) xs)) (sym (no-exchanges k))
         (known-first o run.follows_none);
+    young = subst (λ xs. Kept Young (functions_after (first_truss o) xs)) (sym (no-exchanges k))
+        (young-first o run.follows_none);
     copies = subst (λ xs. CopiesSo (functions_after (first_truss o) xs) s.system) (sym (no-exchanges k))
         (first-copies s.system);
   }
@@ -131,12 +136,13 @@ module _ (n k : ℕ) (o : Options) (s : TracedState) (h : List Entry) (run : IsF
 
     pub next-is : (x : Exchange) → exchange_of k e ≡ Some x → next_function_call_of (truss front) ≡ Some x.call
     next-is x own =
-        let makes : MakesCalls (truss front) (exchanges k (e ∷ back)) =
+        let makes : MakesFunctionCalls (truss front) (exchanges k (e ∷ back)) =
         calls-rest (first_truss o) (exchanges k front) (exchanges k (e ∷ back))
-        (subst (MakesCalls (first_truss o)) (ap (exchanges k) is ∙ exchanges-both k front (e ∷ back)) run.makes) in
-        let both : MakesCalls (truss front) (x ∷ exchanges k back) =
-        subst (λ y. MakesCalls (truss front) (cons_option y (exchanges k back))) own
-        (subst (MakesCalls (truss front)) (cons-exchanges k e back) makes) in both.0
+        (subst (MakesFunctionCalls (first_truss o))
+        (ap (exchanges k) is ∙ exchanges-both k front (e ∷ back)) run.makes) in
+        let both : MakesFunctionCalls (truss front) (x ∷ exchanges k back) =
+        subst (λ y. MakesFunctionCalls (truss front) (cons_option y (exchanges k back))) own
+        (subst (MakesFunctionCalls (truss front)) (cons-exchanges k e back) makes) in both.0
 
     pub own-answer : (x : Exchange) → exchange_of k e ≡ Some x → IsOwnEntry k (now front) e x
     own-answer x own = own-entry n k (now front) e x legal-now own
@@ -203,7 +209,8 @@ module _ (n k : ℕ) (o : Options) (s : TracedState) (h : List Entry) (run : IsF
 
       own-after : StandsAfter front → (x : Exchange) → exchange_of k e ≡ Some x → WasNotInterrupted x
           → Kept Knows (fed_functions (truss front) x.reply)
-          × CopiesSo (fed_functions (truss front) x.reply) (now (front ++ e ∷ [])).system
+          × (Kept Young (fed_functions (truss front) x.reply)
+          × CopiesSo (fed_functions (truss front) x.reply) (now (front ++ e ∷ [])).system)
       own-after st x own was =
           let it = own-answer x own in
           let w = its-call st x own was in
@@ -215,10 +222,14 @@ module _ (n k : ℕ) (o : Options) (s : TracedState) (h : List Entry) (run : IsF
           pid at beside has-now (next-is x own) (ap answer_of it.replied ∙ accepted) in (
             known-fed (truss front) x.reply (λ i. quiet-reply x own was (ap answer_of it.replied ∙ i)) st.known fresh
                 has-now,
-            subst (λ (u : TracedState). CopiesSo (fed_functions (truss front) x.reply) u.system)
-                (it.later ∙ sym (state_after-push s front e))
-                (subst (λ y. CopiesSo (fed_functions (truss front) y) it.answer.state.system) it.replied
-                (call-copies w (next-is x own))),
+            (
+              young-fed (truss front) x.reply (λ i. quiet-reply x own was (ap answer_of it.replied ∙ i)) st.young fresh
+                  has-now,
+              subst (λ (u : TracedState). CopiesSo (fed_functions (truss front) x.reply) u.system)
+                  (it.later ∙ sym (state_after-push s front e))
+                  (subst (λ y. CopiesSo (fed_functions (truss front) y) it.answer.state.system) it.replied
+                  (call-copies w (next-is x own))),
+            ),
           )
 
       -- a call of its own was not interrupted
@@ -236,6 +247,7 @@ module _ (n k : ℕ) (o : Options) (s : TracedState) (h : List Entry) (run : IsF
           by : (x : Option Exchange) → exchange_of k e ≡ x → StandsAfter (front ++ e ∷ [])
           by None own = record {
             known = subst (Kept Knows) (sym (truss-then None own)) st.known;
+            young = subst (Kept Young) (sym (truss-then None own)) st.young;
             copies = subst (λ (u : TrussState). CopiesSo u (now (front ++ e ∷ [])).system) (sym (truss-then None own))
                 (subst (λ (u : TracedState). CopiesSo (truss front) u.system) (sym (state_after-push s front e))
                 (foreign-copies n k o (truss front) (now front) goes e legal-now own st.copies));
@@ -245,8 +257,9 @@ module _ (n k : ℕ) (o : Options) (s : TracedState) (h : List Entry) (run : IsF
               let both = own-after st x own was in
               record {
                 known = subst (Kept Knows) (sym (truss-then (Some x) own)) both.0;
+                young = subst (Kept Young) (sym (truss-then (Some x) own)) both.1.0;
                 copies = subst (λ (u : TrussState). CopiesSo u (now (front ++ e ∷ [])).system)
-                    (sym (truss-then (Some x) own)) both.1;
+                    (sym (truss-then (Some x) own)) both.1.1;
               }
 
   -- ---- all of them

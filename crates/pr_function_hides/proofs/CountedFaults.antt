@@ -1,10 +1,13 @@
-use Rattle.std.proofs.Common.{◌≡◌, ◌≢◌, ◌⊎◌, ◌&&◌, ℕ, Bool, true, false, not, cond, is_some, Option, Some, None, List, [], refl, sym, subst, ap, ◌∙◌, inl, inr}
+use Rattle.std.proofs.Common.{◌≡◌, ◌≢◌, ◌⊎◌, ◌&&◌, ℕ, Bool, true, false, not, cond, is_some, Option, Some, None, List}
+use Rattle.std.proofs.Common.{[], refl, sym, subst, ap, ◌∙◌, inl, inr}
 use Rattle.std.proofs.lemmas.Bool.{and_parts, cases_Bool, cases_eq, eq-eqb, false≢true, ne_eqb}
 use Rattle.pr_function_hides.proofs.CalledCovers.{IsCalled, called-is, sent, untouched}
 use Rattle.pr_function_hides.proofs.OwnFaults.{CountLess}
 use Rattle.pr_hidden.proofs.CoverLemmas.{cover-other, cover-own}
 use Rattle.pr_hidden.specs.Covers.{Cover, Covers, Patch, keeps_lwp, with_cover}
-use Rattle.pr_hidden.specs.Hiders.{Hiders, cover_sent, cover_turned, covers_called, covers_closed, covers_turned, exits, finished, has_hold, hides, is_at_patch, is_ctl, is_directed, is_own, is_own_fault, lwp_at, lwp_in, patch_at, replaces_memory, without_replaced}
+use Rattle.pr_hidden.specs.Hiders.{Hiders, cover_sent, cover_turned, covers_called, covers_closed, covers_turned, exits}
+use Rattle.pr_hidden.specs.Hiders.{finished, has_hold, hides, is_at_patch, is_ctl, is_directed, is_own, is_own_fault}
+use Rattle.pr_hidden.specs.Hiders.{lwp_at, lwp_in, patch_at, replaces_memory, without_replaced}
 use Rattle.pr_hidden.specs.Hiding.{with_fault, with_own_agent, with_patches}
 use Rattle.pr_model.specs.ControlMessages.{tail_of}
 use Rattle.pr_model.specs.Handles.{handle_of}
@@ -263,6 +266,22 @@ module _ (who : Hiders) (covers : Covers) (s : TracedState) (acting id : ℕ) (d
       by (Faulted Bpt) same it = breaks same (and_parts held at it).1
       by (Faulted Trace) same it = traces same
       by _ same it = absurd (false≢true it)
+
+  -- in a process of which one who hides has the control file open
+  pub own-held : is_own who covers s acting id did ≡ true → has_hold who s.opens acting ≡ true
+  unfolding is_own
+  own-held is = by did is
+    where
+      held : Bool
+      held = has_hold who s.opens acting
+
+      at : Bool
+      at = is_at_patch (covers acting).patches (lwp_at s.system acting id)
+
+      by : (d : Did) → is_own_fault held at d ≡ true → held ≡ true
+      by (Faulted Bpt) it = (and_parts held at it).0
+      by (Faulted Trace) it = it
+      by _ it = absurd (false≢true it)
 
   pub patch-there : (p : TracedProcess) (l : TracedLwp) → live_process s.system acting ≡ Some p
       → lwp_of p id ≡ Some l → is_at_patch (covers acting).patches (lwp_at s.system acting id) ≡ true → IsAtPatch l

@@ -49,8 +49,8 @@ use Rattle.pr_truss_laws.proofs.FedSteps.{opens-next}
 use Rattle.pr_truss_laws.proofs.HeldLemmas.{at_place, set-at}
 
 -- What is so of each function that truss has planted or lifted, or is to plant or to lift, is so of each one after a
--- reply: it comes to none but those whose code it has just read. So it is of another thing and each function that it
--- looks at.
+-- reply: it comes to none but those that it has just planted. So it is of another thing and each function that it is to
+-- plant, since it has read its code; and of a third one and each that it looks at.
 
 -- of the marks of each process; but of one whose file is closed only where another one is left
 abbrev pub StageSo : (ℕ → Marks → Type 0) → TrussState → Stage → Type 0
@@ -139,37 +139,46 @@ module _ (P : ℕ → ℕ → Type 0) where
   abbrev pub BeforeAside : TrussState → Aside → Type 0
   BeforeAside t aside = BesideSo MarksIn t aside
 
-  -- Of each function that truss looks at, or is to plant, in the process of an id another thing is so.
-  module _ (R : ℕ → ℕ → Type 0) where
-    abbrev pub AsideSo : List Traced → Aside → Type 0
-    AsideSo ts (Reading q i) = R (at_place ts q).pid i
-    AsideSo ts (Planting q i) = P (at_place ts q).pid i × R (at_place ts q).pid i
-    AsideSo ts (Patching q plants lifts clear) = AllIn (at_place ts q).pid plants × AllIn (at_place ts q).pid lifts
-    AsideSo ts _ = Unit {0}
+  -- Of each function that truss is to plant for the first time in the process of an id another thing is so; and a third
+  -- one of each that it looks at there, or is to plant so.
+  abbrev pub AsideSo : (ℕ → ℕ → Type 0) → (ℕ → ℕ → Type 0) → List Traced → Aside → Type 0
+  AsideSo N R ts (Reading q i) = R (at_place ts q).pid i
+  AsideSo N R ts (Planting q i) = N (at_place ts q).pid i × R (at_place ts q).pid i
+  AsideSo N R ts (Patching q plants lifts clear) = AllIn (at_place ts q).pid plants × AllIn (at_place ts q).pid lifts
+  AsideSo N R ts _ = Unit {0}
 
+  -- where nothing is asked of those that it is to plant so
+  pub without-next : (N R : ℕ → ℕ → Type 0) (ts : List Traced) (aside : Aside) → AsideSo N R ts aside
+      → AsideSo (λ pid i. Unit {0}) R ts aside
+  without-next N R ts (Reading q i) it = it
+  without-next N R ts (Planting q i) it = (tt, it.1)
+  without-next N R ts (Patching q plants lifts clear) it = it
+  without-next N R ts _ it = tt
+
+  module _ (N R : ℕ → ℕ → Type 0) where
     -- ---- what is done before the call of the stage
 
     patching-in : (ts : List Traced) (q : ℕ) (plants lifts : List Bool) (clear : Bool)
         → AllIn (at_place ts q).pid plants → AllIn (at_place ts q).pid lifts
-        → AsideSo ts (patching q plants lifts clear)
+        → AsideSo N R ts (patching q plants lifts clear)
     unfolding patching
     patching-in ts q plants lifts clear one two =
         elim (is_some (first_function plants) || is_some (first_function lifts) || clear)
-        as (λ b. AsideSo ts (cond b (Patching q plants lifts clear) Nothing)) [ true ↦ (one, two) | false ↦ tt ]
+        as (λ b. AsideSo N R ts (cond b (Patching q plants lifts clear) Nothing)) [ true ↦ (one, two) | false ↦ tt ]
 
-    idle-in : (v : TrussState) → v.aside ≡ Nothing → AsideSo v.traced v.aside
-    idle-in v idle = subst (AsideSo v.traced) (sym idle) tt
+    idle-in : (v : TrussState) → v.aside ≡ Nothing → AsideSo N R v.traced v.aside
+    idle-in v idle = subst (AsideSo N R v.traced) (sym idle) tt
 
     next-in : (u : TrussState) (q i : ℕ) → R (traced_at u q).pid i
-        → AsideSo (with_next_function u q i).traced (with_next_function u q i).aside
+        → AsideSo N R (with_next_function u q i).traced (with_next_function u q i).aside
     unfolding with_next_function
     next-in u q i it =
         elim (nat_lt i (length u.options.functions))
         as (λ b. let v : TrussState = cond b (with_aside u (Reading q i)) (with_aside u Nothing) in
-        AsideSo v.traced v.aside) [ true ↦ it | false ↦ tt ]
+        AsideSo N R v.traced v.aside) [ true ↦ it | false ↦ tt ]
 
     refused-in : (u : TrussState) (q : ℕ) (errno : Errno) → AllIn (traced_at u q).pid (marks_at u q).planted
-        → AsideSo (with_refused_opening u q errno).traced (with_refused_opening u q errno).aside
+        → AsideSo N R (with_refused_opening u q errno).traced (with_refused_opening u q errno).aside
     unfolding with_refused_opening with_refused_step with_lifts
     refused-in u q errno planted =
         patching-in u.traced q no_functions (marks_at u q).planted false (none-in (traced_at u q).pid) planted
@@ -179,19 +188,20 @@ module _ (P : ℕ → ℕ → Type 0) where
     -- all of it
     pub record TrussSo (t : TrussState) : Type 0 where
       pub marks : Each (So MarksIn) t.traced
-      pub aside : AsideSo t.traced t.aside
+      pub aside : AsideSo N R t.traced t.aside
 
     module _ (t : TrussState) (r : Reply) (off : t.leaving ≡ false) (follow : t.options.follow ≡ false)
         (at_stage : IsWithin (length t.traced) t.stage) (at_aside : IsBeside (length t.traced) t.aside)
         (calm : answer_of r ≢ Interrupted) (has : has_functions t.options ≡ true) (before : BeforeAside t t.aside)
-        (there : AsideSo t.traced t.aside)
+        (there : AsideSo (λ pid i. Unit {0}) R t.traced t.aside)
         (learns : (q i : ℕ) → t.aside ≡ Reading q i → answer_of r ≡ Accepted
-        → is_code (code_of t.options i) (bytes_in r) ≡ true → P (traced_at t q).pid i)
+        → is_code (code_of t.options i) (bytes_in r) ≡ true → N (traced_at t q).pid i)
         (at_start : (pid : ℕ) → R pid 0)
         (after_other : (q i : ℕ) → t.aside ≡ Reading q i → answer_of r ≡ Accepted
         → is_code (code_of t.options i) (bytes_in r) ≡ false → R (traced_at t q).pid (i + 1))
         (after_plant : (q i : ℕ) → t.aside ≡ Planting q i → answer_of r ≡ Accepted
-        → R (traced_at t q).pid (i + 1)) where
+        → R (traced_at t q).pid (i + 1))
+        (grants : (q i : ℕ) → t.aside ≡ Planting q i → answer_of r ≡ Accepted → P (traced_at t q).pid i) where
       abbrev PidAt : ℕ → ℕ
       PidAt q = (traced_at t q).pid
 
@@ -220,7 +230,7 @@ module _ (P : ℕ → ℕ → Type 0) where
       stage-marks _ within w = w
 
       planted-in : (q : ℕ) (a : Answer) (plant lift : Option ℕ) → MarksIn (PidAt q) (marks_at t q)
-          → ((i : ℕ) → plant ≡ Some i → P (PidAt q) i)
+          → ((i : ℕ) → plant ≡ Some i → a ≡ Accepted → P (PidAt q) i)
           → MarksIn (PidAt q) (record (marks_at t q) { planted = planted_after (marks_at t q).planted a plant lift })
       planted-in q a plant lift m here = record {
         planted = by a plant lift here;
@@ -231,9 +241,9 @@ module _ (P : ℕ → ℕ → Type 0) where
           set : List Bool
           set = (marks_at t q).planted
 
-          by : (a : Answer) (plant lift : Option ℕ) → ((i : ℕ) → plant ≡ Some i → P (PidAt q) i)
+          by : (a : Answer) (plant lift : Option ℕ) → ((i : ℕ) → plant ≡ Some i → a ≡ Accepted → P (PidAt q) i)
               → AllIn (PidAt q) (planted_after set a plant lift)
-          by Accepted (Some i) lift here = more-in (PidAt q) set i m.planted (here i refl)
+          by Accepted (Some i) lift here = more-in (PidAt q) set i m.planted (here i refl refl)
           by Interrupted (Some i) lift here = m.planted
           by Gone (Some i) lift here = m.planted
           by (Refused errno) (Some i) lift here = m.planted
@@ -246,29 +256,31 @@ module _ (P : ℕ → ℕ → Type 0) where
           by Gone None None here = m.planted
           by (Refused errno) None None here = m.planted
 
-      aside-marks : (aside : Aside) → IsBeside (length t.traced) aside → BeforeAside t aside
-          → AsideSo t.traced aside
+      aside-marks : (aside : Aside) → t.aside ≡ aside → IsBeside (length t.traced) aside → BeforeAside t aside
+          → AsideSo (λ pid i. Unit {0}) R t.traced aside
           → AfterAside MarksIn t r aside
-      aside-marks Nothing within w it = stage-marks t.stage at_stage w
-      aside-marks (Reading q i) within w it = w
-      aside-marks (Planting q i) within w it = (
+      aside-marks Nothing at within w it = stage-marks t.stage at_stage w
+      aside-marks (Reading q i) at within w it = w
+      aside-marks (Planting q i) at within w it = (
         each-but (So MarksIn) t.traced q w,
-        planted-in q (answer_of r) (Some i) None (w q within) (λ j is. subst (P (PidAt q)) (same_Some i j is) it.0),
+        planted-in q (answer_of r) (Some i) None (w q within)
+            (λ j is ok. subst (P (PidAt q)) (same_Some i j is) (grants q i at ok)),
       )
-      aside-marks (Patching q plants lifts clear) within w it = (
+      aside-marks (Patching q plants lifts clear) at within w it = (
         each-but (So MarksIn) t.traced q w,
         planted-in q (answer_of r) (first_function plants) (first_function lifts) (w q within)
-            (λ j is. it.0 j (first-has plants j is)),
+            (λ j is ok. it.0 j (first-has plants j is)),
       )
-      aside-marks _ within w it = absurd within
+      aside-marks _ at within w it = absurd within
 
       marks-later : Each (So MarksIn) (fed_functions t r).traced
-      marks-later = fed-so MarksIn t r off follow at_stage at_aside calm has (aside-marks t.aside at_aside before there)
+      marks-later = fed-so MarksIn t r off follow at_stage at_aside calm has
+          (aside-marks t.aside refl at_aside before there)
 
       -- ---- what is done next
 
       abbrev IsIn : TrussState → Type 0
-      IsIn v = AsideSo v.traced v.aside
+      IsIn v = AsideSo N R v.traced v.aside
 
       module _ (idle : t.aside ≡ Nothing) where
         plain-in : (stage : Stage) → t.stage ≡ stage → IsIn (with_reply t r stage)
@@ -291,7 +303,7 @@ module _ (P : ℕ → ℕ → Type 0) where
 
           patched-in : (l : LwpStatus) (e : FunctionEvent) (plants lifts : List Bool) → AllIn (PidAt q) plants
               → AllIn (PidAt q) lifts
-              → AsideSo (with_function_event t q l e).traced (patching q plants lifts false)
+              → AsideSo N R (with_function_event t q l e).traced (patching q plants lifts false)
           patched-in l e plants lifts one two =
               patching-in (with_function_event t q l e).traced q plants lifts false
               (subst (λ n. AllIn n plants) (sym (same-pid l e)) one)
@@ -436,7 +448,7 @@ module _ (P : ℕ → ℕ → Type 0) where
 
       -- after one of the patches, or after all
       after-in : (u : TrussState) (rest : Aside) (q : ℕ) (stage : Stage) (a : Answer) → a ≢ Interrupted
-          → u.aside ≡ Nothing → AsideSo u.traced rest → IsIn (after_patch u rest q stage a)
+          → u.aside ≡ Nothing → AsideSo N R u.traced rest → IsIn (after_patch u rest q stage a)
       unfolding after_patch with_pending_told
       after-in u rest q (Closing c OpenNext) a other idle it = it
       after-in u rest q (Closing c GoOn) Gone other idle it = idle-in (with_closing u q) idle
@@ -458,7 +470,7 @@ module _ (P : ℕ → ℕ → Type 0) where
             (set-at t.traced q (record (traced_at t q) { marks = record (marks_at t q) { planted = set } }) within)
 
         rest-in : (u : TrussState) (plants lifts : List Bool) (clear : Bool) → (traced_at u q).pid ≡ PidAt q
-            → AllIn (PidAt q) plants → AllIn (PidAt q) lifts → AsideSo u.traced (patching q plants lifts clear)
+            → AllIn (PidAt q) plants → AllIn (PidAt q) lifts → AsideSo N R u.traced (patching q plants lifts clear)
         rest-in u plants lifts clear same one two =
             patching-in u.traced q plants lifts clear (subst (λ n. AllIn n plants) (sym same) one)
             (subst (λ n. AllIn n lifts) (sym same) two)
@@ -486,7 +498,7 @@ module _ (P : ℕ → ℕ → Type 0) where
         first-in plants lifts clear a other one two None None = after-in idle_now Nothing q t.stage a other refl tt
 
       aside-in : (aside : Aside) → t.aside ≡ aside → IsBeside (length t.traced) aside → BeforeAside t aside
-          → AsideSo t.traced aside → IsIn (with_aside_answered t r aside)
+          → AsideSo (λ pid i. Unit {0}) R t.traced aside → IsIn (with_aside_answered t r aside)
       unfolding with_aside_answered with_patch_answered
       aside-in Nothing at within w it = stage-in at t.stage refl at_stage w
       aside-in (Reading q i) at within w it =
@@ -509,22 +521,22 @@ module _ (P : ℕ → ℕ → Type 0) where
 
 -- where nothing is asked of those that truss looks at
 abbrev pub AsideIn : (ℕ → ℕ → Type 0) → List Traced → Aside → Type 0
-AsideIn P = AsideSo P (λ pid i. Unit {0})
+AsideIn P = AsideSo P P (λ pid i. Unit {0})
 
 abbrev pub TrussIn : (ℕ → ℕ → Type 0) → TrussState → Type 0
-TrussIn P = TrussSo P (λ pid i. Unit {0})
+TrussIn P = TrussSo P P (λ pid i. Unit {0})
 
 -- ---- before its first call
 
 -- truss is to plant and to lift nothing
-pub first-so : (P R : ℕ → ℕ → Type 0) (o : Options) → TrussSo P R (first_truss o)
+pub first-so : (P N R : ℕ → ℕ → Type 0) (o : Options) → TrussSo P N R (first_truss o)
 unfolding first_truss
-first-so P R o = by-program o.program
+first-so P N R o = by-program o.program
   where
-    by-pid : (pid : _) → TrussSo P R (opening_or (begun o) (begun o) pid)
+    by-pid : (pid : _) → TrussSo P N R (opening_or (begun o) (begun o) pid)
     by-pid None = record { marks = λ q within. absurd (omega (arith, within)); aside = tt }
     by-pid (Some pid) = record { marks = λ q within. absurd (omega (arith, within)); aside = tt }
 
-    by-program : (program : _) → TrussSo P R (first_of_program o program)
+    by-program : (program : _) → TrussSo P N R (first_of_program o program)
     by-program None = by-pid (slice_get o.pids 0)
     by-program (Some program) = record { marks = λ q within. absurd (omega (arith, within)); aside = tt }

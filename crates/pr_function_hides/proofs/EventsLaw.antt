@@ -1,8 +1,6 @@
-use Rattle.std.proofs.Common.{◌≡◌, ◌++◌, ℕ, true, cond, Option, Some, None, List, [], ◌∷◌, append_assoc, refl, sym, subst, ap, ◌∙◌, inl, inr}
+use Rattle.std.proofs.Common.{◌≡◌, ◌++◌, ℕ, true, false, cond, Option, Some, None, List, [], ◌∷◌, refl, sym, subst, ap, ◌∙◌, inl, inr}
 use Rattle.std.proofs.lemmas.Bool.{cases_eq, eq-eqb, ne_eqb}
-use Rattle.std.proofs.lemmas.List.Elements.{All-cons, All-nil}
 use Rattle.std.specs.List.{All, cons_option, slice_get}
-use Rattle.pr_api.specs.Entries.{call_entry}
 use Rattle.pr_hidden.specs.Hiders.{Hiders, hides}
 use Rattle.pr_line.specs.declared.options.Options.{Options}
 use Rattle.pr_model.specs.Legal.{state_after}
@@ -13,28 +11,25 @@ use Rattle.pr_model.specs.declared.events.Actor.{Actor}
 use Rattle.pr_model.specs.declared.events.Actor.TheVariants.{Controller, Lwp, Clock}
 use Rattle.pr_model.specs.declared.events.Entry.{Entry}
 use Rattle.pr_reached.specs.ByteHistories.{HasBytes}
-use Rattle.pr_reached.specs.Reached.{IsReached}
 use Rattle.pr_report_laws.proofs.Files.WatchHistories.{cons-exchanges, no-exchanges}
 use Rattle.pr_tool_laws.proofs.ProtocolLemmas.{fed-other, fed-own}
-use Rattle.pr_tool_laws.specs.OwnCalls.{AreOwnCalls}
 use Rattle.pr_truss.specs.FunctionFeeding.{fed_functions}
 use Rattle.pr_truss.specs.Trusses.{TrussState, first_truss}
 use Rattle.pr_truss_laws.specs.Exchanges.{Exchange, exchange_in, exchange_of, exchanges}
 use Rattle.pr_world.specs.ControllerStates.{ControllerState, FnTruss}
 use Rattle.pr_world.specs.Controllers.{after_reply, with_fed}
 use Rattle.pr_world.specs.Protocol.{controllers_after, controllers_at}
+use Rattle.pr_function_laws.proofs.OpenedLaws.{before-goes, bytes-front}
 use Rattle.pr_function_laws.proofs.ToldLaws.{legal}
 use Rattle.pr_function_laws.specs.Opened.{IsFunctionRun, WasNotInterrupted, functions_at}
 use Rattle.pr_function_laws.specs.Runs.{functions_after, functions_on}
-use Rattle.pr_function_hides.specs.FunctionHiders.{AreTrusses}
-use Rattle.pr_function_hides.specs.TidyWrites.{AreUnbroken, AreUndisturbed, IsTrussAfter}
-use Rattle.pr_function_laws.proofs.ListedWalk.{shows-its-events}
+use Rattle.pr_function_hides.specs.TidyWrites.{IsTrussAfter}
+use Rattle.pr_function_laws.proofs.LeavingEvents.{lists-its-events}
 use Rattle.pr_function_laws.specs.ListedEvents.{IsStillWhileOld, ListsItsEvents}
-use Rattle.pr_function_hides.proofs.OldStops.{old-frozen}
-use Rattle.pr_function_hides.proofs.TidyKept.{IsRunOfTrusses, calm-run}
-use Rattle.pr_function_hides.specs.SleptCopies.{NoneSleepsInCopy}
+use Rattle.pr_function_hides.proofs.OldStops.{old-frozen-on}
+use Rattle.pr_function_hides.specs.RunsOfTrusses.{IsRunOfTrusses}
 
--- The events that truss has shown are those that came while it watched, where truss is undisturbed and not interrupted.
+-- The events that truss has shown are those that came while it watched, where truss is undisturbed.
 
 -- ---- truss among the controllers
 
@@ -77,60 +72,33 @@ truss-after (e ∷ h) controllers k t at =
 
 module _ (n k : ℕ) (who : Hiders) (controllers : List ControllerState) (o : Options) (s : TracedState) (h : List Entry)
     (hider : hides who k ≡ true) (starts : slice_get controllers k ≡ Some (FnTruss (first_truss o)))
-    (unbroken : AreUnbroken who h) where
-  abbrev T : List Entry → TrussState
-  T front = functions_at k o front
+  where
+    abbrev T : List Entry → TrussState
+    T front = functions_at k o front
 
-  -- it is not interrupted
-  calm-rest : (mid front : List Entry) → h ≡ front ++ mid → All WasNotInterrupted (exchanges k mid)
-  calm-rest [] front is = subst (All WasNotInterrupted) (sym (no-exchanges k)) (All-nil WasNotInterrupted)
-  calm-rest (e ∷ mid) front is =
-      subst (All WasNotInterrupted) (sym (cons-exchanges k e mid))
-      (by e.actor e.act is (calm-rest mid (front ++ e ∷ []) (is ∙ sym (append_assoc front (e ∷ []) mid))))
-    where
-      by : (actor : Actor) (did : Act) → h ≡ front ++ record { actor = actor; act = did } ∷ mid
-          → All WasNotInterrupted (exchanges k mid)
-          → All WasNotInterrupted (cons_option (exchange_in k actor did) (exchanges k mid))
-      by (Controller j) (act.Call c r) at rest = elim (cases_eq j k) [
-        | inl same ↦
-            subst (λ b. All WasNotInterrupted
-            (cons_option (cond b (Some (record { call = c; reply = r })) None) (exchanges k mid)))
-            (sym (eq-eqb j k same))
-            (All-cons WasNotInterrupted (record { call = c; reply = r }) (exchanges k mid)
-            (record {
-              unbroken =
-                  unbroken.unbroken front mid k c r (at ∙ ap (λ i. front ++ call_entry i c r ∷ mid) same) hider;
-            }) rest)
-        | inr other ↦
-            subst (λ b. All WasNotInterrupted
-            (cons_option (cond b (Some (record { call = c; reply = r })) None) (exchanges k mid)))
-            (sym (ne_eqb j k other)) rest
-      ]
-      by (Controller j) (act.Turn turned) at rest = rest
-      by (Controller j) (act.Tick moment) at rest = rest
-      by (Lwp pid id) did at rest = rest
-      by Clock did at rest = rest
+    pub after-there : (front : List Entry) → IsTrussAfter who controllers s h front k (T front)
+    after-there front = truss-after front controllers k (first_truss o) starts
 
-  pub never-broken : All WasNotInterrupted (exchanges k h)
-  never-broken = calm-rest h [] refl
+    -- a truss that shows calls of functions in a history in which it and others that hide are undisturbed
+    module _ (run : IsFunctionRun n k o s h) (trusses : IsRunOfTrusses n who controllers s h) where
+      -- until it is interrupted it does not leave its processes
+      goes-on : (front later : List Entry) → h ≡ front ++ later → All WasNotInterrupted (exchanges k front)
+          → (T front).leaving ≡ false
+      goes-on front later is calm =
+          let g =
+          before-goes n k o s h run front later is calm (Unit {0}) (λ r. trusses.reached)
+          (λ r. bytes-front front later (subst HasBytes is trusses.bytes)) in
+          let w = g.kept in
+          w.off
 
-  pub after-there : (front : List Entry) → IsTrussAfter who controllers s h front k (T front)
-  after-there front = truss-after front controllers k (first_truss o) starts
+      -- while it counts stops that stood before it came the process stands still
+      pub old-still : (pid : ℕ) → IsStillWhileOld k o s h pid
+      old-still pid = record {
+        each = λ front later place p is calm within its opened old live.
+            old-frozen-on trusses front later is k hider (T front) (after-there front)
+            (goes-on front later is calm) place
+            within opened old p (ap (live_process (state_after s front).system) its ∙ live);
+      }
 
-  -- a truss that shows calls of functions in a history in which it and others that hide are undisturbed
-  module _ (run : IsFunctionRun n k o s h) (reached : IsReached s) (awake : NoneSleepsInCopy s.system)
-      (bytes : HasBytes h) (own_calls : AreOwnCalls controllers h) (are : AreTrusses who controllers s)
-      (und : AreUndisturbed who controllers s h) where
-    run-of : IsRunOfTrusses (AreUnbroken who h) n who controllers s h
-    run-of = calm-run n who controllers s h reached awake bytes run.legal own_calls are und unbroken
-
-    -- while it counts stops that stood before it came the process stands still
-    old-still : (pid : ℕ) → IsStillWhileOld k o s h pid
-    old-still pid = record {
-      each = λ front later place p is within its opened old live.
-          old-frozen run-of front later is k hider (T front) (after-there front) place within opened old p
-          (ap (live_process (state_after s front).system) its ∙ live);
-    }
-
-    pub listed-events : (pid : ℕ) → ListsItsEvents k o s h pid
-    listed-events pid = shows-its-events n k o s h run reached bytes never-broken pid (old-still pid)
+      pub listed-events : (pid : ℕ) → ListsItsEvents k o s h pid
+      listed-events pid = lists-its-events n k o s h run trusses.reached trusses.bytes pid (old-still pid)

@@ -1,9 +1,12 @@
-use Rattle.std.proofs.Common.{◌≡◌, ◌≢◌, ◌==◌, ℕ, true, false, cond, Option, Some, None, length, refl, sym, subst, ap, ◌∙◌}
+use Rattle.std.proofs.Common.{◌≡◌, ◌≢◌, ◌==◌, ℕ, true, false, cond, Option, Some, None, length, refl, sym, subst, ap}
+use Rattle.std.proofs.Common.{◌∙◌}
 use Rattle.std.proofs.lemmas.Bool.{false≢true}
 use Rattle.std.proofs.lemmas.Option.{same_Some}
 use Rattle.std.specs.Option.{option_map}
-use Rattle.pr_function_hides.proofs.CopyTurns.{Came, Goes, acts, changes-go, come-gone, goes-if, goes-next, goes-same, goes-spared, kept, new, own-goes}
-use Rattle.pr_function_laws.proofs.StopTurns.{FaultsSo, counted-moved, directed-leaves, end-rises, faults, free-stopless, kind-so, no_fault}
+use Rattle.pr_function_hides.proofs.CopyTurns.{Came, Goes, acts, changes-go, come-gone, goes-if, goes-next, goes-same}
+use Rattle.pr_function_hides.proofs.CopyTurns.{goes-spared, kept, new, own-goes}
+use Rattle.pr_function_laws.proofs.StopTurns.{FaultsSo, counted-moved, directed-leaves, end-rises, faults}
+use Rattle.pr_function_laws.proofs.StopTurns.{free-stopless, kind-so, no_fault}
 use Rattle.pr_hidden.proofs.FaultRows.{HowFaulted, bpt-effect, by_instruction, by_return, how-faulted}
 use Rattle.pr_keeps.proofs.RowLemmas.{row-kind}
 use Rattle.pr_lawful.proofs.EffectLemmas.{IsActing}
@@ -21,8 +24,10 @@ use Rattle.pr_model.specs.LwpTurns.{LwpTurn, settled, turn_of, with_counted}
 use Rattle.pr_model.specs.Machines.{fault_incurred, traced}
 use Rattle.pr_model.specs.Moves.{moved}
 use Rattle.pr_model.specs.Points.{after_meeting, is_traced, stop_at, stopped_at, with_others_directed, with_stop_at}
-use Rattle.pr_model.specs.Rows.{Row, executed_row, incurred_row, ran_row, returned_row, row_for, watched_row, entered_row}
-use Rattle.pr_model.specs.State.{TracedControl, TracedLwp, TracedProcess, TracedSystem, live_process, lwp_of, process_of, with_lwp, with_lwp_of, with_process}
+use Rattle.pr_model.specs.Rows.{Row, executed_row, incurred_row, ran_row, returned_row, row_for, watched_row}
+use Rattle.pr_model.specs.Rows.{entered_row}
+use Rattle.pr_model.specs.State.{TracedControl, TracedLwp, TracedProcess, TracedSystem, live_process, lwp_of}
+use Rattle.pr_model.specs.State.{process_of, with_lwp, with_lwp_of, with_process}
 use Rattle.pr_model.specs.Stops.{directed, has_event_stop, with_all_directed}
 use Rattle.pr_model.specs.Transitions.{after_transition, ended_if, incurred}
 use Rattle.pr_model.specs.declared.events.Did.TheVariants.{Faulted}
@@ -47,19 +52,21 @@ use Rattle.pr_truss_laws.specs.Stills.{HasSameSettings, IsHalting, stopped_lwp, 
 
 -- ---- the other lwps
 
--- an lwp is in its program, or it was there before, at the same phase
+-- an lwp is in its program, or it was there before, at the same phase and on the same stop
 pub data IsOldPhase (p : TracedProcess) (n : ℕ) (k : TracedLwp) : Type 0 where
   fresh : k.phase ≡ User → IsOldPhase p n k
-  old : (m : TracedLwp) → lwp_of p n ≡ Some m → k.phase ≡ m.phase → IsOldPhase p n k
+  old : (m : TracedLwp) → lwp_of p n ≡ Some m → k.phase ≡ m.phase → k.control.stop ≡ m.control.stop
+      → IsOldPhase p n k
 
-same-phase : (p : TracedProcess) (n : ℕ) (m k : TracedLwp) → k.phase ≡ m.phase → IsOldPhase p n m → IsOldPhase p n k
-same-phase p n m k same (fresh is) = fresh (same ∙ is)
-same-phase p n m k same (old j there is) = old j there (same ∙ is)
+same-phase : (p : TracedProcess) (n : ℕ) (m k : TracedLwp) → k.phase ≡ m.phase → k.control.stop ≡ m.control.stop
+    → IsOldPhase p n m → IsOldPhase p n k
+same-phase p n m k same stops (fresh is) = fresh (same ∙ is)
+same-phase p n m k same stops (old j there is at) = old j there (same ∙ is) (stops ∙ at)
 
 came-old : (id : ℕ) (l : TracedLwp) (p : TracedProcess) (n : ℕ) (k : TracedLwp) → n ≢ id → Came id l p n k
     → IsOldPhase p n k
 came-old id l p n k apart (new stops phase) = fresh phase
-came-old id l p n k apart (kept m there stops phase) = old m there phase
+came-old id l p n k apart (kept m there stops phase) = old m there phase stops
 came-old id l p n k apart (acts same stops phase) = absurd (apart same)
 
 directed-phase : (l : TracedLwp) → (directed l).phase ≡ l.phase
@@ -72,29 +79,37 @@ directed-regs l =
     (λ b. (cond b l (record l { control = record l.control { directed = true } })).regs ≡ l.regs)
     [ true ↦ refl | false ↦ refl ]
 
--- the point that was met leaves the phases of others
+-- the point that was met leaves the phases and the stops of others
 module _ (id n : ℕ) (apart : n ≢ id) (k : TracedLwp) (x : TracedProcess) where
   abbrev Before : TracedProcess → Type 0
-  Before y = lwp_of y n ≡ Some k → (m : TracedLwp) × ((lwp_of x n ≡ Some m) × (k.phase ≡ m.phase))
+  Before y =
+      lwp_of y n ≡ Some k
+      → (m : TracedLwp)
+      × ((lwp_of x n ≡ Some m) × ((k.phase ≡ m.phase) × (k.control.stop ≡ m.control.stop)))
 
   meeting-phase : (point : Option Point) → Before (after_meeting point id x)
   unfolding after_meeting with_stop_at with_others_directed with_all_directed with_lwp
-  meeting-phase None = λ there. (k, (there, refl))
+  meeting-phase None = λ there. (k, (there, (refl, refl)))
   meeting-phase (Some pt) =
       choice Before (is_traced x.control pt) _ x
       (λ is. choice Before (has_flags (with_lwp id (stopped_at pt) x).control.modes async_mode)
       (with_lwp id (stopped_at pt) x) (with_all_directed (with_lwp id (stopped_at pt) x))
-      (λ alone there. (k, (sym (under-change_under_other id n (stopped_at pt) other x.lwps) ∙ there, refl)))
+      (λ alone there.
+      (k, (sym (under-change_under_other id n (stopped_at pt) other x.lwps) ∙ there, (refl, refl))))
       (λ others there.
       let m =
       mapped-some directed (under n (change_under id (stopped_at pt) x.lwps)) k
-      (sym (under-map_each n directed (change_under id (stopped_at pt) x.lwps)) ∙ there) in (
+      (sym (under-map_each n directed (change_under id (stopped_at pt) x.lwps)) ∙ there) in
+      let leaves = directed-leaves in (
         m.0,
         (
           sym (under-change_under_other id n (stopped_at pt) other x.lwps) ∙ m.1.0,
-          ap (λ (y : TracedLwp). y.phase) (sym m.1.1) ∙ directed-phase m.0,
+          (
+            ap (λ (y : TracedLwp). y.phase) (sym m.1.1) ∙ directed-phase m.0,
+            ap (λ (y : TracedLwp). y.control.stop) (sym m.1.1) ∙ leaves.stops m.0,
+          ),
         ),
-      ))) (λ passes there. (k, (there, refl)))
+      ))) (λ passes there. (k, (there, (refl, refl))))
     where
       other : id ≢ n
       other same = apart (sym same)
@@ -157,7 +172,8 @@ module _ (s : TracedSystem) (pid : ℕ) (p : TracedProcess) (id : ℕ) (l : Trac
       by : (y : TracedProcess) → process_of moves pid ≡ Some y → y.ended ≡ None → Came id l y n k
           → IsOldPhase p n k
       by y at lives (new stops phase) = fresh phase
-      by y at lives (kept m here stops phase) = same-phase p n m k phase (moved-old y at lives n m apart here)
+      by y at lives (kept m here stops phase) =
+          same-phase p n m k phase stops (moved-old y at lives n m apart here)
       by y at lives (acts same stops phase) = absurd (apart same)
 
   pub row-old : (q : TracedProcess)
@@ -172,7 +188,7 @@ module _ (s : TracedSystem) (pid : ℕ) (p : TracedProcess) (id : ℕ) (l : Trac
       ∙ ap (λ (y : TracedProcess). y.ended) m.1.1 ∙ live in
       let was =
       meeting-phase id n apart k m.0 row.point (ap (λ (y : TracedProcess). lwp_of y n) m.1.1 ∙ there) in
-      same-phase p n was.0 k was.1.1 (counted-old m.0 m.1.0 still n was.0 apart was.1.0)
+      same-phase p n was.0 k was.1.1.0 was.1.1.1 (counted-old m.0 m.1.0 still n was.0 apart was.1.0)
 
 -- ---- the point at which a fault is incurred
 
@@ -301,7 +317,7 @@ fault-at l row (faults g met current goes stores at) f is =
 module _ (s : TracedSystem) (pid : ℕ) (p : TracedProcess) (id : ℕ) (t : LwpTurn) (lawful : IsLawfulSystem s)
     (live : live_process s pid ≡ Some p) (turn : turn_of s pid id ≡ Some t) (q : TracedProcess)
     (later : live_process t.system pid ≡ Some q) where
-  -- another lwp stands at a fault only where it stood there before
+  -- another lwp stands at a fault only where it stood there before, on the same stop
   pub turn-old : (n : ℕ) (k : TracedLwp) → n ≢ id → lwp_of q n ≡ Some k → IsOldPhase p n k
   unfolding settled after_transition with_lwp_of
   turn-old n k apart there =

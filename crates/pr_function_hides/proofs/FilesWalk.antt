@@ -38,6 +38,7 @@ use Rattle.pr_truss.specs.declared.stages.OpeningStep.{OpeningStep}
 use Rattle.pr_truss.specs.declared.stages.Stage.TheVariants.{Spawning, OpeningControl, Opening, Polling, ReadingStatus, ReadingText, Running, Closing, Finished}
 use Rattle.pr_truss.specs.declared.stages.Stage.{Stage}
 use Rattle.pr_truss_laws.proofs.HeldLemmas.{at_place, set-at}
+pub use Rattle.pr_truss_laws.proofs.LookLemmas.{SameFiles}
 use Rattle.pr_truss_laws.proofs.ReplySteps.{lost-same}
 use Rattle.std.proofs.Common.{◌≡◌, ◌≢◌, ◌<◌, ◌≤◌, ◌+◌, ◌-◌, ◌⊎◌, ◌||◌, ℕ, Bool, true, false, cond, is_some, nat_lt, Option, Some, None, List, [], ◌∷◌, ◌++◌, length, refl, sym, subst, ap, ◌∙◌, inl, inr, arith}
 use Rattle.std.proofs.lemmas.Bool.{cases_eq, cases_lt}
@@ -56,13 +57,6 @@ use Rattle.pr_function_hides.proofs.OwnFiles.{IsBeside, IsWithin}
 -- leave its processes, what it does next it does for one that it traces, and what is so of the files of each stays so.
 
 -- ---- the same files
-
-pub record SameFiles (u v : Traced) : Type 0 where
-  pub pid : v.pid ≡ u.pid
-  pub control : v.control ≡ u.control
-  pub status : v.status ≡ u.status
-  pub lstatus : v.lstatus ≡ u.lstatus
-  pub memory : v.memory ≡ u.memory
 
 same-self : (u : Traced) → SameFiles u u
 same-self u = record { pid = refl; control = refl; status = refl; lstatus = refl; memory = refl }

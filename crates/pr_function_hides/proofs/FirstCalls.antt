@@ -3,10 +3,13 @@ use Rattle.std.proofs.lemmas.Bool.{cases_eq, false≢true}
 use Rattle.std.proofs.lemmas.Option.{same_Some}
 use Rattle.std.proofs.lemmas.Slice.Eq.{bytes_eq-Decides}
 use Rattle.std.specs.List.{slice_get}
+use Rattle.pr_keeps.proofs.LoanLemmas.{own-space}
 use Rattle.pr_line.specs.declared.functions.Function.{Function}
 use Rattle.pr_line.specs.declared.options.Options.{Options}
 use Rattle.pr_model.specs.Calls.{Answer, answer_to}
 use Rattle.pr_model.specs.Changes.{with_space}
+use Rattle.pr_model.proofs.StateLemmas.{live_process-found}
+use Rattle.pr_model.specs.Readers.{space_seen}
 use Rattle.pr_model.specs.Replies.{bytes_in}
 use Rattle.pr_model.specs.State.{TracedProcess, TracedState, TracedSystem, live_process}
 use Rattle.pr_model.specs.declared.calls.Call.{Call}
@@ -22,6 +25,7 @@ use Rattle.pr_num.specs.Spaces.{bytes_for}
 use Rattle.pr_num.specs.declared.mappings.BadByte.{BadByte}
 use Rattle.pr_parts.specs.AddressSpaces.{with_bytes}
 use Rattle.pr_reached.proofs.MemoryRanges.{instruction-bytes}
+use Rattle.pr_reached.specs.Mapped.{HaveAddressSpaces}
 use Rattle.pr_report_laws.proofs.Invariant.StandLemmas.{each-but}
 use Rattle.pr_truss.specs.FunctionCalls.{call_beside, next_function_call_of}
 use Rattle.pr_truss.specs.FunctionFeeding.{fed_functions, is_code}
@@ -48,7 +52,7 @@ use Rattle.pr_function_hides.proofs.OwnFiles.{IsBeside, IsWithin}
 use Rattle.pr_function_hides.proofs.OwnWrites.{address-is, breakpoint-size, code-is, write-read, write-tail}
 use Rattle.pr_function_hides.proofs.PlantedReplies.{LeftSo, So}
 use Rattle.pr_function_hides.proofs.ReadCode.{has-read, read-alive}
-use Rattle.pr_function_hides.proofs.UnreadFunctions.{AreUnread, IsPlace, ReadsOther, place-of, planted-other, patchable-at, same-read}
+use Rattle.pr_function_hides.proofs.UnreadFunctions.{AreUnread, IsPlace, OtherStands, other-reads, place-of, planted-other, patchable-at, read-other}
 use Rattle.pr_function_hides.proofs.WrittenCode as Written
 use Rattle.pr_function_hides.proofs.WrittenCode.{Writes, refuses, stores}
 use Rattle.pr_function_hides.specs.FunctionHiders.{ArePatchable}
@@ -58,9 +62,8 @@ use Rattle.pr_function_hides.specs.FunctionHiders.{ArePatchable}
 
 module _ {n k : ℕ} {o : Options} {t : TrussState} {s : TracedState} {c : Call} {a : Answer}
     (w : OwnCall n k o t s c a) (fit : ArePatchable t.options) (next : next_function_call_of t ≡ Some c)
-    (lent : (q i : ℕ) (p : TracedProcess) → t.aside ≡ Reading q i
-    → live_process s.system (traced_at t q).pid ≡ Some p → p.borrower ≡ None)
-    (was : TrussSo (IsFirstOf t.options) (AreUnread t.options s.system) t) where
+    (spaces : HaveAddressSpaces s.system)
+    (was : TrussSo (IsFirstOf t.options) (IsFirstOf t.options) (AreUnread t.options s.system) t) where
   abbrev r : Reply
   r = let b : Answer = a in b.reply
 
@@ -124,16 +127,16 @@ module _ {n k : ℕ} {o : Options} {t : TrussState} {s : TracedState} {c : Call}
 
     before-unread : AreUnread u s.system (PidAt q) i
     before-unread =
-        subst (AsideSo (IsFirstOf u) (AreUnread u s.system) t.traced) reading was.aside
+        subst (AsideSo (IsFirstOf u) (IsFirstOf u) (AreUnread u s.system) t.traced) reading was.aside
 
     -- what is read, where that is granted
     read-now : (p : TracedProcess) (live : live_process s.system (PidAt q) ≡ Some p) → answer_of r ≡ Accepted
         → (a.state.system ≡ s.system)
-        × ((found : List ℕ) × ((bytes_for 0 p.space at 16 ≡ Ok found) × (bytes_in r ≡ Some found)))
+        × ((found : List ℕ) × ((bytes_for 0 (space_seen s.system p) at 16 ≡ Ok found) × (bytes_in r ≡ Some found)))
     read-now p live accepted =
         let it =
         has-read s k (traced_at t q).control (held-of q) (has-control w q inside) refl at fits a read-given p live
-        (lent q i p reading live) accepted in
+        accepted in
         (it.same, (it.found, (it.read, it.gives)))
 
     -- the process is as it was
@@ -150,30 +153,47 @@ module _ {n k : ℕ} {o : Options} {t : TrussState} {s : TracedState} {c : Call}
         by Gone told = refused-lives (λ e. let both : Gone ≡ Accepted = sym told ∙ e in cc) q x now
         by Interrupted told = refused-lives (λ e. let both : Interrupted ≡ Accepted = sym told ∙ e in cc) q x now
 
+    -- what is shown of it is as it was
+    reading-shows : (x : TracedProcess) → live_process (later w) (PidAt q) ≡ Some x
+        → space_seen (later w) x ≡ space_seen s.system x
+    reading-shows x now = by (answer_of r) refl
+      where
+        refused : answer_of r ≢ Accepted → space_seen (later w) x ≡ space_seen s.system x
+        refused other = ap (λ (y : TracedState). space_seen y.system x) (same-state w other)
+
+        by : (told : Told) → answer_of r ≡ told → space_seen (later w) x ≡ space_seen s.system x
+        by Accepted told =
+            let p = before-it q inside x now in
+            ap (λ (y : TracedSystem). space_seen y x) (read-now p.0 p.1 told).0
+        by (Refused errno) told = refused (λ e. let both : Refused errno ≡ Accepted = sym told ∙ e in cc)
+        by Gone told = refused (λ e. let both : Gone ≡ Accepted = sym told ∙ e in cc)
+        by Interrupted told = refused (λ e. let both : Interrupted ≡ Accepted = sym told ∙ e in cc)
+
     still-unread : Unread (PidAt q) i
-    still-unread x now j g less its = before-unread x (reading-lives x now) j g less its
+    still-unread x now j g less its m f more named same =
+        subst (OtherStands g) (sym (reading-shows x now))
+        (before-unread x (reading-lives x now) j g less its m f more named same)
 
     -- the code of this one was not read
     one-unread : answer_of r ≡ Accepted → is_code (code_of u i) (bytes_in r) ≡ false → Unread (PidAt q) (i + 1)
-    one-unread accepted other x now j g less its = elim (cases_eq j i) [
+    one-unread accepted other x now j g less its m f more named at_same = elim (cases_eq j i) [
       | inl same ↦ own (ap (slice_get u.functions) (sym same) ∙ its)
-      | inr apart ↦ still-unread x now j g (omega (arith, less, apart)) its
+      | inr apart ↦
+          still-unread x now j g (omega (arith, less, apart)) its m f (omega (arith, more)) named at_same
     ]
       where
-        own : slice_get u.functions i ≡ Some g → ReadsOther g x
-        own named =
+        own : slice_get u.functions i ≡ Some g → OtherStands g (space_seen (later w) x)
+        own here =
             let live = reading-lives x now in
             let it = read-now x live accepted in
-            record {
-              own = lent q i x reading live;
-              other = λ read.
-                  let code : it.1.0 ≡ g.code =
-                  same-read it.1.0 g.code
-                  (sym it.1.1.0 ∙ ap (λ m. bytes_for 0 x.space m 16) (address-is u i g named) ∙ read) in
-                  false≢true
-                  (sym other ∙ ap (λ xs. is_code xs (bytes_in r)) (code-is u i g named)
-                  ∙ ap (is_code g.code) it.1.1.1 ∙ (bytes_eq-Decides it.1.0 g.code).1 code);
-            }
+            subst (OtherStands g) (sym (reading-shows x now))
+            (read-other g (patchable-at u fit i g here) (space_seen s.system x)
+            (spaces.shown (PidAt q) x (live_process-found s.system (PidAt q) x live)) it.1.0
+            (ap (λ a. bytes_for 0 (space_seen s.system x) a 16) (sym (address-is u i g here)) ∙ it.1.1.0)
+            (λ code.
+            false≢true
+            (sym other ∙ ap (λ xs. is_code xs (bytes_in r)) (code-is u i g here)
+            ∙ ap (is_code g.code) it.1.1.1 ∙ (bytes_eq-Decides it.1.0 g.code).1 code)))
 
     -- the code of this one was read: no function before it has its address
     one-read : answer_of r ≡ Accepted → is_code (code_of u i) (bytes_in r) ≡ true → First (PidAt q) i
@@ -188,9 +208,9 @@ module _ {n k : ℕ} {o : Options} {t : TrussState} {s : TracedState} {c : Call}
         in
         first-there u i f named
         (λ j g less its same.
-        let apart = before-unread alive.0 alive.1 j g less its in
-        apart.other
-        (ap (λ m. bytes_for 0 alive.0.space m 16) (same ∙ sym (address-is u i f named)) ∙ it.1.1.0
+        other-reads g (patchable-at u fit j g its) (space_seen s.system alive.0)
+        (before-unread alive.0 alive.1 j g less its i f (omega arith) named (sym same))
+        (ap (λ m. bytes_for 0 (space_seen s.system alive.0) m 16) (same ∙ sym (address-is u i f named)) ∙ it.1.1.0
         ∙ ap (λ xs. let ok : Result (List ℕ) BadByte = Ok xs in ok)
         (code ∙ sym (fit.alike j i g f its named same))))
 
@@ -222,7 +242,7 @@ module _ {n k : ℕ} {o : Options} {t : TrussState} {s : TracedState} {c : Call}
 
     unplanted : AreUnread u s.system (PidAt q) i
     unplanted =
-        (subst (AsideSo (IsFirstOf u) (AreUnread u s.system) t.traced) planting was.aside).1
+        (subst (AsideSo (IsFirstOf u) (IsFirstOf u) (AreUnread u s.system) t.traced) planting was.aside).1
 
     -- it stands then, or nothing has changed
     data Plants (x : TracedProcess) : Type 0 where
@@ -255,23 +275,38 @@ module _ {n k : ℕ} {o : Options} {t : TrussState} {s : TracedState} {c : Call}
             (write-tail there breakpoint low breakpoint-size (instruction-bytes Bpt)))
 
     -- those before it read as before, and where it was planted it does not read as itself
-    then-unread : (m : ℕ) → ((j : ℕ) (g : Function) → j < m → slice_get u.functions j ≡ Some g → g.at ≢ there → j < i)
+    then-unread : (m : ℕ) → i ≤ m
+        → ((j : ℕ) (g : Function) → j < m → slice_get u.functions j ≡ Some g → g.at ≢ there → j < i)
         → (answer_of r ≢ Accepted → m ≤ i) → Unread (PidAt q) m
-    then-unread m below few x now j g less its = by (plants x now)
+    unfolding with_space
+    then-unread m from below few x now j g less its b f more named same = by (plants x now)
       where
-        by : Plants x → ReadsOther g x
-        by (unchanged refused live) = let most = few refused in unplanted x live j g (omega (arith, less, most)) its
+        now-space : (p : TracedProcess) → x ≡ with_space (with_bytes there breakpoint p.space) p
+            → x.space ≡ with_bytes there breakpoint p.space
+        now-space p is = ap (λ (y : TracedProcess). y.space) is
+
+        lends : (p : TracedProcess) → p.borrower ≡ None → x ≡ with_space (with_bytes there breakpoint p.space) p
+            → x.borrower ≡ None
+        lends p own is = ap (λ (y : TracedProcess). y.borrower) is ∙ own
+
+        by : Plants x → OtherStands g (space_seen (later w) x)
+        by (unchanged refused live) =
+            let most = few refused in
+            subst (OtherStands g) (sym (ap (λ (y : TracedState). space_seen y.system x) (same-state w refused)))
+            (unplanted x live j g (omega (arith, less, most)) its b f (omega (arith, from, more)) named same)
         by (written p live own is) =
-            subst (ReadsOther g) (sym is)
-            (planted-other g there p (patchable-at u fit j g its) place own
-            (λ apart. unplanted p live j g (below j g less its apart) its))
+            subst (OtherStands g) (sym (own-space (later w) x (lends p own is) ∙ now-space p is))
+            (planted-other g there p.space (patchable-at u fit j g its) place
+            (λ apart.
+            subst (OtherStands g) (own-space s.system p own)
+            (unplanted p live j g (below j g less its apart) its b f (omega (arith, from, more)) named same)))
 
     still-before : Unread (PidAt q) i
-    still-before = then-unread i (λ j g less its apart. less) (λ refused. omega arith)
+    still-before = then-unread i (omega arith) (λ j g less its apart. less) (λ refused. omega arith)
 
     one-planted : answer_of r ≡ Accepted → Unread (PidAt q) (i + 1)
     one-planted accepted =
-        then-unread (i + 1)
+        then-unread (i + 1) (omega arith)
         (λ j g less its apart. elim (cases_eq j i) [
           | inl is ↦
               absurd (apart (sym (address-is u j g its) ∙ ap (address_of u) is))
@@ -294,19 +329,21 @@ module _ {n k : ℕ} {o : Options} {t : TrussState} {s : TracedState} {c : Call}
   stage-before _ within = was.marks
 
   aside-before : (aside : Aside) → t.aside ≡ aside → IsBeside (length t.traced) aside
-      → AsideSo First (AreUnread u s.system) t.traced aside
-      → BeforeAside First t aside × AsideSo First Unread t.traced aside
+      → AsideSo First First (AreUnread u s.system) t.traced aside
+      → BeforeAside First t aside × AsideSo First (λ pid i. Unit {0}) Unread t.traced aside
   aside-before Nothing is inside it = (stage-before t.stage at-stage, tt)
   aside-before (Reading q i) is inside it = (was.marks, still-unread q i is)
-  aside-before (Planting q i) is inside it = (was.marks, (it.0, still-before q i is))
+  aside-before (Planting q i) is inside it = (was.marks, (tt, still-before q i is))
   aside-before (Patching q plants lifts clear) is inside it = (was.marks, it)
   aside-before _ is inside it = absurd inside
 
-  pub called-firsts : TrussSo First Unread (fed_functions t r)
+  pub called-firsts : TrussSo First First Unread (fed_functions t r)
   called-firsts =
       let before = aside-before t.aside refl at-aside was.aside in
-      truss-later First Unread t r (is-off w) (is-unfollowed w) at-stage at-aside w.calm w.has before.0 before.1
+      truss-later First First Unread t r (is-off w) (is-unfollowed w) at-stage at-aside w.calm w.has before.0 before.1
       (λ q i reading accepted read. one-read q i reading accepted read)
-      (λ pid x now j g less its. absurd (omega (arith, less)))
+      (λ pid x now j g less its m f more named same. absurd (omega (arith, less)))
       (λ q i reading accepted other. one-unread q i reading accepted other)
       (λ q i planting accepted. one-planted q i planting accepted)
+      (λ q i planting accepted.
+      (subst (AsideSo First First (AreUnread u s.system) t.traced) planting was.aside).0)

@@ -1,4 +1,6 @@
-use Rattle.std.proofs.Common.{◌≡◌, ◌≢◌, ◌⊎◌, ◌<◌, ◌≤◌, ℕ, zero, suc, Bool, true, false, Some, None, List, [], ◌∷◌, cond, get_or, length, nat_lt, replicate, refl, sym, ap, ◌∙◌, inl, inr, arith}
+use Rattle.std.proofs.Common.{◌≡◌, ◌≢◌, ◌⊎◌, ◌<◌, ◌≤◌, ◌||◌, ℕ, zero, suc, Bool, true, false, Option, Some, None, List}
+use Rattle.std.proofs.Common.{[], ◌∷◌, cond, get_or, is_some, length, nat_lt, replicate, refl, sym, ap, ◌∙◌, inl, inr}
+use Rattle.std.proofs.Common.{arith}
 use Rattle.std.proofs.lemmas.Bool.{cases_Bool, cases_lt, false≢true, ltb-false}
 use Rattle.std.proofs.lemmas.List.{get_or_past}
 use Rattle.std.proofs.lemmas.List.Quantifiers.{position-Some}
@@ -96,3 +98,9 @@ first-none set none j = elim (cases_Bool (has_function set j)) [
     fails within =
         let most = past-all (nat_lt (position_or_len is_in set) (length set)) refl in
         fails_before_first is_in set j false (omega (arith, within, most))
+
+-- where nothing is left to do of two sets, nothing is of the second
+pub none-second : (a b : Option ℕ) (more : Bool) → (is_some a || is_some b || more) ≡ false → b ≡ None
+none-second None None more it = refl
+none-second None (Some i) more it = absurd (false≢true (sym it))
+none-second (Some j) b more it = absurd (false≢true (sym it))

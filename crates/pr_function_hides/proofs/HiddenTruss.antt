@@ -1,43 +1,52 @@
-use Rattle.std.proofs.Common.{◌≡◌, ◌≢◌, ◌&&◌, ◌||◌, ◌==◌, ◌++◌, ℕ, Bool, true, false, not, IfOk, Option, Some, None, Result, Ok, Err, List, [], ◌∷◌, All, refl, sym, subst, ap, ◌∙◌, inl, inr}
+use Rattle.std.proofs.Common.{◌≡◌, ◌&&◌, ◌||◌, ◌==◌, ◌++◌, ℕ, Bool, true, false, not, IfOk, Option, Some, None, Result}
+use Rattle.std.proofs.Common.{Ok, Err, List, [], ◌∷◌, All, refl, sym, subst, ap, ◌∙◌, inl, inr}
 use Rattle.pr_reached.specs.ByteHistories.{HasBytes}
 use Rattle.pr_reached.specs.Reached.{IsReached}
 use Rattle.std.proofs.lemmas.Bool.{and_parts, cases_Bool, eqb-true, false≢true}
 use Rattle.std.proofs.lemmas.List.{append_assoc}
 use Rattle.std.proofs.lemmas.List.Elements.{All-head, All-tail}
 use Rattle.std.specs.Bool.{IsTrue}
+use Rattle.std.proofs.lemmas.Option.{slice_get-get_or}
+use Rattle.std.proofs.Common.{get_or}
 use Rattle.pr_api.specs.Entries.{call_entry}
 use Rattle.pr_erasure.specs.Untouched.{IsUntouched}
 use Rattle.pr_function_hides.proofs.CalledCovers.{covers-push}
 use Rattle.pr_function_hides.specs.FunctionHiders.{AreTrusses}
-use Rattle.pr_function_hides.specs.ClearedFaults.{ClearByRunning}
 use Rattle.pr_function_hides.specs.OwnSteps.{AreStepsOwn}
 use Rattle.pr_function_hides.specs.PassiveOthers.{AreOthersPassive}
 use Rattle.pr_function_hides.specs.TidyCloses.{LeavesNoBreakpoint, LeavesNoFault}
 use Rattle.pr_function_hides.specs.TidyFaults.{ClearsOwnFaultsAlone, PostsNoOwnFault, is_clearing}
-use Rattle.pr_function_hides.specs.TidyWrites.{AreUnbroken, AreUndisturbed, WritesTidily}
+use Rattle.pr_function_hides.specs.TidyWrites.{AreUndisturbed, WritesTidily}
 use Rattle.pr_function_hides.proofs.CleanLaw.{leaves-no-fault}
 use Rattle.pr_function_hides.proofs.ClearedLaw.{clears-alone}
-use Rattle.pr_function_hides.proofs.ClearingLaw.{clears-running}
 use Rattle.pr_function_hides.proofs.ClosingLaw.{leaves-none}
 use Rattle.pr_function_hides.proofs.PassiveHiders.{passive-but}
 use Rattle.pr_function_hides.proofs.PostedLaw.{posts-none}
 use Rattle.pr_function_hides.proofs.StepLaw.{own-steps}
-use Rattle.pr_function_hides.proofs.TidyKept.{IsRunOfTrusses, calm-run}
-use Rattle.pr_function_hides.proofs.WritesLaw.{run-tidily}
+use Rattle.pr_function_hides.specs.RunsOfTrusses.{IsRunOfTrusses}
+use Rattle.pr_function_hides.proofs.WritesLaw.{writes-tidily}
 use Rattle.pr_function_hides.specs.SleptCopies.{NoneSleepsInCopy}
+use Rattle.pr_lawful.proofs.HistoryLemmas.{history-state}
+use Rattle.pr_lawful.proofs.UseLemmas.{live-lawful}
+use Rattle.pr_num.proofs.ByIdLemmas.{under-at}
+use Rattle.pr_num.specs.ById.{IsRising}
+use Rattle.pr_tool_laws.proofs.WholeLemmas.{front-legal}
 use Rattle.pr_hidden.proofs.HistoryFollows.{hidden-later}
 use Rattle.pr_hidden.specs.Covers.{Covers}
 use Rattle.pr_hidden.specs.HiddenSteps.{IsHidden}
 use Rattle.pr_hidden.specs.Hiders.{Hiders, are_some, covers_after, covers_at, hides, is_ctl, no_covers}
 use Rattle.pr_function_laws.specs.Stretches.{is_write}
 use Rattle.pr_num.specs.Agents.{agent_id}
-use Rattle.pr_hidden.specs.Tidiness.{HoldsFrom, IsPassiveBut, IsSparing, IsTidy, IsTidyCall, IsTidyClose, IsTidyControl, IsTidyEntry, IsTidyMessage, IsTidySent, IsTidyTargeted, IsTidyTurn, is_function_message, is_hider_act, is_hider_message, is_hider_write, is_probe_message, is_step_flags}
+use Rattle.pr_hidden.specs.Tidiness.{HoldsFrom, IsPassiveBut, IsSparing, IsTidy, IsTidyCall, IsTidyClose, IsTidyControl}
+use Rattle.pr_hidden.specs.Tidiness.{IsTidyEntry, IsTidyMessage, IsTidySent, IsTidyTargeted, IsTidyTurn}
+use Rattle.pr_hidden.specs.Tidiness.{is_function_message, is_hider_act, is_hider_message, is_hider_write}
+use Rattle.pr_hidden.specs.Tidiness.{is_probe_message, is_step_flags}
 use Rattle.pr_model.proofs.HistoryLemmas.{state_after-push}
 use Rattle.pr_model.specs.ControlMessages.{aim_of, tail_of, target_of}
 use Rattle.pr_model.specs.Handles.{handle_of}
 use Rattle.pr_model.specs.Legal.{IsLegal, state_after}
 use Rattle.pr_model.specs.Passive.{is_passive_act, is_passive_message, is_passive_write}
-use Rattle.pr_model.specs.State.{TracedProcess, TracedState, TracedSystem}
+use Rattle.pr_model.specs.State.{TracedProcess, TracedState, TracedSystem, live_process}
 use Rattle.pr_model.specs.declared.calls.Call.{Call}
 use Rattle.pr_model.specs.declared.calls.Call.TheVariants as call
 use Rattle.pr_model.specs.declared.calls.Reply.{Reply}
@@ -85,16 +94,17 @@ asks-nothing who k covers s pid p held _ tail is = tt
 
 -- nor is one that a truss sends beside PCWRITE and those that clear a fault
 asks-no-more : (who : Hiders) (k : ℕ) (covers : Covers) (s : TracedSystem) (pid : ℕ) (p : TracedProcess) (held : Held)
-    (m : Message) (tail : List ℕ) → who.probes k ≡ false → is_write m ≡ false → m ≢ message.Cfault
-    → is_clearing m ≡ false → IsTrue (is_passive_message m || is_hider_message who k m)
+    (m : Message) (tail : List ℕ) → who.probes k ≡ false → is_write m ≡ false → is_clearing m ≡ false
+    → IsTrue (is_passive_message m || is_hider_message who k m)
     → IsTidyMessage who k covers s pid p (aim_of held) m tail
 unfolding is_passive_message
-asks-no-more who k covers s pid p held (message.Write at size) tail no_probe write unclear clears allowed =
+asks-no-more who k covers s pid p held (message.Write at size) tail no_probe write clears allowed =
     absurd (false≢true (sym write))
-asks-no-more who k covers s pid p held message.Cfault tail no_probe write unclear clears allowed = absurd (unclear refl)
-asks-no-more who k covers s pid p held (message.Run flags) tail no_probe write unclear clears allowed =
+asks-no-more who k covers s pid p held message.Cfault tail no_probe write clears allowed =
+    absurd (false≢true (sym clears))
+asks-no-more who k covers s pid p held (message.Run flags) tail no_probe write clears allowed =
     λ steps. absurd (false≢true (sym clears ∙ steps))
-asks-no-more who k covers s pid p held (message.Sreg regs) tail no_probe write unclear clears allowed =
+asks-no-more who k covers s pid p held (message.Sreg regs) tail no_probe write clears allowed =
     absurd (by (are_some (who.functions k)) (who.probes k) no_probe allowed)
   where
     by : (a b : Bool) → b ≡ false → IsTrue (false || ((a && false) || (b && true))) → ⊥
@@ -102,7 +112,7 @@ asks-no-more who k covers s pid p held (message.Sreg regs) tail no_probe write u
     by true false none it = false≢true it
     by false true none it = false≢true (sym none)
     by false false none it = false≢true it
-asks-no-more who k covers s pid p held _ tail no_probe write unclear clears allowed = tt
+asks-no-more who k covers s pid p held _ tail no_probe write clears allowed = tt
 
 -- of one that a message may be asked of, whatever the process
 whole-control : (who : Hiders) (k : ℕ) (covers : Covers) (s : TracedSystem) (bytes : List ℕ) (x : Parsed)
@@ -117,8 +127,10 @@ whole-control who k covers s bytes x read so (Some held) = by (target_of s held)
 
 module _ (who : Hiders) (controllers : List ControllerState) (no_probes : (k : ℕ) → who.probes k ≡ false)
     (first : TracedState) (h : List Entry) (passive : IsPassiveBut who h)
+    (rises : (front back : List Entry) → h ≡ front ++ back → (pid : ℕ) (p : TracedProcess)
+    → live_process (state_after first front).system pid ≡ Some p → IsRising p.lwps)
     (writes : WritesTidily who controllers first h) (leaves : LeavesNoBreakpoint who first h)
-    (unfaulted : LeavesNoFault who first h) (steps : AreStepsOwn who first h) (unclears : ClearByRunning who h)
+    (unfaulted : LeavesNoFault who first h) (steps : AreStepsOwn who first h)
     (unposted : PostsNoOwnFault who first h) (faults : ClearsOwnFaultsAlone who first h) where
   abbrev at : List Entry → Covers
   at front = covers_at who first front
@@ -159,9 +171,7 @@ module _ (who : Hiders) (controllers : List ControllerState) (no_probes : (k : �
             whole-control who k (at front) (now front).system bytes (Ok (m, len)) read
             (λ held p.
             asks-no-more who k (at front) (now front).system held.pid p held m (tail_of m bytes) (no_probes k) plain
-            (λ same.
-            unclears.none front back k handle bytes (reply.Used used) len place hider
-            (subst (λ (x : Message). first_message bytes ≡ Ok (x, len)) same read)) other allowed) _
+            other allowed) _
 
     of-other : hides who k ≡ false → (m : Message) (len : ℕ) → first_message bytes ≡ Ok (m, len)
         → IsTrue (is_passive_message m || is_hider_message who k m) → Control
@@ -203,7 +213,11 @@ module _ (who : Hiders) (controllers : List ControllerState) (no_probes : (k : �
         no_patches = leaves.bare front back k number reply.Done held p place both.0 there live;
         no_agent = leaves.no_agent front (call_entry k (call.Close number) reply.Done ∷ back) held.pid place;
         lwps = λ i d within f address phase.
-            unfaulted.none front back k number reply.Done held p _ both.0 place there live;
+            unfaulted.none_stands front back k number reply.Done held p (get_or p.lwps i d).0 (get_or p.lwps i d).1 f
+            address both.0 place there live
+            (under-at 0 p.lwps i (get_or p.lwps i d)
+            (rises front (call_entry k (call.Close number) reply.Done ∷ back) place held.pid p live)
+            (slice_get-get_or p.lwps i d within)) phase;
       }
 
   -- ---- each call, and each turn
@@ -259,29 +273,28 @@ module _ (who : Hiders) (controllers : List ControllerState) (no_probes : (k : �
 -- ---- the laws
 
 module _ (n : ℕ) (who : Hiders) (controllers : List ControllerState) (s : TracedState) (h : List Entry)
-    (reached : IsReached s) (awake : NoneSleepsInCopy s.system) (bytes : HasBytes h) (legal : IsLegal n s h)
-    (own_calls : AreOwnCalls controllers h) (are : AreTrusses who controllers s)
-    (und : AreUndisturbed who controllers s h) (unbroken : AreUnbroken who h) (others : AreOthersPassive who h) where
-  run : IsRunOfTrusses (AreUnbroken who h) n who controllers s h
-  run = calm-run n who controllers s h reached awake bytes legal own_calls are und unbroken
-
+    (run : IsRunOfTrusses n who controllers s h) (others : AreOthersPassive who h) where
   passive : IsPassiveBut who h
   passive = passive-but run others
 
+  rising-there : (front back : List Entry) → h ≡ front ++ back → (pid : ℕ) (p : TracedProcess)
+      → live_process (state_after s front).system pid ≡ Some p → IsRising p.lwps
+  rising-there front back place pid p live =
+      let lawful =
+      history-state n s front run.reached.lawful
+      (front-legal n s front back (subst (λ (es : List Entry). IsLegal n s es) place run.legal)) in
+      let l = live-lawful (state_after s front).system pid p lawful.system live in l.rising
+
   pub truss-tidy : IsUnstepped s.system → IsTidy who s h
   truss-tidy unstepped =
-      walk who controllers are.no_probes s h passive
-      (run-tidily run) (leaves-none n who controllers s h reached awake bytes legal own_calls are und unbroken)
-      (leaves-no-fault n who controllers s h reached awake bytes legal own_calls are und unbroken others unstepped)
-      (own-steps n who controllers s h reached awake bytes legal own_calls are und unbroken others unstepped)
-      (clears-running n who controllers s h reached awake bytes legal own_calls are und unbroken)
-      (posts-none n who controllers s h reached awake bytes legal own_calls are und unbroken others unstepped)
-      (clears-alone n who controllers s h reached awake bytes legal own_calls are und unbroken others unstepped) []
-      h refl
+      walk who controllers run.are.no_probes s h passive rising-there (writes-tidily run) (leaves-none run)
+      (leaves-no-fault n who controllers s h run others unstepped)
+      (own-steps n who controllers s h run others unstepped)
+      (posts-none n who controllers s h run others unstepped) (clears-alone n who controllers s h run) [] h refl
 
   pub truss-hidden : IsUntouched s.system → IsSparing who s h → IsHidden who s h
   truss-hidden untouched spares =
-      hidden-later n who s h reached.lawful untouched legal passive spares
+      hidden-later n who s h run.reached.lawful untouched run.legal passive spares
       (truss-tidy (untouched-unstepped s.system untouched))
 
 pub ruleset truss_hides = (truss-tidy, truss-hidden)

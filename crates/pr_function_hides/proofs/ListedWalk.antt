@@ -70,7 +70,7 @@ module _ (n k : ℕ) (o : Options) (s : TracedState) (h : List Entry) (run : IsF
   abbrev S : List Entry → TracedState
   S front = state_after s front
 
-  abbrev Pending : List Entry → Type 0
+  abbrev pub Pending : List Entry → Type 0
   Pending f = Unread n k o s h run reached bytes able facts all_calm pid f
 
   -- the call that the turn of a step is
@@ -95,39 +95,39 @@ module _ (n k : ℕ) (o : Options) (s : TracedState) (h : List Entry) (run : IsF
   ReadsIts f e = ReadsFile k pid Status (S f) e ⊎ ReadsFile k pid Lstatus (S f) e
 
   -- since a turn it has done so in no entry
-  record Unanswered (front : List Entry) (turn : Entry) (mid : List Entry) : Type 0 where
-    each : (between rest : List Entry) (e : Entry) → mid ≡ between ++ e ∷ rest
+  pub record Unanswered (front : List Entry) (turn : Entry) (mid : List Entry) : Type 0 where
+    pub each : (between rest : List Entry) (e : Entry) → mid ≡ between ++ e ∷ rest
         → ReadsIts (front ++ turn ∷ between) e → ⊥
 
   -- ---- a process that has ended
 
   -- The call came in a turn that truss has not read, and SIGKILL has ended the process since.
-  record Lost (f : List Entry) (report : Report) : Type 0 where
-    front : List Entry
-    turn : Entry
-    mid : List Entry
-    is : f ≡ front ++ turn ∷ mid
-    call : call_here front turn ≡ report ∷ []
-    made : pid < (S f).system.made
-    over : live_process (S f).system pid ≡ None
-    killed : WasKilled pid (S (front ++ turn ∷ [])) mid
-    unanswered : Unanswered front turn mid
+  pub record Lost (f : List Entry) (report : Report) : Type 0 where
+    pub front : List Entry
+    pub turn : Entry
+    pub mid : List Entry
+    pub is : f ≡ front ++ turn ∷ mid
+    pub call : call_here front turn ≡ report ∷ []
+    pub made : pid < (S f).system.made
+    pub over : live_process (S f).system pid ≡ None
+    pub killed : WasKilled pid (S (front ++ turn ∷ [])) mid
+    pub unanswered : Unanswered front turn mid
 
   -- ---- what stands after some entries
 
   -- Nothing is lacking, and no turn is unread; or the call of the one turn that is unread, in a process that lives; or
   -- one that was lost.
-  data Stands (f : List Entry) : List Report → Type 0 where
+  pub data Stands (f : List Entry) : List Report → Type 0 where
     clear : (Pending f → ⊥) → Stands f []
     pending : (a : Pending f) → pid < (S f).system.made → (p : TracedProcess)
         → live_process (S f).system pid ≡ Some p → Unanswered a.front (turn_entry pid a.id a.turned) a.mid
         → Stands f (call_of_step a.step ∷ [])
     lost : (report : Report) → Lost f report → Stands f (report ∷ [])
 
-  record Listed (f : List Entry) : Type 0 where
-    lacking : List Report
-    are : function_turns k pid (first_truss o) s f ≡ calls_of pid (T f).reports ++ lacking
-    stands : Stands f lacking
+  pub record Listed (f : List Entry) : Type 0 where
+    pub lacking : List Report
+    pub are : function_turns k pid (first_truss o) s f ≡ calls_of pid (T f).reports ++ lacking
+    pub stands : Stands f lacking
 
   -- ---- one entry
 
@@ -700,7 +700,7 @@ module _ (n k : ℕ) (o : Options) (s : TracedState) (h : List Entry) (run : IsF
   whole : h ≡ h ++ []
   whole = sym (append-nil h)
 
-  listed : Listed h
+  pub listed : Listed h
   listed = walk h [] [] whole first-listed
 
   pub lists-turns : ListsItsTurns k o s h pid

@@ -1,4 +1,5 @@
-use Rattle.std.proofs.Common.{◌≡◌, ◌⊎◌, ℕ, Bool, true, false, cond, is_some, Option, Some, None, Result, List, refl, sym, ap, ◌∙◌, inl, inr}
+use Rattle.std.proofs.Common.{◌≡◌, ℕ, Bool, true, false, cond, is_some, Option, Some, None, Result, List, refl, sym, ap}
+use Rattle.std.proofs.Common.{◌∙◌, inl, inr}
 use Rattle.std.proofs.lemmas.Bool.{cases_Bool, eqb-true, false≢true}
 use Rattle.std.proofs.lemmas.Option.{same_Some}
 use Rattle.std.specs.Option.{option_and_then, option_map}
@@ -34,7 +35,8 @@ use Rattle.pr_report_laws.proofs.Machine.EventStopLemmas.{unmet-off}
 use Rattle.pr_report_laws.proofs.Machine.FrameLaws.{alone-lwp}
 use Rattle.pr_report_laws.specs.AtBirth.{has_met}
 use Rattle.pr_truss.specs.Asides.{marks_at}
-use Rattle.pr_truss.specs.FunctionEvents.{breakpoint_event, copies_memory, fresh_event, function_at, function_event, keeps_memory, left_event}
+use Rattle.pr_truss.specs.FunctionEvents.{breakpoint_event, copies_memory, fresh_event, function_at, function_event}
+use Rattle.pr_truss.specs.FunctionEvents.{keeps_memory, left_event}
 use Rattle.pr_truss.specs.Records.{is_on_event}
 use Rattle.pr_truss.specs.Trusses.{TrussState, traced_at}
 use Rattle.pr_truss.specs.declared.function_events.FunctionEvent.{FunctionEvent}
@@ -201,7 +203,7 @@ module _ (o : Options) (m : Marks) (plain : m.flags ≡ 0) (id : ℕ) where
 
 module _ (o : Options) (m : Marks) (plain : m.flags ≡ 0) (c : Cover) (p : TracedProcess)
     (counts : MetCount c o m p) where
-  event-clears : (id : ℕ) (l : TracedLwp) → lwp_of p id ≡ Some l → (e : Event)
+  pub event-clears : (id : ℕ) (l : TracedLwp) → lwp_of p id ≡ Some l → (e : Event)
       → event_of (lwpstatus_of p id l) ≡ Some e → is_step_flags (flags_met m (function_event o m id e)) ≡ true
       → MetOwn c p
   event-clears id l there e on steps = record {

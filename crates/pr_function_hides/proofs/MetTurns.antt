@@ -1,34 +1,38 @@
-use Rattle.std.proofs.Common.{◌≡◌, ◌≢◌, ◌<◌, ◌++◌, ◌⊎◌, ℕ, Bool, true, false, cond, position, Option, Some, None, List, [], ◌∷◌, length, refl, sym, subst, ap, ◌∙◌, inl, inr}
+use Rattle.std.proofs.Common.{◌≡◌, ◌≢◌, ◌<◌, ◌++◌, ◌⊎◌, ℕ, Bool, true, false, cond, position, Option, Some, None, List}
+use Rattle.std.proofs.Common.{[], ◌∷◌, length, refl, sym, subst, ap, ◌∙◌, inl, inr}
 use Rattle.std.proofs.lemmas.Bool.{cases_eq, eq-eqb, false≢true}
 use Rattle.std.proofs.lemmas.Option.{none-some, same_Some}
 use Rattle.std.specs.List.{slice_get}
 use Rattle.std.specs.Option.{option_and_then}
 use Rattle.pr_function_hides.proofs.CallFacts.{controllers-push}
+use Rattle.pr_function_hides.proofs.CalmCalls as Calm
 use Rattle.pr_function_hides.proofs.CodeWalk.{CodeAt}
+use Rattle.pr_function_hides.proofs.CopyFree.{run-options}
 use Rattle.pr_function_hides.proofs.CountedFaults.{directed-is, own-break, own-trace, turned-keeps, turned-now}
 use Rattle.pr_function_hides.proofs.FaultTurns.{turn-stops}
 use Rattle.pr_function_hides.proofs.FetchedCode.{code-runs}
 use Rattle.pr_function_hides.proofs.FunctionSets.{has-with}
-use Rattle.pr_function_hides.proofs.KnownTrusses.{KnownOf}
 use Rattle.pr_function_hides.proofs.MetCounts.{IsTakenKind, MetCount, StepClears, alone-clears, breaks, old-count, trap}
 use Rattle.pr_function_hides.proofs.OwnFaults.{CountLess, alone-old}
-use Rattle.pr_function_hides.proofs.PlacedWalk.{its-turn, turned-is}
-use Rattle.pr_function_hides.proofs.PostedTurns as Posted
-use Rattle.pr_function_hides.proofs.StepCode.{StepsIn, foreign-steps}
+use Rattle.pr_function_hides.proofs.PlantedReplies.{So}
+use Rattle.pr_function_hides.proofs.StoppedTurns.{soon-looked, stops-traced}
+use Rattle.pr_function_hides.proofs.StepCode.{StepIn, StepsIn, foreign-steps}
 use Rattle.pr_function_hides.proofs.StepLaw.{holder-hold}
-use Rattle.pr_function_hides.proofs.TidyEntries.{its-lawful, now-is}
-use Rattle.pr_function_hides.proofs.TidyKept.{IsRunOfTrusses, Truss}
+use Rattle.pr_function_hides.proofs.TidyEntries.{at-is, its-lawful, now-is}
+use Rattle.pr_function_hides.proofs.TidyKept.{Truss}
+use Rattle.pr_function_hides.proofs.TidyLaw.{kept-at}
 use Rattle.pr_function_hides.proofs.TurnFaults.{fault-free, turn-met}
 use Rattle.pr_function_hides.specs.FunctionHiders.{ArePatchable, IsPatchable, patch_of}
-use Rattle.pr_function_hides.specs.TidyWrites.{AreUnbroken, IsTrussAfter}
+use Rattle.pr_function_hides.specs.RunsOfTrusses.{IsRunOfTrusses}
+use Rattle.pr_function_hides.specs.TidyWrites.{IsTrussAfter}
 use Rattle.pr_function_hides.specs.Treating.{is_run_soon}
 use Rattle.pr_function_laws.proofs.MetLemmas.{found-function}
 use Rattle.pr_function_laws.proofs.OpenedLaws.{Goes, goes-few, goes-opened, goes-still, turn-later}
 use Rattle.pr_function_laws.specs.OneEvent.{HasOneEventAtMost}
 use Rattle.pr_function_laws.specs.Opened.{is_opened}
+use Rattle.pr_function_laws.specs.Steps.{StopsAtAll}
 use Rattle.pr_hidden.specs.Covers.{Cover, Covers, Patch}
-use Rattle.pr_hidden.specs.Hiders.{Hiders, covers_at, has_hold, hides, is_own, patch_at}
-use Rattle.pr_hidden.specs.Tidiness.{IsPassiveBut}
+use Rattle.pr_hidden.specs.Hiders.{Hiders, covers_after, covers_at, has_hold, hides, is_own, patch_at}
 use Rattle.pr_line.specs.declared.functions.Function.{Function}
 use Rattle.pr_line.specs.declared.options.Options.{Options}
 use Rattle.pr_model.proofs.TurnLemmas.{turn-taken}
@@ -41,7 +45,7 @@ use Rattle.pr_model.specs.State.{TracedLwp, TracedProcess, TracedState, live_pro
 use Rattle.pr_model.specs.declared.calls.File.TheVariants as file
 use Rattle.pr_model.specs.declared.calls.Mode.TheVariants.{WriteExcl}
 use Rattle.pr_model.specs.declared.events.Act.TheVariants as act
-use Rattle.pr_model.specs.declared.events.Actor.TheVariants.{Lwp}
+use Rattle.pr_model.specs.declared.events.Actor.TheVariants.{Clock, Lwp}
 use Rattle.pr_model.specs.declared.events.Did.TheVariants.{Faulted}
 use Rattle.pr_model.specs.declared.events.Entry.{Entry}
 use Rattle.pr_model.specs.declared.events.Turned.{Turned}
@@ -50,7 +54,6 @@ use Rattle.pr_num.proofs.SearchLemmas.{All-at}
 use Rattle.pr_num.specs.declared.faults.Flt.{Flt}
 use Rattle.pr_num.specs.declared.faults.Flt.TheVariants.{Bpt, Trace}
 use Rattle.pr_probe_laws.proofs.HiddenTurns.{did-is}
-use Rattle.pr_probe_laws.specs.StepMarks.{IsUnstepped}
 use Rattle.pr_truss.specs.Asides.{marks_at}
 use Rattle.pr_truss.specs.FunctionEvents.{begins_at, function_at, if_standing}
 use Rattle.pr_truss.specs.Marks.{has_function, standing, with_step}
@@ -86,9 +89,8 @@ module _ (o : Options) (m : Marks) (pc function : ℕ) where
               (at ∙ it, ap (has_function (standing m)) (sym same) ∙ has)
           of false has it = absurd (none-some function it)
 
-module _ {n : ℕ} {who : Hiders} {controllers : List ControllerState} {first : TracedState} {h : List Entry}
-    (run : IsRunOfTrusses (AreUnbroken who h) n who controllers first h) (passive : IsPassiveBut who h)
-    (unstepped : IsUnstepped first.system) where
+module _ {n : ℕ} {who : Hiders} {controllers : List ControllerState} {first : TracedState}
+    {h : List Entry} (run : IsRunOfTrusses n who controllers first h) where
   abbrev here : List Entry → TracedState
   here front = state_after first front
 
@@ -111,14 +113,16 @@ module _ {n : ℕ} {who : Hiders} {controllers : List ControllerState} {first : 
       (p : TracedProcess) → live_process (here front).system pid ≡ Some p → StepClears flags (covers front pid) p
 
   -- So it is of each process that a truss has opened whole, once it counts no stop any more that stood before it came;
-  -- and of one that it runs soon, the lwp that met an event counts so where the run flags clear a fault or step it.
+  -- and of one that it runs soon, the lwp that met an event counts so where the run flags clear a fault or step it. All
+  -- that as long as truss does not leave its processes.
   pub record Counts (front : List Entry) : Type 0 where
-    pub met : (k : ℕ) → hides who k ≡ true → (t : TrussState) → After front k t → (q : ℕ) → q < length t.traced
-        → is_opened t.stage q ≡ true → is_run_soon t.stage q ≡ false → (traced_at t q).old ≡ 0
+    pub met : (k : ℕ) → hides who k ≡ true → (t : TrussState) → After front k t → t.leaving ≡ false → (q : ℕ)
+        → q < length t.traced → is_opened t.stage q ≡ true → is_run_soon t.stage q ≡ false → (traced_at t q).old ≡ 0
         → MetIn front t.options (marks_at t q) (traced_at t q).pid
-    pub soon : (k : ℕ) → hides who k ≡ true → (t : TrussState) → After front k t → (q : ℕ) → q < length t.traced
-        → is_run_soon t.stage q ≡ true → ClearIn front (marks_at t q).flags (traced_at t q).pid
-    pub code : (k : ℕ) → hides who k ≡ true → (t : TrussState) → After front k t → StepsIn run front t
+    pub soon : (k : ℕ) → hides who k ≡ true → (t : TrussState) → After front k t → t.leaving ≡ false → (q : ℕ)
+        → q < length t.traced → is_run_soon t.stage q ≡ true → ClearIn front (marks_at t q).flags (traced_at t q).pid
+    pub code : (k : ℕ) → hides who k ≡ true → (t : TrussState) → After front k t → t.leaving ≡ false
+        → StepsIn run front t
 
   -- ---- an entry of others
 
@@ -128,7 +132,7 @@ module _ {n : ℕ} {who : Hiders} {controllers : List ControllerState} {first : 
     next_front = front ++ e ∷ []
 
     abbrev pub t : TrussState
-    t = Posted.t run passive unstepped front e back place k hider
+    t = Calm.t run front e back place k hider
 
     module _ (none : exchange_of k e ≡ None) (q : ℕ) (within : q < length t.traced)
         (apart : (own : ℕ) → e.actor ≢ Lwp (traced_at t q).pid own)
@@ -138,20 +142,20 @@ module _ {n : ℕ} {who : Hiders} {controllers : List ControllerState} {first : 
 
       pub framed-met : (o : Options) (m : Marks) → MetIn front o m pid → MetIn next_front o m pid
       framed-met o m met x later =
-          let was = Posted.left-alone run passive unstepped front e back place k hider none q within apart x later in
+          let was = Calm.left-alone run front e back place k hider none q within apart x later in
           old-count (covers front pid) (covers next_front pid) o m was.0 x more (alone-old was.0 x was.1.1)
           (met was.0 was.1.0)
 
       pub framed-clear : (flags : ℕ) → ClearIn front flags pid → ClearIn next_front flags pid
       framed-clear flags clear x later =
-          let was = Posted.left-alone run passive unstepped front e back place k hider none q within apart x later in
+          let was = Calm.left-alone run front e back place k hider none q within apart x later in
           alone-clears (covers front pid) (covers next_front pid) was.0 x more was.1.1 flags (clear was.0 was.1.0)
 
   -- ---- a turn
 
   module _ (front back : List Entry) (acting id : ℕ) (turned : Turned)
-      (place : h ≡ front ++ record { actor = Lwp acting id; act = act.Turn turned } ∷ back) (counts : Counts front)
-      (k : ℕ) (hider : hides who k ≡ true) where
+      (place : h ≡ front ++ record { actor = Lwp acting id; act = act.Turn turned } ∷ back) (k : ℕ)
+      (hider : hides who k ≡ true) where
     abbrev e : Entry
     e = record { actor = Lwp acting id; act = act.Turn turned }
 
@@ -165,62 +169,56 @@ module _ {n : ℕ} {who : Hiders} {controllers : List ControllerState} {first : 
     tr = t front e back place k hider
 
     abbrev truss : Truss who controllers first h front k
-    truss = Posted.truss run passive unstepped front e back place k hider
+    truss = Calm.truss run front e back place k hider
 
     is-now : After front k tr
     is-now = let w = truss in w.is
 
-    facts : KnownOf run front k hider tr
-    facts = Posted.known run passive unstepped front e back place k hider
-
-    goes : Goes (Unit {0}) k (let it = run.are.trusses k hider in it.options) tr s
-    goes = let w = facts in w.goes
-
     abbrev turn : LwpTurn
-    turn = (its-turn run passive unstepped front back acting id turned place).0
+    turn = (Calm.its-turn run front back acting id turned place).0
 
     turn-is : turn_of s.system acting id ≡ Some turn
-    turn-is = (its-turn run passive unstepped front back acting id turned place).1.0
+    turn-is = (Calm.its-turn run front back acting id turned place).1.0
 
     same-turned : turn.turned ≡ turned
-    same-turned = (its-turn run passive unstepped front back acting id turned place).1.1
+    same-turned = (Calm.its-turn run front back acting id turned place).1.1
 
     lawful-now : IsLawful s
-    lawful-now = its-lawful run front e back place (Posted.kept-here run passive unstepped front e back place k hider)
+    lawful-now = its-lawful run front e back place (Calm.kept-here run front e back place k hider)
 
     later-system : (here later_front).system ≡ turn.system
     later-system =
         ap (λ (x : TracedState). x.system)
-        (now-is run front e back place (Posted.kept-here run passive unstepped front e back place k hider))
+        (now-is run front e back place (Calm.kept-here run front e back place k hider))
         ∙ turn-later s acting id turned turn turn-is
 
     no-agent : (covers front acting).agent ≡ false
-    no-agent = let w = Posted.kept-here run passive unstepped front e back place k hider in w.no_agent acting
+    no-agent = let w = Calm.kept-here run front e back place k hider in w.no_agent acting
 
     -- those that counted do so still, but for the one whose turn it was
     keeps : (pid m : ℕ) → (pid ≡ acting → m ≢ id) → (covers front pid).faulted m ≡ true
         → (covers later_front pid).faulted m ≡ true
     keeps pid m apart is =
-        ap (λ (c : Cover). c.faulted m) (turned-is run passive unstepped front back acting id turned place pid)
+        ap (λ (c : Cover). c.faulted m) (Calm.turned-is run front back acting id turned place pid)
         ∙ turned-keeps who (covers front) s acting id turned.did no-agent pid m apart is
 
-    more-apart : (pid : ℕ) → pid ≢ acting → CountLess (covers later_front pid) (covers front pid)
+    pub more-apart : (pid : ℕ) → pid ≢ acting → CountLess (covers later_front pid) (covers front pid)
     more-apart pid apart m is = keeps pid m (λ same. absurd (apart same)) is
 
-    -- of its own process
-    module _ (q : ℕ) (within : q < length tr.traced) (own : (traced_at tr q).pid ≡ acting)
-        (opened : is_opened tr.stage q ≡ true) (quiet : is_run_soon tr.stage q ≡ false)
-        (new : (traced_at tr q).old ≡ 0) (met : MetIn front tr.options (marks_at tr q) acting) (x : TracedProcess)
+    -- Of its own process, of which truss traces all faults, where at most one event is unread, and where the code of
+    -- the function stands that is stepped.
+    module _ (q : ℕ) (within : q < length tr.traced) (own : (traced_at tr q).pid ≡ acting) (p : TracedProcess)
+        (live : live_process s.system acting ≡ Some p) (few : HasOneEventAtMost p) (stops : StopsAtAll p.control)
+        (code : So (StepIn run front tr.options) (traced_at tr q))
+        (met : MetIn front tr.options (marks_at tr q) acting) (x : TracedProcess)
         (later : live_process (here later_front).system acting ≡ Some x) where
-      taken : (p : TracedProcess)
-          × ((live_process s.system acting ≡ Some p) × ((l : TracedLwp) × (lwp_of p id ≡ Some l)))
-      taken = let it = turn-taken s.system acting id turn turn-is in (it.process, (it.live, (it.lwp, it.there)))
-
-      abbrev p : TracedProcess
-      p = taken.0
-
-      live : live_process s.system acting ≡ Some p
-      live = taken.1.0
+      its-lwp : (l : TracedLwp) × (lwp_of p id ≡ Some l)
+      its-lwp =
+          let it = turn-taken s.system acting id turn turn-is in (
+            it.lwp,
+            subst (λ (y : TracedProcess). lwp_of y id ≡ Some it.lwp) (same_Some it.process p (sym it.live ∙ live))
+                it.there,
+          )
 
       live-there : live_process s.system (traced_at tr q).pid ≡ Some p
       live-there = ap (live_process s.system) own ∙ live
@@ -228,24 +226,15 @@ module _ {n : ℕ} {who : Hiders} {controllers : List ControllerState} {first : 
       later-there : live_process turn.system acting ≡ Some x
       later-there = ap (λ (y : _). live_process y acting) (sym later-system) ∙ later
 
-      few : HasOneEventAtMost p
-      few =
-          goes-few (Unit {0}) k _ tr s goes q within tt opened
-          (λ runs. false≢true (sym quiet ∙ ap (λ st. is_run_soon st q) runs ∙ eq-eqb q q refl))
-          new p live-there
-
       all-traced : (f : Flt) → is_traced p.control (Fault f) ≡ true
-      all-traced f =
-          let owns = goes-opened (Unit {0}) k _ tr s goes q within opened in
-          let all = owns.traces p live-there in
-          Posted.stops-traced p.control all.stops f
+      all-traced f = stops-traced p.control stops f
 
       abbrev m : Marks
       m = marks_at tr q
 
       held : has_hold who s.opens acting ≡ true
       held =
-          let f = Posted.holds run passive unstepped front e back place k hider in
+          let f = Calm.files run front e back place k hider in
           holder-hold who run.are.no_probes s acting
           (record {
             k = k;
@@ -267,11 +256,10 @@ module _ {n : ℕ} {who : Hiders} {controllers : List ControllerState} {first : 
       now-own : (f : Flt) → turn.turned.did ≡ Faulted f → is_own who (covers front) s acting id turned.did ≡ true
           → (covers later_front acting).faulted id ≡ true
       now-own f did its =
-          let l = taken.1.1.0 in
-          let there = taken.1.1.1 in
+          let l = its-lwp.0 in
+          let there = its-lwp.1 in
           let free = fault-free s.system acting p id turn lawful-now.system live turn-is x later-there f did l there in
-          ap (λ (c : Cover). c.faulted id)
-          (turned-is run passive unstepped front back acting id turned place acting)
+          ap (λ (c : Cover). c.faulted id) (Calm.turned-is run front back acting id turned place acting)
           ∙ turned-now who (covers front) s acting id turned.did no-agent
           (directed-is who (covers front) s acting id turned.did p l live there ∙ free) its
 
@@ -303,7 +291,7 @@ module _ {n : ℕ} {who : Hiders} {controllers : List ControllerState} {first : 
               (ap (λ i. patch_at g.at (covers front i).patches) (sym own) ∙ stand.each function g named has)
 
           code-own : CodeAt run front (traced_at tr q).pid (patch_of g) → Own
-          code-own code = by (patch_at g.at (covers front acting).patches) refl
+          code-own stands = by (patch_at g.at (covers front acting).patches) refl
             where
               patchable : IsPatchable g
               patchable =
@@ -317,7 +305,7 @@ module _ {n : ℕ} {who : Hiders} {controllers : List ControllerState} {first : 
               by (Some patch) found = patch-own patch found
               by None found =
                   absurd (code-runs g patchable s.system acting p id l
-                  (code.holds p live-there (ap (λ i. patch_at g.at (covers front i).patches) own ∙ found)) (sym at)
+                  (stands.holds p live-there (ap (λ i. patch_at g.at (covers front i).patches) own ∙ found)) (sym at)
                   (sym (did-is s acting id turn turn-is p l live there) ∙ did ∙ ap Faulted is))
 
           standing-own : has_function (standing m) function ≡ true → Own
@@ -328,8 +316,7 @@ module _ {n : ℕ} {who : Hiders} {controllers : List ControllerState} {first : 
               by None under_way has_it = planted-own has_it
               by (Some step) under_way has_it = elim (has-with m.planted step.function function has_it) [
                 | inl same ↦ code-own
-                    (counts.code k hider tr is-now q within step under_way g
-                    (ap (slice_get tr.options.functions) (sym same) ∙ named))
+                    (code step under_way g (ap (slice_get tr.options.functions) (sym same) ∙ named))
                 | inr planted ↦ planted-own planted
               ]
 
@@ -347,57 +334,95 @@ module _ {n : ℕ} {who : Hiders} {controllers : List ControllerState} {first : 
             let g = found-function tr.options (pc_of l.0.regs) function found.0 in
             standing-own is l.0 l.1.0 function g.0 g.1.0 g.1.1 found.1
 
-      turned-count : MetCount (covers later_front acting) tr.options m x
-      turned-count i y there f stops kind =
-          by (turn-met s.system acting p id turn lawful-now.system live turn-is x later-there few i y f there stops)
+      pub turned-count : MetCount (covers later_front acting) tr.options m x
+      turned-count i y there f stops_at kind =
+          by (turn-met s.system acting p id turn lawful-now.system live turn-is x later-there few i y f there stops_at)
         where
           by : ((i ≢ id) × (lwp_of p i ≡ Some y)) ⊎ ((i ≡ id) × (turn.turned.did ≡ Faulted f))
               → (covers later_front acting).faulted i ≡ true
-          by (inl w) = keeps acting i (λ same. w.0) (met p live i y w.1 f stops kind)
+          by (inl w) = keeps acting i (λ same. w.0) (met p live i y w.1 f stops_at kind)
           by (inr w) =
               subst (λ j. (covers later_front acting).faulted j ≡ true) (sym w.0)
               (kind-own f w.1 y (subst (λ j. lwp_of x j ≡ Some y) w.0 there) kind)
 
-    -- ---- the trusses then
+    -- a process of truss that it lives in then lived before
+    pub took-turn : (x : TracedProcess) → live_process (here later_front).system acting ≡ Some x
+        → (p : TracedProcess) × (live_process s.system acting ≡ Some p)
+    took-turn x later = let it = turn-taken s.system acting id turn turn-is in (it.process, it.live)
+
+    pub same-at : slice_get (controllers_at controllers later_front) k ≡ slice_get (controllers_at controllers front) k
+    unfolding controllers_after
+    same-at = ap (λ (cs : List ControllerState). slice_get cs k) (controllers-push controllers front e)
+
+    -- ---- the trusses that go on
 
     lwp-same : {a b i j : ℕ} → Lwp a i ≡ Lwp b j → a ≡ b
     lwp-same is = cc
 
-    pub turn-counts : (q : ℕ) → q < length tr.traced → is_opened tr.stage q ≡ true → is_run_soon tr.stage q ≡ false
-        → (traced_at tr q).old ≡ 0 → MetIn later_front tr.options (marks_at tr q) (traced_at tr q).pid
-    turn-counts q within opened quiet new = elim (cases_eq (traced_at tr q).pid acting) [
-      | inl same ↦ subst (λ i. MetIn later_front tr.options (marks_at tr q) i) (sym same)
-          (λ x later.
-          turned-count q within same opened quiet new
-          (subst (λ i. MetIn front tr.options (marks_at tr q) i) same was) x later)
-      | inr apart ↦ framed-met front e back place k hider refl q within (λ i is. apart (sym (lwp-same is)))
-          (more-apart (traced_at tr q).pid apart) tr.options (marks_at tr q) was
-    ]
-      where
-        was : MetIn front tr.options (marks_at tr q) (traced_at tr q).pid
-        was = counts.met k hider tr is-now q within opened quiet new
+    module _ (counts : Counts front) (off : tr.leaving ≡ false) where
+      goes : Goes (Unit {0}) k (run-options run k hider) tr s
+      goes = Calm.goes run front e back place k hider off
 
-    pub turn-clears : (q : ℕ) → q < length tr.traced → is_run_soon tr.stage q ≡ true
-        → ClearIn later_front (marks_at tr q).flags (traced_at tr q).pid
-    turn-clears q within soon = elim (cases_eq (traced_at tr q).pid acting) [
-      | inl same ↦ absurd (moves same)
-      | inr apart ↦ framed-clear front e back place k hider refl q within (λ i is. apart (sym (lwp-same is)))
-          (more-apart (traced_at tr q).pid apart) (marks_at tr q).flags (counts.soon k hider tr is-now q within soon)
-    ]
-      where
-        moves : (traced_at tr q).pid ≡ acting → ⊥
-        moves same =
-            let it = turn-taken s.system acting id turn turn-is in
-            let frozen : IsFrozen it.process =
-            goes-still (Unit {0}) k _ tr s goes tt q it.process (ap (live_process s.system) same ∙ it.live)
-            (Posted.soon-looked tr.stage q soon) in
-            none-some turn (sym (frozen-turns s.system acting it.process it.live frozen id) ∙ turn-is)
+      pub turn-counts : (q : ℕ) → q < length tr.traced → is_opened tr.stage q ≡ true
+          → is_run_soon tr.stage q ≡ false → (traced_at tr q).old ≡ 0
+          → MetIn later_front tr.options (marks_at tr q) (traced_at tr q).pid
+      turn-counts q within opened quiet new = elim (cases_eq (traced_at tr q).pid acting) [
+        | inl same ↦ subst (λ i. MetIn later_front tr.options (marks_at tr q) i) (sym same)
+            (λ x later. own same x later)
+        | inr apart ↦ framed-met front e back place k hider refl q within (λ i is. apart (sym (lwp-same is)))
+            (more-apart (traced_at tr q).pid apart) tr.options (marks_at tr q) was
+      ]
+        where
+          was : MetIn front tr.options (marks_at tr q) (traced_at tr q).pid
+          was = counts.met k hider tr is-now off q within opened quiet new
 
-    same-at : slice_get (controllers_at controllers later_front) k ≡ slice_get (controllers_at controllers front) k
-    unfolding controllers_after
-    same-at = ap (λ (cs : List ControllerState). slice_get cs k) (controllers-push controllers front e)
+          own : (traced_at tr q).pid ≡ acting → (x : TracedProcess)
+              → live_process (here later_front).system acting ≡ Some x
+              → MetCount (covers later_front acting) tr.options (marks_at tr q) x
+          own same x later =
+              let it = took-turn x later in
+              let there : live_process s.system (traced_at tr q).pid ≡ Some it.0 =
+              ap (live_process s.system) same ∙ it.1 in
+              let few =
+              goes-few (Unit {0}) k _ tr s goes q within tt opened
+              (λ runs. false≢true (sym quiet ∙ ap (λ st. is_run_soon st q) runs ∙ eq-eqb q q refl))
+              new it.0 there in
+              let owns = goes-opened (Unit {0}) k _ tr s goes q within opened in
+              let all = owns.traces it.0 there in
+              turned-count q within same it.0 it.1 few all.stops
+              (counts.code k hider tr is-now off q within)
+              (subst (λ i. MetIn front tr.options (marks_at tr q) i) same was) x later
 
-    pub turn-code : StepsIn run later_front tr
-    turn-code =
-        foreign-steps run front (Lwp acting id) (act.Turn turned) back place k hider same-at (λ is. cc) tr
-        is-now (counts.code k hider tr is-now)
+      pub turn-clears : (q : ℕ) → q < length tr.traced → is_run_soon tr.stage q ≡ true
+          → ClearIn later_front (marks_at tr q).flags (traced_at tr q).pid
+      turn-clears q within soon = elim (cases_eq (traced_at tr q).pid acting) [
+        | inl same ↦ absurd (moves same)
+        | inr apart ↦ framed-clear front e back place k hider refl q within (λ i is. apart (sym (lwp-same is)))
+            (more-apart (traced_at tr q).pid apart) (marks_at tr q).flags
+            (counts.soon k hider tr is-now off q within soon)
+      ]
+        where
+          moves : (traced_at tr q).pid ≡ acting → ⊥
+          moves same =
+              let it = turn-taken s.system acting id turn turn-is in
+              let frozen : IsFrozen it.process =
+              goes-still (Unit {0}) k _ tr s goes tt q it.process (ap (live_process s.system) same ∙ it.live)
+              (soon-looked tr.stage q soon) in
+              none-some turn (sym (frozen-turns s.system acting it.process it.live frozen id) ∙ turn-is)
+
+      pub turn-code : StepsIn run later_front tr
+      turn-code =
+          foreign-steps run front (Lwp acting id) (act.Turn turned) back place k hider same-at (λ is. cc) tr
+          is-now off (counts.code k hider tr is-now off)
+
+  -- ---- a tick
+
+  -- as many count as before
+  pub tick-more : (front back : List Entry) (moment : ℕ)
+      → h ≡ front ++ record { actor = Clock; act = act.Tick moment } ∷ back → (pid : ℕ)
+      → CountLess (covers (front ++ record { actor = Clock; act = act.Tick moment } ∷ []) pid) (covers front pid)
+  unfolding covers_after
+  tick-more front back moment place pid m is =
+      let e : Entry = record { actor = Clock; act = act.Tick moment } in
+      ap (λ (cs : Covers). (cs pid).faulted m)
+      (at-is run front e back place (kept-at run front (e ∷ back) place)) ∙ is

@@ -1,8 +1,11 @@
-use Rattle.std.proofs.Common.{◌≡◌, ◌≢◌, ◌<◌, ◌==◌, ℕ, Bool, true, false, not, Option, Some, None, List, length, refl, sym, subst, ap, ◌∙◌, arith, ◌-◌, inl, inr}
+use Rattle.std.proofs.Common.{◌≡◌, ◌≢◌, ◌<◌, ◌==◌, ℕ, Bool, true, not, Option, Some, None, List, length, refl, sym}
+use Rattle.std.proofs.Common.{subst, ap, ◌∙◌, arith, inl, inr}
 use Rattle.std.proofs.lemmas.Bool.{cases_eq, eq-eqb, false≢true}
 use Rattle.pr_function_hides.proofs.PlantedReplies.{learnt-pid}
 use Rattle.pr_function_laws.proofs.KeptLemmas.{fed-kept}
-use Rattle.pr_function_laws.proofs.KeptPlaces.{AfterBeside, AfterStage, AtAside, AtStage, IsLasting, Kept, LeftHas, Position, closes, looks, opens, planted_as, position_after, rests, runs, to_read}
+use Rattle.pr_function_laws.proofs.KeptPlaces.{AfterBeside, AfterStage, AtAside, AtStage, IsLasting, Kept, LeftHas}
+use Rattle.pr_function_laws.proofs.KeptPlaces.{Position, closes, looks, opens, planted_as, position_after, rests, runs}
+use Rattle.pr_function_laws.proofs.KeptPlaces.{to_read}
 use Rattle.pr_function_laws.specs.Opened.{is_opened}
 use Rattle.pr_model.specs.declared.calls.Reply.{Reply}
 use Rattle.pr_report_laws.proofs.Invariant.StandLemmas.{Each, EachBut}
@@ -19,7 +22,8 @@ use Rattle.pr_truss.specs.declared.replies.Answer.TheVariants.{Accepted, Interru
 use Rattle.pr_truss.specs.declared.stages.AfterClosing.TheVariants.{GoOn, OpenNext}
 use Rattle.pr_truss.specs.declared.stages.OpeningStep.{OpeningStep}
 use Rattle.pr_truss.specs.declared.stages.Stage.{Stage}
-use Rattle.pr_truss.specs.declared.stages.Stage.TheVariants.{Spawning, OpeningControl, Opening, Polling, ReadingStatus, ReadingText, Running, Closing, Finished}
+use Rattle.pr_truss.specs.declared.stages.Stage.TheVariants.{Spawning, OpeningControl, Opening, Polling, ReadingStatus}
+use Rattle.pr_truss.specs.declared.stages.Stage.TheVariants.{ReadingText, Running, Closing, Finished}
 use Rattle.pr_truss_laws.proofs.HeldLemmas.{at_place}
 use Rattle.pr_truss_laws.proofs.ReplySteps.{lost-same}
 

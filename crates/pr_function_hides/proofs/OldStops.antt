@@ -1,9 +1,9 @@
 use Rattle.std.proofs.Common.{◌≡◌, ◌≢◌, ◌<◌, ◌++◌, ℕ, true, false, not, Some, List, length, refl, sym, ap, ◌∙◌}
 use Rattle.std.proofs.lemmas.Bool.{eq-eqb, false≢true}
-use Rattle.pr_function_hides.proofs.CopyFree.{copies-so}
+use Rattle.pr_function_hides.proofs.CopyFree.{copies-on}
 use Rattle.pr_function_hides.proofs.CopyPlaces.{RestsSo, RunsSo, StandingSo, closes_so, opens_so, rests_new, rests_old, rests_so, runs_old, runs_so, treats}
-use Rattle.pr_function_hides.proofs.TidyKept.{IsRunOfTrusses}
-use Rattle.pr_function_hides.specs.TidyWrites.{AreUnbroken, IsTrussAfter}
+use Rattle.pr_function_hides.specs.RunsOfTrusses.{IsRunOfTrusses}
+use Rattle.pr_function_hides.specs.TidyWrites.{IsTrussAfter}
 use Rattle.pr_function_laws.specs.Opened.{is_opened}
 use Rattle.pr_hidden.specs.Hiders.{Hiders, hides}
 use Rattle.pr_model.specs.Legal.{state_after}
@@ -36,12 +36,13 @@ module _ (t : TrussState) (q : ℕ) (p : TracedProcess) (opened : is_opened t.st
       absurd (about-none (sym (ap (λ st. is_opened st q) is ∙ ap not (eq-eqb q q refl))))
   waits-frozen (runs_so soon stands) = runs-frozen stands
 
+-- of a truss in a history, as long as it does not leave its processes
 module _ {n : ℕ} {who : Hiders} {controllers : List ControllerState} {first : TracedState} {h : List Entry}
-    (run : IsRunOfTrusses (AreUnbroken who h) n who controllers first h) where
-  pub old-frozen : (front back : List Entry) → h ≡ front ++ back → (k : ℕ) → hides who k ≡ true → (t : TrussState)
-      → IsTrussAfter who controllers first h front k t → (q : ℕ) → q < length t.traced
+    (run : IsRunOfTrusses n who controllers first h) where
+  pub old-frozen-on : (front back : List Entry) → h ≡ front ++ back → (k : ℕ) → hides who k ≡ true → (t : TrussState)
+      → IsTrussAfter who controllers first h front k t → t.leaving ≡ false → (q : ℕ) → q < length t.traced
       → is_opened t.stage q ≡ true → (traced_at t q).old ≢ 0 → (p : TracedProcess)
       → live_process (state_after first front).system (traced_at t q).pid ≡ Some p → IsFrozen p
-  old-frozen front back place k hider t is q within opened old p live =
-      let w = copies-so run k hider front back place t is in
+  old-frozen-on front back place k hider t is off q within opened old p live =
+      let w = copies-on run k hider front back place t is off in
       waits-frozen t q p opened old (w.each q within p live)

@@ -1,11 +1,10 @@
-use Rattle.std.proofs.Common.{◌≡◌, ◌≢◌, ◌+◌, ◌<◌, ◌==◌, ◌++◌, ℕ, true, false, not, Option, Some, None, List, [], ◌∷◌, length, append-nil, append_assoc, refl, sym, subst, ap, ◌∙◌, arith, inl, inr}
-use Rattle.std.proofs.lemmas.Bool.{cases_Bool, eqb-true, false≢true}
+use Rattle.std.proofs.Common.{◌≡◌, ◌≢◌, ◌+◌, ◌<◌, ◌++◌, ℕ, true, false, not, Option, Some, None, List, [], ◌∷◌, length, append-nil, append_assoc, refl, sym, subst, ap, ◌∙◌, arith, inr}
 use Rattle.std.proofs.lemmas.List.Elements.{All-cons, All-head, All-nil}
 use Rattle.std.proofs.lemmas.Option.{none-some}
 use Rattle.std.specs.List.{All, cons_option, slice_get}
 use Rattle.pr_line.specs.declared.options.Options.{Options}
 use Rattle.pr_model.specs.Legal.{state_after}
-use Rattle.pr_model.specs.State.{TracedProcess, TracedState, live_process}
+use Rattle.pr_model.specs.State.{TracedState}
 use Rattle.pr_model.specs.declared.calls.Call.{Call}
 use Rattle.pr_model.specs.declared.calls.Call.TheVariants as call
 use Rattle.pr_model.specs.declared.calls.Reply.{Reply}
@@ -28,6 +27,7 @@ use Rattle.pr_truss.specs.declared.processes.Traced.{Traced}
 use Rattle.pr_truss.specs.declared.replies.Answer.TheVariants.{Interrupted}
 use Rattle.pr_truss.specs.declared.stages.AfterClosing.TheVariants.{OpenNext, GoOn}
 use Rattle.pr_truss.specs.declared.stages.Stage.{Stage}
+use Rattle.pr_truss.specs.declared.stages.OpeningStep.{OpeningStep}
 use Rattle.pr_truss.specs.declared.stages.Stage.TheVariants.{Spawning, OpeningControl, Opening, Polling, ReadingStatus, ReadingText, Running, Closing, Finished}
 use Rattle.pr_truss_laws.specs.Exchanges.{Exchange, exchange_of, exchanges}
 use Rattle.pr_truss_laws.specs.Handles.{handles_of}
@@ -35,7 +35,7 @@ use Rattle.pr_function_laws.proofs.AwayLemmas.{Away, AwayAside, AwayStage, next-
 use Rattle.pr_function_laws.proofs.KeptPlaces.{AtAside, AtStage, Position}
 use Rattle.pr_function_laws.proofs.OpenedCalls.{IsSo}
 use Rattle.pr_function_laws.proofs.FrontLemmas.{calm-answer}
-use Rattle.pr_function_laws.specs.Opened.{IsFunctionRun, WasNotInterrupted, functions_at, is_opened}
+use Rattle.pr_function_laws.specs.Opened.{IsFunctionRun, WasNotInterrupted, functions_at}
 use Rattle.pr_function_laws.specs.Runs.{functions_after, functions_on}
 use Rattle.pr_function_hides.proofs.CallLists.{truss-push}
 use Rattle.pr_function_hides.proofs.OwnFiles.{IsBeside, IsWithin}
@@ -257,31 +257,12 @@ module _ (n k : ℕ) (o : Options) (s : TracedState) (h : List Entry) (run : IsF
       walk front [] later is
       (subst (λ xs. Begins (functions_after (first_truss o) xs)) (sym (no-exchanges k)) (first-begins o))
 
-  -- in a process that lives and that truss is opening, or closes, no step is under way
-  pub closed-unstepped : ((front later : List Entry) (q : ℕ) → h ≡ front ++ later → (T front).stage ≡ Closing q GoOn
-      → live_process (state_after s front).system (traced_at (T front) q).pid ≡ None)
-      → (front later : List Entry) (place : ℕ) (p : TracedProcess) → h ≡ front ++ later
-      → place < length (T front).traced
-      → live_process (state_after s front).system (traced_at (T front) place).pid ≡ Some p
-      → is_opened (T front).stage place ≡ false → (marks_at (T front) place).stepped ≡ None
-  closed-unstepped ends front later place p is within live closed = by (begins-at front later is)
+  -- while truss opens a process no step is under way in any
+  pub opening-unstepped : (front later : List Entry) → h ≡ front ++ later → (q : ℕ) (step : OpeningStep)
+      → (T front).stage ≡ Opening q step → (place : ℕ) → place < length (T front).traced
+      → (marks_at (T front) place).stepped ≡ None
+  opening-unstepped front later is q step at place within = by (begins-at front later is)
     where
-      shut : (stage : Stage) → (T front).stage ≡ stage → is_opened stage place ≡ false
-          → AwayStage Any 0 0 nobody (T front).traced stage → ⊥
-      shut Polling at other w = false≢true (sym other)
-      shut (ReadingStatus q) at other w = false≢true (sym other)
-      shut (ReadingText q l from len) at other w = false≢true (sym other)
-      shut (Running q) at other w = false≢true (sym other)
-      shut (Closing q GoOn) at other w = elim (cases_Bool (q == place)) [
-        | inl same ↦ none-some p
-            (sym (ends front later q is at)
-            ∙ ap (λ i. live_process (state_after s front).system (traced_at (T front) i).pid) (eqb-true q place same)
-            ∙ live)
-        | inr apart ↦ false≢true (sym other ∙ ap not apart)
-      ]
-      shut Finished at other w = false≢true (sym other)
-      shut _ at other w = absurd w
-
       by : Begins (T front) → (marks_at (T front) place).stepped ≡ None
       by (opening all) = all place within
-      by (past w) = absurd (shut (T front).stage refl closed w.stage)
+      by (past w) = absurd (subst (AwayStage Any 0 0 nobody (T front).traced) at w.stage)

@@ -1,4 +1,5 @@
-use Rattle.std.proofs.Common.{◌≡◌, ◌≢◌, ℕ, zero, suc, true, false, is_some, Option, Some, None, List, refl, sym, subst, ap, ◌∙◌, inl, inr}
+use Rattle.std.proofs.Common.{◌≡◌, ◌≢◌, ℕ, zero, suc, true, false, is_some, Option, Some, None, List, refl, sym, subst}
+use Rattle.std.proofs.Common.{ap, ◌∙◌, inl, inr}
 use Rattle.std.proofs.lemmas.Bool.{cases_Bool, cases_eq, false≢true}
 use Rattle.std.proofs.lemmas.Option.{none-some, same_Some}
 use Rattle.std.specs.List.{list_all}
@@ -8,7 +9,11 @@ use Rattle.pr_hidden.specs.Hiders.{patch_at}
 use Rattle.pr_lawful.proofs.FileLemmas.{choice}
 use Rattle.pr_laws.proofs.RunLemmas.{representative-stands}
 use Rattle.pr_model.specs.Registers.{pc_of}
-use Rattle.pr_model.specs.Running.{if_all_requested, if_flag, let_go, run_lwp, runs_one, shows_run, was_requested, with_abort, with_abort_from, with_aborted, with_all_run, with_cleared, with_directive, with_flags_on, with_one_run, with_representative_run, with_request, with_run, with_step, without_current, without_directive, without_fault, without_request}
+use Rattle.pr_model.specs.Running.{if_all_requested, if_flag, let_go, run_lwp, runs_one, shows_run, was_requested}
+use Rattle.pr_model.specs.Running.{with_abort, with_abort_from, with_aborted, with_all_run, with_cleared}
+use Rattle.pr_model.specs.Running.{with_directive, with_flags_on, with_one_run, with_representative_run, with_request}
+use Rattle.pr_model.specs.Running.{with_run, with_step, without_current, without_directive, without_fault}
+use Rattle.pr_model.specs.Running.{without_request}
 use Rattle.pr_model.specs.State.{TracedLwp, TracedProcess, has_agent, lwp_of, with_lwp}
 use Rattle.pr_model.specs.Stops.{representative}
 use Rattle.pr_model.specs.declared.lwps.Phase.{Phase}
@@ -53,6 +58,10 @@ OwnStand c p =
     (id : ℕ) (w : StandsAtOwn c p id)
     → (w.lwp.control.stop ≡ Some (stop.Faulted w.fault)) × IsOwnKind c w.lwp w.fault
 
+-- the same, of whatever kind the fault is
+abbrev pub OwnStops : Cover → TracedProcess → Type 0
+OwnStops c p = (id : ℕ) (w : StandsAtOwn c p id) → w.lwp.control.stop ≡ Some (stop.Faulted w.fault)
+
 -- it stands on that stop, and these run flags clear the fault
 abbrev pub OwnCleared : ℕ → Cover → TracedProcess → Type 0
 OwnCleared flags c p =
@@ -95,9 +104,43 @@ alone-old p q alone id k there =
       ),
     )
 
+-- an lwp of it that is at a fault was at it before, on the same stop
+abbrev pub FaultsStay : TracedProcess → TracedProcess → Type 0
+FaultsStay p q =
+    (id : ℕ) (k : TracedLwp) (f : Flt) (a : ℕ) → lwp_of q id ≡ Some k → k.phase ≡ AtFault f a
+    → (l : TracedLwp)
+    × ((lwp_of p id ≡ Some l) × ((l.phase ≡ AtFault f a) × (k.control.stop ≡ l.control.stop)))
+
+pub faults-same : (p : TracedProcess) → FaultsStay p p
+faults-same p id k f a there at = (k, (there, (at, refl)))
+
+pub faults-join : (p q r : TracedProcess) → FaultsStay p q → FaultsStay q r → FaultsStay p r
+faults-join p q r one two id k f a there at =
+    let b = two id k f a there at in
+    let c = one id b.0 f a b.1.0 b.1.1.0 in
+    (c.0, (c.1.0, (c.1.1.0, b.1.1.1 ∙ c.1.1.1)))
+
+pub faults-old : (p q : TracedProcess) → AreOld p q → FaultsStay p q
+faults-old p q old id k f a there at =
+    let was = old id k there in (was.0, (was.1.0, (sym was.1.1.0 ∙ at, was.1.1.1.0)))
+
 -- the same lwps count so later
 abbrev pub CountLess : Cover → Cover → Type 0
 CountLess c d = (id : ℕ) → d.faulted id ≡ true → c.faulted id ≡ true
+
+-- where each lwp that stands at such a fault stays on its stop
+pub stops-stay : (c d : Cover) (p q : TracedProcess) → CountLess c d → FaultsStay p q → OwnStops c p → OwnStops d q
+stops-stay c d p q less stay all id w =
+    let was = stay id w.lwp w.fault w.address w.there w.phase in
+    was.1.1.1
+    ∙ all id (record {
+      lwp = was.0;
+      there = was.1.0;
+      own = less id w.own;
+      fault = w.fault;
+      address = w.address;
+      phase = was.1.1.0;
+    })
 
 -- where none counts so, none does later
 pub less-clean : (c d : Cover) → CountLess c d → ((id : ℕ) → c.faulted id ≡ false) → (id : ℕ) → d.faulted id ≡ false
@@ -152,7 +195,7 @@ module _ (c d : Cover) (p q : TracedProcess) (less : CountLess c d) (old : AreOl
 
 -- ---- an lwp that PCRUN leaves at a fault
 
-never-cleared : (l : TracedLwp) (f : Flt) (a : ℕ) → (without_fault l).phase ≡ AtFault f a → ⊥
+pub never-cleared : (l : TracedLwp) (f : Flt) (a : ℕ) → (without_fault l).phase ≡ AtFault f a → ⊥
 unfolding without_fault
 never-cleared l f a at = by l.phase at
   where

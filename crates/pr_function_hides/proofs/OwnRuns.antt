@@ -20,7 +20,7 @@ use Rattle.pr_truss_laws.specs.Exchanges.{Exchange, exchange_in, exchanges}
 use Rattle.pr_world.specs.ControllerStates.{ControllerState, FnTruss}
 use Rattle.pr_world.specs.Controllers.{after_reply, call_by, next_call, with_fed}
 use Rattle.pr_world.specs.Protocol.{controllers_after, controllers_at}
-use Rattle.pr_function_laws.specs.Runs.{MakesCalls, functions_after}
+use Rattle.pr_function_laws.specs.Runs.{MakesFunctionCalls, functions_after}
 
 -- Among controllers that make their own calls a truss with functions makes those that its sequence gives.
 
@@ -40,7 +40,7 @@ function-fed controllers k t r at = fed-own controllers k r (FnTruss t) at
 -- the truss and its exchanges, once the rest of the history was made by these controllers
 abbrev Stays : List ControllerState → List Entry → ℕ → TrussState → List Exchange → Type 0
 Stays controllers h k t xs =
-    MakesCalls t xs × (slice_get (controllers_at controllers h) k ≡ Some (FnTruss (functions_after t xs)))
+    MakesFunctionCalls t xs × (slice_get (controllers_at controllers h) k ≡ Some (FnTruss (functions_after t xs)))
 
 abbrev Rest : List ControllerState → List Entry → ℕ → List Exchange → Type 0
 Rest controllers h k xs = (u : TrussState) → slice_get controllers k ≡ Some (FnTruss u) → Stays controllers h k u xs

@@ -1,20 +1,31 @@
-use Rattle.std.proofs.Common.{◌≡◌, ◌≢◌, ◌||◌, ◌&&◌, ◌++◌, ℕ, Bool, true, false, cond, IfOk, Some, Ok, Err, List, [], ◌∷◌, All, refl, sym, subst, ap, ◌∙◌, inl, inr}
+use Rattle.std.proofs.Common.{◌≡◌, ◌≢◌, ◌||◌, ◌&&◌, ◌++◌, ℕ, Bool, true, false, IfOk, Some, Ok, Err, List, [], ◌∷◌, All}
+use Rattle.std.proofs.Common.{length, refl, sym, subst, ap, ◌∙◌, inl, inr}
 use Rattle.std.proofs.lemmas.Bool.{false≢true}
 use Rattle.std.proofs.lemmas.List.{append_assoc}
 use Rattle.std.proofs.lemmas.List.Elements.{All-cons, All-nil}
+use Rattle.std.proofs.lemmas.Option.{none-some, same_Some}
 use Rattle.std.specs.Bool.{IsTrue}
 use Rattle.pr_api.specs.Entries.{call_entry}
-use Rattle.pr_function_hides.proofs.OwnFiles.{HoldsItsFiles}
-use Rattle.pr_function_hides.proofs.SentMessages.{Admits, Clears, Runs, Sends, aside-sends, flags-begin, stage-sends}
+use Rattle.pr_function_hides.proofs.LeavingStages.{IsLeft, asks, awaits, closes_files, halts, has_ended, lifts_all}
+use Rattle.pr_function_hides.proofs.LeavingStages.{looks, reads_text, waits_again}
+use Rattle.pr_function_hides.proofs.OwnFiles.{GoesOn, IsBeside}
+use Rattle.pr_function_hides.proofs.PlantedReplies.{So}
+use Rattle.pr_function_hides.proofs.RunFlags.{FlagsOf}
+use Rattle.pr_function_hides.proofs.SentMessages.{Admits, Begin, Clears, Runs, Sends, aside-sends, flags-begin}
+use Rattle.pr_function_hides.proofs.SentMessages.{stage-sends}
+use Rattle.pr_function_hides.proofs.StillMessages.{wstop-reads}
 use Rattle.pr_function_hides.proofs.TidyCalls as Calls
 use Rattle.pr_function_hides.proofs.TidyEntries.{its-legal}
-use Rattle.pr_function_hides.proofs.TidyKept.{IsRunOfTrusses, Kept}
+use Rattle.pr_function_hides.proofs.TidyKept.{Course, Kept, goes_on, leaves_them}
 use Rattle.pr_function_hides.proofs.TidyLaw.{kept-at}
 use Rattle.pr_function_hides.specs.FunctionHiders.{ArePatchable}
 use Rattle.pr_function_hides.specs.PassiveOthers.{AreOthersPassive, IsPassiveUnlessHidden}
-use Rattle.pr_function_hides.specs.TidyWrites.{AreUnbroken}
+use Rattle.pr_function_hides.specs.RunsOfTrusses.{IsRunOfTrusses}
+use Rattle.pr_function_laws.proofs.PatchCalls.{next-beside, next-staged}
+use Rattle.pr_function_laws.proofs.SoundLemmas.{AsideIsBelow}
 use Rattle.pr_hidden.specs.Hiders.{Hiders, are_some, hides}
-use Rattle.pr_hidden.specs.Tidiness.{IsPassiveBut, is_function_message, is_hider_act, is_hider_write, is_probe_message, is_step_flags}
+use Rattle.pr_hidden.specs.Tidiness.{IsPassiveBut, is_function_message, is_hider_act, is_hider_write, is_probe_message}
+use Rattle.pr_hidden.specs.Tidiness.{is_step_flags}
 use Rattle.pr_model.specs.Calls.{Answer, answer_to}
 use Rattle.pr_model.specs.Legal.{IsLegalEntry, state_after}
 use Rattle.pr_model.specs.Passive.{is_passive_act, is_passive_call, is_passive_message, is_passive_write}
@@ -36,11 +47,17 @@ use Rattle.pr_num.specs.declared.messages.Message.TheVariants as message
 use Rattle.pr_probe_laws.proofs.HiddenPassive.{All-there}
 use Rattle.pr_tool_laws.proofs.AnswerLemmas.{IsReadUnless, calm, reply-passive, write-reads}
 use Rattle.pr_tool_laws.specs.PassiveCalls.{BeginsPassively, IsPassiveCall}
-use Rattle.pr_truss.specs.FunctionCalls.{call_beside, next_function_call_of}
-use Rattle.pr_truss.specs.NextCalls.{next_call_of}
+use Rattle.pr_report_laws.proofs.Invariant.StandLemmas.{Each}
+use Rattle.pr_truss.specs.Asides.{marks_at}
+use Rattle.pr_truss.specs.FunctionCalls.{call_beside, function_call_of, next_function_call_of}
+use Rattle.pr_truss.specs.Marks.{has_functions, no_functions}
+use Rattle.pr_truss.specs.NextCalls.{call_of}
 use Rattle.pr_truss.specs.Trusses.{TrussState, traced_at}
 use Rattle.pr_truss.specs.declared.asides.Aside.{Aside}
-use Rattle.pr_truss.specs.declared.asides.Aside.TheVariants.{Nothing, Patching}
+use Rattle.pr_truss.specs.declared.asides.Aside.TheVariants.{Asking, AwaitingAgain, AwaitingStop, Nothing, Patching}
+use Rattle.pr_truss.specs.declared.stages.AfterClosing.TheVariants.{GoOn}
+use Rattle.pr_truss.specs.declared.stages.Stage.{Stage}
+use Rattle.pr_truss.specs.declared.stages.Stage.TheVariants.{Closing, Finished, ReadingLwps, ReadingText, Unfollowing}
 use Rattle.pr_truss_laws.proofs.TakenLemmas.{Read, ReadsAs, stop-reads}
 use Rattle.pr_world.specs.ControllerStates.{ControllerState}
 
@@ -86,13 +103,35 @@ plain-its = refl
 steps-its : (flags : ℕ) → is_step_flags flags ≡ true → IsItsMessage (message.Run flags)
 steps-its flags is = or-right (is_passive_message (message.Run flags)) (is_step_flags flags) is
 
+passive-as : (m : Message) (r : Read) → is_passive_message m ≡ true → ReadsAs m r
+    → IfOk r (λ first. IsTrue (is_passive_message first.0))
+passive-as m (Ok first) is same = ap is_passive_message same ∙ is
+passive-as m (Err fault) is same = tt
+
 stop-passive : BeginsPassively (spelling message.Stop [])
 unfolding is_passive_message
-stop-passive = by (first_message (spelling message.Stop [])) stop-reads
-  where
-    by : (r : Read) → ReadsAs message.Stop r → IfOk r (λ first. IsTrue (is_passive_message first.0))
-    by (Err fault) same = tt
-    by (Ok first) same = subst (λ m. IsTrue (is_passive_message m)) (sym same) refl
+stop-passive = passive-as message.Stop (first_message (spelling message.Stop [])) refl stop-reads
+
+wstop-passive : BeginsPassively (spelling message.Wstop [])
+unfolding is_passive_message
+wstop-passive = passive-as message.Wstop (first_message (spelling message.Wstop [])) refl wstop-reads
+
+-- bytes that begin with no message but a passive one
+passive-its : (bytes : List ℕ) → BeginsPassively bytes → Begin IsItsMessage bytes
+passive-its bytes passive m len read =
+    or-left (is_passive_message m) (is_function_message m)
+    (subst (λ (r : Read). IfOk r (λ first. IsTrue (is_passive_message first.0))) read passive)
+
+-- a call sends such a message, or waits for a passive one
+abbrev IsSent : Call → Type 0
+IsSent (call.Ctl handle bytes) = Begin IsItsMessage bytes
+IsSent (call.CtlWait handle until bytes) = BeginsPassively bytes
+IsSent _ = Unit {0}
+
+sent-of : (c : Call) → Sends IsItsMessage c → IsSent c
+sent-of (call.Ctl handle bytes) so = so
+sent-of (call.CtlWait handle until bytes) is = subst BeginsPassively (sym is) stop-passive
+sent-of _ so = tt
 
 -- ---- its calls
 
@@ -117,20 +156,19 @@ module _ (who : Hiders) (k : ℕ) (its : are_some (who.functions k) ≡ true) (s
     any-reply (reply.Fail e) so = refl
     any-reply _ so = so
 
-    ctl-allowed : (r : Reply) → IsReadUnless handle bytes r → Sends IsItsMessage (call.Ctl handle bytes)
+    ctl-allowed : (r : Reply) → IsReadUnless handle bytes r → Begin IsItsMessage bytes
         → IsAllowed (call.Ctl handle bytes) r
     ctl-allowed r (inl refused) so =
         subst (IsAllowed (call.Ctl handle bytes)) (sym refused.1) refl
     ctl-allowed r (inr first) so = any-reply r (write-allowed (first_message bytes) so first.0 first.1)
 
     wait-allowed : (until : ℕ) (a : Answer) → answer_to s k (call.CtlWait handle until bytes) ≡ Some a
-        → bytes ≡ spelling message.Stop [] → IsAllowed (call.CtlWait handle until bytes) a.reply
+        → BeginsPassively bytes → IsAllowed (call.CtlWait handle until bytes) a.reply
     unfolding IsPassiveCall
-    wait-allowed until a given is =
-        or-left _ _
-        (reply-passive s k (call.CtlWait handle until bytes) a given (subst BeginsPassively (sym is) stop-passive))
+    wait-allowed until a given passive =
+        or-left _ _ (reply-passive s k (call.CtlWait handle until bytes) a given passive)
 
-  call-allowed : (c : Call) (a : Answer) → answer_to s k c ≡ Some a → Sends IsItsMessage c → IsAllowed c a.reply
+  call-allowed : (c : Call) (a : Answer) → answer_to s k c ≡ Some a → IsSent c → IsAllowed c a.reply
   call-allowed (call.Ctl handle bytes) a given so =
       ctl-allowed handle bytes a.reply (write-reads handle bytes s k a given) so
   call-allowed (call.CtlWait handle until bytes) a given is = wait-allowed handle bytes until a given is
@@ -148,8 +186,8 @@ are-functions who k = by (are_some (who.functions k)) (who.probes k)
 
 -- ---- a history
 
-module _ {n : ℕ} {who : Hiders} {controllers : List ControllerState} {first : TracedState} {h : List Entry}
-    (run : IsRunOfTrusses (AreUnbroken who h) n who controllers first h) (others : AreOthersPassive who h) where
+module _ {n : ℕ} {who : Hiders} {controllers : List ControllerState} {first : TracedState}
+    {h : List Entry} (run : IsRunOfTrusses n who controllers first h) (others : AreOthersPassive who h) where
   abbrev KeptAfter : List Entry → Type 0
   KeptAfter front = Kept who controllers first h front
 
@@ -167,41 +205,69 @@ module _ {n : ℕ} {who : Hiders} {controllers : List ControllerState} {first : 
     abbrev fits : ArePatchable t.options
     fits = Calls.fits run front back j c r place kept hider
 
-    abbrev files : HoldsItsFiles j t (state_after first front)
-    files = Calls.holds-now run front back j c r place kept hider
+    abbrev has : has_functions t.options ≡ true
+    has = Calls.has run front back j c r place kept hider
 
-    beside-is : call_beside t t.stage t.aside ≡ Some c
-    unfolding next_function_call_of
-    beside-is =
-        sym (ap (λ b. cond b (call_beside t t.stage t.aside) (next_call_of t))
-        (Calls.has run front back j c r place kept hider))
-        ∙ Calls.next run front back j c r place kept hider
+    abbrev next : next_function_call_of t ≡ Some c
+    next = Calls.next run front back j c r place kept hider
 
-    its-runs : Runs IsItsMessage admits-its t fits c
-    its-runs q within =
-        flags-begin IsItsMessage plain-its steps-its (traced_at t q).marks.flags
-        (Calls.flags-now run front back j c r place kept hider q within)
+    abbrev below : AsideIsBelow (length t.options.functions) t.aside
+    below = Calls.below run front back j c r place kept hider
 
-    its-sends : Sends IsItsMessage c
-    unfolding call_beside
-    its-sends = by t.aside refl
+    staged : (stage : Stage) → t.stage ≡ stage → t.aside ≡ Nothing → function_call_of t stage ≡ Some c
+    staged stage at idle = sym (next-staged t.options has t stage refl idle at) ∙ next
+
+    beside : (aside : Aside) → t.aside ≡ aside → call_beside t t.stage aside ≡ Some c
+    beside aside is = sym (next-beside t.options has t refl ∙ ap (call_beside t t.stage) is) ∙ next
+
+    as-sent : (d : Call) → Some d ≡ Some c → IsSent d → IsSent c
+    as-sent d same is = subst IsSent (same_Some d c same) is
+
+    -- what it sends beside its stage
+    beside-sends : t.aside ≢ Nothing → IsBeside (length t.traced) t.aside → Sends IsItsMessage c
+    beside-sends busy w =
+        aside-sends IsItsMessage admits-its t fits c t.aside w below busy (clears t.aside) (beside t.aside refl)
       where
         clears : (aside : Aside) → Clears IsItsMessage admits-its t fits c aside
         clears (Patching q plants lifts clear) = λ one two. cfault-its
         clears _ = tt
 
-        busy : t.aside ≢ Nothing → Sends IsItsMessage c
-        busy acts =
-            let f = files in
-            aside-sends IsItsMessage admits-its t fits c t.aside f.beside
-            (Calls.below run front back j c r place kept hider) acts (clears t.aside) beside-is
+    -- where it does not leave its processes
+    going-sends : GoesOn t → Each (So FlagsOf) t.traced → Sends IsItsMessage c
+    unfolding call_beside
+    going-sends goes flags = by t.aside refl
+      where
+        its-runs : Runs IsItsMessage admits-its t fits c
+        its-runs q within =
+            flags-begin IsItsMessage plain-its steps-its (traced_at t q).marks.flags (flags q within)
 
         by : (aside : Aside) → t.aside ≡ aside → Sends IsItsMessage c
         by Nothing idle =
-            let f = files in
-            stage-sends IsItsMessage admits-its t fits c plain-its its-runs t.stage f.stage
-            (sym (ap (call_beside t t.stage) idle) ∙ beside-is)
-        by _ idle = busy (λ nothing. cc)
+            stage-sends IsItsMessage admits-its t fits c plain-its its-runs t.stage goes.stage (beside Nothing idle)
+        by _ idle = beside-sends (λ nothing. let both : t.aside ≡ Nothing = nothing in cc) goes.beside
+
+    -- where it does
+    leaving-sent : IsLeft t → IsSent c
+    unfolding call_beside function_call_of call_of
+    leaving-sent (halts at idle within) = as-sent _ (staged Unfollowing at idle) (passive-its _ stop-passive)
+    leaving-sent (awaits until at is within) = as-sent _ (beside (AwaitingStop until) is) stop-passive
+    leaving-sent (asks at is within) = as-sent _ (beside Asking is) (passive-its _ wstop-passive)
+    leaving-sent (waits_again until at is within) = as-sent _ (beside (AwaitingAgain until) is) wstop-passive
+    leaving-sent (looks at idle within) = as-sent _ (staged ReadingLwps at idle) tt
+    leaving-sent (reads_text l from len at idle within) = as-sent _ (staged (ReadingText 0 l from len) at idle) tt
+    leaving-sent (lifts_all clear at is within) =
+        sent-of c
+        (beside-sends (λ nothing. let both : Patching 0 no_functions (marks_at t 0).planted clear ≡ Nothing =
+        sym is ∙ nothing in cc) (subst (IsBeside (length t.traced)) (sym is) within))
+    leaving-sent (closes_files at idle within) = as-sent _ (staged (Closing 0 GoOn) at idle) tt
+    leaving-sent (has_ended at idle) = absurd (none-some c (staged Finished at idle))
+
+    its-sent : IsSent c
+    its-sent = let w = kept.trusses j hider in by w.course
+      where
+        by : Course t → IsSent c
+        by (goes_on goes flags) = sent-of c (going-sends goes flags)
+        by (leaves_them on there) = leaving-sent there
 
     its-allowed : IsTrue (is_passive_call c r || is_hider_act who (Controller j) (act.Call c r))
     its-allowed =
@@ -209,7 +275,7 @@ module _ {n : ℕ} {who : Hiders} {controllers : List ControllerState} {first : 
         subst (λ (x : Reply). IsTrue (is_passive_call c x || is_hider_act who (Controller j) (act.Call c x)))
         own.replied
         (call-allowed who j (are-functions who j (run.are.no_probes j) hider)
-        (state_after first front) c own.answer own.is its-sends)
+        (state_after first front) c own.answer own.is its-sent)
 
   abbrev IsSo : Entry → Type 0
   IsSo e = IsTrue (is_passive_act e.act || is_hider_act who e.actor e.act)

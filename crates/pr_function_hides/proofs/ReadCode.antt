@@ -4,7 +4,7 @@ use Rattle.std.proofs.lemmas.List.Elements.{All-cons, All-nil}
 use Rattle.std.proofs.lemmas.Slice.Eq.{bytes_eq-Decides}
 use Rattle.pr_codec.proofs.MessageLemmas.{spelt_is_read}
 use Rattle.pr_function_hides.proofs.CallFacts.{not-accepted}
-use Rattle.pr_function_hides.proofs.TurnCode.{HoldsCode}
+use Rattle.pr_function_hides.proofs.TurnStands.{Stands}
 use Rattle.pr_function_hides.specs.FunctionHiders.{IsPatchable, patch_of}
 use Rattle.pr_hidden.proofs.StandLemmas.{read-stands}
 use Rattle.pr_line.specs.declared.functions.Function.{Function}
@@ -12,7 +12,7 @@ use Rattle.pr_model.specs.Calls.{Answer, answer_to, controlled}
 use Rattle.pr_model.specs.ControlMessages.{decoded_answer, system_refusal, targeted_answer}
 use Rattle.pr_model.specs.Handles.{handle_of}
 use Rattle.pr_model.specs.Messages.{Controlled, message_answer, read_answer, read_of, refused}
-use Rattle.pr_model.specs.Readers.{space_seen, space_shown}
+use Rattle.pr_model.specs.Readers.{space_seen}
 use Rattle.pr_model.specs.Replies.{bytes_in}
 use Rattle.pr_model.specs.State.{TracedProcess, TracedState, live_process}
 use Rattle.pr_model.specs.declared.calls.Call.TheVariants as call
@@ -31,7 +31,7 @@ use Rattle.pr_truss.specs.Replies.{answer_of}
 use Rattle.pr_truss.specs.declared.replies.Answer.TheVariants.{Accepted}
 use Rattle.pr_truss_laws.proofs.TakenLemmas.{ctl-is}
 
--- Where PCREAD gave the code of a function, it stands there, if the process has its memory to itself.
+-- Where PCREAD gave the code of a function, it stands there, in the memory that the process shows.
 
 -- the message is read as it was meant
 read-reads : (at : ℕ) → at < 2 ^ 64
@@ -70,35 +70,34 @@ module _ (s : TracedState) (k number : ℕ) (h : Held) (there : handle_of s.open
           (ctl-is s k number h there control bytes a given
           ∙ ap (λ o. controlled s (targeted_answer s.system h o bytes)) none)) ∙ accepted))
 
-  module _ (p : TracedProcess) (live : live_process s.system h.pid ≡ Some p) (own : p.borrower ≡ None) where
+  module _ (p : TracedProcess) (live : live_process s.system h.pid ≡ Some p) where
+    abbrev shown : Space
+    shown = space_seen s.system p
+
     abbrev answered_by : Bool → Result (List ℕ) BadByte → Controlled
     answered_by zeroth r =
         cond zeroth (refused s.system (system_refusal (message.Read at 16))) (read_of s.system h.pid p r)
 
-    seen : space_seen s.system p ≡ p.space
-    seen = ap (λ (o : Option ℕ). space_shown s.system s.system.made o p.space) own
-
-    answer-is : a ≡ controlled s (answered_by (h.pid == 0) (bytes_for 0 p.space at 16))
+    answer-is : a ≡ controlled s (answered_by (h.pid == 0) (bytes_for 0 shown at 16))
     unfolding message_answer read_answer
     answer-is =
         ctl-is s k number h there control bytes a given
         ∙ ap (λ o. controlled s (targeted_answer s.system h o bytes)) live
         ∙ ap (λ (x : Result (Message × ℕ) MsgFault). controlled s (decoded_answer s.system h p bytes x))
         (read-reads at fits)
-        ∙ ap (λ (sp : Space). controlled s (answered_by (h.pid == 0) (bytes_for 0 sp at 16))) seen
 
     -- the reply gave the bytes that stand there
     pub record HasRead : Type 0 where
       pub same : a.state.system ≡ s.system
       pub found : List ℕ
-      pub read : bytes_for 0 p.space at 16 ≡ Ok found
+      pub read : bytes_for 0 shown at 16 ≡ Ok found
       pub gives : bytes_in a.reply ≡ Some found
 
     pub has-read : answer_of a.reply ≡ Accepted → HasRead
     unfolding bytes_in
-    has-read accepted = by (h.pid == 0) (bytes_for 0 p.space at 16) refl answer-is
+    has-read accepted = by (h.pid == 0) (bytes_for 0 shown at 16) refl answer-is
       where
-        by : (z : Bool) (r : Result (List ℕ) BadByte) → bytes_for 0 p.space at 16 ≡ r
+        by : (z : Bool) (r : Result (List ℕ) BadByte) → bytes_for 0 shown at 16 ≡ r
             → a ≡ controlled s (answered_by z r) → HasRead
         by true r read is =
             absurd (not-accepted _ (sym (ap (λ (x : Answer). answer_of x.reply) is) ∙ accepted))
@@ -115,22 +114,18 @@ module _ (s : TracedState) (k number : ℕ) (h : Held) (there : handle_of s.open
 module _ (s : TracedState) (k number : ℕ) (h : Held) (there : handle_of s.opens k number ≡ Some h)
     (control : h.file ≡ file.Ctl) (f : Function) (patchable : IsPatchable f) (a : Answer)
     (given : answer_to s k (call.Ctl number (spelling (message.Read f.at 16) [])) ≡ Some a) (p : TracedProcess)
-    (live : live_process s.system h.pid ≡ Some p) (own : p.borrower ≡ None) (is_space : IsSpace p.space) where
+    (live : live_process s.system h.pid ≡ Some p) (is_space : IsSpace (space_seen s.system p)) where
   -- the reply gave the code of the function
-  pub read-holds : answer_of a.reply ≡ Accepted → is_code f.code (bytes_in a.reply) ≡ true
-      → (a.state.system ≡ s.system) × HoldsCode (patch_of f) p
-  read-holds accepted code =
+  pub read-shows : answer_of a.reply ≡ Accepted → is_code f.code (bytes_in a.reply) ≡ true
+      → (a.state.system ≡ s.system) × Stands (patch_of f) (space_seen s.system p)
+  read-shows accepted code =
       let size : length f.code ≡ 16 = patchable.size in
       let most : f.at + 16 ≤ 2 ^ 64 = patchable.within in
-      let it = has-read s k number h there control f.at (omega (arith, most)) a given p live own accepted in
+      let it = has-read s k number h there control f.at (omega (arith, most)) a given p live accepted in
       let same : it.found ≡ f.code =
       (bytes_eq-Decides it.found f.code).0 (sym (ap (is_code f.code) it.gives) ∙ code) in (
         it.same,
-        record {
-          own = own;
-          stands =
-              read-stands p.space f.at f.code is_space (omega (arith, most, size))
-              (ap (bytes_for 0 p.space f.at) size ∙ it.read
-              ∙ ap (λ xs. let ok : Result (List ℕ) BadByte = Ok xs in ok) same);
-        },
+        read-stands (space_seen s.system p) f.at f.code is_space (omega (arith, most, size))
+            (ap (bytes_for 0 (space_seen s.system p) f.at) size ∙ it.read
+            ∙ ap (λ xs. let ok : Result (List ℕ) BadByte = Ok xs in ok) same),
       )

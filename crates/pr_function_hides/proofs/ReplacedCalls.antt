@@ -55,7 +55,7 @@ use Rattle.pr_function_hides.proofs.CopyOwn.{OwnCall}
 use Rattle.pr_function_hides.proofs.CopyPlaces.{FitsSo}
 use Rattle.pr_function_hides.proofs.CopyReading.{reads-so}
 use Rattle.pr_function_hides.proofs.CopyWalk as Copies
-use Rattle.pr_function_hides.proofs.CountedWalk.{BeforeAside, BeforeStage, MarksIn, TrussIn, truss-later}
+use Rattle.pr_function_hides.proofs.CountedWalk.{AsideIn, BeforeAside, BeforeStage, MarksIn, TrussIn, truss-later, without-next}
 use Rattle.pr_function_hides.proofs.OwnFiles.{IsBeside, IsWithin}
 use Rattle.pr_function_hides.proofs.PlacesStay.{IsIn, LosesLast, places-stay}
 use Rattle.pr_function_hides.proofs.PlantedReplies.{LeftSo, So}
@@ -319,10 +319,12 @@ module _ (n k : ℕ) (o : Options) (s : TracedState) (h : List Entry) (run : IsF
 
       spent-fed : TrussIn (IsOther own) t → TrussIn (IsOther own) (fed_functions t r)
       spent-fed spent =
-          truss-later (IsOther own) (λ pid i. Unit {0}) t r off follow at-stage at-aside quiet has
+          truss-later (IsOther own) (IsOther own) (λ pid i. Unit {0}) t r off follow at-stage at-aside quiet has
           (before-aside own t spent t.aside at-stage)
-          spent.aside (λ q i reading accepted code. learns-apart q i reading) (λ pid. tt)
+          (without-next (IsOther own) (IsOther own) (λ pid i. Unit {0}) t.traced t.aside spent.aside)
+          (λ q i reading accepted code. learns-apart q i reading) (λ pid. tt)
           (λ q i at accepted other. tt) (λ q i at accepted. tt)
+          (λ q i at accepted. (subst (AsideIn (IsOther own) t.traced) at spent.aside).0)
 
       -- it reads the status of the process, or not
       abbrev ReadsOwn : Type 0

@@ -1,34 +1,34 @@
-use Rattle.std.proofs.Common.{◌≡◌, ◌≢◌, ◌<◌, ◌++◌, ◌⊎◌, ℕ, true, false, Option, Some, None, List, [], ◌∷◌, length, refl, sym, subst, ap, ◌∙◌, inl, inr}
+use Rattle.std.proofs.Common.{◌≡◌, ◌≢◌, ◌<◌, ◌++◌, ℕ, true, false, Option, Some, None, List, [], ◌∷◌, length, refl, sym}
+use Rattle.std.proofs.Common.{subst, ap, ◌∙◌, inl, inr}
 use Rattle.std.proofs.lemmas.Bool.{cases_Bool, false≢true}
 use Rattle.std.proofs.lemmas.Option.{none-some, same_Some}
 use Rattle.std.specs.List.{slice_get}
 use Rattle.pr_api.specs.Entries.{call_entry}
-use Rattle.pr_function_hides.proofs.CallFacts.{calm-reply, same-truss}
+use Rattle.pr_function_hides.proofs.CallFacts.{same-truss}
+use Rattle.pr_function_hides.proofs.CalmCalls as Calm
 use Rattle.pr_function_hides.proofs.CodeCalls as Code
 use Rattle.pr_function_hides.proofs.CodeLaw.{spaces}
 use Rattle.pr_function_hides.proofs.CodeWalk.{CodeAt, code-stays, kept-there}
 use Rattle.pr_function_hides.proofs.CopyEnds.{copy-finds-lifted}
-use Rattle.pr_function_hides.proofs.CopyFree.{copies-so}
+use Rattle.pr_function_hides.proofs.CopyFree.{copies-on, goes-on-there}
 use Rattle.pr_function_hides.proofs.CopyRows.{breakpoint-stands}
 use Rattle.pr_function_hides.proofs.CountedWalk.{BesideSo, StageSo}
 use Rattle.pr_function_hides.proofs.FunctionSets.{has-with}
-use Rattle.pr_function_hides.proofs.KnownTrusses.{known-at}
-use Rattle.pr_function_hides.proofs.OwnFiles.{GoesOn, HoldsItsFiles, IsBeside, IsWithin}
+use Rattle.pr_function_hides.proofs.OwnFiles.{GoesOn, IsBeside, IsWithin}
 use Rattle.pr_function_hides.proofs.PlantedReplies.{AfterAside, AfterStage, So, fed-so}
 use Rattle.pr_function_hides.proofs.PlantedWalk.{marks_then}
-use Rattle.pr_function_hides.proofs.PostedCalls as Away
 use Rattle.pr_function_hides.proofs.TidyCalls as Calls
 use Rattle.pr_function_hides.proofs.TidyEntries.{its-legal, lived}
-use Rattle.pr_function_hides.proofs.TidyKept.{IsRunOfTrusses, Kept}
+use Rattle.pr_function_hides.proofs.TidyKept.{Kept}
 use Rattle.pr_function_hides.specs.Copying.{makes_copy}
 use Rattle.pr_function_hides.specs.CountedFunctions.{stepped, takes_memory}
 use Rattle.pr_function_hides.specs.FunctionHiders.{patch_of}
-use Rattle.pr_function_hides.specs.TidyWrites.{AreUnbroken, IsTrussAfter}
+use Rattle.pr_function_hides.specs.RunsOfTrusses.{IsRunOfTrusses}
+use Rattle.pr_function_hides.specs.TidyWrites.{IsTrussAfter}
 use Rattle.pr_function_hides.specs.Treating.{is_run_soon}
 use Rattle.pr_function_laws.specs.Opened.{is_opened}
 use Rattle.pr_hidden.specs.Covers.{Covers}
 use Rattle.pr_hidden.specs.Hiders.{Hiders, covers_at, hides, patch_at, replaces}
-use Rattle.pr_hidden.specs.Tidiness.{IsPassiveBut}
 use Rattle.pr_line.specs.declared.functions.Function.{Function}
 use Rattle.pr_line.specs.declared.options.Options.{Options}
 use Rattle.pr_model.specs.Legal.{IsLegalEntry, state_after}
@@ -48,20 +48,22 @@ use Rattle.pr_num.specs.Syscalls.{is_fork_call}
 use Rattle.pr_num.specs.declared.syscalls.Sysno.{Sysno}
 use Rattle.pr_num.specs.declared.syscalls.Sysno.TheVariants.{Exec, Vfork}
 use Rattle.pr_probe_laws.proofs.HiddenFacts.{legal-turn}
-use Rattle.pr_probe_laws.specs.StepMarks.{IsUnstepped}
 use Rattle.pr_rec.specs.declared.lwps.LwpStatus.{LwpStatus}
 use Rattle.pr_report_laws.proofs.Invariant.StandLemmas.{Each, each-but}
 use Rattle.pr_truss.specs.Asides.{marks_at}
 use Rattle.pr_truss.specs.FunctionEvents.{copies_memory, step_of}
 use Rattle.pr_truss.specs.FunctionFeeding.{fed_functions}
 use Rattle.pr_truss.specs.Marks.{has_function, has_functions, standing, with_step}
+use Rattle.pr_truss.specs.Replies.{answer_of}
 use Rattle.pr_truss.specs.Trusses.{TrussState, traced_at}
 use Rattle.pr_truss.specs.declared.asides.Aside.{Aside}
 use Rattle.pr_truss.specs.declared.asides.Aside.TheVariants.{Nothing, Patching, Planting, Reading}
 use Rattle.pr_truss.specs.declared.function_events.FunctionEvent.{FunctionEvent}
-use Rattle.pr_truss.specs.declared.function_events.FunctionEvent.TheVariants.{AfterCopy, AtBreakpoint, BeforeCopy, Completed, Other, Replaced, TraceTrap}
+use Rattle.pr_truss.specs.declared.function_events.FunctionEvent.TheVariants.{AfterCopy, AtBreakpoint, BeforeCopy}
+use Rattle.pr_truss.specs.declared.function_events.FunctionEvent.TheVariants.{Completed, Other, Replaced, TraceTrap}
 use Rattle.pr_truss.specs.declared.marks.Marks.{Marks}
 use Rattle.pr_truss.specs.declared.marks.Stepped.{Stepped}
+use Rattle.pr_truss.specs.declared.replies.Answer.TheVariants.{Interrupted}
 use Rattle.pr_truss.specs.declared.stages.Stage.{Stage}
 use Rattle.pr_truss.specs.declared.stages.Stage.TheVariants.{Closing, OpeningControl, ReadingStatus, Running}
 use Rattle.pr_world.specs.ControllerStates.{ControllerState}
@@ -77,13 +79,13 @@ replaces-copies Vfork is = refl
 replaces-copies Exec is = refl
 replaces-copies _ is = absurd (false≢true is)
 
-takes-copies : (did : Did) → takes_memory did ≡ true → makes_copy did ≡ true
+pub takes-copies : (did : Did) → takes_memory did ≡ true → makes_copy did ≡ true
 takes-copies (Made call (Value value)) is = replaces-copies call is
 takes-copies (Woke call (Value value)) is = replaces-copies call is
 takes-copies _ is = absurd (false≢true is)
 
-module _ {n : ℕ} {who : Hiders} {controllers : List ControllerState} {first : TracedState} {h : List Entry}
-    (run : IsRunOfTrusses (AreUnbroken who h) n who controllers first h) where
+module _ {n : ℕ} {who : Hiders} {controllers : List ControllerState} {first : TracedState}
+    {h : List Entry} (run : IsRunOfTrusses n who controllers first h) where
   abbrev here : List Entry → TracedState
   here front = state_after first front
 
@@ -117,40 +119,63 @@ module _ {n : ℕ} {who : Hiders} {controllers : List ControllerState} {first : 
     is-now = let kept = kept-there run front (e ∷ back) place in let w = kept.trusses k hider in w.is
 
     -- a turn that takes the memory finds no step
-    never-takes : (q : ℕ) → q < length t.traced → (step : Stepped) → (marks_at t q).stepped ≡ Some step
-        → (id : ℕ) (turned : Turned) → e ≡ record { actor = Lwp (traced_at t q).pid id; act = act.Turn turned }
-        → takes_memory turned.did ≡ false
-    never-takes q within step under_way id turned is = elim (cases_Bool (takes_memory turned.did)) [
+    abbrev pub NeverTakes : TrussState → ℕ → Type 0
+    NeverTakes u q =
+        (step : Stepped) → (marks_at u q).stepped ≡ Some step → (id : ℕ) (turned : Turned)
+        → e ≡ record { actor = Lwp (traced_at u q).pid id; act = act.Turn turned } → takes_memory turned.did ≡ false
+
+    never-takes : t.leaving ≡ false → (q : ℕ) → q < length t.traced → NeverTakes t q
+    never-takes off q within step under_way id turned is = elim (cases_Bool (takes_memory turned.did)) [
       | inr leaves ↦ leaves
       | inl takes ↦
           (let legal = its-legal run front e back place (kept-there run front (e ∷ back) place) in
           let turn =
           legal-turn n (here front) (traced_at t q).pid id turned (subst (IsLegalEntry n (here front)) is legal) in
-          let known = known-at run front (e ∷ back) place k hider t is-now in
           let lifted =
-          copy-finds-lifted n k _ t (here front) known.goes (copies-so run k hider front (e ∷ back) place t is-now) q
-          within id (record { system = turn.0; turned = turned }) turn.1 (takes-copies turned.did takes) in
+          copy-finds-lifted n k _ t (here front) (goes-on-there run k hider front (e ∷ back) place t is-now off)
+          (copies-on run k hider front (e ∷ back) place t is-now off) q within id
+          (record { system = turn.0; turned = turned }) turn.1 (takes-copies turned.did takes) in
           absurd (none-some step (sym lifted.no_step ∙ under_way)))
     ]
 
-    its-steps : slice_get (controllers_at controllers next_front) k
-        ≡ slice_get (controllers_at controllers front) k → actor ≢ Controller k
-        → StepsIn front t → StepsIn next_front t
-    its-steps same foreign all q within step is f named =
+    step-stays : slice_get (controllers_at controllers next_front) k
+        ≡ slice_get (controllers_at controllers front) k → actor ≢ Controller k → (q : ℕ) → q < length t.traced
+        → NeverTakes t q → So (StepIn front t.options) (traced_at t q)
+        → So (StepIn next_front t.options) (traced_at t q)
+    step-stays same foreign q within never all step is f named =
         code-stays run front actor did back place k hider same foreign q step.function within
-        (inr (stepped step is refl)) f named (never-takes q within step is) (all q within step is f named)
+        (inr (stepped step is refl)) f named (never step is) (all step is f named)
 
+    its-steps : slice_get (controllers_at controllers next_front) k
+        ≡ slice_get (controllers_at controllers front) k → actor ≢ Controller k → t.leaving ≡ false
+        → StepsIn front t → StepsIn next_front t
+    its-steps same foreign off all q within =
+        step-stays same foreign q within (never-takes off q within) (all q within)
+
+    -- where no turn of the process takes its memory
+    pub one-steps : slice_get (controllers_at controllers next_front) k
+        ≡ slice_get (controllers_at controllers front) k → actor ≢ Controller k
+        → (u : TrussState) → IsTrussAfter who controllers first h front k u → (q : ℕ) → q < length u.traced
+        → NeverTakes u q → So (StepIn front u.options) (traced_at u q)
+        → So (StepIn next_front u.options) (traced_at u q)
+    one-steps same foreign u is =
+        subst (λ (x : TrussState). (q : ℕ) → q < length x.traced → NeverTakes x q
+        → So (StepIn front x.options) (traced_at x q) → So (StepIn next_front x.options) (traced_at x q))
+        (same-truss t u _ is-now is) (step-stays same foreign)
+
+    -- as long as truss goes on
     pub foreign-steps : slice_get (controllers_at controllers next_front) k
         ≡ slice_get (controllers_at controllers front) k → actor ≢ Controller k
-        → (u : TrussState) → IsTrussAfter who controllers first h front k u → StepsIn front u → StepsIn next_front u
+        → (u : TrussState) → IsTrussAfter who controllers first h front k u → u.leaving ≡ false → StepsIn front u
+        → StepsIn next_front u
     foreign-steps same foreign u is =
-        subst (λ (x : TrussState). StepsIn front x → StepsIn next_front x) (same-truss t u _ is-now is)
-        (its-steps same foreign)
+        subst (λ (x : TrussState). x.leaving ≡ false → StepsIn front x → StepsIn next_front x)
+        (same-truss t u _ is-now is) (its-steps same foreign)
 
   -- ---- a call of truss
 
-  module _ (passive : IsPassiveBut who h) (unstepped : IsUnstepped first.system) (front back : List Entry)
-      (j : ℕ) (c : Call) (r : Reply) (place : h ≡ front ++ call_entry j c r ∷ back) (hider : hides who j ≡ true) where
+  module _ (front back : List Entry) (j : ℕ) (c : Call) (r : Reply) (place : h ≡ front ++ call_entry j c r ∷ back)
+      (hider : hides who j ≡ true) where
     abbrev call : Entry
     call = call_entry j c r
 
@@ -166,22 +191,22 @@ module _ {n : ℕ} {who : Hiders} {controllers : List ControllerState} {first : 
     has : has_functions tr.options ≡ true
     has = Calls.has run front back j c r place kept-now hider
 
-    holds : HoldsItsFiles j tr (here front)
-    holds = Calls.holds-now run front back j c r place kept-now hider
-
-    goes : GoesOn tr
-    goes = record { off = holds.off; follow = holds.follow; stage = holds.stage; beside = holds.beside }
-
-    abbrev Later : ℕ → Marks → Type 0
+    abbrev pub Later : ℕ → Marks → Type 0
     Later = StepIn later_front tr.options
 
-    module _ (all : StepsIn front tr) where
+    -- whatever the call, unless it closes the control file of the process
+    pub own-step : (q : ℕ) → q < length tr.traced
+        → Code.Spares run front back j c r place hider (spaces run front (call ∷ back) place) (traced_at tr q).pid
+        → So (StepIn front tr.options) (traced_at tr q) → So Later (traced_at tr q)
+    own-step q within spares all step is f named =
+        Code.own-code run front back j c r place hider (spaces run front (call ∷ back) place) q within step.function f
+        named spares (all step is f named)
+
+    module _ (goes : GoesOn tr) (calm : answer_of r ≢ Interrupted) (all : StepsIn front tr) where
       spared : (q : ℕ) → q < length tr.traced
           → Code.Spares run front back j c r place hider (spaces run front (call ∷ back) place) (traced_at tr q).pid
           → So Later (traced_at tr q)
-      spared q within spares step is f named =
-          Code.own-code run front back j c r place hider (spaces run front (call ∷ back) place) q within step.function f
-          named spares (all q within step is f named)
+      spared q within spares = own-step q within spares (all q within)
 
       before : BesideSo Later tr tr.aside
       before = Code.marks-so run front back j c r place hider (spaces run front (call ∷ back) place) goes Later spared
@@ -204,8 +229,8 @@ module _ {n : ℕ} {who : Hiders} {controllers : List ControllerState} {first : 
                 let w = Calls.truss-now run front back j c r place kept-now hider in
                 let stand = w.stand q within was in
                 let same =
-                Away.away-patches run passive unstepped front back j c r place pid
-                (Away.resting-away run passive unstepped front back j c r place hider q within
+                Calm.away-patches run front back j c r place pid
+                (Calm.resting-away run front back j c r place hider goes.off q within
                 (ap (λ st. is_opened st q) reads) (ap (λ st. is_run_soon st q) reads)) in
                 absurd (none-some (patch_of f)
                 (sym bare ∙ ap (patch_at f.at) same ∙ stand.each function f named marked));
@@ -252,7 +277,7 @@ module _ {n : ℕ} {who : Hiders} {controllers : List ControllerState} {first : 
 
       aside-steps : (aside : Aside) → IsBeside (length tr.traced) aside → BesideSo Later tr aside
           → AfterAside Later tr r aside
-      aside-steps Nothing w it = stage-steps tr.stage refl holds.stage it
+      aside-steps Nothing w it = stage-steps tr.stage refl goes.stage it
       aside-steps (Reading q function) w it = it
       aside-steps (Planting q function) w it = (each-but (So Later) tr.traced q it, it q w)
       aside-steps (Patching q plants lifts clear) w it = (each-but (So Later) tr.traced q it, it q w)
@@ -260,6 +285,5 @@ module _ {n : ℕ} {who : Hiders} {controllers : List ControllerState} {first : 
 
       pub own-steps : Each (So Later) (fed_functions tr r).traced
       own-steps =
-          fed-so Later tr r holds.off holds.follow holds.stage holds.beside
-          (calm-reply r (run.besides.unbroken front back j c r place hider)) has
-          (aside-steps tr.aside holds.beside before)
+          fed-so Later tr r goes.off goes.follow goes.stage goes.beside calm has
+          (aside-steps tr.aside goes.beside before)

@@ -1,18 +1,15 @@
 use Rattle.std.proofs.Common.{◌≡◌, ◌⊎◌, ◌++◌, ℕ, true, false, List, ◌∷◌, Some, refl, sym, ap, ◌∙◌, inl, inr}
-use Rattle.pr_reached.specs.ByteHistories.{HasBytes}
-use Rattle.pr_reached.specs.Reached.{IsReached}
 use Rattle.std.proofs.lemmas.Bool.{eq-eqb, false≢true}
 use Rattle.std.proofs.lemmas.Option.{none-some}
 use Rattle.pr_function_hides.proofs.PassiveHiders.{are-functions, passive-but}
-use Rattle.pr_function_hides.proofs.StepWalk.{Calm, stepped-at}
+use Rattle.pr_function_hides.proofs.StepWalk.{Calm, steps-at}
+use Rattle.pr_function_hides.proofs.StepsKept.{Releaser, releaser-holds}
 use Rattle.pr_function_hides.proofs.TidyEntries.{its-legal}
-use Rattle.pr_function_hides.proofs.TidyKept.{Holder, IsRunOfTrusses, calm-run}
+use Rattle.pr_function_hides.proofs.TidyKept.{Holder}
 use Rattle.pr_function_hides.proofs.TidyLaw.{kept-at}
-use Rattle.pr_function_hides.specs.FunctionHiders.{AreTrusses}
 use Rattle.pr_function_hides.specs.OwnSteps.{AreStepsOwn}
 use Rattle.pr_function_hides.specs.PassiveOthers.{AreOthersPassive}
-use Rattle.pr_function_hides.specs.SleptCopies.{NoneSleepsInCopy}
-use Rattle.pr_function_hides.specs.TidyWrites.{AreUnbroken, AreUndisturbed}
+use Rattle.pr_function_hides.specs.RunsOfTrusses.{IsRunOfTrusses}
 use Rattle.pr_function_laws.proofs.TrapLemmas.{IsTrapless, trapless}
 use Rattle.pr_hidden.proofs.FaultRows.{HowFaulted, by_instruction, by_return, how-faulted, return-marked, trace-effect}
 use Rattle.pr_hidden.specs.Hiders.{Hiders, has_hold, is_hold}
@@ -21,7 +18,7 @@ use Rattle.pr_lawful.proofs.HandleLemmas.{any-at, handle-at}
 use Rattle.pr_model.proofs.TurnLemmas.{turn-taken}
 use Rattle.pr_model.specs.InstructionEffects as instruction
 use Rattle.pr_model.specs.InstructionEffects.{InstructionEffect, instruction_effect}
-use Rattle.pr_model.specs.Legal.{IsLegal, IsLegalEntry, state_after}
+use Rattle.pr_model.specs.Legal.{IsLegalEntry, state_after}
 use Rattle.pr_model.specs.LwpTurns.{LwpTurn, settled, turn_of}
 use Rattle.pr_model.specs.Rows.{Row, executed_row, row_for, watched_row}
 use Rattle.pr_model.specs.State.{TracedLwp, TracedProcess, TracedState, TracedSystem}
@@ -34,7 +31,6 @@ use Rattle.pr_num.specs.declared.faults.Flt.TheVariants.{Trace, Watch}
 use Rattle.pr_probe_laws.proofs.MarkTurns.{IsOne, unmarked-lwp}
 use Rattle.pr_probe_laws.specs.StepMarks.{IsUnstepped}
 use Rattle.pr_truss_laws.proofs.OpensLemmas.{handle-controller}
-use Rattle.pr_tool_laws.specs.OwnCalls.{AreOwnCalls}
 use Rattle.pr_world.specs.ControllerStates.{ControllerState}
 
 -- FLTTRACE comes of a step mark alone, and a step mark stands only where one who hides has the control file open.
@@ -80,13 +76,8 @@ holder-hold who none s pid x =
 -- ---- along the history
 
 module _ (n : ℕ) (who : Hiders) (controllers : List ControllerState) (first : TracedState) (h : List Entry)
-    (reached : IsReached first) (awake : NoneSleepsInCopy first.system) (bytes : HasBytes h) (legal : IsLegal n first h)
-    (own_calls : AreOwnCalls controllers h) (are : AreTrusses who controllers first)
-    (und : AreUndisturbed who controllers first h) (unbroken : AreUnbroken who h) (others : AreOthersPassive who h)
+    (run : IsRunOfTrusses n who controllers first h) (others : AreOthersPassive who h)
     (unstepped : IsUnstepped first.system) where
-  run : IsRunOfTrusses (AreUnbroken who h) n who controllers first h
-  run = calm-run n who controllers first h reached awake bytes legal own_calls are und unbroken
-
   passive : IsPassiveBut who h
   passive = passive-but run others
 
@@ -106,9 +97,10 @@ module _ (n : ℕ) (who : Hiders) (controllers : List ControllerState) (first : 
 
     held-so : t.did ≡ Faulted Trace → has_hold who s.opens pid ≡ true
     unfolding settled
-    held-so did = by (let w = stepped-at run passive unstepped front _ place in w.bare pid)
+    held-so did = by (let w = steps-at run passive unstepped front _ place in w.bare pid)
       where
-        by : Calm run passive unstepped front pid ⊎ Holder who pid s → has_hold who s.opens pid ≡ true
+        by : Calm run passive unstepped front pid ⊎ Releaser run passive unstepped front pid
+            → has_hold who s.opens pid ≡ true
         by (inl (inl u)) =
             let it = turn-taken s.system pid id its-turn.0 its-turn.1.0 in
             let row = row_for s.system pid it.process id it.lwp in
@@ -120,7 +112,7 @@ module _ (n : ℕ) (who : Hiders) (controllers : List ControllerState) (first : 
         by (inl (inr gone)) =
             let it = turn-taken s.system pid id its-turn.0 its-turn.1.0 in
             absurd (none-some it.process (sym gone.over ∙ it.live))
-        by (inr holder) = holder-hold who are.no_probes s pid holder
+        by (inr x) = holder-hold who run.are.no_probes s pid (releaser-holds run passive unstepped front pid x)
 
   pub own-steps : AreStepsOwn who first h
   own-steps = record { own = λ front back pid id t place did. held-so front back pid id t place did }

@@ -1,5 +1,6 @@
 use Rattle.std.proofs.Common.{◌≡◌, ℕ, Bool, true, false, IfOk, Ok, Err, Result, List, [], nat_lt, length, refl, ap, ◌∙◌}
-use Rattle.pr_num.specs.Messages.{first_message, message_code, message_read, nth_word, one_word, operands, spelling, two_words}
+use Rattle.pr_num.specs.Messages.{first_message, message_code, message_read, nth_word, one_word, operands, spelling}
+use Rattle.pr_num.specs.Messages.{two_words}
 use Rattle.pr_num.specs.Words.{word_bytes, word_of}
 use Rattle.pr_num.specs.declared.messages.Message.{Message}
 use Rattle.pr_num.specs.declared.messages.Message.TheVariants as message
@@ -29,11 +30,12 @@ stop-still =
     still-as message.Stop (first_message (spelling message.Stop [])) refl
     (read-as (spelling message.Stop []) message.Stop refl refl)
 
-pub wstop-still : BeginStill (spelling message.Wstop [])
+pub wstop-reads : ReadsAs message.Wstop (first_message (spelling message.Wstop []))
 unfolding message_code operands nth_word word_bytes word_of message_read
-wstop-still =
-    still-as message.Wstop (first_message (spelling message.Wstop [])) refl
-    (read-as (spelling message.Wstop []) message.Wstop refl refl)
+wstop-reads = read-as (spelling message.Wstop []) message.Wstop refl refl
+
+pub wstop-still : BeginStill (spelling message.Wstop [])
+wstop-still = still-as message.Wstop (first_message (spelling message.Wstop [])) refl wstop-reads
 
 pub cfault-still : BeginStill (spelling message.Cfault [])
 unfolding message_code operands nth_word word_bytes word_of message_read

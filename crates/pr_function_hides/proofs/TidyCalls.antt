@@ -36,36 +36,35 @@ use Rattle.pr_truss.specs.Marks.{has_functions}
 use Rattle.pr_truss.specs.Replies.{answer_of}
 use Rattle.pr_truss.specs.Trusses.{TrussState, traced_at}
 use Rattle.pr_truss.specs.declared.processes.Traced.{Traced}
-use Rattle.pr_truss.specs.declared.replies.Answer.TheVariants.{Accepted, Interrupted}
+use Rattle.pr_truss.specs.declared.replies.Answer.TheVariants.{Accepted}
 use Rattle.pr_world.specs.Controllers.{after_reply, call_by, next_call, with_fed}
 use Rattle.pr_world.specs.ControllerStates.{ControllerState, FnTruss}
 use Rattle.pr_world.specs.Protocol.{controllers_after, controllers_at}
 use Rattle.pr_tool_laws.specs.OwnCalls.{IsOwnCall}
 use Rattle.pr_function_laws.proofs.BreakpointLemmas.{IsOwnEntry, foreign-entry, own-entry}
 use Rattle.pr_function_laws.proofs.SoundLemmas.{AsideIsBelow}
-use Rattle.pr_function_hides.proofs.CallFacts.{calm-reply, controllers-push, open-finds, open-made, shape-of}
+use Rattle.pr_function_hides.proofs.CallFacts.{controllers-push, open-finds, open-made, shape-of}
 use Rattle.pr_function_hides.proofs.CalledCovers.{IsAsPatched, call-still, close-other, ctl-other}
 use Rattle.pr_function_hides.proofs.FilesWalk.{SameFiles}
 use Rattle.pr_function_hides.proofs.MappedMemory.{mapped-owns}
 use Rattle.pr_function_hides.proofs.MarkedPatches.{patch-there}
 use Rattle.pr_function_hides.proofs.OwnTidy.{Kind, kind, left-kind}
-use Rattle.pr_function_hides.proofs.PlantedReplies.{So}
-use Rattle.pr_function_hides.proofs.RunFlags.{FlagsOf}
 use Rattle.pr_function_hides.proofs.Unborrowed.{IsUnborrowed, unborrowed-now}
 use Rattle.pr_function_hides.proofs.WriteReplies.{mapped-user, write-granted}
 use Rattle.pr_function_hides.specs.FunctionHiders.{ArePatchable, IsTrussAt, patch_of}
 use Rattle.pr_function_hides.proofs.OwnFiles.{HasItsFiles, HoldsItsFiles}
-use Rattle.pr_function_hides.specs.TidyWrites.{AreUnbroken, IsMappedIn, IsTrussAfter}
-use Rattle.pr_function_hides.proofs.TidyKept.{AreMappedIn, Course, Holder, IsRunOfTrusses, Kept, Truss, goes_on}
-use Rattle.pr_function_hides.proofs.TidyKept.{has-files, holds-calm, leaves_them, runs-so}
+use Rattle.pr_function_hides.specs.RunsOfTrusses.{IsRunOfTrusses}
+use Rattle.pr_function_hides.specs.TidyWrites.{IsMappedIn, IsTrussAfter}
+use Rattle.pr_function_hides.proofs.TidyKept.{AreMappedIn, Course, Holder, Kept, Truss, goes_on}
+use Rattle.pr_function_hides.proofs.TidyKept.{has-files, leaves_them}
 use Rattle.pr_function_hides.proofs.TidyEntries.{now-is, at-is, its-lawful, its-legal, its-call, its-lending}
 use Rattle.pr_function_hides.proofs.TidyEntries.{foreign-maps, later-unborrowed, quiet-kept}
 
 -- A call of one who hides nothing leaves what is kept; and what is known of truss as it makes a call: which call it is,
 -- that its breakpoints stand as it has marked them, its files, and that its processes borrow no memory, then and later.
 
-module _ {B : Type 0} {n : ℕ} {who : Hiders} {controllers : List ControllerState} {first : TracedState}
-    {h : List Entry} (run : IsRunOfTrusses B n who controllers first h)
+module _ {n : ℕ} {who : Hiders} {controllers : List ControllerState} {first : TracedState}
+    {h : List Entry} (run : IsRunOfTrusses n who controllers first h)
     (front back : List Entry) (j : ℕ) (c : Call) (r : Reply) (place : h ≡ front ++ call_entry j c r ∷ back)
     (kept : Kept who controllers first h front) where
   none : (k : ℕ) → who.probes k ≡ false
@@ -279,7 +278,7 @@ module _ {B : Type 0} {n : ℕ} {who : Hiders} {controllers : List ControllerSta
         (unborrowed-now pid v.system lawful-now.system
         (open-made v j pid lawful-now.system own.answer (given _ is) (ap answer_of reply-is ∙ accepted))
         (λ p live.
-        run.und.untouched.unlent front back j pid r p
+        run.undisturbed.untouched.unlent front back j pid r p
         (place ∙ ap (λ (d : Call). front ++ call_entry j d r ∷ back) is) hider
         accepted live))
 
@@ -297,18 +296,3 @@ module _ {B : Type 0} {n : ℕ} {who : Hiders} {controllers : List ControllerSta
         let w = truss-now in
         ap (λ (cs : List ControllerState). slice_get cs j) called-controllers
         ∙ fed-own (controllers_at controllers front) j r (FnTruss tr) w.is
-
--- ---- of trusses that are not interrupted
-
-module _ {n : ℕ} {who : Hiders} {controllers : List ControllerState} {first : TracedState} {h : List Entry}
-    (run : IsRunOfTrusses (AreUnbroken who h) n who controllers first h)
-    (front back : List Entry) (j : ℕ) (c : Call) (r : Reply) (place : h ≡ front ++ call_entry j c r ∷ back)
-    (kept : Kept who controllers first h front) (hider : hides who j ≡ true) where
-  pub holds-now : HoldsItsFiles j (tr run front back j c r place kept hider) (state_after first front)
-  holds-now = holds-calm (kept.trusses j hider) run.besides
-
-  pub flags-now : Each (So FlagsOf) (tr run front back j c r place kept hider).traced
-  flags-now = let w = kept.trusses j hider in runs-so w (w.calm run.besides)
-
-  pub calm-now : answer_of r ≢ Interrupted
-  calm-now = calm-reply r (run.besides.unbroken front back j c r place hider)

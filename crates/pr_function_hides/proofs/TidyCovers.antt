@@ -43,8 +43,9 @@ use Rattle.pr_function_hides.proofs.Unborrowed.{IsUnborrowed, unborrowed-none}
 use Rattle.pr_function_hides.proofs.WriteReplies.{write-mapped}
 use Rattle.pr_function_hides.specs.FunctionHiders.{ArePatchable, IsPatchable, patch_of}
 use Rattle.pr_function_hides.proofs.OwnFiles.{HasItsFiles}
+use Rattle.pr_function_hides.specs.RunsOfTrusses.{IsRunOfTrusses}
 use Rattle.pr_function_hides.specs.TidyWrites.{IsMappedIn}
-use Rattle.pr_function_hides.proofs.TidyKept.{AreMappedIn, Holder, IsRunOfTrusses, Kept, Lives, Truss, holder-moves}
+use Rattle.pr_function_hides.proofs.TidyKept.{AreMappedIn, Holder, Kept, Lives, Truss, holder-moves}
 use Rattle.pr_function_hides.proofs.TidyEntries.{its-lawful, mapped-later, unlent-later, lived, foreign-truss, sole}
 use Rattle.pr_function_hides.proofs.TidyCalls as Calls
 use Rattle.pr_function_hides.proofs.TidyOwn.{own-truss}
@@ -52,8 +53,8 @@ use Rattle.pr_function_hides.proofs.TidyOwn.{own-truss}
 -- What is hidden once a call was made: of the processes of the truss that made it, of those of another, and of any
 -- other; so what is kept is kept by each call.
 
-module _ {B : Type 0} {n : ℕ} {who : Hiders} {controllers : List ControllerState} {first : TracedState}
-    {h : List Entry} (run : IsRunOfTrusses B n who controllers first h)
+module _ {n : ℕ} {who : Hiders} {controllers : List ControllerState} {first : TracedState}
+    {h : List Entry} (run : IsRunOfTrusses n who controllers first h)
     (front back : List Entry) (j : ℕ) (c : Call) (r : Reply) (place : h ≡ front ++ call_entry j c r ∷ back)
     (kept : Kept who controllers first h front) where
   abbrev at : List Entry → Covers

@@ -45,9 +45,10 @@ use Rattle.pr_function_hides.proofs.MarkedPatches.{through-all}
 use Rattle.pr_function_hides.proofs.Unborrowed.{IsUnborrowed, entry-unborrowed, unborrowed-none, unborrowed-now}
 use Rattle.pr_function_hides.specs.FunctionHiders.{StandAsMarked}
 use Rattle.pr_function_hides.proofs.OwnFiles.{HasItsFiles}
+use Rattle.pr_function_hides.specs.RunsOfTrusses.{IsRunOfTrusses}
 use Rattle.pr_function_hides.specs.TidyWrites.{IsMappedIn}
 use Rattle.pr_function_hides.proofs.CopyFree.{copies-bare}
-use Rattle.pr_function_hides.proofs.TidyKept.{AreMappedIn, Holder, IsRunOfTrusses, Kept, Lives, Truss, has-files}
+use Rattle.pr_function_hides.proofs.TidyKept.{AreMappedIn, Holder, Kept, Lives, Truss, has-files}
 use Rattle.pr_function_hides.proofs.TidyKept.{holder-moves}
 use Rattle.pr_function_hides.specs.Copying.{makes_copy}
 
@@ -61,8 +62,8 @@ replaced-copies (Made Vfork (Value value)) is = refl
 replaced-copies (Made Exec (Value value)) is = refl
 replaced-copies _ is = absurd (false≢true is)
 
-module _ {B : Type 0} {n : ℕ} {who : Hiders} {controllers : List ControllerState} {first : TracedState}
-    {h : List Entry} (run : IsRunOfTrusses B n who controllers first h) where
+module _ {n : ℕ} {who : Hiders} {controllers : List ControllerState} {first : TracedState}
+    {h : List Entry} (run : IsRunOfTrusses n who controllers first h) where
   none : (k : ℕ) → who.probes k ≡ false
   none = run.are.no_probes
 
@@ -233,7 +234,6 @@ module _ {B : Type 0} {n : ℕ} {who : Hiders} {controllers : List ControllerSta
             follow = w.follow;
             alone = λ q within. later-unborrowed (traced_at w.t q).pid (w.alone q within);
             course = w.course;
-            calm = w.calm;
           }
 
       -- nobody else has its processes open for writing
@@ -308,7 +308,7 @@ module _ {B : Type 0} {n : ℕ} {who : Hiders} {controllers : List ControllerSta
           let mapping : Patch → Type 0 = λ (f : Patch). IsMappedIn p.space f → IsMappedIn q.space f in
           through-all (IsMappedIn p.space) (IsMappedIn q.space) (at front pid).patches
           (subst (λ i. All mapping (at front i).patches) same
-          (run.und.untouched.stays_mapped front back acting id turned p q place
+          (run.undisturbed.untouched.stays_mapped front back acting id turned p q place
           (ap (live_process (now front).system) same ∙ live)
           (ap (live_process (after (now front) e).system) same
           ∙ later-is front e back place kept pid (Some q) later))) all

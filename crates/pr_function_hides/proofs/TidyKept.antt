@@ -3,18 +3,15 @@ use Rattle.std.proofs.lemmas.Bool.{false≢true}
 use Rattle.pr_hidden.specs.Covers.{Covers, Patch}
 use Rattle.pr_hidden.specs.Hiders.{Hiders, covers_at, hides, is_ctl}
 use Rattle.pr_model.specs.Handles.{handle_of}
-use Rattle.pr_model.specs.Legal.{IsLegal, state_after}
+use Rattle.pr_model.specs.Legal.{state_after}
 use Rattle.pr_model.specs.State.{TracedProcess, TracedState, live_process}
 use Rattle.pr_model.specs.declared.events.Entry.{Entry}
 use Rattle.pr_model.specs.declared.handles.Held.{Held}
-use Rattle.pr_reached.specs.ByteHistories.{HasBytes}
-use Rattle.pr_reached.specs.Reached.{IsReached}
 use Rattle.pr_report_laws.proofs.Invariant.StandLemmas.{Each}
 use Rattle.pr_truss.specs.Trusses.{TrussState}
 use Rattle.pr_truss.specs.declared.marks.Stepped.{Stepped}
 use Rattle.pr_truss.specs.declared.processes.Traced.{Traced}
 use Rattle.pr_world.specs.ControllerStates.{ControllerState}
-use Rattle.pr_tool_laws.specs.OwnCalls.{AreOwnCalls}
 use Rattle.pr_function_laws.proofs.SoundLemmas.{IsSound}
 use Rattle.pr_function_hides.proofs.FilesCalls.{Files, files-of}
 use Rattle.pr_function_hides.proofs.FilesWalk.{AreApart}
@@ -23,41 +20,11 @@ use Rattle.pr_function_hides.proofs.OwnFiles.{GoesOn, HasItsFiles, HoldsItsFiles
 use Rattle.pr_function_hides.proofs.PlantedReplies.{So}
 use Rattle.pr_function_hides.proofs.RunFlags.{FlagsOf}
 use Rattle.pr_function_hides.proofs.Unborrowed.{IsUnborrowed}
-use Rattle.pr_function_hides.specs.FunctionHiders.{AreTrusses, IsTrussAt, StandAsMarked}
-use Rattle.pr_function_hides.specs.SleptCopies.{NoneSleepsInCopy}
-use Rattle.pr_function_hides.specs.TidyWrites.{AreUnbroken, AreUndisturbed, IsMappedIn, IsTrussAfter}
+use Rattle.pr_function_hides.specs.FunctionHiders.{IsTrussAt, StandAsMarked}
+use Rattle.pr_function_hides.specs.TidyWrites.{IsMappedIn, IsTrussAfter}
 
 -- What is kept along a history of trusses that are undisturbed: what each of them has planted, what is hidden of whom,
 -- that the memory is mapped in which breakpoints stand, and whether a truss leaves its processes.
-
--- A legal history from a state that the machine reaches, in which each one who hides is a truss that is undisturbed;
--- and what else is asked of it.
-pub record IsRunOfTrusses (B : Type 0) (n : ℕ) (who : Hiders) (controllers : List ControllerState)
-    (first : TracedState) (h : List Entry) : Type 0 where
-  pub reached : IsReached first
-  pub awake : NoneSleepsInCopy first.system
-  pub bytes : HasBytes h
-  pub legal : IsLegal n first h
-  pub own_calls : AreOwnCalls controllers h
-  pub are : AreTrusses who controllers first
-  pub und : AreUndisturbed who controllers first h
-  pub besides : B
-
--- one in which none is interrupted
-pub calm-run : (n : ℕ) (who : Hiders) (controllers : List ControllerState) (first : TracedState) (h : List Entry)
-    → IsReached first → NoneSleepsInCopy first.system → HasBytes h → IsLegal n first h → AreOwnCalls controllers h
-    → AreTrusses who controllers first → AreUndisturbed who controllers first h → AreUnbroken who h
-    → IsRunOfTrusses (AreUnbroken who h) n who controllers first h
-calm-run n who controllers first h reached awake bytes legal own_calls are und unbroken = record {
-  reached = reached;
-  awake = awake;
-  bytes = bytes;
-  legal = legal;
-  own_calls = own_calls;
-  are = are;
-  und = und;
-  besides = unbroken;
-}
 
 -- a process lives
 abbrev pub Lives : TracedState → ℕ → Type 0
@@ -102,7 +69,6 @@ module _ (who : Hiders) (controllers : List ControllerState) (first : TracedStat
     pub follow : t.options.follow ≡ false
     pub alone : Each (λ (v : Traced). IsUnborrowed v.pid (now front).system) t.traced
     pub course : Course t
-    pub calm : AreUnbroken who h → t.leaving ≡ false
 
   -- what is so after some entries
   pub record Kept (front : List Entry) : Type 0 where
@@ -131,11 +97,6 @@ module _ {who : Hiders} {controllers : List ControllerState} {first : TracedStat
 
     pub runs-so : Each (So FlagsOf) w.t.traced
     runs-so = (both w.course).1
-
-  -- where none is interrupted
-  pub holds-calm : AreUnbroken who h → HoldsItsFiles k w.t (state_after first front)
-  holds-calm unbroken =
-      both-hold k w.t (state_after first front) (stays-on (w.calm unbroken)) has-files
 
 -- who holds a process goes on so, while that handle stays
 pub holder-moves : {who : Hiders} {pid : ℕ} {s u : TracedState} (x : Holder who pid s)

@@ -24,16 +24,17 @@ use Rattle.pr_function_hides.proofs.PlantedReplies.{So, first-so-truss}
 use Rattle.pr_function_hides.proofs.RunFlags.{FlagsOf}
 use Rattle.pr_function_hides.proofs.Unborrowed.{IsUnborrowed}
 use Rattle.pr_function_hides.specs.FunctionHiders.{StandAsMarked}
+use Rattle.pr_function_hides.specs.RunsOfTrusses.{IsRunOfTrusses}
 use Rattle.pr_function_hides.specs.TidyWrites.{IsMappedIn}
-use Rattle.pr_function_hides.proofs.TidyKept.{IsRunOfTrusses, Kept, Lives, goes_on}
+use Rattle.pr_function_hides.proofs.TidyKept.{Kept, Lives, goes_on}
 use Rattle.pr_function_hides.proofs.TidyEntries.{lending-at, turn-kept, tick-kept}
 use Rattle.pr_function_hides.proofs.TidyCovers.{called-kept}
 
 -- The breakpoints that stand are those that each truss has marked; and nothing is hidden of who borrows or lends
 -- memory.
 
-module _ {B : Type 0} {n : ℕ} {who : Hiders} {controllers : List ControllerState} {first : TracedState}
-    {h : List Entry} (run : IsRunOfTrusses B n who controllers first h) where
+module _ {n : ℕ} {who : Hiders} {controllers : List ControllerState} {first : TracedState}
+    {h : List Entry} (run : IsRunOfTrusses n who controllers first h) where
   abbrev at : List Entry → Covers
   at front = covers_at who first front
 
@@ -65,7 +66,6 @@ module _ {B : Type 0} {n : ℕ} {who : Hiders} {controllers : List ControllerSta
               w.each;
           course = goes_on (record { off = u.off; follow = u.follow; stage = u.stage; beside = u.beside })
               (first-so-truss (So FlagsOf) i.options);
-          calm = λ unbroken. u.off;
         };
     bare = λ pid. inl refl;
     no_agent = λ pid. refl;

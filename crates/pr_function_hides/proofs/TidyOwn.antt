@@ -45,7 +45,8 @@ use Rattle.pr_function_laws.proofs.PatchCalls.{next-beside, next-staged}
 use Rattle.pr_function_laws.proofs.SoundLemmas.{AsideIsBelow, function-sound}
 use Rattle.pr_function_hides.proofs.CallFacts.{calm-reply}
 use Rattle.pr_function_hides.proofs.CalledCovers.{IsAsPatched, call-still}
-use Rattle.pr_function_hides.proofs.CopyFree.{firsts-on, last-bare, replaced-bare}
+use Rattle.pr_function_hides.proofs.CopyFree.{last-bare, replaced-bare}
+use Rattle.pr_function_hides.proofs.FirstLaw.{firsts-on}
 use Rattle.pr_function_hides.proofs.CountedWalk.{AsideIn}
 use Rattle.pr_function_hides.proofs.FirstFunctions.{IsFirstOf}
 use Rattle.pr_function_hides.proofs.FunctionSets.{first-has}
@@ -64,17 +65,17 @@ use Rattle.pr_function_hides.proofs.RunFlags.{FlagsOf, flags-fed}
 use Rattle.pr_function_hides.proofs.StillMessages.{BeginStill, cfault-still, stop-still, wstop-still}
 use Rattle.pr_function_hides.proofs.TidyCalls as Calls
 use Rattle.pr_function_hides.proofs.TidyEntries.{lived}
-use Rattle.pr_function_hides.proofs.TidyKept.{Course, IsRunOfTrusses, Kept, Lives, Truss, goes_on, leaves_them}
+use Rattle.pr_function_hides.proofs.TidyKept.{Course, Kept, Lives, Truss, goes_on, leaves_them}
 use Rattle.pr_function_hides.proofs.TreatedEvents.{first-of-none}
 use Rattle.pr_function_hides.proofs.Unborrowed.{IsUnborrowed}
 use Rattle.pr_function_hides.specs.FunctionHiders.{ArePatchable, StandAsMarked, patch_of}
-use Rattle.pr_function_hides.specs.TidyWrites.{AreUnbroken}
+use Rattle.pr_function_hides.specs.RunsOfTrusses.{IsRunOfTrusses}
 
 -- What a call of truss makes of what is kept of it: where it goes on, with its first interrupt, and where it leaves its
 -- processes.
 
-module _ {B : Type 0} {n : ℕ} {who : Hiders} {controllers : List ControllerState} {first : TracedState}
-    {h : List Entry} (run : IsRunOfTrusses B n who controllers first h)
+module _ {n : ℕ} {who : Hiders} {controllers : List ControllerState} {first : TracedState}
+    {h : List Entry} (run : IsRunOfTrusses n who controllers first h)
     (front back : List Entry) (j : ℕ) (c : Call) (r : Reply) (place : h ≡ front ++ call_entry j c r ∷ back)
     (kept : Kept who controllers first h front) (hider : hides who j ≡ true) where
   none : (k : ℕ) → who.probes k ≡ false
@@ -160,8 +161,8 @@ module _ {B : Type 0} {n : ℕ} {who : Hiders} {controllers : List ControllerSta
       → ((i k : ℕ) → i < length (fed_functions t r).traced → k < length (fed_functions t r).traced → i ≢ k
       → (traced_at (fed_functions t r) i).pid ≢ (traced_at (fed_functions t r) k).pid)
       → Each Alone (fed_functions t r).traced → Course (fed_functions t r)
-      → (AreUnbroken who h → (fed_functions t r).leaving ≡ false) → Truss who controllers first h later_front j
-  later-truss stand its_files others alone course calm =
+      → Truss who controllers first h later_front j
+  later-truss stand its_files others alone course =
       let w = truss in
       record {
         it = w.it;
@@ -181,7 +182,6 @@ module _ {B : Type 0} {n : ℕ} {who : Hiders} {controllers : List ControllerSta
         follow = ap (λ (x : Options). x.follow) (fed_functions-options w.t r) ∙ w.follow;
         alone = alone;
         course = course;
-        calm = calm;
       }
 
   -- ---- where it goes on
@@ -271,15 +271,15 @@ module _ {B : Type 0} {n : ℕ} {who : Hiders} {controllers : List ControllerSta
         let a = alone-later in
         later-truss stand-later u.each u.apart a.each
         (goes_on (record { off = u.off; follow = u.follow; stage = u.stage; beside = u.beside })
-        (flags-fed t r goes.off goes.follow goes.stage goes.beside calm flags has)) (λ unbroken. u.off)
+        (flags-fed t r goes.off goes.follow goes.stage goes.beside calm flags has))
 
   -- ---- where it leaves its processes, or begins to
 
   abbrev Good : Traced → Type 0
   Good x = Stands x × (Files j (now later_front) x × Alone x)
 
-  good-alike : (x y : Traced) → SameFiles x y → y.marks ≡ x.marks → Good x → Good y
-  good-alike x y same marks g = (
+  good-alike : (x y : Traced) → SameFiles x y → y.attached ≡ x.attached → y.marks ≡ x.marks → Good x → Good y
+  good-alike x y same attached marks g = (
     λ lives.
         subst (λ m. StandAsMarked t.options m.planted (covers_called who (at front) v j c r y.pid).patches) (sym marks)
         (subst (λ i. StandAsMarked t.options x.marks.planted (covers_called who (at front) v j c r i).patches)
@@ -291,8 +291,9 @@ module _ {B : Type 0} {n : ℕ} {who : Hiders} {controllers : List ControllerSta
   abbrev none_old : Traced → Type 0
   none_old x = Unit {0}
 
-  as-old : (x y : Traced) → SameFiles x y → y.old ≡ x.old → none_old x → none_old y
-  as-old x y same old it = it
+  as-old : (x y : Traced) → SameFiles x y → y.attached ≡ x.attached → y.old ≡ x.old → y.seen ≡ x.seen
+      → none_old x → none_old y
+  as-old x y same attached old seen it = it
 
   -- the same files, whatever its marks are
   marked-good : (x y : Traced) → SameFiles x y → Stands y → Good x → Good y
@@ -463,11 +464,10 @@ module _ {B : Type 0} {n : ℕ} {who : Hiders} {controllers : List ControllerSta
     made-so (closes_files is idle within) = closed-good within (staged (Closing 0 GoOn) is idle)
     made-so (has_ended is idle) = absurd (none-some c (staged Finished is idle))
 
-  left-truss : Left Good good-alike none_old as-old (fed_functions t r) → (AreUnbroken who h → ⊥)
-      → Truss who controllers first h later_front j
-  left-truss w broken =
+  left-truss : Left Good good-alike none_old as-old (fed_functions t r) → Truss who controllers first h later_front j
+  left-truss w =
       later-truss (λ q within. (w.each q within).0) (λ q within. (w.each q within).1.0) w.apart
-      (λ q within. (w.each q within).1.1) (leaves_them w.on w.at) (λ unbroken. absurd (broken unbroken))
+      (λ q within. (w.each q within).1.1) (leaves_them w.on w.at)
 
   left-later : (on : t.leaving ≡ true) → IsLeft t → Left Good good-alike none_old as-old (fed_functions t r)
   left-later on there =
@@ -475,7 +475,7 @@ module _ {B : Type 0} {n : ℕ} {who : Hiders} {controllers : List ControllerSta
 
   leaving-truss : t.leaving ≡ true → IsLeft t → Truss who controllers first h later_front j
   leaving-truss on there =
-      left-truss (left-later on there) (λ unbroken. false≢true (sym (let w = truss in w.calm unbroken) ∙ on))
+      left-truss (left-later on there)
 
   -- ---- the first interrupt
 
@@ -506,12 +506,11 @@ module _ {B : Type 0} {n : ℕ} {who : Hiders} {controllers : List ControllerSta
     begun-later : Left Good good-alike none_old as-old (fed_functions t r)
     begun-later =
         begins-left Good good-alike none_old as-old t r follow has apart (wait-good c refl waits) (λ q within. tt)
-        interrupted c waits goes.stage goes.beside next
+        (λ q step opens within. tt) interrupted c waits goes.stage goes.beside next
 
     begun-truss : Truss who controllers first h later_front j
     begun-truss =
         left-truss begun-later
-        (λ unbroken. calm-reply r (unbroken.unbroken front back j c r place hider) interrupted)
 
   -- ---- all of them
 
@@ -542,3 +541,13 @@ module _ {B : Type 0} {n : ℕ} {who : Hiders} {controllers : List ControllerSta
       by (goes_on goes flags) (inl interrupted) =
           let w = begun-later goes interrupted in absurd (false≢true (sym off ∙ w.on))
       by (leaves_them on there) answered = let w = left-later on there in absurd (false≢true (sym off ∙ w.on))
+
+  -- where it leaves its processes and did not before, it was interrupted
+  pub breaks : t.leaving ≡ false → (fed_functions t r).leaving ≡ true → answer_of r ≡ Interrupted
+  breaks off on = let w = truss in by w.course (is-interrupted (answer_of r) refl)
+    where
+      by : Course t → (answer_of r ≡ Interrupted) ⊎ (answer_of r ≢ Interrupted) → answer_of r ≡ Interrupted
+      by (goes_on goes flags) (inl interrupted) = interrupted
+      by (goes_on goes flags) (inr calm) =
+          let w = files-later goes flags calm in absurd (false≢true (sym w.off ∙ on))
+      by (leaves_them left there) answered = absurd (false≢true (sym off ∙ left))

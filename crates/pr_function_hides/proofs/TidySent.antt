@@ -1,4 +1,4 @@
-use Rattle.std.proofs.Common.{◌≡◌, ◌⊎◌, ◌<◌, ◌++◌, ◌^◌, ℕ, true, false, IfOk, Option, Some, None, Result, Ok, Err, List, [], ◌∷◌, All, length, refl, sym, subst, ap, ◌∙◌, inl, inr, arith}
+use Rattle.std.proofs.Common.{◌≡◌, ◌⊎◌, ◌<◌, ◌++◌, ◌^◌, ℕ, true, false, IfOk, Option, Some, None, Result, Ok, Err, List, ◌∷◌, All, length, refl, sym, subst, ap, ◌∙◌, inl, inr, arith}
 use Rattle.std.proofs.lemmas.Bool.{false≢true}
 use Rattle.std.proofs.lemmas.Option.{none-some}
 use Rattle.std.specs.List.{slice_get}
@@ -7,6 +7,8 @@ use Rattle.pr_hidden.specs.Covers.{Covers, Patch}
 use Rattle.pr_hidden.specs.Hiders.{Hiders, covers_at, hides, patch_at}
 use Rattle.pr_hidden.specs.Tidiness.{IsFunctionWriteIn, IsPlantable, IsTidyCall, IsTidyControl, IsTidySent, IsTidyTargeted, IsTidyWrite}
 use Rattle.pr_line.specs.declared.functions.Function.{Function}
+use Rattle.pr_keeps.proofs.LoanLemmas.{own-space}
+use Rattle.pr_model.specs.Calls.{Answer, answer_to}
 use Rattle.pr_model.specs.ControlMessages.{target_of}
 use Rattle.pr_model.specs.Handles.{handle_of}
 use Rattle.pr_model.specs.Legal.{state_after}
@@ -26,7 +28,10 @@ use Rattle.pr_num.specs.declared.messages.Message.{Message}
 use Rattle.pr_num.specs.declared.messages.Message.TheVariants as message
 use Rattle.pr_num.specs.declared.messages.MsgFault.{MsgFault}
 use Rattle.pr_truss.specs.Asides.{marks_at}
+use Rattle.pr_num.specs.Spaces.{Space}
 use Rattle.pr_truss.specs.Trusses.{TrussState, traced_at}
+use Rattle.pr_truss.specs.declared.asides.Aside.{Aside}
+use Rattle.pr_truss.specs.declared.asides.Aside.TheVariants.{Patching, Planting, Reading}
 use Rattle.pr_truss_laws.proofs.TakenLemmas.{target-live}
 use Rattle.pr_world.specs.ControllerStates.{ControllerState}
 use Rattle.pr_function_laws.specs.Stretches.{BeginWithWrite, is_write}
@@ -38,17 +43,22 @@ use Rattle.pr_function_hides.proofs.OwnWrites.{write-read, write-tail}
 use Rattle.pr_function_hides.proofs.ReplacedWalk.{writes-none-so}
 use Rattle.pr_function_hides.proofs.StillMessages.{BeginStill, is_still}
 use Rattle.pr_function_hides.specs.FunctionHiders.{ArePatchable, IsPatchable, StandAsMarked, patch_of}
+use Rattle.pr_function_hides.specs.RunsOfTrusses.{IsRunOfTrusses}
 use Rattle.pr_function_hides.proofs.OwnFiles.{GoesOn, HasItsFiles}
-use Rattle.pr_function_hides.proofs.TidyKept.{Course, IsRunOfTrusses, Kept, Truss, goes_on, leaves_them}
-use Rattle.pr_function_hides.proofs.CodeWalk.{CodeAt, Counted, Known, Replaced}
+use Rattle.pr_function_hides.proofs.TidyKept.{Course, Kept, Truss, goes_on, leaves_them}
+use Rattle.pr_function_hides.proofs.CodeWalk.{CodeAt, Counted, Known, Replaced, Shown, ShownAt}
+use Rattle.pr_function_hides.proofs.CountedWalk.{AsideIn, AsideSo}
+use Rattle.pr_function_hides.proofs.TidyCalls as Calls
 use Rattle.pr_function_hides.proofs.TidyCalls.{truss-now, has, files-now, fits, next, these, below, its-kind}
+use Rattle.pr_function_hides.proofs.WrittenCode as Written
+use Rattle.pr_function_hides.proofs.WrittenCode.{Writes, refuses, stores}
 use Rattle.pr_function_hides.proofs.WrittenFunctions.{IsSoAt, written-known, written-marked}
 use Rattle.pr_parts.specs.AddressSpaces.{with_bytes}
 
 -- What truss writes is tidy: code of a function where none stands, or the breakpoint of one that it has marked.
 
-module _ {B : Type 0} {n : ℕ} {who : Hiders} {controllers : List ControllerState} {first : TracedState}
-    {h : List Entry} (run : IsRunOfTrusses B n who controllers first h) where
+module _ {n : ℕ} {who : Hiders} {controllers : List ControllerState} {first : TracedState}
+    {h : List Entry} (run : IsRunOfTrusses n who controllers first h) where
   none : (k : ℕ) → who.probes k ≡ false
   none = run.are.no_probes
 
@@ -106,7 +116,8 @@ module _ {B : Type 0} {n : ℕ} {who : Hiders} {controllers : List ControllerSta
     module _ (m : ℕ) (inside : m < length tw.traced) (i : ℕ) (f : Function)
         (named : slice_get tw.options.functions i ≡ Some f) (code : List ℕ) (size : length code ≡ 16)
         (are_bytes : All IsByte code)
-        (is : tc ≡ call.Ctl (traced_at tw m).control (spelling (message.Write f.at 16) code)) where
+        (is : tc ≡ call.Ctl (traced_at tw m).control (spelling (message.Write f.at 16) code))
+        (granted : (used : ℕ) × (r ≡ reply.Used used)) where
       abbrev tpid : ℕ
       tpid = (traced_at tw m).pid
 
@@ -147,13 +158,53 @@ module _ {B : Type 0} {n : ℕ} {who : Hiders} {controllers : List ControllerSta
         code-stands : patch_at f.at ps ≡ None → with_bytes f.at f.code p.space ≡ p.space
         code-stands found = let w = truss_here in course w.course
           where
-            function-known : GoesOn tw → IsSoAt tw.options (Known run front j tw.options) tpid f.at
+            -- the code stands, or is shown, or the memory was replaced
+            Sure : ℕ → ℕ → Type 0
+            Sure pid function =
+                (g : Function) → slice_get tw.options.functions function ≡ Some g
+                → (CodeAt run front pid (patch_of g) ⊎ Replaced run front j pid) ⊎ ShownAt run front pid (patch_of g)
+
+            sure-beside : (aside : Aside)
+                → AsideSo (Known run front j tw.options) (Shown run front tw.options)
+                (λ pid i. Unit {0}) tw.traced aside
+                → AsideIn Sure tw.traced aside
+            sure-beside (Planting q function) it = (λ g named_g. inr (it.0 g named_g), tt)
+            sure-beside (Patching q plants lifts clear) it = (
+              (λ function marked g named_g. inl (it.0 function marked g named_g)),
+              (λ function marked g named_g. inl (it.1 function marked g named_g)),
+            )
+            sure-beside (Reading q function) it = it
+            sure-beside _ it = tt
+
+            function-known : GoesOn tw → IsSoAt tw.options Sure tpid f.at
             function-known goes =
                 let w = truss_here in
                 let all = counted.each j hider w.t w.is goes.off in
                 written-known j u tc tw patchable files (below run front back j tc r place kept hider)
                 (next run front back j tc r place kept hider) (has run front back j tc r place kept hider)
-                (Known run front j tw.options) m inside i f named code size are_bytes is goes all.aside
+                Sure m inside i f named code size are_bytes is goes (sure-beside tw.aside all.aside)
+
+            -- what is written was granted, so the process had its memory to itself
+            own-memory : p.borrower ≡ None
+            own-memory =
+                let own = Calls.own run front back j tc r place kept hider in
+                of own.answer (Calls.given run front back j tc r place kept hider _ is)
+                (own.replied ∙ granted.1)
+              where
+                of : (a : Answer)
+                    → answer_to u j (call.Ctl (traced_at tw m).control (spelling (message.Write f.at 16) code)) ≡ Some a
+                    → a.reply ≡ reply.Used granted.0 → p.borrower ≡ None
+                of a given used =
+                    by (Written.writes u j (traced_at tw m).control theld (let o = files in o.control m inside) refl
+                    (spelling (message.Write f.at 16) code) f.at 16 (length (spelling
+                    (message.Write f.at 16) code)) read
+                    a given p live)
+                  where
+                    by : Writes u j (traced_at tw m).control theld (let o = files in o.control m inside) refl
+                        (spelling (message.Write f.at 16) code) f.at 16
+                        (length (spelling (message.Write f.at 16) code)) read a given p live → p.borrower ≡ None
+                    by (refuses never stays) = absurd (never granted.0 used)
+                    by (stores some got lent there) = lent
 
             -- a function at that address has the patch of this one
             patch-same : {P : ℕ → ℕ → Type 0} (it : IsSoAt tw.options P tpid f.at) → patch_of it.g ≡ patch_of f
@@ -172,12 +223,17 @@ module _ {B : Type 0} {n : ℕ} {who : Hiders} {controllers : List ControllerSta
                 ∙ ap (λ (x : Patch). Some x) (patch-same it)
 
             by : GoesOn tw → (g : Function) → patch_of g ≡ patch_of f
-                → CodeAt run front tpid (patch_of g) ⊎ Replaced run front j tpid
+                → (CodeAt run front tpid (patch_of g) ⊎ Replaced run front j tpid)
+                ⊎ ShownAt run front tpid (patch_of g)
                 → with_bytes f.at f.code p.space ≡ p.space
-            by goes g same (inl code_at) =
+            by goes g same (inr shown_at) =
+                let there = subst (ShownAt run front tpid) same shown_at in
+                subst (λ (sp : Space). with_bytes f.at f.code sp ≡ sp) (own-space u.system p own-memory)
+                (there.shown p live)
+            by goes g same (inl (inl code_at)) =
                 let there = subst (CodeAt run front tpid) same code_at in
                 let it = there.holds p live found in it.stands
-            by goes g same (inr replaced) =
+            by goes g same (inl (inr replaced)) =
                 let w = truss_here in
                 let law =
                 writes-none-so n j (run-options run j hider) first h
@@ -243,24 +299,25 @@ module _ {B : Type 0} {n : ℕ} {who : Hiders} {controllers : List ControllerSta
               (written-tidy p live))
 
     pub sent-tidy : BeginWithWrite sent → IsTidyCall who (at front) u j (call.Ctl number sent) r
-    sent-tidy begins = by r
+    sent-tidy begins = by r refl
       where
         same-call : {a b : ℕ} {xs ys : List ℕ} → call.Ctl a xs ≡ call.Ctl b ys → (a ≡ b) × (xs ≡ ys)
         same-call e = (cc, cc)
 
-        of : Kind tc tw → IsTidyControl who j (at front) u.system (handle_of u.opens j number) sent
-        of (writes m inside i f named code size are_bytes is) =
+        of : (used : ℕ) × (r ≡ reply.Used used) → Kind tc tw
+            → IsTidyControl who j (at front) u.system (handle_of u.opens j number) sent
+        of granted (writes m inside i f named code size are_bytes is) =
             let both = same-call is in
             subst (λ (xs : List ℕ). IsTidyControl who j (at front) u.system (handle_of u.opens j number) xs)
             (sym both.1)
             (subst (λ a. IsTidyControl who j (at front) u.system (handle_of u.opens j a)
             (spelling (message.Write f.at 16) code)) (sym both.0)
-            (control-tidy m inside i f named code size are_bytes is))
-        of (sends m inside bytes is still) =
+            (control-tidy m inside i f named code size are_bytes is granted))
+        of granted (sends m inside bytes is still) =
             let both = same-call is in
             still-tidy (subst BeginStill (sym both.1) still) begins (handle_of u.opens j number)
-        of (other never) = absurd (never number sent refl)
+        of granted (other never) = absurd (never number sent refl)
 
-        by : (x : Reply) → IsTidyCall who (at front) u j (call.Ctl number sent) x
-        by (reply.Used used) = of (its-kind run front back j tc r place kept hider)
-        by _ = tt
+        by : (x : Reply) → r ≡ x → IsTidyCall who (at front) u j (call.Ctl number sent) x
+        by (reply.Used used) same = of (used, same) (its-kind run front back j tc r place kept hider)
+        by _ same = tt

@@ -1,7 +1,6 @@
-use Rattle.std.proofs.Common.{◌≡◌, ◌<◌, ◌&&◌, ◌++◌, ℕ, Bool, true, false, cond, Option, Some, None, List, [], ◌∷◌, length, position, refl, sym, subst, ap, ◌∙◌, arith, inl, inr}
-use Rattle.std.proofs.lemmas.Bool.{cases_Bool, cases_eq, eq-eqb, eqb-true, false≢true}
-use Rattle.std.proofs.lemmas.List.Quantifiers.{position-Some}
-use Rattle.std.proofs.lemmas.Option.{none-some, same_Some}
+use Rattle.std.proofs.Common.{◌≡◌, ◌<◌, ◌⊎◌, ◌++◌, ℕ, true, false, cond, Option, Some, None, List, [], ◌∷◌, length, position, refl, sym, subst, ap, ◌∙◌, arith, inl, inr}
+use Rattle.std.proofs.lemmas.Bool.{cases_Bool, cases_eq}
+use Rattle.std.proofs.lemmas.Option.{none-some}
 use Rattle.std.specs.List.{All, slice_get}
 use Rattle.std.specs.Option.{option_and_then}
 use Rattle.pr_line.specs.Functions.{function_limit}
@@ -14,11 +13,9 @@ use Rattle.pr_model.specs.Registers.{pc_of}
 use Rattle.pr_model.specs.State.{TracedLwp, TracedProcess, TracedState, live_process, lwp_of}
 use Rattle.pr_model.specs.declared.events.Act.TheVariants.{Turn}
 use Rattle.pr_model.specs.declared.events.Actor.TheVariants.{Lwp}
-use Rattle.pr_model.specs.declared.events.Did.{Did}
 use Rattle.pr_model.specs.declared.events.Did.TheVariants.{Faulted, Stopped}
 use Rattle.pr_model.specs.declared.events.Entry.{Entry}
 use Rattle.pr_model.specs.declared.events.Turned.{Turned}
-use Rattle.pr_model.specs.declared.lwps.Phase.{Phase}
 use Rattle.pr_model.specs.declared.lwps.Phase.TheVariants.{User}
 use Rattle.pr_num.specs.declared.faults.Flt.TheVariants.{Trace}
 use Rattle.pr_reached.specs.ByteHistories.{HasBytes}
@@ -26,21 +23,22 @@ use Rattle.pr_reached.specs.Reached.{IsReached}
 use Rattle.pr_truss.specs.Asides.{marks_at}
 use Rattle.pr_truss.specs.FunctionEvents.{begins_at, function_at, if_standing}
 use Rattle.pr_truss.specs.Marks.{has_function, standing, with_step}
-use Rattle.pr_truss.specs.Trusses.{TrussState, nobody, traced_at}
-use Rattle.pr_truss.specs.declared.marks.Marks.{Marks}
+use Rattle.pr_truss.specs.Trusses.{TrussState, traced_at}
 use Rattle.pr_truss.specs.declared.marks.Stepped.{Stepped}
 use Rattle.pr_truss.specs.declared.reports.Report.{Report}
 use Rattle.pr_truss.specs.declared.reports.Report.TheVariants.{Called}
-use Rattle.pr_truss_laws.proofs.HeldLemmas.{at_place}
+use Rattle.pr_truss_laws.proofs.StillLemmas.{halting-did}
 use Rattle.pr_truss_laws.specs.Exchanges.{exchanges}
+use Rattle.pr_truss_laws.specs.Stills.{IsHalting}
 use Rattle.pr_function_laws.proofs.BegunSteps.{WasBegun}
 use Rattle.pr_function_laws.proofs.MetLemmas.{found-function}
 use Rattle.pr_function_laws.proofs.OwnSteps.{its-step, steps-read}
 use Rattle.pr_function_laws.proofs.ToldLaws.{legal}
-use Rattle.pr_function_laws.specs.FunctionTurns.{call_at, call_by, call_in, call_of_turn, is_in_program, is_process, is_trap, lwp_in}
+use Rattle.pr_function_laws.specs.FunctionTurns.{call_at, call_of_turn, is_in_program, is_process}
 use Rattle.pr_function_laws.specs.Opened.{IsFunctionRun, WasNotInterrupted, functions_at, is_opened}
 use Rattle.pr_function_laws.specs.ToldTurns.{AreSteppable, HasStep}
 use Rattle.pr_function_laws.specs.Turns.{EndsInTrap, first_arguments}
+use Rattle.pr_function_hides.proofs.CallTurns.{MeetsFunction, at-place, what-call}
 use Rattle.pr_function_hides.proofs.FunctionSets.{has-own}
 use Rattle.pr_function_hides.proofs.UnderWay.{StandsAtStart, apart-here, found, its-few, its-function, its-lwp, lives-on, lwp-stands, options-here, options-then, place-of}
 
@@ -51,8 +49,9 @@ abbrev pub turn_entry : ℕ → ℕ → Turned → Entry
 turn_entry pid id t = record { actor = Lwp pid id; act = Turn t }
 
 -- What is known of the breakpoints of truss along a history: its marks speak of as many functions as words can; no turn
--- that ends with a trace trap begins at the address of a function whose breakpoint is planted; and no step is under way
--- in a process that lives and that truss is opening, or closes.
+-- that ends with a trace trap begins at the address of a function whose breakpoint is planted; and until truss is
+-- interrupted, no step is under way in a process that lives and that truss is opening, or closes, or each lwp of that
+-- stands still or stops before it does anything.
 pub record BreakpointsHold (k : ℕ) (o : Options) (first : TracedState) (h : List Entry) : Type 0 where
   pub long : (front later : List Entry) (place : ℕ) (p : TracedProcess) → h ≡ front ++ later
       → place < length (functions_at k o front).traced
@@ -66,35 +65,13 @@ pub record BreakpointsHold (k : ℕ) (o : Options) (first : TracedState) (h : Li
       → slice_get (functions_at k o front).options.functions function ≡ Some f → f.at ≡ pc_of l.regs
       → has_function (marks_at (functions_at k o front) place).planted function ≡ true → ⊥
   pub closed : (front later : List Entry) (place : ℕ) (p : TracedProcess) → h ≡ front ++ later
-      → place < length (functions_at k o front).traced
+      → All WasNotInterrupted (exchanges k front) → place < length (functions_at k o front).traced
       → live_process (state_after first front).system (traced_at (functions_at k o front) place).pid ≡ Some p
       → is_opened (functions_at k o front).stage place ≡ false
-      → (marks_at (functions_at k o front) place).stepped ≡ None
-
--- ---- what turns did, and phases
-
-trap-is : (d : Did) → is_trap d ≡ true → d ≡ Faulted Trace
-trap-is (Faulted Trace) is = refl
-trap-is _ is = absurd (false≢true is)
-
-user-is : (phase : Phase) → is_in_program phase ≡ true → phase ≡ User
-user-is User is = refl
-user-is _ is = absurd (false≢true is)
+      → ((marks_at (functions_at k o front) place).stepped ≡ None) ⊎ IsHalting p
 
 stopped-not : Stopped ≡ Faulted Trace → ⊥
 stopped-not same = cc
-
--- a function that counts as planted at an address
-standing-of : (m : Marks) (place : Option ℕ) (function : ℕ) → option_and_then (if_standing m) place ≡ Some function
-    → (place ≡ Some function) × (has_function (standing m) function ≡ true)
-standing-of m None function is = absurd (none-some function is)
-standing-of m (Some i) function is = by (has_function (standing m) i) refl is
-  where
-    by : (b : Bool) → has_function (standing m) i ≡ b → cond b (Some i) None ≡ Some function
-        → (Some i ≡ Some function) × (has_function (standing m) function ≡ true)
-    by true has same =
-        (same, subst (λ j. has_function (standing m) j ≡ true) (same_Some i function same) has)
-    by false has same = absurd (none-some function same)
 
 -- ---- a turn
 
@@ -123,29 +100,23 @@ module _ (n k : ℕ) (o : Options) (s : TracedState) (h : List Entry) (run : IsF
   abbrev l : TracedLwp
   l = let x = its-turn in x.lwp
 
-  lwp-is : lwp_in now pid id ≡ Some l
-  lwp-is = let x = its-turn in ap (option_and_then (λ (p : TracedProcess). lwp_of p id)) x.live ∙ x.there
+  l-live : live_process now.system pid ≡ Some (let x = its-turn in x.process)
+  l-live = let x = its-turn in x.live
+
+  l-there : lwp_of (let x = its-turn in x.process) id ≡ Some l
+  l-there = let x = its-turn in x.there
 
   abbrev pub its_call : List Report
   its_call = call_of_turn t now pid (Lwp pid id) (Turn turned)
-
-  abbrev found_call : List Report
-  found_call = call_in t now pid id (position (is_process pid) t.traced)
-
-  traps : EndsInTrap turned → its_call ≡ found_call
-  traps trap =
-      ap (λ b. cond (b && is_trap turned.did) found_call []) (eq-eqb pid pid refl)
-      ∙ ap (λ d. cond (is_trap d) found_call []) trap
 
   -- the function that counts as planted at the pc
   abbrev met : ℕ → Option ℕ
   met place = function_at t.options (marks_at t place) (pc_of l.regs)
 
-  at-place : (place : ℕ) → position (is_process pid) t.traced ≡ Some place → EndsInTrap turned
+  at-there : (place : ℕ) → position (is_process pid) t.traced ≡ Some place → EndsInTrap turned
       → its_call
       ≡ call_at (traced_at t place).pid id l (cond {A = Option ℕ} (is_in_program l.phase) (met place) None)
-  at-place place there trap =
-      traps trap ∙ ap (call_in t now pid id) there ∙ ap (call_by t.options (traced_at t place) id) lwp-is
+  at-there = at-place t now pid id turned (let x = its-turn in x.process) l l-live l-there
 
   -- ---- the turn of a step
 
@@ -244,7 +215,7 @@ module _ (n k : ℕ) (o : Options) (s : TracedState) (h : List Entry) (run : IsF
 
     pub step-call : its_call ≡ Called pid step.lwp step.function step.arguments ∷ []
     step-call =
-        at-place place
+        at-there place
         (place-of pid t.traced place (apart-here n k o s h run front (e ∷ later) is calm) under.within own) trap
         ∙ ap
         (λ phase. call_at (traced_at t place).pid id l (cond {A = Option ℕ} (is_in_program phase) (met place) None))
@@ -269,78 +240,55 @@ module _ (n k : ℕ) (o : Options) (s : TracedState) (h : List Entry) (run : IsF
     no_call : its_call ≡ [] → WhatTurn
     step_turn : IsStepTurn → WhatTurn
 
-  module _ (trap : EndsInTrap turned) (place : ℕ) (there : position (is_process pid) t.traced ≡ Some place)
-      (within : place < length t.traced) (own : (traced_at t place).pid ≡ pid) where
-    live-there : live_process now.system (traced_at t place).pid ≡ Some (let x = its-turn in x.process)
-    live-there = let x = its-turn in ap (live_process now.system) own ∙ x.live
+  abbrev Meets : Type 0
+  Meets = MeetsFunction t now pid id turned (let x = its-turn in x.process) l l-live l-there
 
-    module _ (in_program : l.phase ≡ User) (function : ℕ) (its : met place ≡ Some function) where
-      here : (position (begins_at (pc_of l.regs)) t.options.functions ≡ Some function)
-          × (has_function (standing (marks_at t place)) function ≡ true)
-      unfolding function_at
-      here = standing-of (marks_at t place) _ function its
+  module _ (m : Meets) where
+    live-there : live_process now.system (traced_at t m.place).pid ≡ Some (let x = its-turn in x.process)
+    live-there = ap (live_process now.system) m.own ∙ l-live
 
-      planted-not : has_function (marks_at t place).planted function ≡ true → ⊥
-      planted-not planted =
-          let f = found-function t.options (pc_of l.regs) function here.0 in
-          let x = its-turn in
-          facts.none_runs front later pid place id turned x.process l function f.0 is within own trap x.live x.there
-          in_program f.1.0 f.1.1 planted
+    planted-not : has_function (marks_at t m.place).planted m.function ≡ true → ⊥
+    planted-not planted =
+        let f = found-function t.options (pc_of l.regs) m.function m.found in
+        let x = its-turn in
+        facts.none_runs front later pid m.place id turned x.process l m.function f.0 is m.within m.own m.trap l-live
+        l-there m.in_program f.1.0 f.1.1 planted
 
-      opened-so : (step : Stepped) → (marks_at t place).stepped ≡ Some step → is_opened t.stage place ≡ true
-      opened-so step under = elim (cases_Bool (is_opened t.stage place)) [
-        | inl opened ↦ opened
-        | inr not ↦ absurd (none-some step
-            (sym (facts.closed front (e ∷ later) place (let x = its-turn in x.process) is within live-there not)
-            ∙ under))
-      ]
-
-      its-step-turn : IsStepTurn
-      unfolding standing
-      its-step-turn = by (marks_at t place).stepped refl
-        where
-          by : (so : Option Stepped) → (marks_at t place).stepped ≡ so → IsStepTurn
-          by None none =
-              absurd (planted-not
-              (subst (λ st. has_function (with_step st (marks_at t place).planted) function ≡ true) none here.1))
-          by (Some step) under = record {
-            place = place;
-            step = step;
-            under = record { calm = calm; within = within; opened = opened-so step under; under_way = under };
-            own = own;
-            trapped = trap;
-          }
-
-    function-turn : l.phase ≡ User → WhatTurn
-    function-turn in_program = by (met place) refl
-      where
-        by : (f : Option ℕ) → met place ≡ f → WhatTurn
-        by None none =
-            no_call (at-place place there trap
-            ∙ ap (λ phase. call_at (traced_at t place).pid id l
-            (cond {A = Option ℕ} (is_in_program phase) (met place) None)) in_program
-            ∙ ap (call_at (traced_at t place).pid id l) none)
-        by (Some function) its = step_turn (its-step-turn in_program function its)
-
-    program-turn : WhatTurn
-    program-turn = elim (cases_Bool (is_in_program l.phase)) [
-      | inl it ↦ function-turn (user-is l.phase it)
-      | inr not ↦ no_call (at-place place there trap
-          ∙ ap (λ b. call_at (traced_at t place).pid id l (cond {A = Option ℕ} b (met place) None)) not)
+    opened-so : (step : Stepped) → (marks_at t m.place).stepped ≡ Some step → is_opened t.stage m.place ≡ true
+    unfolding taken
+    opened-so step under = elim (cases_Bool (is_opened t.stage m.place)) [
+      | inl opened ↦ opened
+      | inr not ↦ absurd (by (facts.closed front (e ∷ later) m.place (let x = its-turn in x.process) is calm m.within
+          live-there not))
     ]
+      where
+        by : ((marks_at t m.place).stepped ≡ None) ⊎ IsHalting (let x = its-turn in x.process) → ⊥
+        by (inl none) = none-some step (sym none ∙ under)
+        by (inr halts) =
+            let x = its-turn in
+            stopped-not
+            (ap (λ (y : Turned). y.did) (sym (halting-did now.system pid x.process x.live halts id taken.0 taken.1))
+            ∙ m.trap)
+
+    its-step-turn : IsStepTurn
+    unfolding standing
+    its-step-turn = by (marks_at t m.place).stepped refl
+      where
+        by : (so : Option Stepped) → (marks_at t m.place).stepped ≡ so → IsStepTurn
+        by None none =
+            absurd (planted-not
+            (subst (λ st. has_function (with_step st (marks_at t m.place).planted) m.function ≡ true) none m.stands))
+        by (Some step) under = record {
+          place = m.place;
+          step = step;
+          under = record { calm = calm; within = m.within; opened = opened-so step under; under_way = under };
+          own = m.own;
+          trapped = m.trap;
+        }
 
   pub what-turn : WhatTurn
-  what-turn = elim (cases_Bool (is_trap turned.did)) [
-    | inl it ↦ trapped (trap-is turned.did it)
-    | inr not ↦ no_call (ap (λ b. cond (b && is_trap turned.did) found_call []) (eq-eqb pid pid refl)
-        ∙ ap (λ b. cond b found_call []) not)
-  ]
+  what-turn = by (what-call t now pid id turned (let x = its-turn in x.process) l l-live l-there)
     where
-      trapped : EndsInTrap turned → WhatTurn
-      trapped trap = by (position (is_process pid) t.traced) refl
-        where
-          by : (place : Option ℕ) → position (is_process pid) t.traced ≡ place → WhatTurn
-          by None none = no_call (traps trap ∙ ap (call_in t now pid id) none)
-          by (Some place) there =
-              let at = position-Some (is_process pid) t.traced place nobody there in
-              program-turn trap place there at.0 (eqb-true (at_place t.traced place).pid pid at.1)
+      by : (its_call ≡ []) ⊎ Meets → WhatTurn
+      by (inl empty) = no_call empty
+      by (inr m) = step_turn (its-step-turn m)

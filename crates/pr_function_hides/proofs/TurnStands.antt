@@ -75,11 +75,11 @@ module _ (f : Patch) where
 module _ (f : Patch) (within : AreWithin (f ∷ [])) where
   -- ---- the spaces that the changes of a turn leave
 
-  abbrev SpaceStands : Change → Type 0
+  abbrev pub SpaceStands : Change → Type 0
   SpaceStands (space_is space) = Stands f space
   SpaceStands c = Unit {0}
 
-  abbrev SpacesStand : List Change → Type 0
+  abbrev pub SpacesStand : List Change → Type 0
   SpacesStand [] = Unit {0}
   SpacesStand (c ∷ cs) = SpaceStands c × SpacesStand cs
 
@@ -88,7 +88,7 @@ module _ (f : Patch) (within : AreWithin (f ∷ [])) where
   EffectStands sleeps = Unit {0}
   EffectStands (ends how) = Unit {0}
 
-  abbrev RowStands : Row → Type 0
+  abbrev pub RowStands : Row → Type 0
   RowStands row = SpacesStand row.transition.changes
 
   space-same : {a b : Space} → space_is a ≡ space_is b → a ≡ b
@@ -268,7 +268,7 @@ module _ (f : Patch) (within : AreWithin (f ∷ [])) where
         taken-stands (own_takeable l) (shared_takeable p l) _ (λ own shared. returned-stands call))
     phase-stands alone going (Faulted fault address) is = tt
 
-    row-stands : (l.control.directed ≡ false → LeavesAlone f p l) → RowStands (row_for s pid p id l)
+    pub row-stands : (l.control.directed ≡ false → LeavesAlone f p l) → RowStands (row_for s pid p id l)
     unfolding row_for requested_row requested
     row-stands alone =
         choice RowStands l.control.directed _ _ (λ directed. tt)
@@ -276,12 +276,12 @@ module _ (f : Patch) (within : AreWithin (f ∷ [])) where
 
   -- ---- the memory is neither replaced nor lent
 
-  abbrev Frees : Change → Type 0
+  abbrev pub Frees : Change → Type 0
   Frees (forks by_vfork args) = ⊥
   Frees (becomes program) = ⊥
   Frees c = Unit {0}
 
-  abbrev FreeAll : List Change → Type 0
+  abbrev pub FreeAll : List Change → Type 0
   FreeAll [] = Unit {0}
   FreeAll (c ∷ cs) = Frees c × FreeAll cs
 
@@ -418,7 +418,7 @@ module _ (f : Patch) (within : AreWithin (f ∷ [])) where
         by _ b same made free = absurd (false≢true made)
     granted-fork _ c is copies takes copying = absurd (false≢true copies)
 
-    row-frees : takes_memory row.did ≡ false → FreeAll row.transition.changes
+    pub row-frees : takes_memory row.did ≡ false → FreeAll row.transition.changes
     row-frees takes = by (call_in row.did) refl
       where
         copying : (c : Sysno) → call_in row.did ≡ Some c → copies_memory c ≡ true → (b : Bool) → makes_copy row.did ≡ b

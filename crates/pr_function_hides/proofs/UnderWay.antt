@@ -1,5 +1,5 @@
 use Rattle.std.proofs.Common.{◌≡◌, ◌<◌, ◌+◌, ◌++◌, ℕ, true, not, Option, Some, None, List, [], ◌∷◌, length, position, append-nil, append_assoc, refl, sym, subst, ap, ◌∙◌, arith, inl, inr}
-use Rattle.std.proofs.lemmas.Bool.{ne_eqb}
+use Rattle.std.proofs.lemmas.Bool.{eqb-true, ne_eqb}
 use Rattle.std.proofs.lemmas.List.Elements.{All-head, All-tail}
 use Rattle.std.proofs.lemmas.Option.{none-some, same_Some, slice_get_within}
 use Rattle.std.specs.List.{All, cons_option, slice_get}
@@ -33,7 +33,8 @@ use Rattle.pr_rec.specs.declared.lwps.LwpStatus.{LwpStatus}
 use Rattle.pr_report_laws.proofs.Files.WatchHistories.{cons-exchanges, exchanges-both}
 use Rattle.pr_report_laws.proofs.Machine.StayingLwps.{keeps-meeting, live-by, row-leaves, settled-to}
 use Rattle.pr_report_laws.proofs.Machine.TracedPoints.{fit-process}
-use Rattle.pr_report_laws.proofs.SeenChildren.Splits.{state_after-both}
+use Rattle.pr_report_laws.proofs.SeenChildren.Splits as splits
+use Rattle.pr_report_laws.proofs.SeenChildren.Splits.{Compares, compare, state_after-both}
 use Rattle.pr_report_laws.proofs.Watching.HistoryParts.{all-front, legal-front}
 use Rattle.pr_truss.specs.Asides.{marks_at}
 use Rattle.pr_truss.specs.FunctionEvents.{begins_at, step_of}
@@ -68,20 +69,22 @@ use Rattle.pr_function_laws.proofs.MetLemmas.{event-breaks, found-function}
 use Rattle.pr_function_laws.proofs.OpenedCalls.{lowest}
 use Rattle.pr_function_laws.proofs.OpenedLaws.{Goes, before-goes, handle-is, status-handle, stop-function, stop-lwp, stop-there}
 use Rattle.pr_function_laws.proofs.StretchLemmas.{named-acts}
-use Rattle.pr_function_laws.proofs.TurnPoints.{step-point}
+use Rattle.pr_function_laws.proofs.TurnPoints.{did_at, step-point}
 use Rattle.pr_function_laws.proofs.TurnStarts as starts
 use Rattle.pr_function_laws.proofs.TurnStarts.{among-none}
-use Rattle.pr_function_laws.proofs.TurnStates.{Steps, had-no-turn}
+use Rattle.pr_function_laws.proofs.TurnReads.{fresh-new}
+use Rattle.pr_function_laws.proofs.TurnStates.{Had, Steps, had-no-turn}
 use Rattle.pr_function_laws.proofs.TurnWalks as walks
-use Rattle.pr_function_laws.proofs.TurnWalks.{After, AreNoReads, Comes, Files}
+use Rattle.pr_function_laws.proofs.TurnWalks.{After, AreNoReads, Comes, Files, Turns}
 use Rattle.pr_function_laws.specs.Lifted.{GoesElsewhere, HasControl, IsAtStopAtBreakpoint, ReadsOnlyLast}
 use Rattle.pr_function_laws.specs.Met.{arguments_of}
 use Rattle.pr_function_laws.specs.Opened.{IsFunctionRun, ReadsBreakpoint, WasNotInterrupted, functions_at, is_opened}
 use Rattle.pr_function_laws.specs.Runs.{functions_after}
 use Rattle.pr_function_laws.specs.Steppable.{IsSteppable}
 use Rattle.pr_function_laws.specs.ToldTurns.{AreSteppable, HasStep}
-use Rattle.pr_function_laws.specs.Turns.{IsNoTurnOf, first_arguments}
+use Rattle.pr_function_laws.specs.Turns.{EndsInTrap, HasOneTurn, IsNoTurnOf, first_arguments}
 use Rattle.pr_function_hides.proofs.StatusReads.{open-few, reads-status}
+use Rattle.pr_function_hides.proofs.TrapStops.{AtTrap, IsStepOf, trap-point}
 use Rattle.pr_function_laws.proofs.TracedPlaces.{traced-there}
 pub use Rattle.pr_function_laws.proofs.ListedSteps.{place-of}
 
@@ -284,11 +287,19 @@ module _ (n k : ℕ) (o : Options) (s : TracedState) (h : List Entry) (run : IsF
 
   -- ---- what its marks say
 
+  -- no stop was left that stood before truss came
+  new-then : (traced_at t0 b.place).old ≡ 0
+  new-then =
+      let m = b.meets in
+      let new = fresh-new (traced_at t0 b.place) m.l m.event m.fresh in
+      eqb-true (traced_at t0 b.place).old 0 new.new
+
   -- Truss has the process at a place, with the status file that it had, and the step is under way in it.
   pub record IsUnder : Type 0 where
     pub place : ℕ
     pub own : (traced_at tr place).pid ≡ pid
     pub file : (traced_at tr place).status ≡ (traced_at t0 b.place).status
+    pub new : (traced_at tr place).old ≡ 0
     pub under : HasStep k o front place step
 
   abbrev Q : ℕ → Type 0
@@ -301,6 +312,7 @@ module _ (n k : ℕ) (o : Options) (s : TracedState) (h : List Entry) (run : IsF
         place = q;
         own = known.pid ∙ b.its_pid;
         file = own.status ∙ sym ns-is;
+        new = known.old ∙ new-then;
         under = record {
           calm = calm;
           within = within;
@@ -441,6 +453,40 @@ module _ (n k : ℕ) (o : Options) (s : TracedState) (h : List Entry) (run : IsF
   unfolding broke
   its-few = let w = broke in w.few
 
+  -- the function and the arguments are those of the lwp that stood at the breakpoint
+  pub is-step : IsStepOf o step stood
+  unfolding step_of address_of
+  is-step = record {
+    found =
+        ap (λ pc. position (begins_at pc) o.functions)
+        (starts.stands-at n k t0 b.place ns pid0 id then b.e b.between stopped
+        ∙ ap (address_of t0.options) function-is ∙ ap address_in (let f = found in f.named))
+        ∙ ap (λ (opts : Options). position (begins_at (let f = found in f.f.at)) opts.functions) (sym options-then)
+        ∙ (let f = found in f.first) ∙ ap (λ i. Some i) its-function;
+    few = subst (λ i. i < function_limit) its-function its-few;
+    holds = ap first_arguments (starts.lwp-regs n k t0 b.place ns pid0 id then b.e b.between stopped)
+        ∙ ap arguments_of first-is ∙ ap (λ (x : Stepped). x.arguments) (sym b.its_step);
+  }
+
+  -- Truss looks at the process; or the lwp is stepped alone; or it had its turn.
+  pub data How (p : TracedProcess) : Type 0 where
+    looks_now : (place : ℕ) → (functions_at k o front).stage ≡ Running place → How p
+    steps_on : Steps id stood p → How p
+    had_turn : (before more : List Entry) (did : Turned) (point : Point)
+        → HasOneTurn pid0 id before did more b.between
+        → Turns pid0 id stood (state_after (after then b.e) before) did point → Had id stood point p → How p
+
+  pub how : (p : TracedProcess) → live_process current.system pid ≡ Some p → How p
+  how p live = by came
+    where
+      by : Comes n k pid0 id c ns met b.place stood begun_truss (after then b.e) b.between → How p
+      by (walks.no_turn none (walks.looks look files lives)) =
+          let l = subst (Looks Q c ns met b.place) (sym truss-is) look in looks_now b.place l.stage
+      by (walks.no_turn none (walks.aways it files lives)) = steps_on (lives p (live-last p live))
+      by (walks.one_turn before more did point one facts a) =
+          had_turn before more did point one facts (a.had p (live-last p live))
+      by (walks.ends gone) = absurd (none-some p (sym gone ∙ live-last p live))
+
   -- ---- behind its turn
 
   -- The lwp of the step has had its turn since then, and the process lives: the process halts, and goes on so through
@@ -451,7 +497,24 @@ module _ (n k : ℕ) (o : Options) (s : TracedState) (h : List Entry) (run : IsF
     -- what the lwp has met, with truss away from the process
     record IsBehind : Type 0 where
       point : Point
+      did_so : did.did ≡ did_at point
       left : After n k pid0 id c ns met b.place stood point tr last
+
+    -- it had one turn alone
+    same-turn : (before more : List Entry) (turned : Turned) → HasOneTurn pid0 id before turned more b.between
+        → turned ≡ did
+    same-turn before more turned one =
+        by (compare before us (record { actor = Lwp pid0 id; act = Turn turned })
+        (record { actor = Lwp pid0 id; act = Turn did }) more vs (sym one.is ∙ among))
+      where
+        by : Compares before (record { actor = Lwp pid0 id; act = Turn turned }) more us
+            (record { actor = Lwp pid0 id; act = Turn did }) vs → turned ≡ did
+        by (splits.same first second third) =
+            let both : Turn turned ≡ Turn did = ap (λ (x : Entry). x.act) second in cc
+        by (splits.ahead between first second) =
+            absurd (among-none pid0 id did between vs (subst (All (IsNoTurnOf pid0 id)) second one.none_later))
+        by (splits.behind between first second) =
+            absurd (among-none pid0 id did us between (subst (All (IsNoTurnOf pid0 id)) first one.none_before))
 
     behind : IsBehind
     behind = by came
@@ -461,6 +524,7 @@ module _ (n k : ℕ) (o : Options) (s : TracedState) (h : List Entry) (run : IsF
             absurd (among-none pid0 id did us vs (subst (All (IsNoTurnOf pid0 id)) among none))
         by (walks.one_turn before more turned point one facts a) = record {
           point = point;
+          did_so = ap (λ (x : Turned). x.did) (sym (same-turn before more turned one)) ∙ facts.did;
           left = subst (λ u. After n k pid0 id c ns met b.place stood point u last) (sym truss-is) a;
         }
         by (walks.ends gone) = absurd (none-some p (sym gone ∙ live-last p live))
@@ -470,6 +534,20 @@ module _ (n k : ℕ) (o : Options) (s : TracedState) (h : List Entry) (run : IsF
         let w = behind in
         let a = w.left in
         let had = a.had p (live-last p live) in had.halting
+
+    -- where that turn ended with a trace trap it stands there
+    pub trap-now : EndsInTrap did → AtTrap step.lwp p
+    trap-now trap =
+        let w = behind in
+        let a = w.left in
+        let had = a.had p (live-last p live) in
+        subst (λ i. AtTrap i p) its-lwp
+        (record {
+          halting = had.halting;
+          lwp = had.there.0;
+          there = had.there.1;
+          stop = had.own had.there.0 had.there.1 ∙ ap (λ y. Some y) (trap-point w.point (sym w.did_so ∙ trap));
+        })
 
     lawful-last : IsLawful last
     lawful-last = subst IsLawful state-is (lawful-here n k o s h run front later is calm)

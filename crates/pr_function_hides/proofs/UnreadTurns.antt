@@ -37,8 +37,9 @@ use Rattle.pr_function_laws.specs.Opened.{IsFunctionRun, WasNotInterrupted, func
 use Rattle.pr_function_laws.specs.ToldTurns.{AreSteppable, HasStep}
 use Rattle.pr_function_laws.specs.Turns.{EndsInTrap}
 use Rattle.pr_function_hides.proofs.CallLists.{all-quiet}
+use Rattle.pr_function_hides.proofs.TrapStops.{AtTrap}
 use Rattle.pr_function_hides.proofs.TrapTurns.{BreakpointsHold, begun, its-turn, own-lwp, turn_entry}
-use Rattle.pr_function_hides.proofs.UnderWay.{apart-here, goes-behind, its-lwp, marks-say, ns, ns-is}
+use Rattle.pr_function_hides.proofs.UnderWay.{apart-here, goes-behind, its-lwp, marks-say, ns, ns-is, trap-now}
 
 -- The turn of a step that truss has not read yet: there is one at most, and a call that a read tells is of such a turn.
 
@@ -95,6 +96,7 @@ module _ (n k : ℕ) (o : Options) (s : TracedState) (h : List Entry) (run : IsF
     pub place : ℕ
     pub own : (traced_at (T f) place).pid ≡ pid
     pub under : HasStep k o f place step
+    pub new : (traced_at (T f) place).old ≡ 0
 
   module _ (f later : List Entry) (is : h ≡ f ++ later) (a : Unread f) where
     abbrev one : Entry
@@ -148,7 +150,23 @@ module _ (n k : ℕ) (o : Options) (s : TracedState) (h : List Entry) (run : IsF
         marks-say n k o s h run reached bytes able f later is (calm-front f later is) number1 status1 a.step begun-still
         p
         (ap (live_process (S f).system) a.own ∙ live) in
-        record { place = u.place; own = u.own ∙ a.own; under = u.under }
+        record { place = u.place; own = u.own ∙ a.own; under = u.under; new = u.new }
+
+    -- its lwp stands at the trace trap
+    pub trap-still : (p : TracedProcess) → live_process (S f).system pid ≡ Some p
+        → AtTrap (let step = a.step in step.lwp) p
+    unfolding begun-still
+    trap-still p live =
+        let b = begun-first in
+        let its =
+        its-lwp n k o s h run reached bytes able f later is (calm-front f later is) number1 status1 a.step
+        begun-still in
+        trap-now n k o s h run reached bytes able f later is (calm-front f later is) number1 status1 a.step
+        begun-still b.between a.mid a.turned
+        (ap (λ i. b.between ++ turn_entry i a.id a.turned ∷ a.mid) (sym (b.its_pid ∙ a.own))
+        ∙ ap (λ i. b.between ++ turn_entry (let x = begun-first in (traced_at (T x.before) x.place).pid) i a.turned
+        ∷ a.mid) (its-own-lwp ∙ sym its))
+        p (ap (live_process (S f).system) a.own ∙ live) a.trapped
 
     -- One entry more: the process halts so still, or SIGKILL ends it there; and where truss reads a file of it there,
     -- that is the read of its status.

@@ -4,33 +4,30 @@ use Rattle.pr_function_hides.proofs.CallFacts.{same-truss}
 use Rattle.pr_function_hides.proofs.CodeLaw.{counted-at}
 use Rattle.pr_function_hides.proofs.CopyFree.{copies-bare}
 use Rattle.pr_function_hides.proofs.TidyChanges.{kill-tidy, turn-changes}
-use Rattle.pr_function_hides.proofs.TidyKept.{IsRunOfTrusses}
 use Rattle.pr_function_hides.proofs.TidyLaw.{kept-at, lenders-at}
 use Rattle.pr_function_hides.proofs.TidySent.{sent-tidy}
 use Rattle.pr_function_hides.specs.Copying.{makes_copy}
-use Rattle.pr_function_hides.specs.FunctionHiders.{AreTrusses, StandAsMarked}
-use Rattle.pr_function_hides.specs.SleptCopies.{NoneSleepsInCopy}
-use Rattle.pr_function_hides.specs.TidyWrites.{AreUndisturbed, WritesTidily}
+use Rattle.pr_function_hides.specs.FunctionHiders.{StandAsMarked}
+use Rattle.pr_function_hides.specs.RunsOfTrusses.{IsRunOfTrusses}
+use Rattle.pr_function_hides.specs.TidyWrites.{WritesTidily}
 use Rattle.pr_hidden.specs.Covers.{Covers}
 use Rattle.pr_hidden.specs.Hiders.{Hiders, covers_at}
-use Rattle.pr_model.specs.Legal.{IsLegal, state_after}
+use Rattle.pr_model.specs.Legal.{state_after}
 use Rattle.pr_model.specs.State.{TracedState, live_process}
 use Rattle.pr_model.specs.declared.calls.Call.TheVariants as call
 use Rattle.pr_model.specs.declared.events.Act.TheVariants as act
 use Rattle.pr_model.specs.declared.events.Actor.TheVariants.{Lwp}
 use Rattle.pr_model.specs.declared.events.Entry.{Entry}
 use Rattle.pr_model.specs.declared.events.Turned.{Turned}
-use Rattle.pr_reached.specs.ByteHistories.{HasBytes}
-use Rattle.pr_reached.specs.Reached.{IsReached}
-use Rattle.pr_tool_laws.specs.OwnCalls.{AreOwnCalls}
 use Rattle.pr_truss.specs.Asides.{marks_at}
 use Rattle.pr_truss.specs.Trusses.{TrussState, traced_at}
 use Rattle.pr_world.specs.ControllerStates.{ControllerState}
 
--- The writes of each truss are tidy, and the breakpoints that stand are those that it has marked.
+-- The writes of each truss are tidy, and the breakpoints that stand are those that it has marked, whether or not it is
+-- interrupted.
 
-module _ {B : Type 0} {n : ℕ} {who : Hiders} {controllers : List ControllerState} {first : TracedState}
-    {h : List Entry} (run : IsRunOfTrusses B n who controllers first h) where
+module _ {n : ℕ} {who : Hiders} {controllers : List ControllerState} {first : TracedState}
+    {h : List Entry} (run : IsRunOfTrusses n who controllers first h) where
   abbrev at : List Entry → Covers
   at front = covers_at who first front
 
@@ -46,8 +43,8 @@ module _ {B : Type 0} {n : ℕ} {who : Hiders} {controllers : List ControllerSta
       (kept-at run front
       (record { actor = Lwp pid id; act = act.Turn t } ∷ back) place)
 
-  pub run-tidily : WritesTidily who controllers first h
-  run-tidily = record {
+  pub writes-tidily : WritesTidily who controllers first h
+  writes-tidily = record {
     tidy = λ front back k handle sent r place hider begins.
         sent-tidy run front back k handle sent r place
         (kept-at run front
@@ -67,21 +64,5 @@ module _ {B : Type 0} {n : ℕ} {who : Hiders} {controllers : List ControllerSta
         → StandAsMarked x.options (marks_at x q).planted (at front (traced_at x q).pid).patches) same
         (λ inside lives. w.stand q inside (p, lives)) within live;
   }
-
--- Whether or not they are interrupted.
-pub writes-tidily : (n : ℕ) (who : Hiders) (controllers : List ControllerState) (first : TracedState) (h : List Entry)
-    → IsReached first → NoneSleepsInCopy first.system → HasBytes h → IsLegal n first h → AreOwnCalls controllers h
-    → AreTrusses who controllers first → AreUndisturbed who controllers first h → WritesTidily who controllers first h
-writes-tidily n who controllers first h reached awake bytes legal own_calls are und =
-    run-tidily {B = Unit {0}} (record {
-      reached = reached;
-      awake = awake;
-      bytes = bytes;
-      legal = legal;
-      own_calls = own_calls;
-      are = are;
-      und = und;
-      besides = tt;
-    })
 
 pub ruleset tidily = (writes-tidily)

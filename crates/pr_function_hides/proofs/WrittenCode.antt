@@ -116,7 +116,7 @@ with-other at g ps apart = by (is_some (patch_at g.at ps))
     by true = refl
     by false = ap (λ b. cond b (Some g) (patch_at at ps)) (ne_eqb g.at at (λ same. apart (sym same)))
 
-with-own : (g : Patch) (ps : List Patch) → patch_at g.at (with_patch g ps) ≢ None
+pub with-own : (g : Patch) (ps : List Patch) → patch_at g.at (with_patch g ps) ≢ None
 with-own g ps = by (patch_at g.at ps) refl
   where
     by : (o : Option Patch) → patch_at g.at ps ≡ o → patch_at g.at (cond (is_some o) ps (g ∷ ps)) ≢ None

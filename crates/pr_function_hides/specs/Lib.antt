@@ -7,6 +7,7 @@ pub mod LiftedCopies
 pub mod OwnSteps
 pub mod PassiveOthers
 pub mod Replacing
+pub mod RunsOfTrusses
 pub mod SleptCopies
 pub mod TidyCloses
 pub mod TidyFaults

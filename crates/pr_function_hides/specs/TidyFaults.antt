@@ -17,12 +17,13 @@ use Rattle.pr_num.specs.declared.faults.Flt.{Flt}
 use Rattle.pr_num.specs.declared.messages.Message.{Message}
 use Rattle.pr_num.specs.declared.messages.Message.TheVariants as message
 
--- PCRUN with PRCFAULT, PRSTEP or both
+-- PCRUN with PRCFAULT, PRSTEP or both, and PCCFAULT
 abbrev pub is_clearing : Message → Bool
 is_clearing (message.Run flags) = is_step_flags flags
+is_clearing message.Cfault = true
 is_clearing m = false
 
--- bytes begin with no other message
+-- bytes begin with no message but these
 abbrev pub BeginWithClearing : List ℕ → Type 0
 BeginWithClearing bytes = IfOk (first_message bytes) (λ f. is_clearing f.0 ≡ true)
 
@@ -34,8 +35,9 @@ pub record PostsNoOwnFault (who : Hiders) (first : TracedState) (h : List Entry)
       → live_process (state_after first front).system pid ≡ Some p → lwp_of p id ≡ Some l
       → (covers_at who first front pid).faulted id ≡ true → l.phase ≡ Faulted f address → ⊥
 
--- PCRUN with PRCFAULT, PRSTEP or both of one who hides finds no fault but one of those who hide: if the lwp that it is
--- aimed at is at a fault, it counts as standing at one of theirs. (Bytes that begin with no message are let pass.)
+-- PCRUN with PRCFAULT, PRSTEP or both of one who hides, and its PCCFAULT, finds no fault but one of those who hide: if
+-- the lwp that it is aimed at is at a fault, it counts as standing at one of theirs. (Bytes that begin with no message
+-- are let pass.)
 pub record ClearsOwnFaultsAlone (who : Hiders) (first : TracedState) (h : List Entry) : Type 0 where
   pub messages : (front back : List Entry) (k handle : ℕ) (bytes : List ℕ) (r : Reply)
       → h ≡ front ++ call_entry k (call.Ctl handle bytes) r ∷ back → hides who k ≡ true → BeginWithClearing bytes

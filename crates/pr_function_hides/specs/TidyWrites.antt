@@ -1,17 +1,20 @@
 -- The writes of a truss that shows calls of functions are tidy, and so is what each turn changes; the breakpoints that
 -- stand are those that it has marked; and what is asked of a history for that.
-use Rattle.std.specs.Prelude.{◌≡◌, ◌≢◌, ◌<◌, ◌++◌, ℕ, true, false, All, List, ◌∷◌, None, Some, is_ok, length, slice_get}
+use Rattle.std.specs.Prelude.{◌≡◌, ◌≢◌, ◌<◌, ◌++◌, ℕ, true, false, All, List, [], ◌∷◌, None, Ok, Some, is_ok, length, slice_get}
 use Rattle.pr_api.specs.Entries.{call_entry}
 use Rattle.pr_function_hides.specs.Copying.{AreOutOfCopies}
-use Rattle.pr_function_hides.specs.CountedFunctions.{Counts, LeavesAlone}
+use Rattle.pr_function_hides.specs.CountedFunctions.{Counts, HasBorrowed, IsRead, LeavesAlone}
 use Rattle.pr_function_hides.specs.FunctionHiders.{StandAsMarked, patch_of}
 use Rattle.pr_function_laws.specs.Stretches.{BeginWithWrite}
 use Rattle.pr_hidden.specs.Covers.{Covers, Patch}
 use Rattle.pr_hidden.specs.Hiders.{Hiders, covers_at, hides, patch_at}
 use Rattle.pr_hidden.specs.Following.{IsReturnable}
+use Rattle.pr_hidden.specs.Sparing.{are_spared}
 use Rattle.pr_hidden.specs.Tidiness.{AreTidyChanges, IsTidyCall}
 use Rattle.pr_line.specs.declared.functions.Function.{Function}
 use Rattle.pr_model.specs.Changes.{Ending}
+use Rattle.pr_model.specs.ControlMessages.{tail_of}
+use Rattle.pr_model.specs.Handles.{handle_of}
 use Rattle.pr_model.specs.Legal.{after, state_after}
 use Rattle.pr_model.specs.Rows.{row_for}
 use Rattle.pr_model.specs.State.{TracedLwp, TracedProcess, TracedState, live_process, lwp_of}
@@ -25,13 +28,15 @@ use Rattle.pr_model.specs.declared.events.Act.TheVariants.{Turn}
 use Rattle.pr_model.specs.declared.events.Actor.TheVariants.{Lwp}
 use Rattle.pr_model.specs.declared.events.Entry.{Entry}
 use Rattle.pr_model.specs.declared.events.Turned.{Turned}
+use Rattle.pr_model.specs.declared.handles.Held.{Held}
 use Rattle.pr_num.specs.Limits.{instruction_size}
+use Rattle.pr_num.specs.Messages.{first_message}
 use Rattle.pr_num.specs.Spaces.{Space, bytes_for}
-use Rattle.pr_num.specs.declared.errnos.Errno.TheVariants.{Intr}
+use Rattle.pr_num.specs.declared.errnos.Errno.{Errno}
+use Rattle.pr_num.specs.declared.messages.Message.TheVariants.{Write}
 use Rattle.pr_truss.specs.Asides.{marks_at}
 use Rattle.pr_truss.specs.Replies.{answer_of}
 use Rattle.pr_truss.specs.Trusses.{TrussState, traced_at}
-use Rattle.pr_truss.specs.declared.asides.Aside.TheVariants.{Reading}
 use Rattle.pr_truss.specs.declared.replies.Answer.TheVariants.{Accepted}
 use Rattle.pr_truss.specs.declared.stages.OpeningStep.TheVariants.{AwaitStop}
 use Rattle.pr_truss.specs.declared.stages.Stage.TheVariants.{Opening}
@@ -41,11 +46,6 @@ use Rattle.pr_world.specs.Protocol.{controllers_at}
 -- all bytes of the instruction of a breakpoint are mapped, whatever their protection
 pub record IsMappedIn (space : Space) (f : Patch) : Type 0 where
   pub ok : is_ok (bytes_for 0 space f.at instruction_size) ≡ true
-
--- No call of one who hides is interrupted: with the first wait that is, a truss begins to leave its processes.
-pub record AreUnbroken (who : Hiders) (h : List Entry) : Type 0 where
-  pub unbroken : (front back : List Entry) (k : ℕ) (c : Call) (r : Reply) → h ≡ front ++ call_entry k c r ∷ back
-      → hides who k ≡ true → r ≢ Fail Intr
 
 module _ (who : Hiders) (controllers : List ControllerState) (first : TracedState) (h : List Entry) where
   -- what is hidden, the state, and truss, after some entries
@@ -61,9 +61,11 @@ module _ (who : Hiders) (controllers : List ControllerState) (first : TracedStat
   -- ---- what is asked
 
   -- Programs leave alone each function that counts as planted. While its breakpoint does not stand they store nothing
-  -- there, and ask for no memory there; and as long as their process lives they unmap no byte of one that stands. A
-  -- process has borrowed its memory from nobody when truss opens its control file, and has it to itself when truss
-  -- reads the code of a function in it.
+  -- there, and ask for no memory there; and as long as their process lives they unmap no byte of one that stands. Who
+  -- has borrowed the memory of a process that truss opens leaves alone what truss has read there, until truss has
+  -- planted it, or gone past the last function at that address; and no PCWRITE to who has borrowed it, which a
+  -- controller that hides nothing is granted, touches that. A process has borrowed its memory from nobody when truss
+  -- opens its control file.
   pub record AreUntouched : Type 0 where
     pub spares : (front back : List Entry) (pid id : ℕ) (t : Turned) (p : TracedProcess) (l : TracedLwp) (k : ℕ)
         (u : TrussState) (place function : ℕ) (f : Function)
@@ -80,13 +82,25 @@ module _ (who : Hiders) (controllers : List ControllerState) (first : TracedStat
     pub unlent : (front back : List Entry) (k pid : ℕ) (r : Reply) (p : TracedProcess)
         → h ≡ front ++ call_entry k (call.Open pid 0 Ctl WriteExcl) r ∷ back → hides who k ≡ true
         → answer_of r ≡ Accepted → live_process (state_there front).system pid ≡ Some p → p.lender ≡ None
-    pub owns : (front back : List Entry) (k : ℕ) (c : Call) (r : Reply) (u : TrussState) (place function : ℕ)
-        (p : TracedProcess) → h ≡ front ++ call_entry k c r ∷ back → hides who k ≡ true → IsTrussAfter front k u
-        → u.aside ≡ Reading place function
-        → live_process (state_there front).system (traced_at u place).pid ≡ Some p → p.borrower ≡ None
+    pub spares_lent : (front back : List Entry) (borrower id : ℕ) (t : Turned) (p : TracedProcess) (l : TracedLwp)
+        (k : ℕ) (u : TrussState) (place function : ℕ) (f : Function)
+        → h ≡ front ++ record { actor = Lwp borrower id; act = Turn t } ∷ back
+        → live_process (state_there front).system borrower ≡ Some p → lwp_of p id ≡ Some l
+        → l.control.directed ≡ false → hides who k ≡ true → IsTrussAfter front k u → place < length u.traced
+        → HasBorrowed (state_there front).system (traced_at u place).pid borrower → IsRead u place function
+        → slice_get u.options.functions function ≡ Some f → LeavesAlone (patch_of f) p l
+    pub unwritten : (front back : List Entry) (j handle : ℕ) (bytes : List ℕ) (r : Reply) (held : Held) (k : ℕ)
+        (u : TrussState) (place function : ℕ) (f : Function) (at size len : ℕ)
+        → h ≡ front ++ call_entry j (call.Ctl handle bytes) r ∷ back → hides who j ≡ false
+        → ((errno : Errno) → r ≢ Fail errno) → handle_of (state_there front).opens j handle ≡ Some held
+        → hides who k ≡ true → IsTrussAfter front k u → place < length u.traced
+        → HasBorrowed (state_there front).system (traced_at u place).pid held.pid → IsRead u place function
+        → slice_get u.options.functions function ≡ Some f
+        → first_message bytes ≡ Ok (Write at size, len)
+        → are_spared (patch_of f ∷ []) at (length (tail_of (Write at size) bytes)) ≡ true
 
-  -- Programs leave the functions alone. No lwp of a process is at a fork, a vfork or an exec when the wait of its
-  -- opening is granted.
+  -- Programs and others leave the functions alone. No lwp of a process is at a fork, a vfork or an exec when the wait
+  -- of its opening is granted.
   pub record AreUndisturbed : Type 0 where
     pub untouched : AreUntouched
     pub opens_out : (front back : List Entry) (k place until : ℕ) (c : Call) (r : Reply) (u : TrussState)

@@ -1,35 +1,24 @@
 ghost use Rattle.std.specs.Prelude.{ℕ, List};
 ghost use Rattle.pr_erasure.specs.Untouched.{IsUntouched};
-ghost use Rattle.pr_function_hides.specs.FunctionHiders.{AreTrusses};
 ghost use Rattle.pr_function_hides.specs.PassiveOthers.{AreOthersPassive};
-ghost use Rattle.pr_function_hides.specs.SleptCopies.{NoneSleepsInCopy};
-ghost use Rattle.pr_function_hides.specs.TidyWrites.{AreUnbroken, AreUndisturbed};
+ghost use Rattle.pr_function_hides.specs.RunsOfTrusses.{IsRunOfTrusses};
 ghost use Rattle.pr_hidden.specs.HiddenSteps.{IsHidden};
 ghost use Rattle.pr_hidden.specs.Hiders.{Hiders};
 ghost use Rattle.pr_hidden.specs.Tidiness.{IsSparing, IsTidy};
-ghost use Rattle.pr_model.specs.Legal.{IsLegal};
 ghost use Rattle.pr_model.specs.State.{TracedState};
 ghost use Rattle.pr_model.specs.declared.events.Entry.{Entry};
 ghost use Rattle.pr_probe_laws.specs.StepMarks.{IsUnstepped};
-ghost use Rattle.pr_reached.specs.ByteHistories.{HasBytes};
-ghost use Rattle.pr_reached.specs.Reached.{IsReached};
-ghost use Rattle.pr_tool_laws.specs.OwnCalls.{AreOwnCalls};
 ghost use Rattle.pr_world.specs.ControllerStates.{ControllerState};
 
-/// In a legal history from a state without step marks that the machine reaches, with no lwp asleep in a fork, a vfork
-/// or an exec, in which controllers write bytes and these make their own calls, where those who hide are each a truss
-/// that shows calls of functions, undisturbed and not interrupted, and each call of another one is passive: each such
-/// truss is tidy. So from a state that nobody has touched, where programs leave its breakpoints alone, programs see
-/// nothing of it: the steps that are not hidden are a run of the machine without controllers, whose trace is that of
-/// the history without what is hidden.
+/// In a run of trusses that are undisturbed, from a state without step marks, in which each call of another one is
+/// passive: each of them is tidy, whether or not it is interrupted. So from a state that nobody has touched, where
+/// programs leave its breakpoints alone, programs see nothing of it: the steps that are not hidden are a run of the
+/// machine without controllers, whose trace is that of the history without what is hidden.
 #[tactic(auto, using(crate::proofs::HiddenTruss::truss_hides))]
 pub fn truss_is_hidden()
     ensures tidy { (n : ℕ) (who : Hiders) (controllers : List ControllerState) (s : TracedState) (h : List Entry)
-        → IsReached s → NoneSleepsInCopy s.system → HasBytes h → IsLegal n s h → AreOwnCalls controllers h
-        → AreTrusses who controllers s → AreUndisturbed who controllers s h → AreUnbroken who h
-        → AreOthersPassive who h → IsUnstepped s.system → IsTidy who s h }
+        → IsRunOfTrusses n who controllers s h → AreOthersPassive who h → IsUnstepped s.system → IsTidy who s h }
     ensures hidden { (n : ℕ) (who : Hiders) (controllers : List ControllerState) (s : TracedState) (h : List Entry)
-        → IsReached s → NoneSleepsInCopy s.system → HasBytes h → IsLegal n s h → AreOwnCalls controllers h
-        → AreTrusses who controllers s → AreUndisturbed who controllers s h → AreUnbroken who h
-        → AreOthersPassive who h → IsUntouched s.system → IsSparing who s h → IsHidden who s h }
+        → IsRunOfTrusses n who controllers s h → AreOthersPassive who h
+        → IsUntouched s.system → IsSparing who s h → IsHidden who s h }
 {}

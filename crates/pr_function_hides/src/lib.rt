@@ -2,6 +2,11 @@
 //! has marked, its writes are tidy, none is left in a process that lives, nor a fault of its own, it alone steps lwps,
 //! it clears faults as it runs a process, its own alone, and posts none of its own, and so programs see nothing of it.
 //! Each public function carries one law in its contract, and does nothing.
+//!
+//! Most of them are of a run of trusses that are undisturbed (`IsRunOfTrusses`): a legal history from a state that the
+//! machine reaches, with no lwp asleep in a fork, a vfork or an exec, in which controllers write bytes and these make
+//! their own calls, and where those who hide are each a truss that shows calls of functions and that is undisturbed
+//! (`AreUndisturbed`). Whether it is interrupted is left open. What else a law asks it says itself.
 #![tactic(auto)]
 
 mod clears;

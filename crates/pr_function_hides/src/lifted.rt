@@ -13,8 +13,8 @@ ghost use Rattle.pr_reached.specs.Reached.{IsReached};
 /// exec when the wait of its opening is granted: none is marked as planted in a process that it traces where such a
 /// call is made there and granted, also while truss leaves its processes, once a wait was interrupted; all is lifted
 /// where the status of a process tells that its memory was replaced, or that a child has it too; and where truss leaves
-/// a process and its look at the lwps tells so, none is marked there. Nothing else is asked of other controllers, nor of
-/// the stops from before truss came.
+/// a process and its look at the lwps tells so, none is marked there. Nothing else is asked of other controllers, nor
+/// of the stops from before truss came.
 #[tactic(auto, using(crate::proofs::CopyHistory::copies_lifted))]
 pub fn a_copy_finds_no_breakpoint()
     ensures { (n k : ℕ) (o : Options) (s : TracedState) (h : List Entry) → IsFunctionRun n k o s h → IsReached s

@@ -82,7 +82,7 @@ use Rattle.pr_function_laws.proofs.LiftLemmas.{AfterLook, LookCall, Looks, call-
 use Rattle.pr_function_laws.proofs.StretchLemmas as stretch
 use Rattle.pr_function_laws.proofs.StretchLemmas.{Does, message-does, stretch-stops}
 use Rattle.pr_function_laws.specs.Lifted.{GoesElsewhere, HasControl, HasStatus, IsAtStopAtBreakpoint, IsNoRead, ReadsOnlyLast, StepsNoCall}
-use Rattle.pr_function_laws.specs.Runs.{MakesCalls}
+use Rattle.pr_function_laws.specs.Runs.{MakesFunctionCalls}
 use Rattle.pr_function_laws.specs.Steps.{RunsNoCall}
 use Rattle.pr_function_laws.specs.Stretches.{BeginWith, BeginWithWrite, IsControlOf, IsReadyToStep, IsStretch, MovesOneAlone, OthersOnlyStop, acts_by, is_write}
 use Rattle.pr_function_laws.specs.Stretches as stretches
@@ -716,14 +716,14 @@ module _ (n k pid id c ns : ℕ) (met : Traced) (place : ℕ) where
   -- what the rest of a history gives
   abbrev Rest : TracedState → List Entry → Type 0
   Rest s h =
-      (u : TrussState) → has_functions u.options ≡ true → MakesCalls u (exchanges k h) → Phase u s
+      (u : TrussState) → has_functions u.options ≡ true → MakesFunctionCalls u (exchanges k h) → Phase u s
       → ReadsOnlyLast ns (exchanges k h) → IsStretch k pid id c s h
 
   entry-stretch : (s : TracedState) (e : Entry) (h : List Entry) (t : TrussState) → IsLawful s → pid < s.system.made
       → has_functions t.options ≡ true → IsLegalEntry n s e → Phase t s → StepsNoCall k pid id c s (e ∷ h)
       → Rest (after s e) h → (exchanges k h ≡ [] → Holds (after s e) → IsStretch k pid id c (after s e) h)
       → (o : Option Exchange) → exchange_of k e ≡ o
-      → MakesCalls t (cons_option o (exchanges k h)) → ReadsOnlyLast ns (cons_option o (exchanges k h))
+      → MakesFunctionCalls t (cons_option o (exchanges k h)) → ReadsOnlyLast ns (cons_option o (exchanges k h))
       → IsStretch k pid id c s (e ∷ h)
   entry-stretch s e h t lawful made has legal phase no_call rest last None own makes quiet =
       stretch-cons s e h (phase-open t s phase) (λ x is. absurd (none-some x (sym own ∙ is)))
@@ -745,7 +745,7 @@ module _ (n k pid id c ns : ℕ) (met : Traced) (place : ℕ) where
       (holds-later s lawful made e legal (own-handles k s e x its (ap keeps_handles ends.0)) (phase-holds t s phase)))
 
   history-stretch : (h : List Entry) (t : TrussState) (s : TracedState) → IsLawful s → pid < s.system.made
-      → has_functions t.options ≡ true → IsLegal n s h → MakesCalls t (exchanges k h) → Phase t s
+      → has_functions t.options ≡ true → IsLegal n s h → MakesFunctionCalls t (exchanges k h) → Phase t s
       → ReadsOnlyLast ns (exchanges k h) → StepsNoCall k pid id c s h → IsStretch k pid id c s h
   history-stretch [] t s lawful made has legal makes phase quiet no_call = stretch-nil s (phase-open t s phase)
   history-stretch (e ∷ h) t s lawful made has legal makes phase quiet no_call =
@@ -754,7 +754,7 @@ module _ (n k pid id c ns : ℕ) (met : Traced) (place : ℕ) where
       (stays-made n s e pid lawful legal.0 made) its legal.1 more now still (later-no-call s e h no_call))
       (foreign-stretch h (after s e) (history-state n s (e ∷ []) lawful (legal.0, tt))
       (stays-made n s e pid lawful legal.0 made) legal.1)
-      (exchange_of k e) refl (subst (MakesCalls t) (cons-exchanges k e h) makes)
+      (exchange_of k e) refl (subst (MakesFunctionCalls t) (cons-exchanges k e h) makes)
       (subst (ReadsOnlyLast ns) (cons-exchanges k e h) quiet)
 
 -- ---- the read at the breakpoint
@@ -781,10 +781,10 @@ module _ (n k : ℕ) (t : TrussState) (place ns pid id : ℕ) (s : TracedState) 
   pub its : IsOwnEntry k s e w.x
   its = own-entry n k s e w.x w.legal.0 w.own
 
-  pub makes : MakesCalls t (w.x ∷ exchanges k between)
+  pub makes : MakesFunctionCalls t (w.x ∷ exchanges k between)
   makes =
-      subst (λ o. MakesCalls t (cons_option o (exchanges k between))) w.own
-      (subst (MakesCalls t) (cons-exchanges k e between) w.makes)
+      subst (λ o. MakesFunctionCalls t (cons_option o (exchanges k between))) w.own
+      (subst (MakesFunctionCalls t) (cons-exchanges k e between) w.makes)
 
   pub reads : w.x.call ≡ read_record (traced_at t place).status
   reads = let m = w.meets in same_Some _ _ (sym makes.0 ∙ read-is t place w.has m.reads m.idle)

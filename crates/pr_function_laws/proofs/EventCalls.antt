@@ -40,7 +40,7 @@ use Rattle.pr_truss_laws.specs.Exchanges.{Exchange}
 use Rattle.pr_function_laws.proofs.ComingLemmas.{come-three, if-ended}
 use Rattle.pr_function_laws.proofs.PatchCalls.{At, Idle, Patches, at-beside, at-closing, at-marked, closes-come, fed-staged, idle-shuts, next-staged, patches-come, remove-set, same-closes, written-calm}
 use Rattle.pr_function_laws.specs.Coming.{Anything, Come, ComeWhileItLives, Later, close_calls, lift_calls, plant_calls}
-use Rattle.pr_function_laws.specs.Runs.{MakesCalls}
+use Rattle.pr_function_laws.specs.Runs.{MakesFunctionCalls}
 use Rattle.pr_function_laws.specs.Soon.{IsCalm, may_wait}
 use Rattle.pr_function_laws.specs.Treated.{run_calls, text_calls, text_from}
 
@@ -128,7 +128,8 @@ module _ (o : Options) (has : has_functions o ≡ true) (off : o.follow ≡ fals
   closes = Come (close_calls t) Anything
 
   -- the process has ended: its files are closed
-  ended-closes : (fl : ℕ) (u : TrussState) (xs : List Exchange) → Now fl (Closing place GoOn) u → MakesCalls u xs
+  ended-closes : (fl : ℕ) (u : TrussState) (xs : List Exchange) → Now fl (Closing place GoOn) u
+      → MakesFunctionCalls u xs
       → All IsCalm xs → closes xs
   ended-closes fl u xs w made calm =
       let a = w.at in
@@ -190,7 +191,7 @@ module _ (o : Options) (has : has_functions o ≡ true) (off : o.follow ≡ fals
         ),
       )
 
-  pub run-comes : (fl : ℕ) (u : TrussState) (xs : List Exchange) → Now fl (Running place) u → MakesCalls u xs
+  pub run-comes : (fl : ℕ) (u : TrussState) (xs : List Exchange) → Now fl (Running place) u → MakesFunctionCalls u xs
       → All IsCalm xs → ComeWhileItLives (run_calls t fl) Anything closes xs
   unfolding function_call_of
   run-comes fl u [] w made calm = tt
@@ -204,7 +205,7 @@ module _ (o : Options) (has : has_functions o ≡ true) (off : o.follow ≡ fals
         if-ended x.reply (closes xs) (Unit {0})
             (λ gone.
             let it = ran-fed fl u x.reply w gone in
-            ended-closes 0 it.0 xs it.1.1 (subst (λ (v : TrussState). MakesCalls v xs) it.1.0 made.1)
+            ended-closes 0 it.0 xs it.1.1 (subst (λ (v : TrussState). MakesFunctionCalls v xs) it.1.0 made.1)
             (All-tail IsCalm x xs calm))
             (λ lives. tt),
       )
@@ -280,7 +281,8 @@ module _ (o : Options) (has : has_functions o ≡ true) (off : o.follow ≡ fals
     unfolding with_function_reply with_function_text_answered with_text_answered
     text-fed fl u r w = let a = w.at in fed-staged o has u r reading a.options w.idle a.stage
 
-    pub text-comes : (fl : ℕ) (u : TrussState) (xs : List Exchange) → Now fl reading u → MakesCalls u xs → All IsCalm xs
+    pub text-comes : (fl : ℕ) (u : TrussState) (xs : List Exchange) → Now fl reading u
+        → MakesFunctionCalls u xs → All IsCalm xs
         → ComeWhileItLives (call.Read (number_of t.memory) from len ∷ run_calls t fl) Anything closes xs
     unfolding function_call_of call_of
     text-comes fl u [] w made calm = tt
@@ -301,13 +303,13 @@ module _ (o : Options) (has : has_functions o ≡ true) (off : o.follow ≡ fals
               let is : fed_functions u x.reply ≡ after_text shown place l Gone =
               fed_so ∙ ap (λ b. after_function_text u (after_text shown place l b) place b) gone in
               ended-closes fl (after_text shown place l Gone) xs (text-ended fl shown seen)
-              (subst (λ (v : TrussState). MakesCalls v xs) is made.1) (All-tail IsCalm x xs calm))
+              (subst (λ (v : TrussState). MakesFunctionCalls v xs) is made.1) (All-tail IsCalm x xs calm))
               (λ lives.
               let v : TrussState = after_text shown place l (answer_of x.reply) in
               let is : fed_functions u x.reply ≡ v =
               fed_so ∙ text-stays u v (answer_of x.reply) a.leaving lives in
               run-comes fl v xs (text-on fl shown (answer_of x.reply) seen lives still)
-              (subst (λ (y : TrussState). MakesCalls y xs) is made.1) (All-tail IsCalm x xs calm)),
+              (subst (λ (y : TrussState). MakesFunctionCalls y xs) is made.1) (All-tail IsCalm x xs calm)),
         )
 
   -- ---- an event that was looked at
@@ -343,9 +345,9 @@ module _ (o : Options) (has : has_functions o ≡ true) (off : o.follow ≡ fals
   -- the patches that come before that, and then the call
   module _ (fl : ℕ) (plants lifts : List Bool) (xs : List Exchange) (calm : All IsCalm xs) where
     pub patched-come : (stage : Stage) (tail : List Call) (u : TrussState) → Patches place stage → Now fl stage u
-        → ((v : TrussState) (ys : List Exchange) → Now fl stage v → MakesCalls v ys → All IsCalm ys
+        → ((v : TrussState) (ys : List Exchange) → Now fl stage v → MakesFunctionCalls v ys → All IsCalm ys
         → ComeWhileItLives tail Anything closes ys)
-        → MakesCalls (with_patches u place plants lifts) xs
+        → MakesFunctionCalls (with_patches u place plants lifts) xs
         → ComeWhileItLives (plant_calls o t.control plants ++ (lift_calls o t.control lifts ++ tail)) Anything closes xs
     unfolding with_patches
     patched-come stage tail u patches w goes made =
@@ -357,7 +359,7 @@ module _ (o : Options) (has : has_functions o ≡ true) (off : o.follow ≡ fals
         (at-beside o has place false rest t fl stage u (patching place plants lifts false) a) refl made calm)
 
     pub looked-come : (u : TrussState) (text : List Call) → Looked fl u text
-        → MakesCalls (with_patches u place plants lifts) xs
+        → MakesFunctionCalls (with_patches u place plants lifts) xs
         → ComeWhileItLives
         (plant_calls o t.control plants ++ (lift_calls o t.control lifts ++ (text ++ run_calls t fl))) Anything closes
         xs

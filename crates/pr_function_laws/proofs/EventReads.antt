@@ -37,6 +37,7 @@ use Rattle.pr_truss.specs.declared.stages.Stage.TheVariants.{Running}
 use Rattle.pr_truss_laws.proofs.HeldLemmas.{at_place}
 use Rattle.pr_truss_laws.proofs.StillLemmas.{frozen-turns}
 use Rattle.pr_truss_laws.specs.Exchanges.{Exchange, exchange_of, exchanges}
+use Rattle.pr_truss_laws.specs.Stills.{IsUndisturbed}
 use Rattle.pr_function_laws.proofs.BreakpointLemmas.{foreign-entry}
 use Rattle.pr_function_laws.proofs.EventTurns.{LeavesEvent, all-picked, fewer-picked, turn-leaves}
 use Rattle.pr_function_laws.proofs.FrontLemmas as fronts
@@ -228,7 +229,7 @@ module _ (n k : ℕ) (o : Options) (s : TracedState) (h : List Entry) (run : IsF
       by None none = none
       by (Some x) own = none-comes (λ i. own-in k was.pid i e.actor e.act x own)
 
-  calm-all : All WasNotInterrupted (exchanges k last)
+  pub calm-all : All WasNotInterrupted (exchanges k last)
   calm-all =
       subst (All WasNotInterrupted) (sym (exchanges-both k front (e ∷ between)))
       (All-append WasNotInterrupted (exchanges k front) (exchanges k (e ∷ between)) whole.calm
@@ -237,14 +238,43 @@ module _ (n k : ℕ) (o : Options) (s : TracedState) (h : List Entry) (run : IsF
       (All-weaker (IsNoRead status) WasNotInterrupted (λ x quiet. record { unbroken = quiet.no_interrupt })
       (exchanges k between) (read.quiet status status-here)))))
 
+  -- what is so of the process behind the event, and stays so where others leave it alone and its lwps do nothing but
+  -- stop, is so until then
+  module _ (H : TracedProcess → Type 0) (stays : (p q : TracedProcess) → IsUndisturbed p q → H p → H q)
+      (turns : (u : TracedSystem) (pid own : ℕ) (turn : LwpTurn) (p q : TracedProcess) → live_process u pid ≡ Some p
+      → turn_of u pid own ≡ Some turn → live_process turn.system pid ≡ Some q → On event p → H p → H q)
+      (at_first : (q : TracedProcess) → live_process (state_after s (front ++ e ∷ [])).system was.pid ≡ Some q → H q)
+    where
+      abbrev Both : TracedProcess → Type 0
+      Both q = On event q × H q
+
+      pub pending-with : Pending k o s was Both last
+      pending-with =
+          let first = comes e.actor e.act refl legal in
+          subst (λ (es : List Entry). Pending k o s was Both es) parts
+          (still-stands n k o s h run was Both
+          (λ p q alone both. (on-stays event p q alone both.0, stays p q alone both.1))
+          (λ u pid own turn p q live took later_live both. (
+            on-turns event u pid own turn p q live took later_live both.0,
+            turns u pid own turn p q live took later_live both.0 both.1,
+          ))
+          (front ++ e ∷ []) between (again ∷ later)
+          (is ∙ sym (append_assoc front (e ∷ []) (between ++ again ∷ later)))
+          (subst (λ (es : List Entry). All WasNotInterrupted (exchanges k es)) (sym parts) calm-all) still
+          (record {
+            pends = first.pends;
+            is = let w = first.is in record { holds = w.holds; has = λ q live. (w.has q live, at_first q live) };
+          }))
+
   pending : Pending k o s was (On event) last
   pending =
-      subst (λ (es : List Entry). Pending k o s was (On event) es) parts
-      (still-stands n k o s h run was (On event) (on-stays event) (on-turns event) (front ++ e ∷ []) between
-      (again ∷ later)
-      (is ∙ sym (append_assoc front (e ∷ []) (between ++ again ∷ later)))
-      (subst (λ (es : List Entry). All WasNotInterrupted (exchanges k es)) (sym parts) calm-all) still
-      (comes e.actor e.act refl legal))
+      let all =
+      pending-with (λ q. Unit {0}) (λ p q alone w. tt) (λ u pid own turn p q live took later_live on w. tt)
+      (λ q live. tt) in
+      record {
+        pends = all.pends;
+        is = let w = all.is in record { holds = w.holds; has = λ q live. (w.has q live).0 };
+      }
 
   -- ---- the read
 

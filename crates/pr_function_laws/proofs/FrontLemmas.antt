@@ -16,7 +16,7 @@ use Rattle.pr_truss_laws.specs.Exchanges.{Exchange, exchange_of, exchanges}
 use Rattle.pr_function_laws.proofs.CalledLaws.{functions-both}
 use Rattle.pr_function_laws.proofs.OpenedLaws.{Goes, before-goes, calls-rest}
 use Rattle.pr_function_laws.specs.Opened.{IsFunctionRun, WasNotInterrupted, functions_at}
-use Rattle.pr_function_laws.specs.Runs.{MakesCalls, functions_after, functions_on}
+use Rattle.pr_function_laws.specs.Runs.{MakesFunctionCalls, functions_after, functions_on}
 use Rattle.std.proofs.lemmas.List.Elements.{All-head}
 use Rattle.pr_report_laws.proofs.Watching.HistoryParts.{all-rest, legal-rest}
 
@@ -58,12 +58,13 @@ module _ (n k : ℕ) (o : Options) (s : TracedState) (h : List Entry) (run : IsF
 
   pub makes-next : (x : Exchange) → exchange_of k e ≡ Some x → next_function_call_of t ≡ Some x.call
   makes-next x own =
-      let makes : MakesCalls t (exchanges k (e ∷ later)) =
+      let makes : MakesFunctionCalls t (exchanges k (e ∷ later)) =
       calls-rest (first_truss o) (exchanges k front) (exchanges k (e ∷ later))
-      (subst (MakesCalls (first_truss o)) (ap (exchanges k) is ∙ exchanges-both k front (e ∷ later)) run.makes) in
-      let first : MakesCalls t (x ∷ exchanges k later) =
-      subst (λ y. MakesCalls t (cons_option y (exchanges k later))) own
-      (subst (MakesCalls t) (cons-exchanges k e later) makes) in
+      (subst (MakesFunctionCalls (first_truss o))
+      (ap (exchanges k) is ∙ exchanges-both k front (e ∷ later)) run.makes) in
+      let first : MakesFunctionCalls t (x ∷ exchanges k later) =
+      subst (λ y. MakesFunctionCalls t (cons_option y (exchanges k later))) own
+      (subst (MakesFunctionCalls t) (cons-exchanges k e later) makes) in
       first.0
 
   -- the entry is one more

@@ -45,7 +45,7 @@ use Rattle.pr_function_laws.proofs.EventCalls.{event-over-is, stale-stop, stop-i
 use Rattle.pr_function_laws.proofs.TurnReads.{fresh-new}
 use Rattle.pr_function_laws.specs.Coming.{Come, ComeWhileItLives, Later, close_calls, functions_in, lift_calls, plant_calls}
 use Rattle.pr_function_laws.specs.Leaving.{clear_calls, last_calls, last_event_calls, last_stop_calls, LooksLast, look_calls}
-use Rattle.pr_function_laws.specs.Runs.{MakesCalls}
+use Rattle.pr_function_laws.specs.Runs.{MakesFunctionCalls}
 use Rattle.pr_function_laws.specs.Soon.{IsCalm}
 use Rattle.pr_function_laws.specs.Treated.{text_calls, text_from}
 
@@ -60,7 +60,7 @@ over-closes u place on = ap (λ b. cond b (with_closing u place) (with_stage u (
 -- the process at the first place, and these behind it
 module _ (o : Options) (has : has_functions o ≡ true) (off : o.follow ≡ false) (rest : List Traced) (t : Traced)
     (Then : Later)
-    (ends : (v : TrussState) (xs : List Exchange) → Shut o has 0 true rest v → MakesCalls (with_going_on v) xs
+    (ends : (v : TrussState) (xs : List Exchange) → Shut o has 0 true rest v → MakesFunctionCalls (with_going_on v) xs
     → All IsCalm xs → Then xs) where
   abbrev Now : ℕ → Stage → TrussState → Type 0
   Now = Idle o has 0 true rest t
@@ -80,7 +80,8 @@ module _ (o : Options) (has : has_functions o ≡ true) (off : o.follow ≡ fals
   abbrev Comes : List Call → Later
   Comes cs = ComeWhileItLives cs closes closes
 
-  pub closed : (fl : ℕ) (u : TrussState) (xs : List Exchange) → Now fl closing u → MakesCalls u xs → All IsCalm xs
+  pub closed : (fl : ℕ) (u : TrussState) (xs : List Exchange) → Now fl closing u
+      → MakesFunctionCalls u xs → All IsCalm xs
       → closes xs
   closed fl u xs w made calm =
       let a = w.at in
@@ -90,7 +91,7 @@ module _ (o : Options) (has : has_functions o ≡ true) (off : o.follow ≡ fals
   -- ---- what is lifted and cleared before that
 
   lifts-close : (set : List Bool) (u : TrussState) (clear : Bool) (xs : List Exchange) → Left set closing u
-      → MakesCalls (with_lifts u 0 clear) xs → All IsCalm xs
+      → MakesFunctionCalls (with_lifts u 0 clear) xs → All IsCalm xs
       → Comes (lift_calls o t.control set ++ clear_calls t clear) xs
   unfolding with_lifts
   lifts-close set u clear xs w made calm =
@@ -112,7 +113,7 @@ module _ (o : Options) (has : has_functions o ≡ true) (off : o.follow ≡ fals
 
   -- with no fault to clear
   lifts-only : (set : List Bool) (u : TrussState) (xs : List Exchange) → Left set closing u
-      → MakesCalls (with_lifts u 0 false) xs → All IsCalm xs → Comes (lift_calls o t.control set) xs
+      → MakesFunctionCalls (with_lifts u 0 false) xs → All IsCalm xs → Comes (lift_calls o t.control set) xs
   lifts-only set u xs w made calm =
       subst (λ cs. Comes cs xs) (append-nil (lift_calls o t.control set)) (lifts-close set u false xs w made calm)
 
@@ -250,7 +251,7 @@ module _ (o : Options) (has : has_functions o ≡ true) (off : o.follow ≡ fals
         subst (λ b. Left set closing (cond b (with_event_over u 0 l) (with_interrupt (with_stop_seen u 0))))
         (sym a.leaving) (event-over-left set reading u l w)
 
-    text-comes : (u : TrussState) (xs : List Exchange) → Left set reading u → MakesCalls u xs → All IsCalm xs
+    text-comes : (u : TrussState) (xs : List Exchange) → Left set reading u → MakesFunctionCalls u xs → All IsCalm xs
         → Comes (call.Read (number_of t.memory) from len ∷ lift_calls o t.control set) xs
     unfolding function_call_of call_of after_text with_event_shown
     text-comes u [] w made calm = tt
@@ -270,13 +271,13 @@ module _ (o : Options) (has : has_functions o ≡ true) (off : o.follow ≡ fals
               fed_so ∙ ap (λ b. after_function_text u (after_text shown 0 l b) 0 b) gone in
               let last = staged set reading closing shown seen in
               closed last.fl (with_closing shown 0) xs last.idle
-              (subst (λ (v : TrussState). MakesCalls v xs) is made.1) (All-tail IsCalm x xs calm))
+              (subst (λ (v : TrussState). MakesFunctionCalls v xs) is made.1) (All-tail IsCalm x xs calm))
               (λ lives.
               let v : TrussState = after_text shown 0 l (answer_of x.reply) in
               let is : fed_functions u x.reply ≡ with_lifts v 0 false =
               fed_so ∙ text-stays u v (answer_of x.reply) a.leaving lives in
               lifts-only set v xs (text-on shown (answer_of x.reply) seen lives)
-              (subst (λ (y : TrussState). MakesCalls y xs) is made.1) (All-tail IsCalm x xs calm)),
+              (subst (λ (y : TrussState). MakesFunctionCalls y xs) is made.1) (All-tail IsCalm x xs calm)),
         )
 
   -- ---- a new event
@@ -310,16 +311,17 @@ module _ (o : Options) (has : has_functions o ≡ true) (off : o.follow ≡ fals
       by false = over (event-over-left set now u l w)
 
   before-closing : (set : List Bool) (v : TrussState) (text : List Call) (xs : List Exchange) → Seen set v text
-      → MakesCalls (with_lifts_before_closing v 0) xs → All IsCalm xs → Comes (text ++ lift_calls o t.control set) xs
+      → MakesFunctionCalls (with_lifts_before_closing v 0) xs → All IsCalm xs
+      → Comes (text ++ lift_calls o t.control set) xs
   unfolding with_lifts_before_closing
   before-closing set v text xs (over w) made calm =
       let i : Now w.fl closing v = w.idle in
       let a = i.at in
-      lifts-only set v xs w (subst (λ st. MakesCalls (lifts_at v 0 st) xs) a.stage made) calm
+      lifts-only set v xs w (subst (λ st. MakesFunctionCalls (lifts_at v 0 st) xs) a.stage made) calm
   before-closing set v text xs (reads l range w) made calm =
       let i : Now w.fl (ReadingText 0 l range.0 range.1) v = w.idle in
       let a = i.at in
-      text-comes set l range.0 range.1 v xs w (subst (λ st. MakesCalls (lifts_at v 0 st) xs) a.stage made) calm
+      text-comes set l range.0 range.1 v xs w (subst (λ st. MakesFunctionCalls (lifts_at v 0 st) xs) a.stage made) calm
 
   -- ---- the last look
 
@@ -373,18 +375,19 @@ module _ (o : Options) (has : has_functions o ≡ true) (off : o.follow ≡ fals
           (sym (stop-is v 0 l e (old ∙ eqb-true t.old 0 new.new) (seen ∙ new.unseen) (fresh-stands t l e fresh)))
           (event-seen set ReadingLwps v l e w)
 
-      own-come : (v : TrussState) → Left t.marks.planted closing v → MakesCalls (with_lifts v 0 true) xs
+      own-come : (v : TrussState) → Left t.marks.planted closing v → MakesFunctionCalls (with_lifts v 0 true) xs
           → Comes (lift_calls o t.control t.marks.planted ++ clear_calls t true) xs
       own-come v w made = lifts-close t.marks.planted v true xs w made calm
 
-      plain-come : MakesCalls (with_lifts_before_closing (with_stop u 0 l) 0) xs
+      plain-come : MakesFunctionCalls (with_lifts_before_closing (with_stop u 0 l) 0) xs
           → Comes (text_calls o t e ++ lift_calls o t.control t.marks.planted) xs
       plain-come made =
           before-closing t.marks.planted (with_stop u 0 l) (text_calls o t e) xs
           (seen-new t.marks.planted u base (ap (λ (v : Traced). v.old) here-is) (ap (λ (v : Traced). v.seen) here-is))
           made calm
 
-      last-come : (fe : FunctionEvent) → MakesCalls (with_last_event u 0 l fe) xs → Comes (last_event_calls o t e fe) xs
+      last-come : (fe : FunctionEvent) → MakesFunctionCalls (with_last_event u 0 l fe) xs
+          → Comes (last_event_calls o t e fe) xs
       unfolding with_last_event with_memory_replaced with_call_shown
       last-come (AtBreakpoint function) made =
           own-come (with_stop_over u 0) (over-left t.marks.planted ReadingLwps u base) made
@@ -410,40 +413,44 @@ module _ (o : Options) (has : has_functions o ≡ true) (off : o.follow ≡ fals
           (subst (λ (fs : List ℕ). Comes (text_calls o t e ++ map (lift_call o t.control) fs) xs) none come)
 
     -- the lwp that was read
-    stop-come : (l : LwpStatus) (e : Option Event) → fresh_event t l ≡ e → MakesCalls (with_fresh_event u 0 l e) xs
+    stop-come : (l : LwpStatus) (e : Option Event) → fresh_event t l ≡ e
+        → MakesFunctionCalls (with_fresh_event u 0 l e) xs
         → Comes (last_stop_calls o t l e) xs
     unfolding with_last_stop
     stop-come l None stale made =
-        let left : MakesCalls (with_last_stop u 0 l) xs =
-        subst (λ b. MakesCalls (cond b (with_last_stop u 0 l) (with_stop u 0 l)) xs) leaves made in
+        let left : MakesFunctionCalls (with_last_stop u 0 l) xs =
+        subst (λ b. MakesFunctionCalls (cond b (with_last_stop u 0 l) (with_stop u 0 l)) xs) leaves made in
         let same : fresh_event (traced_at u 0) l ≡ None = ap (λ v. fresh_event v l) here-is ∙ stale in
         lifts-close t.marks.planted (with_stop u 0 l) (is_on_event l && has_fault_to_clear t.marks) xs
         (stale-left t.marks.planted ReadingLwps u l same base)
         (subst
-        (λ (v : Traced). MakesCalls
+        (λ (v : Traced). MakesFunctionCalls
         (with_lifts (with_stop u 0 l) 0 (is_on_event l && has_fault_to_clear v.marks)) xs) here-is left) calm
     stop-come l (Some e) fresh made =
-        let left : MakesCalls (with_last_event u 0 l (function_event u.options (marks_at u 0) l.id e)) xs =
+        let left : MakesFunctionCalls (with_last_event u 0 l (function_event u.options (marks_at u 0) l.id e)) xs =
         subst
-        (λ b. MakesCalls
+        (λ b. MakesFunctionCalls
         (cond b (with_last_event u 0 l (function_event u.options (marks_at u 0) l.id e))
         (with_function_event u 0 l (function_event u.options (marks_at u 0) l.id e))) xs) leaves made in
         last-come l e fresh (function_event o t.marks l.id e)
-        (subst (λ (v : Traced). MakesCalls (with_last_event u 0 l (function_event o v.marks l.id e)) xs) here-is
-        (subst (λ (p : Options). MakesCalls (with_last_event u 0 l (function_event p (marks_at u 0) l.id e)) xs) options
+        (subst (λ (v : Traced). MakesFunctionCalls (with_last_event u 0 l (function_event o v.marks l.id e)) xs) here-is
+        (subst (λ (p : Options). MakesFunctionCalls
+        (with_last_event u 0 l (function_event p (marks_at u 0) l.id e)) xs) options
         left))
 
-    read-come : (l : Option LwpStatus) → MakesCalls (with_function_stop_read u 0 l) xs → Comes (last_calls o t l) xs
+    read-come : (l : Option LwpStatus) → MakesFunctionCalls (with_function_stop_read u 0 l) xs
+        → Comes (last_calls o t l) xs
     unfolding with_function_stop
     read-come None made =
         lifts-only t.marks.planted (with_stop_over u 0) xs (over-left t.marks.planted ReadingLwps u base)
-        (subst (λ b. MakesCalls (cond b (with_lifts (with_stop_over u 0) 0 false) (with_stop_over u 0)) xs) leaves made)
+        (subst (λ b. MakesFunctionCalls (cond b (with_lifts (with_stop_over u 0) 0 false) (with_stop_over u 0))
+        xs) leaves made)
         calm
     read-come (Some l) made =
         stop-come l (fresh_event t l) refl
-        (subst (λ (v : Traced). MakesCalls (with_fresh_event u 0 l (fresh_event v l)) xs) here-is made)
+        (subst (λ (v : Traced). MakesFunctionCalls (with_fresh_event u 0 l (fresh_event v l)) xs) here-is made)
 
-    answer-come : (r : Reply) (a : Answer) → MakesCalls (with_function_lwps_answered u r a) xs
+    answer-come : (r : Reply) (a : Answer) → MakesFunctionCalls (with_function_lwps_answered u r a) xs
         → Comes (look_calls o t r a) xs
     unfolding with_function_lwps_answered
     answer-come r Accepted made = read-come (slice_get (event_stops (bytes_in r)) 0) made
@@ -455,7 +462,7 @@ module _ (o : Options) (has : has_functions o ≡ true) (off : o.follow ≡ fals
         lifts-only t.marks.planted (with_closing u 0) xs (staged t.marks.planted ReadingLwps closing u base) made calm
 
   pub looks-last : (u : TrussState) (xs : List Exchange) → u.options ≡ o → u.leaving ≡ true → u.stage ≡ ReadingLwps
-      → u.aside ≡ Nothing → u.traced ≡ t ∷ rest → MakesCalls u xs → All IsCalm xs → LooksLast o t Then xs
+      → u.aside ≡ Nothing → u.traced ≡ t ∷ rest → MakesFunctionCalls u xs → All IsCalm xs → LooksLast o t Then xs
   unfolding function_call_of call_of with_function_reply
   looks-last u [] options leaves at free traced made calm = tt
   looks-last u (x ∷ xs) options leaves at free traced made calm = (
@@ -463,5 +470,6 @@ module _ (o : Options) (has : has_functions o ≡ true) (off : o.follow ≡ fals
         (sym made.0 ∙ next-staged o has u ReadingLwps options free at
         ∙ ap (λ ts. Some (read_record (slice_index_or ts 0 nobody).lstatus)) traced),
     answer-come u options leaves at free traced xs (All-tail IsCalm x xs calm) x.reply (answer_of x.reply)
-        (subst (λ (v : TrussState). MakesCalls v xs) (fed-staged o has u x.reply ReadingLwps options free at) made.1),
+        (subst (λ (v : TrussState). MakesFunctionCalls v xs)
+        (fed-staged o has u x.reply ReadingLwps options free at) made.1),
   )

@@ -44,25 +44,25 @@ use Rattle.pr_function_laws.proofs.PatchCalls.{Shut, Shuts, closes-come, fed-bes
 use Rattle.pr_function_laws.specs.Coming.{Come, Later, close_calls}
 use Rattle.pr_function_laws.specs.Leaving.{AsksAgain, Directs, Ends, Goes as GoesTo, HaltNext, HaltStep, Halts, LeavesAll, LeavesItsProcesses, LeavesOne, Looks, Waits, WaitsAgain, halt_call, halt_next}
 use Rattle.pr_function_laws.specs.Opened.{IsFunctionRun, WasNotInterrupted, functions_at}
-use Rattle.pr_function_laws.specs.Runs.{MakesCalls, functions_after}
+use Rattle.pr_function_laws.specs.Runs.{MakesFunctionCalls, functions_after}
 use Rattle.pr_function_laws.specs.Soon.{IsCalm, may_wait}
 
 -- How truss leaves its processes.
 
 -- ---- the stop
 
-abbrev halt_stage : HaltStep → Stage
+abbrev pub halt_stage : HaltStep → Stage
 halt_stage Directs = Unfollowing
 halt_stage _ = ReadingLwps
 
-abbrev halt_aside : HaltStep → Aside
+abbrev pub halt_aside : HaltStep → Aside
 halt_aside Directs = Nothing
 halt_aside (Waits until) = AwaitingStop until
 halt_aside AsksAgain = Asking
 halt_aside (WaitsAgain until) = AwaitingAgain until
 
 -- truss that was replied so to a step of the stop
-abbrev halt_answered : HaltStep → TrussState → Reply → Answer → TrussState
+abbrev pub halt_answered : HaltStep → TrussState → Reply → Answer → TrussState
 halt_answered Directs u r a = with_halt_answered u r a
 halt_answered (Waits until) u r a = with_wait_answered (with_aside u Nothing) a
 halt_answered AsksAgain u r a = with_asking_answered (with_aside u Nothing) r a
@@ -78,7 +78,7 @@ module _ (o : Options) (has : has_functions o ≡ true) (off : o.follow ≡ fals
     traced : u.traced ≡ ts
 
   module _ (t : Traced) (rest : List Traced) (Then : Later)
-      (ends : (v : TrussState) (xs : List Exchange) → Shut o has 0 true rest v → MakesCalls (with_going_on v) xs
+      (ends : (v : TrussState) (xs : List Exchange) → Shut o has 0 true rest v → MakesFunctionCalls (with_going_on v) xs
       → All IsCalm xs → Then xs) where
     abbrev With : Stage → Aside → TrussState → Type 0
     With = On (t ∷ rest)
@@ -178,11 +178,11 @@ module _ (o : Options) (has : has_functions o ≡ true) (off : o.follow ≡ fals
       others = ap (λ ts. remove ts 0) w.traced;
     }
 
-    closes-on : (u : TrussState) (xs : List Exchange) → With (Closing 0 GoOn) Nothing u → MakesCalls u xs
+    closes-on : (u : TrussState) (xs : List Exchange) → With (Closing 0 GoOn) Nothing u → MakesFunctionCalls u xs
         → All IsCalm xs → Come (close_calls t) Then xs
     closes-on u xs w made calm = closes-come o has 0 true rest Then ends t u xs (shuts u w) made calm
 
-    halts-on : (xs : List Exchange) (next : HaltNext) (u : TrussState) → WithNext next u → MakesCalls u xs
+    halts-on : (xs : List Exchange) (next : HaltNext) (u : TrussState) → WithNext next u → MakesFunctionCalls u xs
         → All IsCalm xs → Halts o t Then next xs
     halts-on [] (GoesTo step) u w made calm = tt
     halts-on (x ∷ xs) (GoesTo step) u w made calm = (
@@ -197,7 +197,7 @@ module _ (o : Options) (has : has_functions o ≡ true) (off : o.follow ≡ fals
 
     -- a process that was attached is directed to stop first
     leave-one : (attached : Bool) (u : TrussState) (xs : List Exchange)
-        → With (cond attached Unfollowing (Closing 0 GoOn)) Nothing u → MakesCalls u xs → All IsCalm xs
+        → With (cond attached Unfollowing (Closing 0 GoOn)) Nothing u → MakesFunctionCalls u xs → All IsCalm xs
         → LeavesOne o t Then attached xs
     leave-one true u xs w made calm = halts-on xs (GoesTo Directs) u w made calm
     leave-one false u xs w made calm = closes-on u xs w made calm
@@ -215,12 +215,12 @@ module _ (o : Options) (has : has_functions o ≡ true) (off : o.follow ≡ fals
       none-some c (sym (next-staged o has (with_stage u Finished) Finished options free refl) ∙ next)
 
   leave-all : (ts : List Traced) (u : TrussState) (xs : List Exchange) → u.options ≡ o → u.leaving ≡ true
-      → u.aside ≡ Nothing → u.traced ≡ ts → MakesCalls (with_next_left u) xs → All IsCalm xs → LeavesAll o ts xs
+      → u.aside ≡ Nothing → u.traced ≡ ts → MakesFunctionCalls (with_next_left u) xs → All IsCalm xs → LeavesAll o ts xs
   unfolding with_next_left
   leave-all [] u xs options leaves free traced made calm =
-      by xs (subst (λ ts. MakesCalls (left_or_finished u (slice_get ts 0)) xs) traced made)
+      by xs (subst (λ ts. MakesFunctionCalls (left_or_finished u (slice_get ts 0)) xs) traced made)
     where
-      by : (ys : List Exchange) → MakesCalls (with_stage u Finished) ys → ys ≡ []
+      by : (ys : List Exchange) → MakesFunctionCalls (with_stage u Finished) ys → ys ≡ []
       by [] made_y = refl
       by (y ∷ ys) made_y = absurd (finished-none u y.call options free made_y.0)
   leave-all (t ∷ ts) u xs options leaves free traced made calm =
@@ -228,10 +228,10 @@ module _ (o : Options) (has : has_functions o ≡ true) (off : o.follow ≡ fals
       leave-one t ts (LeavesAll o ts)
       (λ v ys shut made_v calm_v.
       leave-all ts v ys shut.options shut.leaving shut.idle shut.traced
-      (subst (λ (y : TrussState). MakesCalls y ys) (going-leaves v shut.leaving) made_v) calm_v)
+      (subst (λ (y : TrussState). MakesFunctionCalls y ys) (going-leaves v shut.leaving) made_v) calm_v)
       t.attached (with_stage u stage) xs
       (record { options = options; leaves = leaves; stage = refl; beside = free; traced = traced })
-      (subst (λ (vs : List Traced). MakesCalls (left_or_finished u (slice_get vs 0)) xs) traced made) calm
+      (subst (λ (vs : List Traced). MakesFunctionCalls (left_or_finished u (slice_get vs 0)) xs) traced made) calm
 
 -- ---- the interrupt
 
@@ -244,7 +244,8 @@ left-traced u = by (slice_get u.traced 0)
     by (Some t) = refl
 
 -- a patch is no wait
-patch-still : (o : Options) (control : ℕ) (plant lift : Option ℕ) → may_wait (patch_call o control plant lift) ≡ false
+pub patch-still : (o : Options) (control : ℕ) (plant lift : Option ℕ) → may_wait (patch_call o control plant lift) ≡
+    false
 patch-still o control (Some function) lift = refl
 patch-still o control None (Some function) = refl
 patch-still o control None None = refl
@@ -328,13 +329,13 @@ module _ (n k : ℕ) (o : Options) (s : TracedState) (h : List Entry) (run : IsF
     legal : IsLegal n (state_after s before) (e ∷ later)
     legal = legal-rest n s before (e ∷ later) (subst (IsLegal n s) is run.legal)
 
-    made : MakesCalls t (x ∷ exchanges k later)
+    made : MakesFunctionCalls t (x ∷ exchanges k later)
     made =
-        subst (MakesCalls t)
+        subst (MakesFunctionCalls t)
         (cons-exchanges k e later ∙ ap (λ y. cons_option y (exchanges k later)) own)
         (calls-rest (first_truss o) (exchanges k before) (exchanges k (e ∷ later))
-        (subst (MakesCalls (first_truss o)) (exchanges-both k before (e ∷ later))
-        (subst (λ (es : List Entry). MakesCalls (first_truss o) (exchanges k es)) is run.makes)))
+        (subst (MakesFunctionCalls (first_truss o)) (exchanges-both k before (e ∷ later))
+        (subst (λ (es : List Entry). MakesFunctionCalls (first_truss o) (exchanges k es)) is run.makes)))
 
     begins : Begins t x.reply
     unfolding answer_of
@@ -361,7 +362,7 @@ module _ (n k : ℕ) (o : Options) (s : TracedState) (h : List Entry) (run : IsF
         ap (λ (v : TrussState). v.traced) (then-is ∙ b.is) ∙ left-traced b.from in
         subst (λ ts. LeavesAll o ts (exchanges k later)) (sym traced)
         (leave-all o run.has run.follows_none b.from.traced b.from (exchanges k later) (b.options ∙ g.options) b.leaves
-        b.free refl (subst (λ (v : TrussState). MakesCalls v (exchanges k later)) b.is made.1)
+        b.free refl (subst (λ (v : TrussState). MakesFunctionCalls v (exchanges k later)) b.is made.1)
         (calm-exchanges later n k (after (state_after s before) e) legal.1))
 
   pub leaves-its-processes : LeavesItsProcesses k o h

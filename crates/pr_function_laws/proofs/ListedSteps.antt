@@ -1,23 +1,18 @@
-use Rattle.std.proofs.Common.{◌≡◌, ◌≢◌, ◌<◌, ◌==◌, ◌&&◌, ◌++◌, nat_lt, not, is_some, ℕ, zero, suc, Bool, true, false, cond, Option, Some, None, List, [], ◌∷◌, length, position, append-nil, append_assoc, refl, sym, subst, ap, ◌∙◌, arith, inl, inr}
+use Rattle.std.proofs.Common.{◌≡◌, ◌≢◌, ◌<◌, ◌==◌, ◌++◌, nat_lt, not, ℕ, zero, suc, true, false, cond, Option, Some, None, List, [], ◌∷◌, length, position, append-nil, append_assoc, refl, sym, subst, ap, ◌∙◌, arith, inl, inr}
 use Rattle.std.proofs.lemmas.Bool.{cases_eq, eq-eqb, false≢true, lt-ltb, ne_eqb}
 use Rattle.std.proofs.lemmas.List.{length-map}
 use Rattle.std.proofs.lemmas.List.Sums.{position_or_len_is}
-use Rattle.std.proofs.lemmas.Option.{same_Some}
 use Rattle.std.specs.List.{cons_option, position_or_len}
-use Rattle.std.specs.Option.{option_and_then, option_map}
+use Rattle.std.specs.Option.{option_and_then}
 use Rattle.pr_line.specs.Events.{event_of}
 use Rattle.pr_line.specs.Selections.{is_selected}
-use Rattle.pr_line.specs.declared.events.Event.{Event}
-use Rattle.pr_line.specs.declared.events.Event.TheVariants.{Incurred}
 use Rattle.pr_line.specs.declared.options.Options.{Options}
 use Rattle.pr_model.specs.Legal.{after, state_after}
 use Rattle.pr_model.specs.Replies.{bytes_in}
 use Rattle.pr_model.specs.State.{TracedState}
-use Rattle.pr_model.specs.declared.calls.Call.{Call}
 use Rattle.pr_model.specs.declared.calls.Reply.{Reply}
 use Rattle.pr_model.specs.declared.calls.Reply.TheVariants as reply
 use Rattle.pr_model.specs.declared.events.Entry.{Entry}
-use Rattle.pr_num.specs.declared.faults.Flt.TheVariants.{Bpt, Trace}
 use Rattle.pr_rec.specs.declared.lwps.LwpStatus.{LwpStatus}
 use Rattle.pr_report_laws.proofs.Files.FileLaws.{HasFiles}
 use Rattle.pr_report_laws.proofs.Files.FileUses.{standing}
@@ -25,15 +20,13 @@ use Rattle.pr_report_laws.proofs.Files.WatchHistories.{Reaches, cons-exchanges, 
 use Rattle.pr_report_laws.proofs.Invariant.OtherSteps.{is-watched}
 use Rattle.pr_report_laws.proofs.Invariant.StandLemmas.{IsAttached, RestBut, Rests, Stands, busy, rest-stays}
 use Rattle.pr_report_laws.proofs.Invariant.Tallies.{told_in}
-use Rattle.pr_report_laws.proofs.Replies.NewStops.{new-event, new-old, new-other, new-own, new_of, read-is, read_at, read_now, told-event}
+use Rattle.pr_report_laws.proofs.Replies.NewStops.{new-old, new-other, new-own, new_of, read-is, read_at}
 use Rattle.pr_report_laws.specs.Positions.{if_in}
-use Rattle.pr_report_laws.specs.Shown.{LwpEvent, event_told, shown}
+use Rattle.pr_report_laws.specs.Shown.{LwpEvent, shown}
 use Rattle.pr_report_laws.specs.Watching.{is_away, is_of, place_of, watches}
 use Rattle.pr_truss.specs.Asides.{marks_at}
-use Rattle.pr_truss.specs.FunctionEvents.{fresh_event, function_at}
 use Rattle.pr_truss.specs.Records.{status_lwp}
 use Rattle.pr_truss.specs.Trusses.{TrussState, nobody, traced_at}
-use Rattle.pr_truss.specs.declared.marks.Marks.{Marks}
 use Rattle.pr_truss.specs.declared.processes.Traced.{Traced}
 use Rattle.pr_truss.specs.declared.stages.AfterClosing.TheVariants.{OpenNext, GoOn}
 use Rattle.pr_truss.specs.declared.stages.Stage.{Stage}
@@ -42,8 +35,8 @@ use Rattle.pr_truss_laws.proofs.HeldLemmas.{at_place}
 use Rattle.pr_truss_laws.proofs.OwnLemmas.{Owns}
 use Rattle.pr_truss_laws.specs.Exchanges.{Exchange, exchange_of, exchanges}
 use Rattle.pr_truss_laws.specs.Sent.{sends}
+use Rattle.pr_function_laws.proofs.ListedReads as reads
 use Rattle.pr_function_laws.proofs.KeptPlaces.{Apart, AtStage, Kept, Position, apart-at}
-use Rattle.pr_function_laws.proofs.OrdinaryCalls.{stands-sends}
 use Rattle.pr_function_laws.proofs.OrdinaryFiles.{Follows, run-halfway}
 use Rattle.pr_function_laws.proofs.OrdinaryReplies.{at-ordinary}
 use Rattle.pr_function_laws.proofs.OrdinaryRows.{no-status}
@@ -52,10 +45,9 @@ use Rattle.pr_function_laws.proofs.OrdinaryShown.{ShownStep, as_before, as_like,
 use Rattle.pr_function_laws.proofs.PendingPlaces.{IsSame, Pends}
 use Rattle.pr_function_laws.proofs.PendingWalk.{is_to_run}
 use Rattle.pr_function_laws.proofs.RestPlaces.{RestsAt}
-use Rattle.pr_function_laws.proofs.MetLemmas.{fresh-stands}
-use Rattle.pr_function_laws.specs.ListedEvents.{events_to_show, is_own_fault, is_to_show, to_show_in}
+use Rattle.pr_function_laws.specs.ListedEvents.{events_to_show, is_to_show, to_show_in}
 use Rattle.pr_function_laws.specs.Opened.{IsFunctionRun, functions_at, is_opened}
-use Rattle.pr_function_laws.specs.Ordinary.{unmarked, IsAtOwnFault, IsLike, IsOwnFault, IsOwnStop, OwnFaultRead, SeesTo, TellsOfOwnFault, at_breakpoint, at_trap, in_place, ordinary, own_fault, refused, same}
+use Rattle.pr_function_laws.specs.Ordinary.{unmarked, OwnFaultRead, SeesTo, ordinary, same}
 use Rattle.pr_function_laws.specs.Runs.{functions_after, functions_on}
 
 -- What truss with calls of functions is to show of events, and what it shows of them, entry by entry.
@@ -89,21 +81,6 @@ events-push k pid (x ∷ front) t s e =
 pub no-events-yet : (k pid : ℕ) (t : TrussState) (s : TracedState) → events_to_show k pid t s [] ≡ []
 unfolding events_to_show
 no-events-yet k pid t s = refl
-
--- ---- its own faults
-
-own-true : (o : Options) (m : Marks) (e : Event) → IsOwnFault o m e → is_own_fault o m e ≡ true
-own-true o m e (at_breakpoint at) = ap (λ (f : Option ℕ). is_some f) at
-own-true o m e at_trap = refl
-
-own-of : (o : Options) (m : Marks) (e : Event) → is_own_fault o m e ≡ true → IsOwnFault o m e
-own-of o m (Incurred Bpt pc) is = by (function_at o m pc) refl is
-  where
-    by : (f : Option ℕ) → function_at o m pc ≡ f → is_some f ≡ true → IsOwnFault o m (Incurred Bpt pc)
-    by (Some function) at on = at_breakpoint at
-    by None at on = absurd (false≢true on)
-own-of o m (Incurred Trace pc) is = at_trap
-own-of o m _ is = absurd (false≢true is)
 
 -- ---- a process that rests
 
@@ -236,18 +213,22 @@ module _ (n k : ℕ) (o : Options) (s : TracedState) (before rest : List Entry) 
   fits = let f = follows in let fit = f.fit in fit.fits
 
   -- the process rests, and is attached
+  pub opened-attached : (P : Position → Traced → Type 0) → Kept P tr → (place : ℕ) → place < length tr.traced
+      → is_opened tr.stage place ≡ true → IsAttached (traced_at (ordinary tr) place)
+  opened-attached P kept place within opened =
+      let g = reached in
+      let owns : Owns k (ordinary tr) st = g.owns in
+      let stands : Stands (ordinary tr).traced tr.leaving tr.stage =
+      standing k (ordinary tr) st tr.stage files refl in
+      let all : RestBut false (ordinary tr).traced (busy tr.stage) =
+      subst (λ b. RestBut b (ordinary tr).traced (busy tr.stage)) kept.off stands.rests in
+      rest-stays false (traced_at (ordinary tr) place)
+      (rests-attached P tr.traced (ordinary tr).traced place tr.stage kept.stage all
+      (subst (λ m. place < m) (sym (length-map tr.traced unmarked)) within) opened) refl
+
   module _ (P : Position → Traced → Type 0) (kept : Kept P tr) (place : ℕ) (at_rest : RestsAt tr pid place) where
     pub attached : IsAttached (traced_at (ordinary tr) place)
-    attached =
-        let g = reached in
-        let owns : Owns k (ordinary tr) st = g.owns in
-        let stands : Stands (ordinary tr).traced tr.leaving tr.stage =
-        standing k (ordinary tr) st tr.stage files refl in
-        let all : RestBut false (ordinary tr).traced (busy tr.stage) =
-        subst (λ b. RestBut b (ordinary tr).traced (busy tr.stage)) kept.off stands.rests in
-        rest-stays false (traced_at (ordinary tr) place)
-        (rests-attached P tr.traced (ordinary tr).traced place tr.stage kept.stage all
-        (subst (λ m. place < m) (sym (length-map tr.traced unmarked)) at_rest.within) at_rest.opened) refl
+    attached = opened-attached P kept place at_rest.within at_rest.opened
 
     pub unseen : (traced_at tr place).seen ≡ false
     unseen = let a = attached in ap (λ (u : Traced). u.seen) (sym (at-ordinary tr place)) ∙ a.unseen
@@ -330,132 +311,27 @@ module _ (n k : ℕ) (o : Options) (s : TracedState) (before later : List Entry)
     module _ (at : t.stage ≡ ReadingStatus place) (x : Exchange) (own : exchange_of k e ≡ Some x)
         (unsent : sends x.call ≡ false) (l : LwpStatus)
         (told : option_and_then status_lwp (bytes_in x.reply) ≡ Some l) where
-      abbrev z : Traced
-      z = traced_at (ordinary t) place
-
-      read-value : (r : Reply) (u : Option LwpStatus) → option_and_then status_lwp (bytes_in r) ≡ u
-          → read_now pid (ordinary t) r ≡ new_of z u
-      read-value r u is =
-          read-is pid (ordinary t) r (ReadingStatus place) at
-          ∙ new-own pid z (option_and_then status_lwp (bytes_in r)) (pid-there place ∙ rest.its)
-          ∙ ap (new_of z) is
-
-      z-old : z.old ≡ 0
-      z-old = ap (λ (u : Traced). u.old) (at-ordinary t place) ∙ rest.new
-
-      z-unseen : z.seen ≡ false
-      z-unseen = ap (λ (u : Traced). u.seen) (at-ordinary t place) ∙ its-unseen
-
-      -- it is shown as it stands, or is a fault of truss's own and is passed over
-      data ReadShows : Type 0 where
-        shows : (TellsOfOwnFault t x.reply → ⊥) → ShownNext (told_in (is_selected o) (event_told l)) → ReadShows
-        passes : TellsOfOwnFault t x.reply → AsBefore → ReadShows
-
-      sees-none : {A : Type 0} (c : Call) → SeesTo t t.stage c → A
-      sees-none c sees = absurd (subst (λ stage. SeesTo t stage c) at sees)
-
-      likes : {a b : Exchange} → IsLike t a b → a ≡ x
-          → ShownNext (told_in (is_selected o) (read_now pid (ordinary t) b.reply)) → ReadShows
-      likes {a} {b} (same sent none_own) is shown_so =
-          shows (subst (λ (y : Exchange). TellsOfOwnFault t y.reply → ⊥) is none_own)
-          (shown_so
-          ∙ ap (λ (r : Option LwpEvent). shown pid t ++ told_in (is_selected o) r)
-          (ap (λ (y : Exchange). read_now pid (ordinary t) y.reply) is
-          ∙ read-value x.reply (Some l) told ∙ new-event z l z-old z-unseen))
-      likes (in_place stands) is shown_so =
-          let sent = stands-sends stands in
-          absurd (false≢true (sym unsent ∙ ap (λ (y : Exchange). sends y.call) (sym is) ∙ sent.0))
-      likes (refused {c = c} sees may called) is shown_so = sees-none c sees
-      likes (own_fault tells) is shown_so =
-          passes (subst (TellsOfOwnFault t) (ap (λ (y : Exchange). y.reply) is) tells)
-          (nothing-more (shown_so
-          ∙ ap (λ (r : Option LwpEvent). shown pid t ++ told_in (is_selected o) r)
-          (read-value (reply.Bytes []) None no-status)))
-
-      read-shows : ReadShows
-      read-shows = by (shown-step n k o s before later e pid run)
-        where
-          by : ShownStep n k o s before later e pid run → ReadShows
-          by (as_before sees is) = sees-none x.call (sees x own)
-          by (as_like y of b like is) = likes like (same_Some y x (sym of ∙ own)) is
+      its-read : reads.IsRead n k o s before later e pid run place x (λ r. option_and_then status_lwp (bytes_in r))
+      its-read = record {
+        new = rest.new;
+        unseen = its-unseen;
+        own = own;
+        unsent = unsent;
+        value = λ r.
+            read-is pid (ordinary t) r (ReadingStatus place) at
+            ∙ new-own pid (traced_at (ordinary t) place) (option_and_then status_lwp (bytes_in r))
+            (pid-there place ∙ rest.its);
+        tells = λ tells. subst (OwnFaultRead t x.reply) at tells;
+        is_told = λ its. subst (OwnFaultRead t x.reply) (sym at) its;
+        nothing = no-status;
+        never = λ sees. subst (λ stage. SeesTo t stage x.call) at sees;
+      }
 
       -- no event is told: nothing more is shown
       pub shown-none : event_of l ≡ None → AsBefore
-      shown-none none = by read-shows
-        where
-          by : ReadShows → AsBefore
-          by (shows none_own is) =
-              nothing-more
-              (is ∙ ap (λ (r : Option Event). shown pid t ++ told_in (is_selected o) (option_map (λ ev. record {
-                id = l.id;
-                event = ev;
-              }) r)) none)
-          by (passes tells is) = is
+      shown-none = reads.shown-none n k o s before later e pid run place x _ its-read l told
 
       -- an event is told: it is shown if it is to be shown
-      module _ (event : LwpEvent) (on : event_of l ≡ Some event.event) (id : l.id ≡ event.id) where
-        abbrev marks : Marks
-        marks = marks_at t place
-
-        fresh : fresh_event (traced_at t place) l ≡ Some event.event
-        unfolding fresh_event
-        fresh =
-            ap (λ b. cond b (cond (traced_at t place).seen None (event_of l)) None)
-            (eq-eqb (traced_at t place).old 0 rest.new)
-            ∙ ap (λ b. cond b None (event_of l)) its-unseen ∙ on
-
-        its-event : event_told l ≡ Some event
-        its-event = told-event l event.id event.event on id
-
-        own-stop : IsAtOwnFault t place l → is_own_fault o marks event.event ≡ true
-        own-stop w =
-            let e = same_Some w.event event.event (sym (fresh-stands (traced_at t place) l w.event w.fresh) ∙ on) in
-            own-true o marks event.event
-            (subst (λ (ev : Event). IsOwnFault o marks ev) e
-            (subst (λ (p : Options). IsOwnFault p marks w.event) its-options w.own))
-
-        tells-own : TellsOfOwnFault t x.reply → is_own_fault o marks event.event ≡ true
-        tells-own tells =
-            own-stop (subst (IsOwnStop t place) told (subst (OwnFaultRead t x.reply) at tells))
-
-        is-own : is_own_fault o marks event.event ≡ true → TellsOfOwnFault t x.reply
-        is-own is =
-            subst (OwnFaultRead t x.reply) (sym at)
-            (subst (IsOwnStop t place) (sym told) (record {
-              event = event.event;
-              fresh = fresh;
-              own = subst (λ (p : Options). IsOwnFault p marks event.event) (sym its-options)
-                  (own-of o marks event.event is);
-            }))
-
-        pub shown-event : ShownNext (if_in (is_to_show o marks) event)
-        shown-event = by read-shows
-          where
-            as-chosen : (b c : Bool) → c ≡ false
-                → cond b (event ∷ []) [] ≡ (let m : List LwpEvent = cond (b && not c) (event ∷ []) [] in m)
-            as-chosen true false is = refl
-            as-chosen false c is = refl
-            as-chosen true true is = absurd (false≢true (sym is))
-
-            as-hidden : (b c : Bool) → c ≡ true
-                → (let m : List LwpEvent = cond (b && not c) (event ∷ []) [] in m) ≡ []
-            as-hidden true true is = refl
-            as-hidden false c is = refl
-            as-hidden true false is = absurd (false≢true is)
-
-            not-own : (b : Bool) → is_own_fault o marks event.event ≡ b → (TellsOfOwnFault t x.reply → ⊥)
-                → is_own_fault o marks event.event ≡ false
-            not-own true is none = absurd (none (is-own is))
-            not-own false is none = is
-
-            by : ReadShows → ShownNext (if_in (is_to_show o marks) event)
-            by (shows none_own is) =
-                is
-                ∙ ap (λ (r : Option LwpEvent). shown pid t ++ told_in (is_selected o) r) its-event
-                ∙ ap (λ (more : List LwpEvent). shown pid t ++ more)
-                (as-chosen (is_selected o event.event) (is_own_fault o marks event.event)
-                (not-own (is_own_fault o marks event.event) refl none_own))
-            by (passes tells is) =
-                is ∙ sym (append-nil (shown pid t))
-                ∙ ap (λ (more : List LwpEvent). shown pid t ++ more)
-                (sym (as-hidden (is_selected o event.event) (is_own_fault o marks event.event) (tells-own tells)))
+      pub shown-event : (event : LwpEvent) → event_of l ≡ Some event.event → l.id ≡ event.id
+          → ShownNext (if_in (is_to_show o (marks_at t place)) event)
+      shown-event = reads.shown-event n k o s before later e pid run place x _ its-read l told

@@ -1,4 +1,4 @@
-use Rattle.std.proofs.Common.{◌≡◌, ◌≢◌, ◌<◌, ◌==◌, ◌&&◌, ◌++◌, ◌⊎◌, not, ℕ, suc, Bool, true, false, cond, Option, Some, None, List, [], ◌∷◌, length, append-nil, append_assoc, refl, sym, subst, ap, ◌∙◌, inl, inr, arith}
+use Rattle.std.proofs.Common.{◌≡◌, ◌≢◌, ◌<◌, ◌==◌, ◌&&◌, ◌++◌, not, ℕ, suc, Bool, true, false, cond, Option, Some, None, List, [], ◌∷◌, length, append-nil, append_assoc, refl, sym, subst, ap, ◌∙◌, inl, inr, arith}
 use Rattle.std.proofs.lemmas.Bool.{cases_eq, eq-eqb, false≢true}
 use Rattle.std.proofs.lemmas.List.Elements.{All-head}
 use Rattle.std.proofs.lemmas.Option.{none-some, same_Some}
@@ -19,7 +19,6 @@ use Rattle.pr_model.specs.Statuses.{lwpstatus_of, status_of_found}
 use Rattle.pr_model.specs.Stops.{representative}
 use Rattle.pr_model.specs.declared.calls.Call.{Call}
 use Rattle.pr_model.specs.declared.calls.Call.TheVariants as call
-use Rattle.pr_model.specs.declared.calls.File.{File}
 use Rattle.pr_model.specs.declared.calls.File.TheVariants.{Lstatus, Mem, Status}
 use Rattle.pr_model.specs.declared.calls.Reply.TheVariants as reply
 use Rattle.pr_model.specs.declared.events.Act.{Act}
@@ -37,17 +36,11 @@ use Rattle.pr_report_laws.proofs.Files.FileUses.{place-is}
 use Rattle.pr_report_laws.proofs.Files.WatchHistories.{cons-exchanges, exchanges-both, no-exchanges}
 use Rattle.pr_report_laws.proofs.Invariant.OtherSteps.{lives-later}
 use Rattle.pr_report_laws.proofs.Invariant.StandLemmas.{Each}
-use Rattle.pr_report_laws.proofs.Machine.FrameLaws.{no-events}
-use Rattle.pr_report_laws.proofs.Machine.GoneLaws.{is_read, read-lives}
 use Rattle.pr_report_laws.proofs.Machine.OwnTurnLaws.{event-halts, halting-picks}
-use Rattle.pr_report_laws.proofs.SeenChildren.Splits as splits
-use Rattle.pr_report_laws.proofs.SeenChildren.Splits.{Compares, compare, state_after-both}
 use Rattle.pr_report_laws.proofs.Watching.HistoryParts.{all-front, all-rest, legal-front}
 use Rattle.pr_report_laws.specs.AtBirth.{has_met}
-use Rattle.pr_report_laws.specs.Attachments.{ReadsFile}
 use Rattle.pr_report_laws.specs.Memories.{WasKilled}
 use Rattle.pr_report_laws.specs.Positions.{if_in}
-use Rattle.pr_report_laws.specs.Reads.{by_lwps, by_status}
 use Rattle.pr_report_laws.specs.Shown.{LwpEvent, picked, shown}
 use Rattle.pr_report_laws.specs.Watching.{is_away, place_of, watches, watches_at}
 use Rattle.pr_truss.specs.Asides.{marks_at}
@@ -84,12 +77,13 @@ use Rattle.pr_function_laws.proofs.FrontLemmas as fronts
 use Rattle.pr_function_laws.proofs.FrontLemmas.{calm-answer}
 use Rattle.pr_function_laws.proofs.KeptPlaces.{Apart, AtStage, Kept, apart-at, opens, runs}
 use Rattle.pr_function_laws.proofs.KnownLaws.{known-at}
+use Rattle.pr_function_laws.proofs.ListedStates as states
+use Rattle.pr_function_laws.proofs.ListedStates.{clear, comes-unread, due, hidden, killed-now, lost, nothing-before, since-on, standing}
 use Rattle.pr_function_laws.proofs.ListedSteps.{events-push, fits, its-place, no-events-yet, options, pends-marks, pends-rests, shown-event, shown-none, shown-other, watched}
 use Rattle.pr_function_laws.proofs.OpenedCalls.{IsSo, call-is, control-fresh}
 use Rattle.pr_function_laws.proofs.OpenedLaws.{Goes, before-goes, bytes-front, goes-holds, holds-opened, still-there}
 use Rattle.pr_function_laws.proofs.OpenedLemmas.{Holds, control-made, control-sole}
 use Rattle.pr_function_laws.proofs.OrdinaryFiles.{run-halfway}
-use Rattle.pr_function_laws.proofs.OrdinaryShown.{shows-what-it-reads}
 use Rattle.pr_function_laws.proofs.OrdinaryStops.{FitsAside}
 use Rattle.pr_function_laws.proofs.StoodLemmas.{IsCounted, Stood}
 use Rattle.pr_function_laws.proofs.TurnWalks.{own-in}
@@ -100,10 +94,9 @@ use Rattle.pr_function_laws.proofs.RestPlaces.{Cause, RestsAt, about, begun, ran
 use Rattle.pr_function_laws.proofs.BusyStages.{is_reading}
 use Rattle.pr_function_laws.proofs.TracedPlaces.{traced-there}
 use Rattle.pr_function_laws.specs.Lifted.{HasControl}
-use Rattle.pr_function_laws.specs.ListedEvents.{ComesUnread, IsStillWhileOld, MayMiss, ListsItsEvents, ended, events_to_show, is_own_fault, is_to_show, is_to_show_in, none, to_show_in, unread}
+use Rattle.pr_function_laws.specs.ListedEvents.{IsStillWhileOld, MayMiss, ListsItsEvents, ended, events_to_show, is_own_fault, is_to_show, is_to_show_in, none, to_show_in, unread}
 use Rattle.pr_function_laws.specs.OneEvent.{HasMetNothing, is_looked_at}
 use Rattle.pr_function_laws.specs.Opened.{IsFunctionRun, WasNotInterrupted, functions_at, is_opened}
-use Rattle.pr_function_laws.specs.OrdinaryRuns.{ShowsInEntry, nothing_new, one_more}
 use Rattle.pr_function_laws.specs.Runs.{functions_after, functions_on}
 
 -- The events of a process that truss has shown are those that it is to show, entry by entry, but for the last one,
@@ -171,64 +164,25 @@ module _ (n k : ℕ) (o : Options) (s : TracedState) (h : List Entry) (run : IsF
       all-front WasNotInterrupted (exchanges k f) (exchanges k later)
       (subst (All WasNotInterrupted) (ap (exchanges k) is ∙ exchanges-both k f later) all_calm)
 
-  nothing-before : (front mid : List Entry) (one : Entry) → [] ≡ front ++ one ∷ mid → ⊥
-  nothing-before [] mid one is = cc
-  nothing-before (x ∷ front) mid one is = cc
-
-  -- ---- an event that truss has not read
-
-  -- In an entry truss read the status of the process, or the statuses of its lwps, and got bytes.
-  abbrev ReadsIts : List Entry → Entry → Type 0
-  ReadsIts f e = ReadsFile k pid Status (S f) e ⊎ ReadsFile k pid Lstatus (S f) e
-
-  -- since an entry it has done so in none
-  record Unanswered (front : List Entry) (entry : Entry) (mid : List Entry) : Type 0 where
-    each : (between rest : List Entry) (e : Entry) → mid ≡ between ++ e ∷ rest
-        → ReadsIts (front ++ entry ∷ between) e → ⊥
-
-  record Since (f : List Entry) (event : LwpEvent) : Type 0 where
-    front : List Entry
-    entry : Entry
-    mid : List Entry
-    is : f ≡ front ++ entry ∷ mid
-    came : to_show_in (T front) (S front) pid entry ≡ event ∷ []
-    unanswered : Unanswered front entry mid
-
-  -- what is missing where an lwp of the process at a place stands on an event
-  data Missing (f : List Entry) (place : ℕ) (event : LwpEvent) : List LwpEvent → Type 0 where
-    hidden : is_to_show o (marks_at (T f) place) event.event ≡ false → Missing f place event []
-    due : is_to_show o (marks_at (T f) place) event.event ≡ true → Since f event → Missing f place event (event ∷ [])
-
   -- ---- how the process stands after some entries
 
-  data Stands (f : List Entry) : List LwpEvent → Type 0 where
-    clear : ((place : ℕ) → RestsAt (T f) pid place → (p : TracedProcess) → live_process (S f).system pid ≡ Some p
-        → HasMetNothing p) → Stands f []
-    standing : (place : ℕ) → RestsAt (T f) pid place → (p : TracedProcess) → live_process (S f).system pid ≡ Some p
-        → (event : LwpEvent) → On event p → (missing : List LwpEvent) → Missing f place event missing
-        → Stands f missing
-    lost : (event : LwpEvent) (w : Since f event) → pid < (S f).system.made → live_process (S f).system pid ≡ None
-        → WasKilled pid (S (w.front ++ w.entry ∷ [])) w.mid → Stands f (event ∷ [])
+  abbrev RestsSo : List Entry → ℕ → Type 0
+  RestsSo f place = RestsAt (functions_at k o f) pid place
 
-  record Listed (f : List Entry) : Type 0 where
-    missing : List LwpEvent
-    are : events_to_show k pid (first_truss o) s f ≡ shown pid (T f) ++ missing
-    stands : Stands f missing
+  abbrev Since : List Entry → LwpEvent → Type 0
+  Since = states.Since k o s pid
 
-  killed-on : (then : TracedState) (between : List Entry) (e : Entry) → WasKilled pid then between
-      → WasKilled pid then (between ++ e ∷ [])
-  killed-on then between e w = record {
-    before = w.before;
-    entry = w.entry;
-    later = w.later ++ e ∷ [];
-    is = ap (λ es. es ++ e ∷ []) w.is ∙ append_assoc w.before (w.entry ∷ w.later) (e ∷ []);
-    process = w.process;
-    lived = w.lived;
-    over = w.over;
-    zombie = w.zombie;
-    left = w.left;
-    status = w.status;
-  }
+  abbrev Missing : List Entry → ℕ → LwpEvent → List LwpEvent → Type 0
+  Missing = states.Missing k o s pid
+
+  abbrev Stands : List Entry → List LwpEvent → Type 0
+  Stands = states.Stands k o s pid RestsSo
+
+  abbrev Listed : List Entry → Type 0
+  Listed = states.Listed k o s pid RestsSo
+
+  abbrev ReadsIts : List Entry → Entry → Type 0
+  ReadsIts = states.ReadsIts k o s pid
 
   -- ---- one entry
 
@@ -306,52 +260,15 @@ module _ (n k : ℕ) (o : Options) (s : TracedState) (h : List Entry) (run : IsF
 
     -- ---- what was not read
 
-    since-on : (event : LwpEvent) → Since f event → (ReadsIts f e → ⊥) → Since next event
-    since-on event w quiet = record {
-      front = w.front;
-      entry = w.entry;
-      mid = w.mid ++ e ∷ [];
-      is = ap (λ es. es ++ e ∷ []) w.is ∙ append_assoc w.front (w.entry ∷ w.mid) (e ∷ []);
-      came = w.came;
-      unanswered = record {
-        each = λ between rest d parts reads. by between rest d reads (compare w.mid between e d [] rest parts);
-      };
-    }
-      where
-        by : (between rest : List Entry) (d : Entry) → ReadsIts (w.front ++ w.entry ∷ between) d
-            → Compares w.mid e [] between d rest → ⊥
-        by between rest d reads (splits.same one two three) =
-            quiet (subst (λ es. ReadsIts es e) (ap (λ es. w.front ++ w.entry ∷ es) (sym one) ∙ sym w.is)
-            (subst (ReadsIts (w.front ++ w.entry ∷ between)) (sym two) reads))
-        by between rest d reads (splits.ahead more first second) = nothing-before more rest d second
-        by between rest d reads (splits.behind more first second) =
-            let u = w.unanswered in u.each between more d first reads
-
     others-quiet : exchange_of k e ≡ None → ReadsIts f e → ⊥
-    others-quiet foreign (inl r) = none-some _ (sym foreign ∙ r.is)
-    others-quiet foreign (inr r) = none-some _ (sym foreign ∙ r.is)
+    others-quiet = states.others-quiet k o s pid n h run f e later is lawful legal
 
-    -- a process that has ended gives none
-    over-gives : (g : File) → is_read g ≡ true → live_process now.system pid ≡ None → ReadsFile k pid g now e → ⊥
-    over-gives g read_it gone r =
-        let own =
-        own-entry n k now e
-        (record { call = call.Read r.handle r.from r.len; reply = reply.Bytes r.bytes }) legal r.is in
-        read-lives now k r.handle r.held r.there own.answer r.from r.len g r.bytes r.file read_it own.is own.replied
-        (ap (live_process now.system) r.of ∙ gone)
-
+    -- a process that has ended gives none, and nothing more is shown of it
     over-quiet : live_process now.system pid ≡ None → ReadsIts f e → ⊥
-    over-quiet gone (inl r) = over-gives Status refl gone r
-    over-quiet gone (inr r) = over-gives Lstatus refl gone r
+    over-quiet = states.over-quiet k o s pid n h run f e later is lawful legal
 
-    -- and nothing more is shown of it
     over-shown : live_process now.system pid ≡ None → shown pid (T next) ≡ shown pid t
-    over-shown gone = by (let w = shows-what-it-reads n k o s h run in w.each f later e pid is)
-      where
-        by : ShowsInEntry k o pid s f e → shown pid (T next) ≡ shown pid t
-        by (nothing_new same) = same
-        by (one_more w (by_status r) chosen not_own) = absurd (over-gives Status refl gone r.read)
-        by (one_more w (by_lwps r) chosen not_own) = absurd (over-gives Lstatus refl gone r.read)
+    over-shown = states.over-shown k o s pid n h run f e later is lawful legal
 
     -- ---- a process that rests
 
@@ -518,7 +435,7 @@ module _ (n k : ℕ) (o : Options) (s : TracedState) (h : List Entry) (run : IsF
             due
             (ap (λ m. is_to_show o m event.event) (marks-next (On event) (on-stays event) on-now on-turn other)
             ∙ to_show)
-            (since-on event since (quiet-reads other))
+            (since-on k o s pid f e event since (quiet-reads other))
 
         made-next : pid < (S next).system.made
         made-next =
@@ -541,34 +458,13 @@ module _ (n k : ℕ) (o : Options) (s : TracedState) (h : List Entry) (run : IsF
             by (hidden not_shown) (killed z gone left status) =
                 clear (λ place2 rest q live_q. absurd (none-some q (sym (gone-next gone) ∙ live_q)))
             by (due to_show since) (killed z gone left status) =
-                let then : TracedState = S (since.front ++ since.entry ∷ []) in
-                let since_then : now ≡ state_after then since.mid =
-                ap (state_after s) (since.is ∙ sym (append_assoc since.front (since.entry ∷ []) since.mid))
-                ∙ state_after-both s (since.front ++ since.entry ∷ []) since.mid in
-                let later_is : after now e ≡ state_after then (since.mid ++ e ∷ []) =
-                ap (λ (u : TracedState). after u e) since_then ∙ sym (state_after-both then since.mid (e ∷ [])) in
-                lost event (since-on event since (quiet-reads other)) made-next (gone-next gone) (record {
-                  before = since.mid;
-                  entry = e;
-                  later = [];
-                  is = refl;
-                  process = p;
-                  lived = ap (λ (u : TracedState). live_process u.system pid) (sym since_then) ∙ live;
-                  over = ap (λ (u : TracedState). live_process u.system pid) (sym later_is) ∙ gone;
-                  zombie = z;
-                  left = ap (λ (u : TracedState). process_of u.system pid) (sym later_is) ∙ left;
-                  status = status;
-                })
+                lost event (since-on k o s pid f e event since (quiet-reads other)) made-next (gone-next gone)
+                (killed-now k o s pid f e since.front since.entry since.mid since.is p live gone z left status)
 
     -- a lost event stays lost
     lost-next : (event : LwpEvent) (w : Since f event) → pid < now.system.made → live_process now.system pid ≡ None
         → WasKilled pid (S (w.front ++ w.entry ∷ [])) w.mid → Stands next (event ∷ [])
-    unfolding since-on
-    lost-next event w made_it gone was_killed =
-        lost event (since-on event w (over-quiet gone))
-        (subst (λ (u : TracedState). pid < u.system.made) (sym state-is) (stays-made n now e pid lawful legal made_it))
-        (ap (λ (u : TracedState). live_process u.system pid) state-is ∙ over pid made_it gone)
-        (killed-on (S (w.front ++ w.entry ∷ [])) w.mid e was_killed)
+    lost-next = states.lost-next k o s pid n h run f e later is lawful legal RestsSo
 
     -- ---- where the process stands
 
@@ -613,7 +509,7 @@ module _ (n k : ℕ) (o : Options) (s : TracedState) (h : List Entry) (run : IsF
             (ap (live_process now.system) its ∙ live) (looked-run t.stage place running))
         by-run place within its opened false away = elim (cases_eq (traced_at t place).old 0) [
           | inl new ↦ at_rest place (record { within = within; its = its; opened = opened; away = away; new = new })
-          | inr old ↦ stands_still (old_still.each f (e ∷ later) place p is within its opened old live)
+          | inr old ↦ stands_still (old_still.each f (e ∷ later) place p is calm within its opened old live)
         ]
 
         by-opened : (place : ℕ) → place_of t pid ≡ Some place → place < length t.traced → (traced_at t place).pid ≡ pid
@@ -638,14 +534,7 @@ module _ (n k : ℕ) (o : Options) (s : TracedState) (h : List Entry) (run : IsF
 
     -- what is no turn of the process brings no event of it
     elsewhere-empty : ((own : ℕ) → e.actor ≢ Lwp pid own) → its_events ≡ []
-    elsewhere-empty elsewhere =
-        ap (λ (xs : List LwpEvent). cond (watches t pid) xs [])
-        (no-events (is_to_show_in t (place_of t pid)) pid now e elsewhere)
-        ∙ none_either (watches t pid)
-      where
-        none_either : (b : Bool) → cond {A = List LwpEvent} b [] [] ≡ []
-        none_either true = refl
-        none_either false = refl
+    elsewhere-empty = states.elsewhere-empty k o s pid n h run f e later is lawful legal
 
     abbrev Before : List LwpEvent → Type 0
     Before missing = events_to_show k pid (first_truss o) s f ≡ shown pid t ++ missing
@@ -653,12 +542,7 @@ module _ (n k : ℕ) (o : Options) (s : TracedState) (h : List Entry) (run : IsF
     -- nothing came, and nothing was shown
     same-listed : (missing : List LwpEvent) → Before missing → its_events ≡ [] → shown pid (T next) ≡ shown pid t
         → Stands next missing → Listed next
-    same-listed missing are empty same stands = record {
-      missing = missing;
-      are = came-next ∙ ap (λ xs. events_to_show k pid (first_truss o) s f ++ xs) empty
-          ∙ append-nil (events_to_show k pid (first_truss o) s f) ∙ are ∙ ap (λ xs. xs ++ missing) (sym same);
-      stands = stands;
-    }
+    same-listed = states.same-listed k o s pid n h run f e later is lawful legal RestsSo
 
     -- ---- an entry of others, or a turn
 
@@ -1220,19 +1104,8 @@ module _ (n k : ℕ) (o : Options) (s : TracedState) (h : List Entry) (run : IsF
   whole : h ≡ h ++ []
   whole = sym (append-nil h)
 
-  listed : Listed h
+  pub listed : Listed h
   listed = walk h [] [] whole first-listed
-
-  comes-unread : (event : LwpEvent) → Since h event → ComesUnread k o s h pid event
-  comes-unread event w = record {
-    before = w.front;
-    entry = w.entry;
-    later = w.mid;
-    is = w.is;
-    came = w.came;
-    status = λ between rest e parts reads. let u = w.unanswered in u.each between rest e parts (inl reads);
-    lwps = λ between rest e parts reads. let u = w.unanswered in u.each between rest e parts (inr reads);
-  }
 
   -- at the end the process is watched
   module _ (place : ℕ) (w : RestsAt (T h) pid place) where
@@ -1257,9 +1130,9 @@ module _ (n k : ℕ) (o : Options) (s : TracedState) (h : List Entry) (run : IsF
           → (event : LwpEvent) (missing : List LwpEvent) → Missing h place event missing → MayMiss k o s h pid missing
       by-missing place w p live event missing (hidden off) = none
       by-missing place w p live event missing (due chosen since) =
-          unread event (comes-unread event since) (watched-still place w) p live
+          unread event (comes-unread k o s pid h event since) (watched-still place w) p live
 
       by : {missing : List LwpEvent} → Stands h missing → MayMiss k o s h pid missing
       by (clear unmet) = none
       by (standing place w p live event on missing m) = by-missing place w p live event missing m
-      by (lost event w made_it gone was_killed) = ended event (comes-unread event w) gone was_killed
+      by (lost event w made_it gone was_killed) = ended event (comes-unread k o s pid h event w) gone was_killed

@@ -1,4 +1,5 @@
-use Rattle.std.proofs.Common.{◌≡◌, ◌+◌, ◌++◌, ℕ, Bool, true, false, cond, Option, Some, None, List, [], ◌∷◌, position, refl, sym, subst, ap, ◌∙◌, inl, inr}
+use Rattle.std.proofs.Common.{◌≡◌, ◌+◌, ◌++◌, ℕ, Bool, true, false, cond, Option, Some, None, List, [], ◌∷◌, position}
+use Rattle.std.proofs.Common.{refl, sym, subst, ap, ◌∙◌, inl, inr}
 use Rattle.std.proofs.lemmas.Bool.{false≢true}
 use Rattle.std.proofs.lemmas.List.Elements.{All-head, All-tail}
 use Rattle.std.specs.List.{All, slice_get, slice_set}
@@ -11,15 +12,22 @@ use Rattle.pr_rec.specs.declared.lwps.LwpStatus.{LwpStatus}
 use Rattle.pr_truss.specs.Asides.{marks_at, patching, with_aside, with_lifts, with_marks}
 use Rattle.pr_truss.specs.Closings.{after_closing, closed_or_removed, with_closed, with_closing, with_interrupt}
 use Rattle.pr_truss.specs.Feeding.{fed, with_reply}
-use Rattle.pr_truss.specs.FunctionFeeding.{after_first, after_patch, fed_functions, is_code, planted_if, with_aside_answered, with_code_answered, with_code_read, with_function_reply, with_function_step_answered, with_next_function, with_patch_answered, with_pending_told, with_plant_answered}
-use Rattle.pr_truss.specs.FunctionStops.{after_function_text, with_function_run_answered, with_function_status_answered, with_function_text_answered}
+use Rattle.pr_truss.specs.FunctionFeeding.{after_first, after_patch, fed_functions, is_code, planted_if}
+use Rattle.pr_truss.specs.FunctionFeeding.{with_aside_answered, with_code_answered, with_code_read, with_function_reply}
+use Rattle.pr_truss.specs.FunctionFeeding.{with_function_step_answered, with_next_function, with_patch_answered}
+use Rattle.pr_truss.specs.FunctionFeeding.{with_pending_told, with_plant_answered}
+use Rattle.pr_truss.specs.FunctionStops.{after_function_text, with_function_run_answered, with_function_status_answered}
+use Rattle.pr_truss.specs.FunctionStops.{with_function_text_answered}
 use Rattle.pr_truss.specs.Marks.{code_of, first_function, has_functions, without_function}
-use Rattle.pr_truss.specs.Openings.{pid_in, with_control, with_control_answered, with_refused_control, with_refused_start, with_start_answered, with_stop_seen}
+use Rattle.pr_truss.specs.Openings.{pid_in, with_control, with_control_answered, with_refused_control}
+use Rattle.pr_truss.specs.Openings.{with_refused_start, with_start_answered, with_stop_seen}
 use Rattle.pr_truss.specs.Processes.{newly_traced, without_last}
 use Rattle.pr_truss.specs.Records.{status_lwp}
 use Rattle.pr_truss.specs.Replies.{answer_of, ready_in}
-use Rattle.pr_truss.specs.Stops.{after_text, has_control, with_event_over, with_event_shown, with_poll_answered, with_polled, with_run_answered, with_status_answered, with_text_answered}
-use Rattle.pr_truss.specs.Trusses.{TrussState, first_of_program, first_truss, idle as unbegun, opening_or, traced_at, with_traced, without_traced}
+use Rattle.pr_truss.specs.Stops.{after_text, has_control, with_event_over, with_event_shown, with_poll_answered}
+use Rattle.pr_truss.specs.Stops.{with_polled, with_run_answered, with_status_answered, with_text_answered}
+use Rattle.pr_truss.specs.Trusses.{TrussState, first_of_program, first_truss, idle as unbegun, opening_or, traced_at}
+use Rattle.pr_truss.specs.Trusses.{with_traced, without_traced}
 use Rattle.pr_truss.specs.declared.asides.Aside.{Aside}
 use Rattle.pr_truss.specs.declared.asides.Aside.TheVariants.{Nothing, Reading, Planting, Patching}
 use Rattle.pr_truss.specs.declared.processes.Traced.{Traced}
@@ -28,15 +36,21 @@ use Rattle.pr_truss.specs.declared.replies.Answer.TheVariants.{Accepted, Interru
 use Rattle.pr_truss.specs.declared.stages.AfterClosing.TheVariants.{OpenNext, GoOn, RunParent}
 use Rattle.pr_truss.specs.declared.stages.OpeningStep.{OpeningStep}
 use Rattle.pr_truss.specs.declared.stages.Stage.{Stage}
-use Rattle.pr_truss.specs.declared.stages.Stage.TheVariants.{Spawning, OpeningControl, Opening, Polling, ReadingStatus, ReadingText, Running, Closing, Finished}
+use Rattle.pr_truss.specs.declared.stages.Stage.TheVariants.{Spawning, OpeningControl, Opening, Polling, ReadingStatus}
+use Rattle.pr_truss.specs.declared.stages.Stage.TheVariants.{ReadingText, Running, Closing, Finished}
 use Rattle.pr_truss_laws.specs.Exchanges.{Exchange}
 use Rattle.pr_function_laws.proofs.MarkLemmas.{every-append}
 use Rattle.pr_function_laws.proofs.LeavingStays.{fed-leaves}
 use Rattle.pr_function_laws.proofs.OrdinaryExchanges.{IsFit, Turn, first-fit, goes_on, goes_out, next-fit, turn}
 use Rattle.pr_function_laws.specs.Ordinary.{ordinary}
-use Rattle.pr_function_laws.specs.Runs.{MakesCalls, functions_after}
+use Rattle.pr_function_laws.specs.Runs.{MakesFunctionCalls, functions_after}
 use Rattle.pr_function_laws.specs.Soon.{IsCalm}
-use Rattle.pr_function_laws.proofs.PlainFlags.{Plain, AllPlain, PlainBut, all-but, none-plain, but-set, all-set, all-remove, same-set, AtStage, AtAside, stage-same, Unflagged, LeavesOr, Base, Here, After, to, at, reported, told, set-base, set-here, stays, off-at, interrupted, over, event-over, beside, patching-at, read, closing, going, opens-next, next-function, refused-step, refused-opening, begun}
+use Rattle.pr_function_laws.proofs.PlainFlags.{Plain, AllPlain, PlainBut, all-but, none-plain, but-set, all-set}
+use Rattle.pr_function_laws.proofs.PlainFlags.{all-remove, same-set, AtStage, AtAside, stage-same, Unflagged, LeavesOr}
+use Rattle.pr_function_laws.proofs.PlainFlags.{Base, Here, After, to, at, reported, told, set-base, set-here, stays}
+use Rattle.pr_function_laws.proofs.PlainFlags.{off-at, interrupted, over, event-over, beside, patching-at, read}
+use Rattle.pr_function_laws.proofs.PlainFlags.{closing, going, opens-next, next-function, refused-step, refused-opening}
+use Rattle.pr_function_laws.proofs.PlainFlags.{begun}
 
 -- A truss with functions that does not leave its processes has marked run flags for one process at most: the one whose
 -- event it read last, from that event until its PCRUN was answered. Where it reads a status, no process has any.
@@ -269,6 +283,12 @@ module _ (t : TrussState) (r : Reply) (w : Unflagged t) where
 
 -- ---- all exchanges
 
+-- truss waits for a stop, or opens a process
+abbrev pub is_waiting : Stage → Bool
+is_waiting (Opening q step) = true
+is_waiting Polling = true
+is_waiting stage = false
+
 module _ (o : Options) (has : has_functions o ≡ true) (off : o.follow ≡ false) where
   first-unflagged : Unflagged (first_truss o)
   unfolding first_truss
@@ -287,7 +307,7 @@ module _ (o : Options) (has : has_functions o ≡ true) (off : o.follow ≡ fals
   turn-leaves s x on (goes_on y like next is) =
       ap (λ (u : TrussState). u.leaving) is ∙ fed-leaves (ordinary s) y.reply on
 
-  unflagged-from : (before after : List Exchange) (s : TrussState) → IsFit o s → MakesCalls s (before ++ after)
+  unflagged-from : (before after : List Exchange) (s : TrussState) → IsFit o s → MakesFunctionCalls s (before ++ after)
       → All IsCalm (before ++ after) → LeavesOr s → LeavesOr (functions_after s before)
   unflagged-from [] after s fit makes calm it = it
   unflagged-from (x ∷ before) after s fit makes calm it =
@@ -300,7 +320,8 @@ module _ (o : Options) (has : has_functions o ≡ true) (off : o.follow ≡ fals
       by (inr w) still = fed-on s x.reply w (ap has_functions fit.options ∙ has)
 
   -- where truss reads the status of a process, that process has no run flags
-  pub no-flags-at-read : (before after : List Exchange) (place : ℕ) → MakesCalls (first_truss o) (before ++ after)
+  pub no-flags-at-read : (before after : List Exchange) (place : ℕ)
+      → MakesFunctionCalls (first_truss o) (before ++ after)
       → All IsCalm (before ++ after) → (functions_after (first_truss o) before).leaving ≡ false
       → (functions_after (first_truss o) before).stage ≡ ReadingStatus place
       → (marks_at (functions_after (first_truss o) before) place).flags ≡ 0
@@ -311,3 +332,23 @@ module _ (o : Options) (has : has_functions o ≡ true) (off : o.follow ≡ fals
           → (marks_at (functions_after (first_truss o) before) place).flags ≡ 0
       by (inl on) = absurd (false≢true (sym stays ∙ on))
       by (inr w) = (subst (AtStage (functions_after (first_truss o) before).traced) reads w.stage) place
+
+  -- nor has one where it waits for a stop
+  pub no-flags-at-wait : (before after : List Exchange) (place : ℕ)
+      → MakesFunctionCalls (first_truss o) (before ++ after)
+      → All IsCalm (before ++ after) → (functions_after (first_truss o) before).leaving ≡ false
+      → is_waiting (functions_after (first_truss o) before).stage ≡ true
+      → (marks_at (functions_after (first_truss o) before) place).flags ≡ 0
+  no-flags-at-wait before after place makes calm stays waits =
+      by (unflagged-from before after (first_truss o) (first-fit o has off) makes calm (inr first-unflagged))
+    where
+      of : (u : TrussState) (stage : Stage) → is_waiting stage ≡ true → AtStage u.traced stage
+          → (marks_at u place).flags ≡ 0
+      of u (Opening q step) is w = w place
+      of u Polling is w = w place
+      of u _ is w = absurd (false≢true is)
+
+      by : LeavesOr (functions_after (first_truss o) before)
+          → (marks_at (functions_after (first_truss o) before) place).flags ≡ 0
+      by (inl on) = absurd (false≢true (sym stays ∙ on))
+      by (inr w) = of (functions_after (first_truss o) before) _ waits w.stage

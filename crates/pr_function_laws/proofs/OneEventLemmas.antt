@@ -31,7 +31,7 @@ still-stops : (a b c : Bool) → a ≡ true → ((a || b) || c) ≡ true
 still-stops true b c is = refl
 still-stops false b c is = cc
 
-stands-stop : (l : TracedLwp) → StandsOnEvent l → has_event_stop l ≡ true
+pub stands-stop : (l : TracedLwp) → StandsOnEvent l → has_event_stop l ≡ true
 stands-stop l w = ap (λ (o : Option Stop). is_some o) w.is
 
 pub met-halting : (p : TracedProcess) (id : ℕ) → HasMetAlone p id → IsHalting p

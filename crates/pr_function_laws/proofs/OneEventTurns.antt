@@ -86,13 +86,13 @@ stopped-met own id p differs w = record {
 
 -- ---- the point that was met
 
-directed-held : (l : TracedLwp) → will_stop (directed l) ≡ true → has_met l ≡ false → IsHeld (directed l)
+pub directed-held : (l : TracedLwp) → will_stop (directed l) ≡ true → has_met l ≡ false → IsHeld (directed l)
 directed-held l stops none = record {
   stops = stops;
   met_nothing = let leaves = directed-leaves in ap is_met_if (leaves.stops l) ∙ none;
 }
 
-directed-suspended : (l : TracedLwp) → (directed l).suspended ≡ l.suspended
+pub directed-suspended : (l : TracedLwp) → (directed l).suspended ≡ l.suspended
 unfolding directed
 directed-suspended l =
     elim (has_event_stop l) as

@@ -76,9 +76,9 @@ use Rattle.pr_function_laws.proofs.TracedSets.{IsAsSet, IsSetBy, settings-sets}
 use Rattle.pr_function_laws.proofs.SoundLemmas.{first-sound}
 use Rattle.pr_function_laws.proofs.StretchLemmas.{no-agent}
 use Rattle.pr_function_laws.specs.Lifted.{GoesElsewhere, HasControl, IsAtStopAtBreakpoint, TellsOfFault, ReadsOnlyLast, StepsNoCall}
-use Rattle.pr_function_laws.specs.OneEvent.{HasOneEventAtMost, HasOneEventEach, is_looked_at, unmet}
-use Rattle.pr_function_laws.specs.Opened.{OwnsAndTraces, HoldsWhatItOpened, IsFunctionRun, WasNotInterrupted, LiftsForOneAlone, ReadsBreakpoint, TracesAll, functions_at, is_opened}
-use Rattle.pr_function_laws.specs.Runs.{MakesCalls, functions_after}
+use Rattle.pr_function_laws.specs.OneEvent.{HasOneEventAtMost, is_looked_at, unmet}
+use Rattle.pr_function_laws.specs.Opened.{OwnsAndTraces, IsFunctionRun, WasNotInterrupted, LiftsForOneAlone, ReadsBreakpoint, TracesAll, functions_at, is_opened}
+use Rattle.pr_function_laws.specs.Runs.{MakesFunctionCalls, functions_after}
 use Rattle.pr_function_laws.specs.Stretches.{OthersOnlyStop}
 use Rattle.pr_function_laws.proofs.KeptPlaces.{AtStage, Kept, apart-at, first-kept, looks, Position, rests, runs, to_read}
 use Rattle.pr_function_laws.proofs.OpenedCalls.{IsSo, Stays, aside-stays, call-kept, lowest, stage-stays, step_of}
@@ -316,12 +316,13 @@ module _ (Reached : Type 0) (n k : ℕ) (o : Options) where
   -- what the rest of a history gives
   abbrev Rest : TracedState → List Entry → Type 0
   Rest s h =
-      (u : TrussState) → Goes Reached k o u s → MakesCalls u (exchanges k h) → All WasNotInterrupted (exchanges k h)
+      (u : TrussState) → Goes Reached k o u s → MakesFunctionCalls u (exchanges k h)
+      → All WasNotInterrupted (exchanges k h)
       → Goes Reached k o (functions_after u (exchanges k h)) (state_after s h)
 
   entry-goes : (t : TrussState) (s : TracedState) (e : Entry) (h : List Entry) → has_functions o ≡ true
       → Goes Reached k o t s → IsLegalEntry n s e → (Reached → IsEntryOfBytes e) → Rest (after s e) h
-      → (x : Option Exchange) → exchange_of k e ≡ x → MakesCalls t (cons_option x (exchanges k h))
+      → (x : Option Exchange) → exchange_of k e ≡ x → MakesFunctionCalls t (cons_option x (exchanges k h))
       → All WasNotInterrupted (cons_option x (exchanges k h))
       → Goes Reached k o (functions_after t (cons_option x (exchanges k h))) (state_after (after s e) h)
   entry-goes t s e h has g legal bytes rest None own makes calm =
@@ -333,7 +334,7 @@ module _ (Reached : Type 0) (n k : ℕ) (o : Options) where
       (All-tail WasNotInterrupted x (exchanges k h) calm)
 
   history-goes : (h : List Entry) (t : TrussState) (s : TracedState) → has_functions o ≡ true
-      → Goes Reached k o t s → IsLegal n s h → (Reached → HasBytes h) → MakesCalls t (exchanges k h)
+      → Goes Reached k o t s → IsLegal n s h → (Reached → HasBytes h) → MakesFunctionCalls t (exchanges k h)
       → All WasNotInterrupted (exchanges k h)
       → Goes Reached k o (functions_after t (exchanges k h)) (state_after s h)
   history-goes [] t s has g legal bytes makes calm =
@@ -344,17 +345,17 @@ module _ (Reached : Type 0) (n k : ℕ) (o : Options) where
       history-goes h u (after s e) has its legal.1 (λ r. All-tail IsEntryOfBytes e h (bytes r)) more calm_more in
       subst (λ xs. Goes Reached k o (functions_after t xs) (state_after (after s e) h)) (sym (cons-exchanges k e h))
       (entry-goes t s e h has g legal.0 (λ r. All-head IsEntryOfBytes e h (bytes r)) rest (exchange_of k e) refl
-      (subst (MakesCalls t) (cons-exchanges k e h) makes)
+      (subst (MakesFunctionCalls t) (cons-exchanges k e h) makes)
       (subst (All WasNotInterrupted) (cons-exchanges k e h) calm))
 
 -- ---- the front of a history
 
-pub calls-front : (t : TrussState) (xs ys : List Exchange) → MakesCalls t (xs ++ ys) → MakesCalls t xs
+pub calls-front : (t : TrussState) (xs ys : List Exchange) → MakesFunctionCalls t (xs ++ ys) → MakesFunctionCalls t xs
 calls-front t [] ys makes = tt
 calls-front t (x ∷ xs) ys makes = (makes.0, calls-front (fed_functions t x.reply) xs ys makes.1)
 
-pub calls-rest : (t : TrussState) (xs ys : List Exchange) → MakesCalls t (xs ++ ys)
-    → MakesCalls (functions_after t xs) ys
+pub calls-rest : (t : TrussState) (xs ys : List Exchange) → MakesFunctionCalls t (xs ++ ys)
+    → MakesFunctionCalls (functions_after t xs) ys
 calls-rest t [] ys makes = makes
 calls-rest t (x ∷ xs) ys makes = calls-rest (fed_functions t x.reply) xs ys makes.1
 
@@ -402,7 +403,7 @@ reading-running a b is = cc
 -- ---- the laws
 
 -- the handles of a process that truss traces are of this process
-own-handles : (k : ℕ) (o : Options) (s : TracedState) (v : Traced) (pid : ℕ)
+pub own-handles : (k : ℕ) (o : Options) (s : TracedState) (v : Traced) (pid : ℕ)
     → Holds k o s (Some opening.OpenStatus) v.pid v.control v.status v.lstatus v.memory → v.pid ≢ pid
     → All (GoesElsewhere k pid s) (handles_of v)
 own-handles k o s v pid h other =
@@ -586,9 +587,9 @@ module _ (n k : ℕ) (o : Options) (s : TracedState) (h : List Entry) (run : IsF
       legal-before : IsLegal n s before
       legal-before = legal-front n s before later (subst (IsLegal n s) is run.legal)
 
-      calls-both : MakesCalls (first_truss o) (exchanges k before ++ exchanges k later)
+      calls-both : MakesFunctionCalls (first_truss o) (exchanges k before ++ exchanges k later)
       calls-both =
-          subst (MakesCalls (first_truss o)) (ap (exchanges k) is ∙ exchanges-both k before later) run.makes
+          subst (MakesFunctionCalls (first_truss o)) (ap (exchanges k) is ∙ exchanges-both k before later) run.makes
 
       pub before-goes : (Reached : Type 0) → (Reached → IsReached s) → (Reached → HasBytes before)
           → Goes Reached k o (functions_at k o before) (state_after s before)
@@ -619,7 +620,20 @@ module _ (n k : ℕ) (o : Options) (s : TracedState) (h : List Entry) (run : IsF
       still-there looked =
           goes-still (Unit {0}) k o (functions_at k o before) (state_after s before) goes-there tt place p live looked
 
-  pub one-event-each : IsReached s → HasBytes h → HasOneEventEach k o s h
+  -- until the first interrupt one event of each at most is unread
+  pub record HasOneEventUnbroken : Type 0 where
+    pub few : (before later : List Entry) (place : ℕ) (p : TracedProcess) → h ≡ before ++ later
+        → All WasNotInterrupted (exchanges k before) → place < length (functions_at k o before).traced
+        → is_opened (functions_at k o before).stage place ≡ true → (functions_at k o before).stage ≢ Running place
+        → (traced_at (functions_at k o before) place).old ≡ 0
+        → live_process (state_after s before).system (traced_at (functions_at k o before) place).pid ≡ Some p
+        → HasOneEventAtMost p
+    pub still : (before later : List Entry) (place : ℕ) (p : TracedProcess) → h ≡ before ++ later
+        → All WasNotInterrupted (exchanges k before) → is_looked_at (functions_at k o before).stage place ≡ true
+        → live_process (state_after s before).system (traced_at (functions_at k o before) place).pid ≡ Some p
+        → IsFrozen p
+
+  pub one-event-each : IsReached s → HasBytes h → HasOneEventUnbroken
   one-event-each reached bytes = record {
     few = λ before later place p is calm within opened rests_so new live.
         few-there reached bytes before later is calm place p live within opened rests_so new;
@@ -627,7 +641,14 @@ module _ (n k : ℕ) (o : Options) (s : TracedState) (h : List Entry) (run : IsF
         still-there reached bytes before later is calm place p live looked;
   }
 
-  pub holds-opened : HoldsWhatItOpened k o s h
+  -- and truss has its files of each that it opened, alone, and traces all of it
+  pub record HoldsUnbroken : Type 0 where
+    pub each : (before later : List Entry) (place : ℕ) → h ≡ before ++ later
+        → All WasNotInterrupted (exchanges k before) → place < length (functions_at k o before).traced
+        → is_opened (functions_at k o before).stage place ≡ true
+        → OwnsAndTraces k o (functions_at k o before) place (state_after s before)
+
+  pub holds-opened : HoldsUnbroken
   holds-opened = record {
     each = λ before later place is calm within opened.
         goes-opened ⊥ k o (functions_at k o before) (state_after s before)
@@ -662,10 +683,10 @@ module _ (n k : ℕ) (o : Options) (s : TracedState) (h : List Entry) (run : IsF
         later-reached n s before reached bytes-before
         (legal-before before (e ∷ (between ++ later)) is calm)
 
-    makes-now : MakesCalls t (exchanges k (e ∷ between))
+    makes-now : MakesFunctionCalls t (exchanges k (e ∷ between))
     makes-now =
         calls-front t (exchanges k (e ∷ between)) (exchanges k later)
-        (subst (MakesCalls t) (exchanges-both k (e ∷ between) later)
+        (subst (MakesFunctionCalls t) (exchanges-both k (e ∷ between) later)
         (calls-rest (first_truss o) (exchanges k before) (exchanges k (e ∷ (between ++ later)))
         (calls-both before (e ∷ (between ++ later)) is calm)))
 
@@ -684,9 +705,9 @@ module _ (n k : ℕ) (o : Options) (s : TracedState) (h : List Entry) (run : IsF
     reads-status : w.x.call ≡ read_record (traced_at t place).status
     reads-status =
         let m = w.meets in
-        let makes : MakesCalls t (w.x ∷ exchanges k between) =
-        subst (λ x. MakesCalls t (cons_option x (exchanges k between))) w.own
-        (subst (MakesCalls t) (cons-exchanges k e between) makes-now) in
+        let makes : MakesFunctionCalls t (w.x ∷ exchanges k between) =
+        subst (λ x. MakesFunctionCalls t (cons_option x (exchanges k between))) w.own
+        (subst (MakesFunctionCalls t) (cons-exchanges k e between) makes-now) in
         same_Some _ _ (sym makes.0 ∙ read-is t place has-now m.reads m.idle)
 
     -- a process of which the status was read lives
@@ -783,7 +804,7 @@ module _ (n k : ℕ) (o : Options) (s : TracedState) (h : List Entry) (run : IsF
     handle-is = let its = opened in let f = its.files in f.own_status
 
     -- so it is at its stop, whatever comes then
-    stop-with : (h : List Entry) → IsLegal n now (e ∷ h) → MakesCalls t (exchanges k (e ∷ h))
+    stop-with : (h : List Entry) → IsLegal n now (e ∷ h) → MakesFunctionCalls t (exchanges k (e ∷ h))
         → ReadsOnlyLast status-handle (exchanges k h)
         → StepsNoCall k (traced_at t place).pid id (traced_at t place).control (after now e) h
         → IsAtStopAtBreakpoint n k t place status-handle (traced_at t place).pid id now e h
@@ -822,13 +843,13 @@ module _ (n k : ℕ) (o : Options) (s : TracedState) (h : List Entry) (run : IsF
     stop-code : StepsItsCode k (traced_at t place).pid id (traced_at t place).control w.f (after now e) between
     unfolding stop-with
     stop-code =
-        let makes : MakesCalls t (w.x ∷ exchanges k between) =
-        subst (λ x. MakesCalls t (cons_option x (exchanges k between))) w.own
-        (subst (MakesCalls t) (cons-exchanges k e between) makes-now) in
-        let first : MakesCalls t (exchanges k (e ∷ [])) =
-        subst (MakesCalls t)
+        let makes : MakesFunctionCalls t (w.x ∷ exchanges k between) =
+        subst (λ x. MakesFunctionCalls t (cons_option x (exchanges k between))) w.own
+        (subst (MakesFunctionCalls t) (cons-exchanges k e between) makes-now) in
+        let first : MakesFunctionCalls t (exchanges k (e ∷ [])) =
+        subst (MakesFunctionCalls t)
         (ap (λ ys. cons_option (exchange_of k e) ys) (sym (no-exchanges k)) ∙ sym (cons-exchanges k e []))
-        (subst (λ x. MakesCalls t (cons_option x [])) (sym w.own) (makes.0, tt)) in
+        (subst (λ x. MakesFunctionCalls t (cons_option x [])) (sym w.own) (makes.0, tt)) in
         let empty =
         stop-with [] (legal-here.0, tt) first (subst (ReadsOnlyLast status-handle) (sym (no-exchanges k)) tt)
         (calm-none k (traced_at t place).pid id (traced_at t place).control (after now e)) in
@@ -865,4 +886,4 @@ module _ (n k : ℕ) (o : Options) (s : TracedState) (h : List Entry) (run : IsF
         stop-code reached bytes before between later e place id is calm w;
   }
 
-pub ruleset opens = (holds-opened, lifts-alone, one-event-each)
+pub ruleset opens = (lifts-alone)

@@ -224,9 +224,9 @@ run-plain flags =
     (read-as bytes (message.Run (nth_word bytes 1)) refl refl)
 
 -- one that leaves the sets and the modes, and makes no agent
-record LeavesSets (p q : TracedProcess) : Type 0 where
-  control : q.control ≡ p.control
-  agent : has_agent q ≡ has_agent p
+pub record LeavesSets (p q : TracedProcess) : Type 0 where
+  pub control : q.control ≡ p.control
+  pub agent : has_agent q ≡ has_agent p
 
 mapped-agent : (f : TracedLwp → TracedLwp) (o : Option TracedLwp) → is_some (option_map f o) ≡ is_some o
 mapped-agent f None = refl
@@ -241,7 +241,7 @@ one-agent id f p = elim (cases_eq id agent_id) [
   | inr apart ↦ ap (λ (o : Option TracedLwp). is_some o) (under-change_under_other id agent_id f apart p.lwps)
 ]
 
-each-agent : (f : TracedLwp → TracedLwp) (p : TracedProcess)
+pub each-agent : (f : TracedLwp → TracedLwp) (p : TracedProcess)
     → has_agent (record p { lwps = map_each f p.lwps }) ≡ has_agent p
 each-agent f p =
     ap (λ (o : Option TracedLwp). is_some o) (under-map_each agent_id f p.lwps) ∙ mapped-agent f (lwp_of p agent_id)
@@ -397,7 +397,7 @@ module _ (n k : ℕ) (o : Options) (s : TracedState) (lawful : IsLawful s) (c : 
         same-leaves p q (same_Some q p (sym later ∙ ap (λ (u : TracedSystem). live_process u pid) same ∙ live))
 
     -- a message that leaves what is set
-    plain-process : BeginWithPlain bytes → (p q : TracedProcess) → live_process s.system pid ≡ Some p
+    pub plain-process : BeginWithPlain bytes → (p q : TracedProcess) → live_process s.system pid ≡ Some p
         → live_process a.state.system pid ≡ Some q → LeavesSets p q
     plain-process begins p q live later = by (does p live)
       where

@@ -33,7 +33,7 @@ use Rattle.pr_function_laws.proofs.OrdinaryStops.{FitsAside}
 use Rattle.pr_function_laws.proofs.SoonLemmas.{any_step, any-sound}
 use Rattle.pr_function_laws.proofs.SoundLemmas.{AsideIsBelow, IsSound, Names, first-sound}
 use Rattle.pr_function_laws.specs.Ordinary.{AreLike, IsLike, IsTrussBeside, PassesOver, PrintsInOrder, SeesTo, left_out, none, one, ordinary}
-use Rattle.pr_function_laws.specs.Runs.{MakesCalls, functions_after}
+use Rattle.pr_function_laws.specs.Runs.{MakesFunctionCalls, functions_after}
 use Rattle.pr_function_laws.specs.Soon.{IsCalm}
 
 -- The exchanges of truss with calls of functions, without those on breakpoints, are those of a truss.
@@ -150,7 +150,7 @@ module _ (o : Options) (has : has_functions o ≡ true) (off : o.follow ≡ fals
     is = ap (λ u. truss_after u w.others) (sym now) ∙ w.is;
   }
 
-  without : (xs : List Exchange) (s : TrussState) → IsFit o s → MakesCalls s xs → All IsCalm xs → Without s xs
+  without : (xs : List Exchange) (s : TrussState) → IsFit o s → MakesFunctionCalls s xs → All IsCalm xs → Without s xs
   without [] s fit makes calm = record { others = []; like = none; makes = tt; is = refl }
   without (x ∷ xs) s fit makes calm =
       let still = All-head IsCalm x xs calm in
@@ -164,7 +164,7 @@ module _ (o : Options) (has : has_functions o ≡ true) (off : o.follow ≡ fals
     fit : IsFit o u
     grows : Grown s.reports u.reports
 
-  later : (xs : List Exchange) (s : TrussState) → IsFit o s → MakesCalls s xs → All IsCalm xs
+  later : (xs : List Exchange) (s : TrussState) → IsFit o s → MakesFunctionCalls s xs → All IsCalm xs
       → Later s (functions_after s xs)
   later [] s fit makes calm = record { fit = fit; grows = grown-same s.reports }
   later (x ∷ xs) s fit makes calm =
@@ -174,7 +174,7 @@ module _ (o : Options) (has : has_functions o ≡ true) (off : o.follow ≡ fals
       later xs (fed_functions s x.reply) (next-fit s x fit makes.0 still) makes.1 (All-tail IsCalm x xs calm) in
       record { fit = rest.fit; grows = grown-all s.reports _ _ row.grows rest.grows }
 
-  grows-from : (before after : List Exchange) (s : TrussState) → IsFit o s → MakesCalls s (before ++ after)
+  grows-from : (before after : List Exchange) (s : TrussState) → IsFit o s → MakesFunctionCalls s (before ++ after)
       → All IsCalm (before ++ after)
       → Grown (functions_after s before).reports (functions_after s (before ++ after)).reports
   grows-from [] after s fit makes calm = let it = later after s fit makes calm in it.grows
@@ -183,11 +183,11 @@ module _ (o : Options) (has : has_functions o ≡ true) (off : o.follow ≡ fals
       grows-from before after (fed_functions s x.reply) (next-fit s x fit makes.0 still) makes.1
       (All-tail IsCalm x (before ++ after) calm)
 
-  prints-in-order : (xs : List Exchange) → MakesCalls (first_truss o) xs → All IsCalm xs → PrintsInOrder o xs
+  prints-in-order : (xs : List Exchange) → MakesFunctionCalls (first_truss o) xs → All IsCalm xs → PrintsInOrder o xs
   prints-in-order xs makes calm = record {
     reports = λ before after is.
         let grown =
-        grows-from before after (first_truss o) first-fit (subst (MakesCalls (first_truss o)) is makes)
+        grows-from before after (first_truss o) first-fit (subst (MakesFunctionCalls (first_truss o)) is makes)
         (subst (All IsCalm) is calm) in (
           grown.more,
           ap (λ ys. (functions_after (first_truss o) ys).reports) is ∙ grown.is,
@@ -198,7 +198,7 @@ module _ (o : Options) (has : has_functions o ≡ true) (off : o.follow ≡ fals
         prints-lines o (functions_after (first_truss o) xs) fit.options none;
   }
 
-  pub beside : (xs : List Exchange) → MakesCalls (first_truss o) xs → All IsCalm xs → IsTrussBeside o xs
+  pub beside : (xs : List Exchange) → MakesFunctionCalls (first_truss o) xs → All IsCalm xs → IsTrussBeside o xs
   beside xs makes calm =
       let w = without xs (first_truss o) first-fit makes calm in
       let own : Makes (first_truss o) w.others = subst (λ u. Makes u w.others) (first-ordinary o) w.makes in
@@ -213,7 +213,7 @@ module _ (o : Options) (has : has_functions o ≡ true) (off : o.follow ≡ fals
       }
 
 pub truss-beside : (o : Options) (xs : List Exchange) → has_functions o ≡ true → o.follow ≡ false
-    → MakesCalls (first_truss o) xs → All IsCalm xs → IsTrussBeside o xs
+    → MakesFunctionCalls (first_truss o) xs → All IsCalm xs → IsTrussBeside o xs
 truss-beside o xs has off = beside o has off xs
 
 pub ruleset ordinaries = (truss-beside)

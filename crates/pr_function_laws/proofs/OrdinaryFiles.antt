@@ -52,7 +52,7 @@ use Rattle.pr_function_laws.proofs.OrdinaryExchanges.{IsFit, Turn, first-fit, go
 use Rattle.pr_function_laws.proofs.OrdinaryReplies.{first-ordinary}
 use Rattle.pr_function_laws.specs.Opened.{IsFunctionRun}
 use Rattle.pr_function_laws.specs.Ordinary.{IsLike, IsTakenUp, PlantsAtFirst, SeesTo, StandsFor, common, entries, exits, faults, in_place, leaves, ordinary, own_fault, plants_at_first, reads_code, refused, runs, same, signals, waits}
-use Rattle.pr_function_laws.specs.Runs.{MakesCalls, functions_after}
+use Rattle.pr_function_laws.specs.Runs.{MakesFunctionCalls, functions_after}
 use Rattle.pr_function_laws.specs.Soon.{IsCalm, may_wait}
 
 -- Truss with calls of functions along a history: without its breakpoints it has just the files open that it remembers,
@@ -70,15 +70,15 @@ abbrev pub MakesOwn : TrussState → Option Exchange → Type 0
 MakesOwn t None = Unit {0}
 MakesOwn t (Some x) = next_function_call_of t ≡ Some x.call
 
-own-first : (t : TrussState) (x : Option Exchange) (xs : List Exchange) → MakesCalls t (cons_option x xs)
-    → MakesOwn t x × MakesCalls (with_own t x) xs
+own-first : (t : TrussState) (x : Option Exchange) (xs : List Exchange) → MakesFunctionCalls t (cons_option x xs)
+    → MakesOwn t x × MakesFunctionCalls (with_own t x) xs
 own-first t None xs makes = (tt, makes)
 own-first t (Some x) xs makes = makes
 
-pub own-next : (k : ℕ) (t : TrussState) (e : Entry) (h : List Entry) → MakesCalls t (exchanges k (e ∷ h))
-    → MakesOwn t (exchange_of k e) × MakesCalls (with_own t (exchange_of k e)) (exchanges k h)
+pub own-next : (k : ℕ) (t : TrussState) (e : Entry) (h : List Entry) → MakesFunctionCalls t (exchanges k (e ∷ h))
+    → MakesOwn t (exchange_of k e) × MakesFunctionCalls (with_own t (exchange_of k e)) (exchanges k h)
 own-next k t e h makes =
-    own-first t (exchange_of k e) (exchanges k h) (subst (MakesCalls t) (cons-exchanges k e h) makes)
+    own-first t (exchange_of k e) (exchanges k h) (subst (MakesFunctionCalls t) (cons-exchanges k e h) makes)
 
 own-after : (t : TrussState) (x : Option Exchange) (xs : List Exchange)
     → functions_after t (cons_option x xs) ≡ functions_after (with_own t x) xs
@@ -325,17 +325,17 @@ module _ (o : Options) (has : has_functions o ≡ true) (off : o.follow ≡ fals
 pub record Halfway (n k : ℕ) (o : Options) (t : TrussState) (s : TracedState) (before later : List Entry) : Type 0 where
   pub follows : Follows k o (functions_after t (exchanges k before)) (state_after s before)
   pub legal : IsLegal n (state_after s before) later
-  pub makes : MakesCalls (functions_after t (exchanges k before)) (exchanges k later)
+  pub makes : MakesFunctionCalls (functions_after t (exchanges k before)) (exchanges k later)
 
 pub halfway : (before later : List Entry) (n k : ℕ) (o : Options) (t : TrussState) (s : TracedState)
     → has_functions o ≡ true → o.follow ≡ false → Follows k o t s → IsLegal n s (before ++ later)
-    → MakesCalls t (exchanges k (before ++ later)) → Halfway n k o t s before later
+    → MakesFunctionCalls t (exchanges k (before ++ later)) → Halfway n k o t s before later
 halfway [] later n k o t s has off f legal makes =
     let none : t ≡ functions_after t (exchanges k []) = ap (functions_after t) (sym (no-exchanges k)) in
     record {
       follows = subst (λ (u : TrussState). Follows k o u s) none f;
       legal = legal;
-      makes = subst (λ (u : TrussState). MakesCalls u (exchanges k later)) none makes;
+      makes = subst (λ (u : TrussState). MakesFunctionCalls u (exchanges k later)) none makes;
     }
 halfway (e ∷ before) later n k o t s has off f legal makes =
     let m = own-next k t e (before ++ later) makes in
@@ -346,7 +346,7 @@ halfway (e ∷ before) later n k o t s has off f legal makes =
     record {
       follows = subst (λ (u : TrussState). Follows k o u (state_after (after s e) before)) is rest.follows;
       legal = rest.legal;
-      makes = subst (λ (u : TrussState). MakesCalls u (exchanges k later)) is rest.makes;
+      makes = subst (λ (u : TrussState). MakesFunctionCalls u (exchanges k later)) is rest.makes;
     }
 
 pub run-halfway : (n k : ℕ) (o : Options) (s : TracedState) (before later : List Entry)

@@ -76,18 +76,18 @@ pub controls-ordinary : (ts : List Traced)
 controls-ordinary [] = refl
 controls-ordinary (t ∷ ts) = ap (λ handles. t.control ∷ handles) (controls-ordinary ts)
 
-place-unmarked : (ts : List Traced) (handle : ℕ)
-    → position_or_len (has_control handle) (map unmarked ts) ≡ position_or_len (has_control handle) ts
-place-unmarked [] handle = refl
-place-unmarked (t ∷ ts) handle = ap (λ n. cond (not (has_control handle t)) (1 + n) 0) (place-unmarked ts handle)
+-- a place that is found by what does not depend on marks
+module _ (p : Traced → Bool) (same : (t : Traced) → p (unmarked t) ≡ p t) where
+  place-unmarked : (ts : List Traced) → position_or_len p (map unmarked ts) ≡ position_or_len p ts
+  place-unmarked [] = refl
+  place-unmarked (t ∷ ts) =
+      ap (λ b. cond (not b) (1 + position_or_len p (map unmarked ts)) 0) (same t)
+      ∙ ap (λ n. cond (not (p t)) (1 + n) 0) (place-unmarked ts)
 
-position-unmarked : (ts : List Traced) (handle : ℕ)
-    → position (has_control handle) (map unmarked ts) ≡ position (has_control handle) ts
-position-unmarked ts handle =
-    ap (λ n. cond (ltb n (length (map unmarked ts))) (Some n) None) (place-unmarked ts handle)
-    ∙ ap (λ n. cond (ltb (position_or_len (has_control handle) ts) n)
-    (Some (position_or_len (has_control handle) ts)) None)
-    (length-map ts unmarked)
+  pub position-unmarked : (ts : List Traced) → position p (map unmarked ts) ≡ position p ts
+  position-unmarked ts =
+      ap (λ n. cond (ltb n (length (map unmarked ts))) (Some n) None) (place-unmarked ts)
+      ∙ ap (λ n. cond (ltb (position_or_len p ts) n) (Some (position_or_len p ts)) None) (length-map ts unmarked)
 
 last-unmarked : (t : Traced) → without_last (unmarked t) ≡ option_map unmarked (without_last t)
 unfolding without_last
@@ -378,7 +378,7 @@ named : (ts : List Traced) (ready : Option ℕ)
     → option_and_then (λ handle. position (has_control handle) (map unmarked ts)) ready
     ≡ option_and_then (λ handle. position (has_control handle) ts) ready
 named ts None = refl
-named ts (Some handle) = position-unmarked ts handle
+named ts (Some handle) = position-unmarked (has_control handle) (λ t. refl) ts
 
 poll : (s : TrussState) (r : Reply) (a : Answer)
     → ordinary (with_poll_answered s r a) ≡ with_poll_answered (ordinary s) r a

@@ -103,7 +103,7 @@ next-fits place function plants clear (Closing at GoOn) fits first =
     absurd (none-some function (sym fits.1 ∙ first))
 next-fits place function plants clear _ fits first = absurd fits
 
-nothing-first : first_function no_functions ≡ None
+pub nothing-first : first_function no_functions ≡ None
 nothing-first = refl
 
 -- nothing is planted, and no fault is cleared

@@ -51,7 +51,7 @@ use Rattle.pr_function_laws.specs.Turns.{EndsInTrap, HasTrap}
 
 module _ (k : ℕ) (o : Options) (s : TracedState) (front : List Entry) (ts : List Traced) (place : ℕ)
     (within : place < length ts) where
-  steps-opened : (stage : Stage) → is_opened stage place ≡ true → AtStage (StepsAt k o s front) ts stage
+  pub steps-opened : (stage : Stage) → is_opened stage place ≡ true → AtStage (StepsAt k o s front) ts stage
       → Steps k o s front (at_place ts place)
   steps-opened stage opened w = by stage opened w
     where
@@ -103,6 +103,25 @@ turn_entry pid id t = record { actor = Lwp pid id; act = Turn t }
 
 module _ (n k : ℕ) (o : Options) (s : TracedState) (h : List Entry) (run : IsFunctionRun n k o s h)
     (reached : IsReached s) (bytes : HasBytes h) (able : AreSteppable o) where
+  -- a step that is under way in a process that lives
+  pub begun-there : (front later : List Entry) → h ≡ front ++ later → (place : ℕ) (step : Stepped)
+      → HasStep k o front place step → (p : TracedProcess)
+      → live_process (state_after s front).system (traced_at (functions_at k o front) place).pid ≡ Some p
+      → WasBegun k o front (traced_at (functions_at k o front) place).pid
+      (traced_at (functions_at k o front) place).status step
+  begun-there front later is place step under p live =
+      let w : Kept (StepsAt k o s front) (functions_at k o front) =
+      kept-front n k o s h run reached bytes able front later is under.calm in
+      by (steps-opened k o s front (functions_at k o front).traced place under.within (functions_at k o front).stage
+      under.opened w.stage step under.under_way)
+    where
+      by : IsUnderWay k o s front (traced_at (functions_at k o front) place).pid
+          (traced_at (functions_at k o front) place).status step
+          → WasBegun k o front (traced_at (functions_at k o front) place).pid
+          (traced_at (functions_at k o front) place).status step
+      by (begun b) = b
+      by (ended none) = absurd (none-some p (sym none ∙ live))
+
   module _ (front later : List Entry) (place id : ℕ) (step : Stepped) (t : Turned)
       (is : h ≡ front ++ turn_entry (traced_at (functions_at k o front) place).pid id t ∷ later)
       (under : HasStep k o front place step) where
@@ -128,14 +147,8 @@ module _ (n k : ℕ) (o : Options) (s : TracedState) (h : List Entry) (run : IsF
 
     pub its-step : WasBegun k o front pid (traced_at tr place).status step
     its-step =
-        let w : Kept (StepsAt k o s front) tr =
-        kept-front n k o s h run reached bytes able front (e ∷ later) is under.calm in
-        by (steps-opened k o s front tr.traced place under.within tr.stage under.opened w.stage step under.under_way)
-      where
-        by : IsUnderWay k o s front pid (traced_at tr place).status step
-            → WasBegun k o front pid (traced_at tr place).status step
-        by (begun b) = b
-        by (ended none) = let it = lives in absurd (none-some it.0 (sym none ∙ it.1))
+        let it = lives in
+        begun-there front (e ∷ later) is place step under it.0 it.1
 
     -- the lwp of the step, of which truss read that it stands at the breakpoint
     abbrev lwp : ℕ

@@ -35,7 +35,7 @@ use Rattle.pr_truss_laws.specs.Exchanges.{Exchange}
 use Rattle.pr_function_laws.proofs.ComingLemmas.{come-both, come-weaker, functions-first, functions-none, if-ended}
 use Rattle.pr_function_laws.specs.Coming.{Come, ComeWhileItLives, IfEnded, Later, close_calls, functions_in, lift_calls, plant_calls}
 use Rattle.pr_function_laws.specs.Leaving.{clear_calls}
-use Rattle.pr_function_laws.specs.Runs.{MakesCalls}
+use Rattle.pr_function_laws.specs.Runs.{MakesFunctionCalls}
 use Rattle.pr_function_laws.specs.Soon.{IsCalm, may_wait}
 
 -- The calls by which truss plants and lifts breakpoints of a process, and by which it closes the files of one.
@@ -141,19 +141,19 @@ module _ (o : Options) (has : has_functions o ≡ true) where
         })
 
     module _ (Then : Later)
-        (ends : (v : TrussState) (xs : List Exchange) → Shut v → MakesCalls (with_going_on v) xs → All IsCalm xs
+        (ends : (v : TrussState) (xs : List Exchange) → Shut v → MakesFunctionCalls (with_going_on v) xs → All IsCalm xs
         → Then xs) where
       last : (t : Traced) (u : TrussState) (r : Reply) (xs : List Exchange) → Shuts t u → without_last t ≡ None
-          → MakesCalls (fed_functions u r) xs → All IsCalm xs → Then xs
+          → MakesFunctionCalls (fed_functions u r) xs → All IsCalm xs → Then xs
       unfolding after_closing
       last t u r xs w none made calm =
           ends (without_traced u place) xs
           (record { options = w.options; leaving = w.leaving; idle = w.idle; traced = w.others })
-          (subst (λ (v : TrussState). MakesCalls v xs)
+          (subst (λ (v : TrussState). MakesFunctionCalls v xs)
           (close-fed t u r w ∙ ap (closed_or_removed u place GoOn) none) made) calm
 
       close-fields : (t : Traced) (memory lstatus status : Option ℕ) (u : TrussState) (xs : List Exchange)
-          → Shuts (record t { memory = memory; lstatus = lstatus; status = status }) u → MakesCalls u xs
+          → Shuts (record t { memory = memory; lstatus = lstatus; status = status }) u → MakesFunctionCalls u xs
           → All IsCalm xs
           → Come (close_calls (record t { memory = memory; lstatus = lstatus; status = status })) Then xs
       unfolding last_handle without_last
@@ -179,7 +179,7 @@ module _ (o : Options) (has : has_functions o ≡ true) where
       close-fields t None None None u (x ∷ xs) w made calm =
           (close-call _ u x.call w made.0, last _ u x.reply xs w refl made.1 (All-tail IsCalm x xs calm))
 
-      pub closes-come : (t : Traced) (u : TrussState) (xs : List Exchange) → Shuts t u → MakesCalls u xs
+      pub closes-come : (t : Traced) (u : TrussState) (xs : List Exchange) → Shuts t u → MakesFunctionCalls u xs
           → All IsCalm xs → Come (close_calls t) Then xs
       closes-come t u xs w made calm = close-fields t t.memory t.lstatus t.status u xs w made calm
 
@@ -311,8 +311,9 @@ module _ (o : Options) (has : has_functions o ≡ true) where
     patch-ended fl u a _ is w idle = absurd is
 
     module _ (fl : ℕ) (stage : Stage) (patches : Patches place stage) (Then Ended : Later)
-        (finish : (u : TrussState) (xs : List Exchange) → Idle fl stage u → MakesCalls u xs → All IsCalm xs → Then xs)
-        (ended : (u : TrussState) (xs : List Exchange) → Idle fl (Closing place GoOn) u → MakesCalls u xs
+        (finish : (u : TrussState) (xs : List Exchange) → Idle fl stage u → MakesFunctionCalls u xs
+        → All IsCalm xs → Then xs)
+        (ended : (u : TrussState) (xs : List Exchange) → Idle fl (Closing place GoOn) u → MakesFunctionCalls u xs
         → All IsCalm xs → Ended xs) where
       -- a patch was made of this state, and then this is beside the stage
       record Patched (u : TrussState) (a : Aside) (r : Reply) (v : TrussState) : Type 0 where
@@ -323,8 +324,8 @@ module _ (o : Options) (has : has_functions o ≡ true) where
 
       -- what comes then
       goes : (u : TrussState) (a : Aside) (x : Exchange) (v : TrussState) (xs : List Exchange) (Next : Type 0)
-          → Patched u a x.reply v → answer_of x.reply ≢ Interrupted → MakesCalls v xs → All IsCalm xs
-          → ((w : TrussState) → At fl stage w → w.aside ≡ a → MakesCalls w xs → Next)
+          → Patched u a x.reply v → answer_of x.reply ≢ Interrupted → MakesFunctionCalls v xs → All IsCalm xs
+          → ((w : TrussState) → At fl stage w → w.aside ≡ a → MakesFunctionCalls w xs → Next)
           → IfEnded x.reply (Ended xs) Next
       goes u a x v xs Next p calm made all next =
           if-ended x.reply (Ended xs) Next
@@ -333,11 +334,11 @@ module _ (o : Options) (has : has_functions o ≡ true) where
           p.is ∙ ap (after_patch p.base a place stage) gone in
           ended (after_patch p.base a place stage Gone) xs
           (patch-ended fl p.base a stage patches p.at p.idle)
-          (subst (λ (y : TrussState). MakesCalls y xs) is made) all)
+          (subst (λ (y : TrussState). MakesFunctionCalls y xs) is made) all)
           (λ lives.
           let is : v ≡ with_aside p.base a = p.is ∙ patch-on p.base a stage (answer_of x.reply) patches lives calm in
           next (with_aside p.base a) (at-beside fl stage p.base a p.at) refl
-          (subst (λ (y : TrussState). MakesCalls y xs) is made))
+          (subst (λ (y : TrussState). MakesFunctionCalls y xs) is made))
 
       module _ (u : TrussState) (plants lifts : List Bool) (clear : Bool) (w : At fl stage u)
           (aside : u.aside ≡ Patching place plants lifts clear) where
@@ -368,7 +369,7 @@ module _ (o : Options) (has : has_functions o ≡ true) where
 
       clear-come : (u : TrussState) (plants lifts : List Bool) (clear : Bool) (xs : List Exchange) → At fl stage u
           → u.aside ≡ patching place plants lifts clear → first_function plants ≡ None → first_function lifts ≡ None
-          → MakesCalls u xs → All IsCalm xs → ComeWhileItLives (clear_calls t clear) Then Ended xs
+          → MakesFunctionCalls u xs → All IsCalm xs → ComeWhileItLives (clear_calls t clear) Then Ended xs
       unfolding patching
       clear-come u plants lifts false xs w aside none_p none_l made all =
           finish u xs (record {
@@ -414,7 +415,7 @@ module _ (o : Options) (has : has_functions o ≡ true) where
 
       lifts-by : (xs : List Exchange) (first : Option ℕ) (u : TrussState) (plants lifts : List Bool) (clear : Bool)
           → first_function lifts ≡ first → At fl stage u → u.aside ≡ patching place plants lifts clear
-          → first_function plants ≡ None → MakesCalls u xs → All IsCalm xs
+          → first_function plants ≡ None → MakesFunctionCalls u xs → All IsCalm xs
           → Lifts lifts clear (functions_in lifts) xs
       unfolding patching
       lifts-by xs None u plants lifts clear is w aside none_p made all =
@@ -462,7 +463,7 @@ module _ (o : Options) (has : has_functions o ≡ true) where
 
       plants-by : (xs : List Exchange) (first : Option ℕ) (u : TrussState) (plants lifts : List Bool) (clear : Bool)
           → first_function plants ≡ first → At fl stage u → u.aside ≡ patching place plants lifts clear
-          → MakesCalls u xs → All IsCalm xs → Plants plants lifts clear (functions_in plants) xs
+          → MakesFunctionCalls u xs → All IsCalm xs → Plants plants lifts clear (functions_in plants) xs
       unfolding patching
       plants-by xs None u plants lifts clear is w aside made all =
           subst (λ fs. Plants plants lifts clear fs xs) (sym (functions-none plants is))
@@ -501,7 +502,7 @@ module _ (o : Options) (has : has_functions o ≡ true) where
 
       -- all patches of a process come next, and then what comes behind them
       pub patches-come : (u : TrussState) (xs : List Exchange) (plants lifts : List Bool) (clear : Bool) → At fl stage u
-          → u.aside ≡ patching place plants lifts clear → MakesCalls u xs → All IsCalm xs
+          → u.aside ≡ patching place plants lifts clear → MakesFunctionCalls u xs → All IsCalm xs
           → ComeWhileItLives
           (plant_calls o t.control plants ++ (lift_calls o t.control lifts ++ clear_calls t clear)) Then Ended xs
       patches-come u xs plants lifts clear w aside made all =

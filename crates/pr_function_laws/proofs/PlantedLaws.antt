@@ -41,7 +41,7 @@ use Rattle.pr_function_laws.proofs.PatchCalls.{fed-beside, fed-staged, next-besi
 use Rattle.pr_function_laws.proofs.RefusedOpenings.{gone-closes, refused-lifts}
 use Rattle.pr_function_laws.proofs.TreatedLaws.{options-at}
 use Rattle.pr_function_laws.specs.Planted.{GivesUp, Look, LooksAtFunctions, Plants, PlantsWhatItRead, Reads, look_at}
-use Rattle.pr_function_laws.specs.Runs.{MakesCalls, functions_after}
+use Rattle.pr_function_laws.specs.Runs.{MakesFunctionCalls, functions_after}
 
 -- Which functions truss has planted once it has opened a process: those of which it read the code, and was granted the
 -- write.
@@ -323,7 +323,7 @@ module _ (o : Options) (has : has_functions o ≡ true) (off : o.follow ≡ fals
   GivesUpAt set u a xs = GivesUp o c set (traced_at u q) a xs
 
   read-gives-up : (set : List Bool) (f : ℕ) (u : TrussState) (r : Reply) (a : Answer) (xs : List Exchange)
-      → Opens set Start (Reading q f) u → MakesCalls (with_code_answered (with_aside u Nothing) q f r a) xs
+      → Opens set Start (Reading q f) u → MakesFunctionCalls (with_code_answered (with_aside u Nothing) q f r a) xs
       → GivesUpAt set u a xs
   unfolding with_code_answered
   read-gives-up set f u r Accepted xs w made = tt
@@ -335,7 +335,7 @@ module _ (o : Options) (has : has_functions o ≡ true) (off : o.follow ≡ fals
       (ap (λ (m : Marks). m.planted) w.marks) w.control made
 
   plant-gives-up : (set : List Bool) (f : ℕ) (u : TrussState) (a : Answer) (xs : List Exchange)
-      → Opens set Start (Planting q f) u → MakesCalls (with_plant_answered (with_aside u Nothing) q f a) xs
+      → Opens set Start (Planting q f) u → MakesFunctionCalls (with_plant_answered (with_aside u Nothing) q f a) xs
       → GivesUpAt set u a xs
   unfolding with_plant_answered
   plant-gives-up set f u Accepted xs w made = tt
@@ -347,24 +347,25 @@ module _ (o : Options) (has : has_functions o ≡ true) (off : o.follow ≡ fals
       (ap (λ (m : Marks). m.planted) w.marks) w.control made
 
   beside-made : (aside : Aside) (u : TrussState) (r : Reply) (xs : List Exchange) → u.options ≡ o → u.aside ≡ aside
-      → MakesCalls (fed_functions u r) xs → MakesCalls (with_aside_answered u r aside) xs
+      → MakesFunctionCalls (fed_functions u r) xs → MakesFunctionCalls (with_aside_answered u r aside) xs
   beside-made aside u r xs options is made =
-      subst (λ (v : TrussState). MakesCalls v xs) (fed-beside o has u r options ∙ ap (with_aside_answered u r) is) made
+      subst (λ (v : TrussState). MakesFunctionCalls v xs)
+      (fed-beside o has u r options ∙ ap (with_aside_answered u r) is) made
 
   read-refused : (set : List Bool) (f : ℕ) (u : TrussState) (r : Reply) (xs : List Exchange)
-      → Opens set Start (Reading q f) u → MakesCalls (fed_functions u r) xs → GivesUpAt set u (answer_of r) xs
+      → Opens set Start (Reading q f) u → MakesFunctionCalls (fed_functions u r) xs → GivesUpAt set u (answer_of r) xs
   unfolding with_aside_answered
   read-refused set f u r xs w made =
       read-gives-up set f u r (answer_of r) xs w (beside-made (Reading q f) u r xs w.options w.beside made)
 
   plant-refused : (set : List Bool) (f : ℕ) (u : TrussState) (r : Reply) (xs : List Exchange)
-      → Opens set Start (Planting q f) u → MakesCalls (fed_functions u r) xs → GivesUpAt set u (answer_of r) xs
+      → Opens set Start (Planting q f) u → MakesFunctionCalls (fed_functions u r) xs → GivesUpAt set u (answer_of r) xs
   unfolding with_aside_answered
   plant-refused set f u r xs w made =
       plant-gives-up set f u (answer_of r) xs w (beside-made (Planting q f) u r xs w.options w.beside made)
 
   looks-on : (xs : List Exchange) (look : Option Look) (set : List Bool) (u : TrussState) → OpensAt set look u
-      → MakesCalls u xs → LooksAtFunctions o c q look set u xs
+      → MakesFunctionCalls u xs → LooksAtFunctions o c q look set u xs
   unfolding call_beside function_call_of call_of opening_call
   looks-on [] None set u w made = (w.marks, tt)
   looks-on (x ∷ xs) None set u w made = (
@@ -429,7 +430,7 @@ control-opens o has off t r pid options at free granted =
     })
 
 pub plants-what-it-read : (o : Options) (xs : List Exchange) → has_functions o ≡ true → o.follow ≡ false
-    → MakesCalls (first_truss o) xs → PlantsWhatItRead o xs
+    → MakesFunctionCalls (first_truss o) xs → PlantsWhatItRead o xs
 plants-what-it-read o xs has off makes = record {
   each = λ before opening after x pid is at free granted all long.
       let t : TrussState = functions_after (first_truss o) before in
@@ -440,8 +441,9 @@ plants-what-it-read o xs has off makes = record {
       let looks = steps-open o has off q c opening OpenStatus (fed_functions t x.reply) begun long (omega arith) all in
       let then : functions_after (first_truss o) (before ++ x ∷ opening)
       ≡ functions_after (fed_functions t x.reply) opening = functions-both (first_truss o) before (x ∷ opening) in
-      let made : MakesCalls (fed_functions t x.reply) (opening ++ after) =
-      (calls-rest (first_truss o) before (x ∷ (opening ++ after)) (subst (MakesCalls (first_truss o)) is makes)).1 in
+      let made : MakesFunctionCalls (fed_functions t x.reply) (opening ++ after) =
+      (calls-rest (first_truss o) before (x ∷ (opening ++ after))
+      (subst (MakesFunctionCalls (first_truss o)) is makes)).1 in
       subst (λ (v : TrussState). LooksAtFunctions o c q (look_at o 0) no_functions v after) (sym then)
       (looks-on o has off q c after (look_at o 0) no_functions (functions_after (fed_functions t x.reply) opening) looks
       (calls-rest (fed_functions t x.reply) opening after made));

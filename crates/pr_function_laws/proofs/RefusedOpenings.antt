@@ -31,7 +31,7 @@ use Rattle.pr_truss_laws.specs.Exchanges.{Exchange}
 use Rattle.pr_function_laws.proofs.ComingLemmas.{functions-first, functions-none}
 use Rattle.pr_function_laws.proofs.PatchCalls.{fed-beside, fed-staged, next-beside, next-staged, same-closes}
 use Rattle.pr_function_laws.specs.Coming.{Anything, Come, close_calls, functions_in, lift_calls}
-use Rattle.pr_function_laws.specs.Runs.{MakesCalls}
+use Rattle.pr_function_laws.specs.Runs.{MakesFunctionCalls}
 
 -- What truss calls next where the opening of a process was refused after it began to plant its functions there.
 
@@ -46,7 +46,8 @@ module _ (o : Options) (has : has_functions o ≡ true) (q : ℕ) where
     stage : u.stage ≡ Closing q OpenNext
     here : traced_at u q ≡ t
 
-  close-call : (t : Traced) (u : TrussState) (x : Exchange) (xs : List Exchange) → Shuts t u → MakesCalls u (x ∷ xs)
+  close-call : (t : Traced) (u : TrussState) (x : Exchange) (xs : List Exchange) → Shuts t u
+      → MakesFunctionCalls u (x ∷ xs)
       → x.call ≡ call.Close (last_handle t)
   unfolding function_call_of call_of
   close-call t u x xs w made =
@@ -70,7 +71,7 @@ module _ (o : Options) (has : has_functions o ≡ true) (q : ℕ) where
       })
 
   close-fields : (t : Traced) (memory lstatus status : Option ℕ) (u : TrussState) (xs : List Exchange)
-      → Shuts (record t { memory = memory; lstatus = lstatus; status = status }) u → MakesCalls u xs
+      → Shuts (record t { memory = memory; lstatus = lstatus; status = status }) u → MakesFunctionCalls u xs
       → Come (close_calls (record t { memory = memory; lstatus = lstatus; status = status })) Anything xs
   unfolding last_handle without_last
   close-fields t (Some m) l s u [] w made = tt
@@ -101,7 +102,7 @@ module _ (o : Options) (has : has_functions o ≡ true) (q : ℕ) where
     stage : u.stage ≡ Closing q OpenNext
     files : SameFiles t (traced_at u q)
 
-  closes : (t : Traced) (u : TrussState) (xs : List Exchange) → IsGivenUp t Nothing u → MakesCalls u xs
+  closes : (t : Traced) (u : TrussState) (xs : List Exchange) → IsGivenUp t Nothing u → MakesFunctionCalls u xs
       → Come (close_calls t) Anything xs
   closes t u xs w made =
       let v : Traced = traced_at u q in
@@ -154,7 +155,7 @@ module _ (o : Options) (has : has_functions o ≡ true) (q : ℕ) where
       })
 
   lift-called : (t : Traced) (set : List Bool) (f : ℕ) (u : TrussState) (x : Exchange) (xs : List Exchange)
-      → first_function set ≡ Some f → IsGivenUp t (Patching q no_functions set false) u → MakesCalls u (x ∷ xs)
+      → first_function set ≡ Some f → IsGivenUp t (Patching q no_functions set false) u → MakesFunctionCalls u (x ∷ xs)
       → x.call ≡ lift_call o t.control f
   unfolding call_beside
   lift-called t set f u x xs is w made =
@@ -166,7 +167,7 @@ module _ (o : Options) (has : has_functions o ≡ true) (q : ℕ) where
       ∙ ap (λ p. Some (patch_call o t.control None p)) is)
 
   lifts-by : (xs : List Exchange) (first : Option ℕ) (t : Traced) (set : List Bool) (u : TrussState)
-      → first_function set ≡ first → IsGivenUp t (lifting set) u → MakesCalls u xs
+      → first_function set ≡ first → IsGivenUp t (lifting set) u → MakesFunctionCalls u xs
       → Come (map (lift_call o t.control) (functions_in set) ++ close_calls t) Anything xs
   lifts-by xs None t set u is w made =
       subst (λ fs. Come (map (lift_call o t.control) fs ++ close_calls t) Anything xs) (sym (functions-none set is))
@@ -188,7 +189,7 @@ module _ (o : Options) (has : has_functions o ≡ true) (q : ℕ) where
 
   module _ (s : TrussState) (xs : List Exchange) (options : s.options ≡ o) (within : q < length s.traced)
       (idle : s.aside ≡ Nothing) where
-    pub gone-closes : (errno : Errno) → MakesCalls (with_refused_step s q errno) xs
+    pub gone-closes : (errno : Errno) → MakesFunctionCalls (with_refused_step s q errno) xs
         → Come (close_calls (traced_at s q)) Anything xs
     unfolding with_refused_step
     gone-closes errno made =
@@ -197,7 +198,7 @@ module _ (o : Options) (has : has_functions o ≡ true) (q : ℕ) where
         made
 
     pub refused-lifts : (errno : Errno) (set : List Bool) (control : ℕ) → (marks_at s q).planted ≡ set
-        → (traced_at s q).control ≡ control → MakesCalls (with_refused_opening s q errno) xs
+        → (traced_at s q).control ≡ control → MakesFunctionCalls (with_refused_opening s q errno) xs
         → Come (lift_calls o control set ++ close_calls (traced_at s q)) Anything xs
     unfolding with_refused_opening with_refused_step with_lifts
     refused-lifts errno set control planted own made =

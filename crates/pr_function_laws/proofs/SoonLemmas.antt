@@ -49,7 +49,7 @@ use Rattle.pr_truss.specs.declared.stages.FreeingStep.TheVariants as freeing
 use Rattle.pr_truss.specs.declared.stages.OpeningStep.{OpeningStep}
 use Rattle.pr_truss.specs.declared.stages.OpeningStep.TheVariants as opening
 use Rattle.pr_truss.specs.declared.stages.Stage.{Stage}
-use Rattle.pr_truss.specs.declared.stages.Stage.TheVariants.{Opening, Polling, ReadingStatus, ReadingText, OpeningChildControl, OpeningChild, Running, Closing, FreeingChild}
+use Rattle.pr_truss.specs.declared.stages.Stage.TheVariants.{Opening, Polling, ReadingStatus, ReadingText, OpeningChildControl, OpeningChild, Running, Closing, ReadingLwps, FreeingChild}
 use Rattle.pr_truss_laws.proofs.FedSteps.{fed-step}
 use Rattle.pr_truss_laws.proofs.AnswerLemmas.{IsAnswer, answer-is}
 use Rattle.pr_truss_laws.proofs.HeldLemmas.{IsLast, at_place, set-at}
@@ -62,7 +62,7 @@ use Rattle.pr_truss_laws.specs.Exchanges.{Exchange}
 use Rattle.pr_truss_laws.specs.Polled as polled
 use Rattle.pr_function_laws.proofs.MarkLemmas.{MarksAreBelow, members, members-most, none-below, step-below, without-first}
 use Rattle.pr_function_laws.proofs.SoundLemmas.{EventIsBelow, IsSound, event-of-options, first-sound, function-sound, is_polling}
-use Rattle.pr_function_laws.specs.Runs.{MakesCalls, functions_after}
+use Rattle.pr_function_laws.specs.Runs.{MakesFunctionCalls, functions_after}
 use Rattle.pr_function_laws.specs.Soon.{IsCalm, IsNamed, IsNoEndOf, IsSoonDone, calls_until_end, may_wait}
 use Rattle.pr_line.specs.Functions.{function_limit}
 
@@ -143,6 +143,12 @@ module _ (s : TrussState) (r : Reply) where
 abbrev is_read : Call → Bool
 is_read (call.Read handle from len) = true
 is_read _ = false
+
+-- truss looks at how a process stands
+abbrev pub IsLooking : Stage → Type 0
+IsLooking (ReadingStatus place) = Unit {0}
+IsLooking ReadingLwps = Unit {0}
+IsLooking _ = ⊥
 
 -- how many calls come beside the stage at most
 abbrev todo : Aside → ℕ
@@ -736,21 +742,56 @@ module _ (o : Options) (has : has_functions o ≡ true) (p : Traced) (k : ℕ) w
   unfolding IsAnswer
   answer-calm r is = subst (IsAnswer r) is (answer-is r)
 
-  looks-soon : (ys : List Exchange) (s : TrussState) (n : ℕ) → Look n s → IsSound o any_step s → MakesCalls s ys
-      → All (IsNoEndOf p) ys → All IsCalm ys → length ys ≤ n
-  looks-soon [] s n l w makes none calm = omega arith
-  looks-soon (y ∷ ys) s n l w makes none calm =
+  -- as long as they go on each brings the end nearer
+  record On (n count : ℕ) (s : TrussState) : Type 0 where
+    left : ℕ
+    few : left + count ≤ n
+    look : Look left s
+
+  looks-on : (ys : List Exchange) (s : TrussState) (n : ℕ) → Look n s → IsSound o any_step s → MakesFunctionCalls s ys
+      → All (IsNoEndOf p) ys → All IsCalm ys → On n (length ys) (functions_after s ys)
+  looks-on [] s n l w makes none calm = record { left = n; few = omega arith; look = l }
+  looks-on (y ∷ ys) s n l w makes none calm =
       let names = w.names in
       let still = look-waits s n y.call l names.options makes.0 in
       let here = All-head IsCalm y ys calm in
       let next = look-next s n l w y (All-head (IsNoEndOf p) y ys none)
       (λ interrupted. false≢true (sym still ∙ here.waits (answer-calm y.reply interrupted))) names.options makes.0 in
-      omega (
-        arith,
-        next.less,
-        looks-soon ys (fed_functions s y.reply) next.now next.look (any-sound o s y.reply w)
-            makes.1 (All-tail (IsNoEndOf p) y ys none) (All-tail IsCalm y ys calm),
-      )
+      let on =
+      looks-on ys (fed_functions s y.reply) next.now next.look (any-sound o s y.reply w) makes.1
+      (All-tail (IsNoEndOf p) y ys none) (All-tail IsCalm y ys calm) in
+      record { left = on.left; few = omega (arith, on.few, next.less); look = on.look }
+
+  -- truss is to read the status of the process
+  status-look : (s : TrussState) → Stands p s k → s.leaving ≡ false → s.aside ≡ Nothing → s.stage ≡ ReadingStatus k
+      → Look (calls_until_end o) s
+  status-look s here off idle at = record {
+    left = 12;
+    near = record { here = here; stays = off; soon = subst (Nears s.traced k 12) (sym at) (refl, omega arith) };
+    beside = subst (IsBeside k) (sym idle) tt;
+    few = omega (arith, ap todo idle);
+    most = inr (record { first = refl; enough = omega arith; idle = idle });
+  }
+
+  -- behind that read, and before the end, it does so nowhere
+  module _ (s : TrussState) (left : ℕ) (less : left < calls_until_end o) (l : Look left s) where
+    looks-not : (stage : Stage) → Nears s.traced k l.left stage → IsLooking stage → ⊥
+    looks-not (ReadingStatus place) soon looks = elim l.most [
+      | inl below ↦ absurd (omega (arith, below, soon.1))
+      | inr fresh ↦ absurd (omega (arith, fresh.enough, less))
+    ]
+    looks-not ReadingLwps soon looks = soon
+    looks-not _ soon looks = looks
+
+  pub looks-elsewhere : (s : TrussState) (y : Exchange) (ys : List Exchange) → Stands p s k → s.leaving ≡ false
+      → s.aside ≡ Nothing → s.stage ≡ ReadingStatus k → IsSound o any_step s → MakesFunctionCalls s (y ∷ ys)
+      → All (IsNoEndOf p) (y ∷ ys) → All IsCalm (y ∷ ys) → IsLooking (functions_after s (y ∷ ys)).stage → ⊥
+  looks-elsewhere s y ys here off idle at w makes none calm looks =
+      let on = looks-on (y ∷ ys) s (calls_until_end o) (status-look s here off idle at) w makes none calm in
+      let u : TrussState = functions_after s (y ∷ ys) in
+      let l : Look on.left u = on.look in
+      let near : Near p k l.left u = l.near in
+      looks-not u on.left (omega (arith, on.few)) l u.stage near.soon looks
 
 -- ---- from the poll on
 
@@ -833,12 +874,13 @@ after-sound : (o : Options) (xs : List Exchange) (s : TrussState) → IsSound o 
 after-sound o [] s w = w
 after-sound o (x ∷ xs) s w = after-sound o xs (fed_functions s x.reply) (any-sound o s x.reply w)
 
-makes-from : (xs ys : List Exchange) (s : TrussState) → MakesCalls s (xs ++ ys) → MakesCalls (functions_after s xs) ys
+makes-from : (xs ys : List Exchange) (s : TrussState) → MakesFunctionCalls s (xs ++ ys)
+    → MakesFunctionCalls (functions_after s xs) ys
 makes-from [] ys s makes = makes
 makes-from (x ∷ xs) ys s makes = makes-from xs ys (fed_functions s x.reply) makes.1
 
 pub polled-soon : (o : Options) (before between : List Exchange) (x : Exchange) (place : ℕ) → has_functions o ≡ true
-    → MakesCalls (first_truss o) (before ++ x ∷ between)
+    → MakesFunctionCalls (first_truss o) (before ++ x ∷ between)
     → IsNamed (functions_after (first_truss o) before) x place
     → All (IsNoEndOf (traced_at (functions_after (first_truss o) before) place)) between → All IsCalm between
     → length between ≤ calls_until_end o
@@ -847,28 +889,22 @@ polled-soon o before between x place has makes names none calm =
     let w : IsSound o any_step s = after-sound o before (first_truss o) (first-sound o any_step) in
     let sure = w.names in
     let on : has_functions s.options ≡ true = ap has_functions sure.options ∙ has in
-    let here : MakesCalls s (x ∷ between) = makes-from before (x ∷ between) (first_truss o) makes in
+    let here : MakesFunctionCalls s (x ∷ between) = makes-from before (x ∷ between) (first_truss o) makes in
     let at = next-polls s on names.handles (here.0 ∙ ap (λ c. Some c) names.polls) in
     let is = named-is s x place on at.0 at.1 names in
     let within : place < length s.traced = position-within (has_control names.handle) s.traced place names.there in
     let off : s.leaving ≡ false = w.polls (ap is_polling at.1) in
-    let near : Near (traced_at s place) place 12 (with_stage s (ReadingStatus place)) = record {
-      here = record { within = within; same = same-files (traced_at s place) };
-      stays = off;
-      soon = (refl, omega arith);
-    } in
-    let look : Look o has (traced_at s place) place (calls_until_end o) (with_stage s (ReadingStatus place)) = record {
-      left = 12;
-      near = near;
-      beside = subst (IsBeside place) (sym at.0) tt;
-      few = omega (arith, ap todo at.0);
-      most = inr (record { first = refl; enough = omega arith; idle = at.0 });
-    } in
-    looks-soon o has (traced_at s place) place between (fed_functions s x.reply) (calls_until_end o)
+    let u : TrussState = with_stage s (ReadingStatus place) in
+    let look : Look o has (traced_at s place) place (calls_until_end o) u =
+    status-look o has (traced_at s place) place u (record { within = within; same = same-files (traced_at s place) })
+    off at.0 refl in
+    let on =
+    looks-on o has (traced_at s place) place between (fed_functions s x.reply) (calls_until_end o)
     (subst (Look o has (traced_at s place) place (calls_until_end o)) (sym is) look)
-    (any-sound o s x.reply w) here.1 none calm
+    (any-sound o s x.reply w) here.1 none calm in
+    omega (arith, on.few)
 
-calls-front : (xs ys : List Exchange) (s : TrussState) → MakesCalls s (xs ++ ys) → MakesCalls s xs
+calls-front : (xs ys : List Exchange) (s : TrussState) → MakesFunctionCalls s (xs ++ ys) → MakesFunctionCalls s xs
 calls-front [] ys s makes = tt
 calls-front (x ∷ xs) ys s makes = (makes.0, calls-front xs ys (fed_functions s x.reply) makes.1)
 
@@ -882,13 +918,14 @@ all-rest : (xs ys : List Exchange) → All IsCalm (xs ++ ys) → All IsCalm ys
 all-rest [] ys calm = calm
 all-rest (x ∷ xs) ys calm = all-rest xs ys (All-tail IsCalm x (xs ++ ys) calm)
 
-pub soon-done : (o : Options) (xs : List Exchange) → has_functions o ≡ true → MakesCalls (first_truss o) xs
+pub soon-done : (o : Options) (xs : List Exchange) → has_functions o ≡ true → MakesFunctionCalls (first_truss o) xs
     → All IsCalm xs → IsSoonDone o xs
 soon-done o xs has makes calm = record {
   each = λ before between after x place is names none.
       let parts : xs ≡ (before ++ x ∷ between) ++ after = is ∙ sym (append_assoc before (x ∷ between) after) in
       let front =
-      calls-front (before ++ x ∷ between) after (first_truss o) (subst (MakesCalls (first_truss o)) parts makes) in
+      calls-front (before ++ x ∷ between) after (first_truss o)
+      (subst (MakesFunctionCalls (first_truss o)) parts makes) in
       let rest =
       all-rest before (x ∷ between) (all-front (before ++ x ∷ between) after (subst (All IsCalm) parts calm)) in
       polled-soon o before between x place has front names none (All-tail IsCalm x between rest);

@@ -63,7 +63,7 @@ use Rattle.pr_function_laws.proofs.FaultLemmas.{StandsAtFault, fault-frozen}
 use Rattle.pr_function_laws.proofs.LiftLemmas.{Looks, step_flags, AfterLook, goes_on, has_ended, is_away, looks-weaker, ran-looks, reply-after, begun-is, met-is, met_at}
 use Rattle.pr_function_laws.proofs.ReturnLemmas.{one-first}
 use Rattle.pr_function_laws.specs.Lifted.{GoesElsewhere, HasControl, IsNoRead, ReadsOnlyLast, StepsNoCall, IsAtStopAtBreakpoint}
-use Rattle.pr_function_laws.specs.Runs.{MakesCalls}
+use Rattle.pr_function_laws.specs.Runs.{MakesFunctionCalls}
 use Rattle.pr_function_laws.specs.Steppable.{HasCode, IsAtCode, IsSteppable, StepsItsCode}
 use Rattle.pr_function_laws.specs.Steps.{RunsNoCall}
 use Rattle.pr_line.specs.Functions.{function_limit}
@@ -646,12 +646,12 @@ module _ (n k pid id c ns : ℕ) (met : Traced) (place function : ℕ) (o : Opti
 
     abbrev Rest : TracedState → List Entry → Type 0
     Rest s h =
-        (u : TrussState) → has_functions u.options ≡ true → MakesCalls u (exchanges k h) → Comes u s
+        (u : TrussState) → has_functions u.options ≡ true → MakesFunctionCalls u (exchanges k h) → Comes u s
         → ReadsOnlyLast ns (exchanges k h) → StepsItsCode k pid id c f s h
 
     entry-code : (s : TracedState) (e : Entry) (h : List Entry) (t : TrussState) → IsLawful s → pid < s.system.made
         → has_functions t.options ≡ true → IsLegalEntry n s e → Comes t s → Rest (after s e) h
-        → (o : Option Exchange) → exchange_of k e ≡ o → MakesCalls t (cons_option o (exchanges k h))
+        → (o : Option Exchange) → exchange_of k e ≡ o → MakesFunctionCalls t (cons_option o (exchanges k h))
         → ReadsOnlyLast ns (cons_option o (exchanges k h)) → StepsItsCode k pid id c f s (e ∷ h)
     entry-code s e h t lawful made has legal comes rest None own makes quiet =
         code-cons s e h (λ x p l is. absurd (none-some x (sym own ∙ is)))
@@ -674,14 +674,14 @@ module _ (n k pid id c ns : ℕ) (met : Traced) (place function : ℕ) (o : Opti
         read-run same = cc
 
     pub history-code : (h : List Entry) (t : TrussState) (s : TracedState) → IsLawful s → pid < s.system.made
-        → has_functions t.options ≡ true → IsLegal n s h → MakesCalls t (exchanges k h) → Comes t s
+        → has_functions t.options ≡ true → IsLegal n s h → MakesFunctionCalls t (exchanges k h) → Comes t s
         → ReadsOnlyLast ns (exchanges k h) → StepsItsCode k pid id c f s h
     history-code [] t s lawful made has legal makes comes quiet = code-none s
     history-code (e ∷ h) t s lawful made has legal makes comes quiet =
         entry-code s e h t lawful made has legal.0 comes
         (λ u its more now still. history-code h u (after s e) (history-state n s (e ∷ []) lawful (legal.0, tt))
         (stays-made n s e pid lawful legal.0 made) its legal.1 more now still)
-        (exchange_of k e) refl (subst (MakesCalls t) (cons-exchanges k e h) makes)
+        (exchange_of k e) refl (subst (MakesFunctionCalls t) (cons-exchanges k e h) makes)
         (subst (ReadsOnlyLast ns) (cons-exchanges k e h) quiet)
 
 -- ---- the read at the breakpoint
@@ -767,7 +767,7 @@ module _ (n k : ℕ) (t : TrussState) (place ns pid id : ℕ) (s : TracedState) 
       begun-lifts
 
   -- wherever truss steps the lwp from there on, the first instruction of the function stands there
-  pub steps-code : (h : List Entry) → IsLegal n (after s e) h → MakesCalls begun (exchanges k h)
+  pub steps-code : (h : List Entry) → IsLegal n (after s e) h → MakesFunctionCalls begun (exchanges k h)
       → ReadsOnlyLast ns (exchanges k h) → StepsItsCode k pid id c f (after s e) h
   steps-code h legal makes quiet =
       let before =

@@ -193,7 +193,7 @@ module _ (p q : TracedProcess) (same : q.lwps ≡ p.lwps) where
   lwps-met : met_in q ≡ met_in p
   lwps-met = ap (λ (es : List (ℕ × TracedLwp)). count_by (λ (e : ℕ × TracedLwp). has_met e.1) es) same
 
-  lwps-frozen : IsFrozen p → IsFrozen q
+  pub lwps-frozen : IsFrozen p → IsFrozen q
   lwps-frozen h = record { each = λ n l there. h.each n l (was n l there) }
 
   lwps-halting : IsHalting p → IsHalting q
@@ -238,7 +238,7 @@ module _ (p q : TracedProcess) (alone : IsUndisturbed p q) where
         let some = h.few (sym (alone-agent p q alone) ∙ none) in omega (arith, some, alone-met p q alone);
   }
 
-  alone-stood : (flags n : ℕ) → Stood flags n p → Stood flags n q
+  pub alone-stood : (flags n : ℕ) → Stood flags n p → Stood flags n q
   alone-stood flags n (as_stopped all few) = as_stopped (alone-stopped p q alone all) (alone-few p q alone few)
   alone-stood flags n (waits w none) =
       waits (record {
@@ -267,7 +267,7 @@ module _ (s : TracedSystem) (pid : ℕ) (p : TracedProcess) (own : ℕ) (t : Lwp
   halted halting =
       same_Some (with_lwp_stopped own p) q (sym (halting-leaves s pid p live halting own t turn) ∙ later)
 
-  turn-halting : IsHalting p → IsHalting q
+  pub turn-halting : IsHalting p → IsHalting q
   turn-halting halting = subst IsHalting (halted halting) (halting-stays s pid p live halting own t turn)
 
   turn-agent : IsHalting p → has_agent q ≡ false → has_agent p ≡ false
@@ -285,7 +285,7 @@ module _ (s : TracedSystem) (pid : ℕ) (p : TracedProcess) (own : ℕ) (t : Lwp
       let was = h.stopped in
       record { stopped = turn-has was; few = λ none. no-turn (was.frozen (turn-agent was.halting none)) }
 
-  turn-stood : has_flags p.control.modes async_mode ≡ false → (flags n : ℕ) → Stood flags n p → Stood flags n q
+  pub turn-stood : has_flags p.control.modes async_mode ≡ false → (flags n : ℕ) → Stood flags n p → Stood flags n q
   turn-stood directs flags n (as_stopped all few) =
       as_stopped (turn-stopped s pid p own t lawful live turn q later all)
       (turn-few s pid p own t lawful live turn directs q later few)

@@ -43,7 +43,7 @@ use Rattle.pr_function_laws.proofs.ReturnLemmas.{planted-first}
 use Rattle.pr_function_laws.proofs.TurnReads.{fresh-new}
 use Rattle.pr_function_laws.specs.Coming.{Anything, Come, ComeWhileItLives, close_calls, lift_calls, plant_calls}
 use Rattle.pr_function_laws.specs.Returns.{ReadsStepEnd}
-use Rattle.pr_function_laws.specs.Runs.{MakesCalls, functions_after}
+use Rattle.pr_function_laws.specs.Runs.{MakesFunctionCalls, functions_after}
 use Rattle.pr_function_laws.specs.Soon.{IsCalm}
 use Rattle.pr_function_laws.specs.Treated.{ReadsCopy, ReadsStatus, TreatsItsEvents, event_calls, lwp_calls, run_calls, stop_calls, text_calls}
 use Rattle.pr_function_laws.proofs.CalledLaws.{functions-both}
@@ -133,7 +133,7 @@ module _ (o : Options) (has : has_functions o ≡ true) (off : o.follow ≡ fals
 
       -- the process is run behind the patches
       run-behind : (m : Marks) (plants lifts : List Bool) (u : TrussState) → Sees m.flags u
-          → MakesCalls (with_patches (with_stop_over u place) place plants lifts) xs
+          → MakesFunctionCalls (with_patches (with_stop_over u place) place plants lifts) xs
           → Comes (plant_calls o t.control plants ++ (lift_calls o t.control lifts ++ run_calls t m.flags))
       run-behind m plants lifts u w made =
           patched-come o has off place rest t m.flags plants lifts xs calm (Running place) (run_calls t m.flags)
@@ -142,7 +142,7 @@ module _ (o : Options) (has : has_functions o ≡ true) (off : o.follow ≡ fals
 
       -- the event is looked at behind them
       look-behind : (m : Marks) (plants lifts : List Bool)
-          → MakesCalls (with_patches (with_stop (with_marks s place m) place l) place plants lifts) xs
+          → MakesFunctionCalls (with_patches (with_stop (with_marks s place m) place l) place plants lifts) xs
           → Comes
           (plant_calls o t.control plants
           ++ (lift_calls o t.control lifts ++ (text_calls o t e ++ run_calls t m.flags)))
@@ -151,12 +151,12 @@ module _ (o : Options) (has : has_functions o ≡ true) (off : o.follow ≡ fals
           (text_calls o t e) (stopped m) made
 
       looked-plain : (fl : ℕ) (u : TrussState) (text : List Call) → Looked o has off place rest t fl u text
-          → MakesCalls u xs → Comes (text ++ run_calls t fl)
+          → MakesFunctionCalls u xs → Comes (text ++ run_calls t fl)
       looked-plain fl u text (run_next w) made = run-comes o has off place rest t fl u xs w made calm
       looked-plain fl u text (text_next l range w) made =
           text-comes o has off place rest t l range.0 range.1 fl u xs w made calm
 
-      event-comes : (fe : FunctionEvent) → MakesCalls (with_function_event s place l fe) xs
+      event-comes : (fe : FunctionEvent) → MakesFunctionCalls (with_function_event s place l fe) xs
           → Comes (event_calls o t e fe)
       unfolding with_function_event with_step_begun with_step_completed with_trap_over with_copy_begun with_copy_ended
           with_other_event with_memory_replaced
@@ -200,7 +200,7 @@ module _ (o : Options) (has : has_functions o ≡ true) (off : o.follow ≡ fals
     abbrev Next : List Call → Type 0
     Next cs = ComeWhileItLives cs Anything (Come (close_calls t) Anything) xs
 
-    ran-so : (u : TrussState) → Now o has off place rest t t.marks.flags (Running place) u → MakesCalls u xs
+    ran-so : (u : TrussState) → Now o has off place rest t t.marks.flags (Running place) u → MakesFunctionCalls u xs
         → Next (run_calls t 0)
     ran-so u w made =
         subst (λ n. Next (run_calls t n)) plain (run-comes o has off place rest t t.marks.flags u xs w made calm)
@@ -209,37 +209,40 @@ module _ (o : Options) (has : has_functions o ≡ true) (off : o.follow ≡ fals
     over-so = over-now o has off place rest t t.marks.flags (ReadingStatus place) s base
 
     stop-comes : (l : LwpStatus) (e : Option Event) → fresh_event t l ≡ e
-        → MakesCalls (with_fresh_event s place l e) xs → Next (stop_calls o t l e)
+        → MakesFunctionCalls (with_fresh_event s place l e) xs → Next (stop_calls o t l e)
     stop-comes l None stale made =
         ran-so (with_stop s place l)
         (stale-stop (Now o has off place rest t t.marks.flags (Running place)) s place l stale over-so
         (old-now o has off place rest t t.marks.flags (ReadingStatus place) s base))
-        (subst (λ b. MakesCalls (cond b (with_last_stop s place l) (with_stop s place l)) xs) stays made)
+        (subst (λ b. MakesFunctionCalls (cond b (with_last_stop s place l) (with_stop s place l)) xs) stays made)
     stop-comes l (Some e) fresh made =
         event-comes l e fresh xs calm (function_event o t.marks l.id e)
-        (subst (λ (p : Options). MakesCalls (with_function_event s place l (function_event p t.marks l.id e)) xs)
+        (subst (λ (p : Options). MakesFunctionCalls
+        (with_function_event s place l (function_event p t.marks l.id e)) xs)
         options
         (subst
-        (λ b. MakesCalls
+        (λ b. MakesFunctionCalls
         (cond b (with_last_event s place l (function_event s.options t.marks l.id e))
         (with_function_event s place l (function_event s.options t.marks l.id e))) xs) stays made))
 
-    read-comes : (l : Option LwpStatus) → MakesCalls (with_function_stop_read s place l) xs → Next (lwp_calls o t l)
+    read-comes : (l : Option LwpStatus) → MakesFunctionCalls (with_function_stop_read s place l) xs
+        → Next (lwp_calls o t l)
     unfolding with_function_stop
     read-comes None made =
         ran-so (with_stop_over s place) over-so
-        (subst (λ b. MakesCalls (cond b (with_lifts (with_stop_over s place) place false) (with_stop_over s place)) xs)
+        (subst (λ b. MakesFunctionCalls
+        (cond b (with_lifts (with_stop_over s place) place false) (with_stop_over s place)) xs)
         stays made)
     read-comes (Some l) made = stop-comes l (fresh_event t l) refl made
 
   pub status-comes : (x : Exchange) (xs : List Exchange) → answer_of x.reply ≡ Accepted
-      → MakesCalls (fed_functions s x.reply) xs → All IsCalm xs
+      → MakesFunctionCalls (fed_functions s x.reply) xs → All IsCalm xs
       → ComeWhileItLives (lwp_calls o t (option_and_then status_lwp (bytes_in x.reply))) Anything
       (Come (close_calls t) Anything) xs
   unfolding with_function_reply with_function_status_answered
   status-comes x xs accepted made calm =
       read-comes xs calm (option_and_then status_lwp (bytes_in x.reply))
-      (subst (λ (v : TrussState). MakesCalls v xs)
+      (subst (λ (v : TrussState). MakesFunctionCalls v xs)
       (fed-staged o has s x.reply (ReadingStatus place) options idle reads
       ∙ ap (with_function_status_answered s place x.reply) accepted) made)
 
@@ -292,17 +295,17 @@ copy-waits o has off t place x options w =
     ∙ ap (λ (v : Traced). v.marks.lifted) here
 
 pub treats-its-events : (o : Options) (xs : List Exchange) → has_functions o ≡ true → o.follow ≡ false
-    → MakesCalls (first_truss o) xs → All IsCalm xs → TreatsItsEvents o xs
+    → MakesFunctionCalls (first_truss o) xs → All IsCalm xs → TreatsItsEvents o xs
 treats-its-events o xs has off makes calm = record {
   again = λ before after x place step is w.
       again (functions_after (first_truss o) before) x after place step (options-at o before) w
-      (calls-rest (first_truss o) before (x ∷ after) (subst (MakesCalls (first_truss o)) is makes)).1;
+      (calls-rest (first_truss o) before (x ∷ after) (subst (MakesFunctionCalls (first_truss o)) is makes)).1;
   each = λ before after x place is w accepted.
       status-comes o has off place (functions_after (first_truss o) before) (options-at o before) w.stays w.within
       w.idle w.reads
-      (no-flags-at-read o has off before (x ∷ after) place (subst (MakesCalls (first_truss o)) is makes)
+      (no-flags-at-read o has off before (x ∷ after) place (subst (MakesFunctionCalls (first_truss o)) is makes)
       (subst (All IsCalm) is calm) w.stays w.reads) x after accepted
-      (calls-rest (first_truss o) before (x ∷ after) (subst (MakesCalls (first_truss o)) is makes)).1
+      (calls-rest (first_truss o) before (x ∷ after) (subst (MakesFunctionCalls (first_truss o)) is makes)).1
       (All-tail IsCalm x after (all-rest IsCalm before (x ∷ after) (subst (All IsCalm) is calm)));
   waits = λ before after x place is w.
       let t : TrussState = functions_after (first_truss o) before in
@@ -311,7 +314,7 @@ treats-its-events o xs has off makes calm = record {
 }
   where
     again : (t : TrussState) (x : Exchange) (after : List Exchange) (place : ℕ) (step : Stepped) → t.options ≡ o
-        → ReadsStepEnd t x place step → MakesCalls (fed_functions t x.reply) after
+        → ReadsStepEnd t x place step → MakesFunctionCalls (fed_functions t x.reply) after
         → Come (plant_call o (traced_at t place).control step.function ∷ []) Anything after
     again t x [] place step at w made = tt
     again t x (y ∷ ys) place step at w made = (

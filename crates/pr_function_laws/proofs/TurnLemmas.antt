@@ -72,7 +72,7 @@ use Rattle.pr_function_laws.specs.Calls.{call_told}
 use Rattle.pr_function_laws.specs.Lifted.{GoesElsewhere, IsAtStopAtBreakpoint, ReadsOnlyLast}
 use Rattle.pr_function_laws.specs.Met.{arguments_of}
 use Rattle.pr_function_laws.specs.OneEvent.{HasOneEventAtMost}
-use Rattle.pr_function_laws.specs.Runs.{MakesCalls, functions_after, functions_on}
+use Rattle.pr_function_laws.specs.Runs.{MakesFunctionCalls, functions_after, functions_on}
 use Rattle.pr_function_laws.specs.Stretches.{acts_by}
 use Rattle.pr_function_laws.specs.Turns.{CompletesOnce, HasOneTurn, HasTrap, IsNoTurnOf, ReadsAgain, TellsItsTurn, TellsOfLwp, TurnsOnce, call_of_stop, first_arguments, told_again}
 
@@ -80,7 +80,7 @@ use Rattle.pr_function_laws.specs.Turns.{CompletesOnce, HasOneTurn, HasTrap, IsN
 
 -- ---- lists of exchanges
 
-makes-last : (t : TrussState) (xs : List Exchange) (y : Exchange) → MakesCalls t (xs ++ y ∷ [])
+makes-last : (t : TrussState) (xs : List Exchange) (y : Exchange) → MakesFunctionCalls t (xs ++ y ∷ [])
     → next_function_call_of (functions_after t xs) ≡ Some y.call
 makes-last t [] y makes_all = makes_all.0
 makes-last t (x ∷ xs) y makes_all = makes-last (fed_functions t x.reply) xs y makes_all.1
@@ -202,9 +202,9 @@ module _ (n k : ℕ) (t : TrussState) (place ns pid id : ℕ) (s : TracedState) 
       exchanges-push k between again
       ∙ ap (λ (o : Option Exchange). exchanges k between ++ cons_option o []) w.own
 
-  makes-all : MakesCalls begun (exchanges k between ++ w.y ∷ [])
+  makes-all : MakesFunctionCalls begun (exchanges k between ++ w.y ∷ [])
   makes-all =
-      subst (MakesCalls begun) pushed (makes n k t place ns pid id s e (between ++ again ∷ []) here).1
+      subst (MakesFunctionCalls begun) pushed (makes n k t place ns pid id s e (between ++ again ∷ []) here).1
 
   begun-has : has_functions begun.options ≡ true
   begun-has = let x = here.x in ap has_functions (fed_functions-options t x.reply) ∙ here.has

@@ -8,7 +8,7 @@ use Rattle.pr_function_laws.proofs.TurnStates.{Waits, had-no-turn}
 use Rattle.pr_function_laws.proofs.TurnWalks as walks
 use Rattle.pr_function_laws.proofs.TurnWalks.{AreNoReads, Before, Comes, Files, Going, walk}
 use Rattle.pr_function_laws.specs.Lifted.{IsAtStopAtBreakpoint, StepsNoCall}
-use Rattle.pr_function_laws.specs.Runs.{MakesCalls}
+use Rattle.pr_function_laws.specs.Runs.{MakesFunctionCalls}
 use Rattle.pr_function_laws.specs.Turns.{IsNoTurnOf}
 use Rattle.pr_lawful.proofs.EndLemmas.{found-live}
 use Rattle.pr_lawful.proofs.UseLemmas.{live-lawful}
@@ -171,7 +171,7 @@ module _ (n k : ℕ) (t : TrussState) (place ns pid id : ℕ) (s : TracedState) 
           has = let x = here.x in ap has_functions (fed_functions-options t x.reply) ∙ here.has;
           legal = legal-front n now between more (subst (IsLegal n now) is here.legal.1);
           makes = calls-front begun (exchanges k between) (exchanges k more)
-              (subst (MakesCalls begun) (ap (exchanges k) is ∙ exchanges-both k between more)
+              (subst (MakesFunctionCalls begun) (ap (exchanges k) is ∙ exchanges-both k between more)
               (makes n k t place ns pid id s e rest here).1);
           quiet = quiet;
           no_call = let calls : StepsNoCall k pid id c now rest = here.no_call in record {

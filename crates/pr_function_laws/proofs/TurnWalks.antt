@@ -62,7 +62,7 @@ use Rattle.pr_function_laws.proofs.TurnCalls.{Leaves, first-step, run-leaves, wr
 use Rattle.pr_function_laws.proofs.TurnPoints.{IsOfStep, did_at, step-did, step-point, step-ran, step-stands, step-there}
 use Rattle.pr_function_laws.proofs.TurnStates.{Had, IsKept, Lives, Steps, Waits, alone-lives, had-beside, had-kept, had-no-turn, over-lives, steps-beside, steps-kept, waits-kept}
 use Rattle.pr_function_laws.specs.Lifted.{GoesElsewhere, HasControl, HasStatus, IsNoRead, StepsNoCall}
-use Rattle.pr_function_laws.specs.Runs.{MakesCalls, functions_after, functions_on}
+use Rattle.pr_function_laws.specs.Runs.{MakesFunctionCalls, functions_after, functions_on}
 use Rattle.pr_function_laws.specs.Steps.{RunsNoCall}
 use Rattle.pr_function_laws.specs.Stretches.{BeginWithWrite, IsControlOf}
 use Rattle.pr_function_laws.specs.Turns.{HasOneTurn, IsNoTurnOf, RunsInstruction}
@@ -513,12 +513,12 @@ module _ (n k pid id c ns : ℕ) (met : Traced) (place : ℕ) (stood : TracedLwp
     pub fit : IsFitSystem s.system
     pub has : has_functions t.options ≡ true
     pub legal : IsLegal n s h
-    pub makes : MakesCalls t (exchanges k h)
+    pub makes : MakesFunctionCalls t (exchanges k h)
     pub quiet : AreNoReads ns (exchanges k h)
     pub no_call : StepsNoCall k pid id c s h
 
-  makes-on : (t : TrussState) (o : Option Exchange) (xs : List Exchange) → MakesCalls t (cons_option o xs)
-      → MakesCalls (functions_on t o) xs
+  makes-on : (t : TrussState) (o : Option Exchange) (xs : List Exchange) → MakesFunctionCalls t (cons_option o xs)
+      → MakesFunctionCalls (functions_on t o) xs
   makes-on t None xs makes = makes
   makes-on t (Some x) xs makes = makes.1
 
@@ -539,7 +539,7 @@ module _ (n k pid id c ns : ℕ) (met : Traced) (place : ℕ) (stood : TracedLwp
     fit = history-fits n s (e ∷ []) g.lawful g.fit (g.legal.0, tt);
     has = has-on t (exchange_of k e) g.has;
     legal = g.legal.1;
-    makes = makes-on t (exchange_of k e) (exchanges k h) (subst (MakesCalls t) (cons-exchanges k e h) g.makes);
+    makes = makes-on t (exchange_of k e) (exchanges k h) (subst (MakesFunctionCalls t) (cons-exchanges k e h) g.makes);
     quiet = quiet-on (exchange_of k e) (exchanges k h) (subst (AreNoReads ns) (cons-exchanges k e h) g.quiet);
     no_call = let calls : StepsNoCall k pid id c s (e ∷ h) = g.no_call in record {
       each = λ before later f x p l is.
@@ -559,7 +559,7 @@ module _ (n k pid id c ns : ℕ) (met : Traced) (place : ℕ) (stood : TracedLwp
 
   -- the entry with which they begin
   module _ (t : TrussState) (s : TracedState) (e : Entry) (h : List Entry) (g : Going t s (e ∷ h)) where
-    entry-next : (o : Option Exchange) → exchange_of k e ≡ o → MakesCalls t (cons_option o (exchanges k h))
+    entry-next : (o : Option Exchange) → exchange_of k e ≡ o → MakesFunctionCalls t (cons_option o (exchanges k h))
         → AreNoReads ns (cons_option o (exchanges k h)) → Before t s
         → Next s g.lawful g.made g.fit e g.legal.0 t (functions_on t o)
     entry-next None is makes quiet b =
@@ -571,11 +571,11 @@ module _ (n k pid id c ns : ℕ) (met : Traced) (place : ℕ) (stood : TracedLwp
 
     first-next : Before t s → Next s g.lawful g.made g.fit e g.legal.0 t (functions_on t (exchange_of k e))
     first-next b =
-        entry-next (exchange_of k e) refl (subst (MakesCalls t) (cons-exchanges k e h) g.makes)
+        entry-next (exchange_of k e) refl (subst (MakesFunctionCalls t) (cons-exchanges k e h) g.makes)
         (subst (AreNoReads ns) (cons-exchanges k e h) g.quiet) b
 
     entry-later : (point : Point) (o : Option Exchange) → exchange_of k e ≡ o
-        → MakesCalls t (cons_option o (exchanges k h)) → AreNoReads ns (cons_option o (exchanges k h))
+        → MakesFunctionCalls t (cons_option o (exchanges k h)) → AreNoReads ns (cons_option o (exchanges k h))
         → After point t s → IsNoTurnOf pid id e × After point (functions_on t o) (after s e)
     entry-later point None is makes quiet a =
         foreign-after s g.lawful g.made g.fit e g.legal.0 t (foreign-entry n k s e g.legal.0 is) point a
@@ -589,7 +589,7 @@ module _ (n k pid id c ns : ℕ) (met : Traced) (place : ℕ) (stood : TracedLwp
     first-later : (point : Point) → After point t s
         → IsNoTurnOf pid id e × After point (functions_on t (exchange_of k e)) (after s e)
     first-later point a =
-        entry-later point (exchange_of k e) refl (subst (MakesCalls t) (cons-exchanges k e h) g.makes)
+        entry-later point (exchange_of k e) refl (subst (MakesFunctionCalls t) (cons-exchanges k e h) g.makes)
         (subst (AreNoReads ns) (cons-exchanges k e h) g.quiet) a
 
   -- ---- the walk

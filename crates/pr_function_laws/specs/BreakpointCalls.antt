@@ -1,4 +1,5 @@
--- The messages by which truss with calls of functions reads the code of a function, and plants and lifts its breakpoint.
+-- The messages by which truss with calls of functions reads the code of a function, and plants and lifts its
+-- breakpoint.
 use Rattle.std.specs.Prelude.{◌≡◌, ℕ, []}
 use Rattle.pr_line.specs.declared.functions.Function.{Function}
 use Rattle.pr_line.specs.declared.options.Options.{Options}

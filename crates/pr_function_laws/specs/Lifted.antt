@@ -35,7 +35,7 @@ use Rattle.pr_truss.specs.Messages.{message_call}
 use Rattle.pr_truss.specs.NextCalls.{read_record}
 use Rattle.pr_truss_laws.specs.Exchanges.{Exchange, exchange_of, exchanges}
 use Rattle.pr_truss_laws.specs.Handles.{handles_of}
-use Rattle.pr_function_laws.specs.Runs.{MakesCalls}
+use Rattle.pr_function_laws.specs.Runs.{MakesFunctionCalls}
 use Rattle.pr_function_laws.specs.Steps.{RunsNoCall, StopsAtAll}
 
 -- Truss, which does not leave its processes, reads the status of the process at a place, and is told that an lwp of it
@@ -121,7 +121,7 @@ pub record IsAtStopAtBreakpoint (n k : ℕ) (t : TrussState) (place status pid i
   pub lawful : IsLawful s
   pub fit : IsFitSystem s.system
   pub legal : IsLegal n s (e ∷ between)
-  pub makes : MakesCalls t (exchanges k (e ∷ between))
+  pub makes : MakesFunctionCalls t (exchanges k (e ∷ between))
   pub x : Exchange
   pub own : exchange_of k e ≡ Some x
   pub meets : MeetsBreakpoint t x place

@@ -1,5 +1,5 @@
 -- How far the events that truss with calls of functions has shown of a process are those that came while it watched it.
-use Rattle.std.specs.Prelude.{◌≡◌, ◌≢◌, ◌<◌, ◌&&◌, ◌++◌, ℕ, Bool, true, false, not, Option, None, Some, List, [], ◌∷◌, is_some, length, if◌then◌else◌}
+use Rattle.std.specs.Prelude.{◌≡◌, ◌≢◌, ◌<◌, ◌&&◌, ◌++◌, ℕ, Bool, true, false, not, Option, None, Some, List, All, [], ◌∷◌, is_some, length, if◌then◌else◌}
 use Rattle.pr_line.specs.Selections.{is_selected}
 use Rattle.pr_line.specs.declared.events.Event.{Event}
 use Rattle.pr_line.specs.declared.events.Event.TheVariants.{Incurred}
@@ -18,9 +18,9 @@ use Rattle.pr_truss.specs.Asides.{marks_at}
 use Rattle.pr_truss.specs.FunctionEvents.{function_at}
 use Rattle.pr_truss.specs.Trusses.{TrussState, first_truss, traced_at}
 use Rattle.pr_truss.specs.declared.marks.Marks.{Marks}
-use Rattle.pr_truss_laws.specs.Exchanges.{exchange_of}
+use Rattle.pr_truss_laws.specs.Exchanges.{exchange_of, exchanges}
 use Rattle.pr_truss_laws.specs.Stills.{IsFrozen}
-use Rattle.pr_function_laws.specs.Opened.{functions_at, is_opened}
+use Rattle.pr_function_laws.specs.Opened.{WasNotInterrupted, functions_at, is_opened}
 use Rattle.pr_function_laws.specs.Runs.{functions_on}
 
 -- ---- the events that it is to show
@@ -54,11 +54,12 @@ events_to_show k pid t s (e ∷ h) =
 
 -- ---- what it has shown of them
 
--- Wherever truss has opened the process whole, does not close its files, and counts stops of it that are left and stood
--- before it came, the process stands still, if it lives.
+-- Until truss is interrupted: wherever it has opened the process whole, does not close its files, and counts stops of
+-- it that are left and stood before it came, the process stands still, if it lives.
 pub record IsStillWhileOld (k : ℕ) (o : Options) (first : TracedState) (h : List Entry) (pid : ℕ) : Type 0 where
   pub each : (before later : List Entry) (place : ℕ) (p : TracedProcess) → h ≡ before ++ later
-      → place < length (functions_at k o before).traced → (traced_at (functions_at k o before) place).pid ≡ pid
+      → All WasNotInterrupted (exchanges k before) → place < length (functions_at k o before).traced
+      → (traced_at (functions_at k o before) place).pid ≡ pid
       → is_opened (functions_at k o before).stage place ≡ true → (traced_at (functions_at k o before) place).old ≢ 0
       → live_process (state_after first before).system pid ≡ Some p → IsFrozen p
 

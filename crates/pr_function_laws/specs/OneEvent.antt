@@ -1,4 +1,5 @@
--- At most one event of a process is unread, and from the poll that names the process to its PCRUN nothing of it moves.
+-- At most one event of a process is unread, and from the poll that names the process to its PCRUN nothing of it moves,
+-- nor from the last look at it to the close of its control file.
 use Rattle.std.specs.Prelude.{◌≡◌, ◌≢◌, ◌<◌, ◌==◌, ◌++◌, ℕ, Bool, true, false, All, List, None, Some, length}
 use Rattle.pr_line.specs.declared.options.Options.{Options}
 use Rattle.pr_model.specs.Legal.{state_after}
@@ -8,6 +9,7 @@ use Rattle.pr_model.specs.declared.stops.Stop.TheVariants.{Faulted}
 use Rattle.pr_num.specs.declared.faults.Flt.{Flt}
 use Rattle.pr_report_laws.specs.AtBirth.{has_met}
 use Rattle.pr_report_laws.specs.Positions.{IsHeld}
+use Rattle.pr_report_laws.specs.Watching.{is_away}
 use Rattle.pr_truss.specs.Trusses.{traced_at}
 use Rattle.pr_truss.specs.declared.stages.Stage.{Stage}
 use Rattle.pr_truss.specs.declared.stages.Stage.TheVariants.{ReadingStatus, ReadingText, Running}
@@ -52,7 +54,9 @@ is_looked_at _ place = false
 
 -- So it is of each process that lives, from the end of its opening on, until truss is interrupted or closes its files.
 -- Of the stops that stood before truss came truss counts each, and runs it by itself: while some are left, and while
--- the last one is run, more than one lwp may stand on an event.
+-- the last one is run, more than one lwp may stand on an event. Once truss was interrupted so it is of each process
+-- that was attached until truss has looked at it for the last time; from then on, until truss closes its control file,
+-- nothing of it moves.
 pub record HasOneEventEach (k : ℕ) (o : Options) (first : TracedState) (h : List Entry) : Type 0 where
   pub few : (before later : List Entry) (place : ℕ) (p : TracedProcess) → h ≡ before ++ later
       → All WasNotInterrupted (exchanges k before) → place < length (functions_at k o before).traced
@@ -62,5 +66,18 @@ pub record HasOneEventEach (k : ℕ) (o : Options) (first : TracedState) (h : Li
       → HasOneEventAtMost p
   pub still : (before later : List Entry) (place : ℕ) (p : TracedProcess) → h ≡ before ++ later
       → All WasNotInterrupted (exchanges k before) → is_looked_at (functions_at k o before).stage place ≡ true
+      → live_process (state_after first before).system (traced_at (functions_at k o before) place).pid ≡ Some p
+      → IsFrozen p
+  pub left : (before later : List Entry) (place : ℕ) (p : TracedProcess) → h ≡ before ++ later
+      → (functions_at k o before).leaving ≡ true → place < length (functions_at k o before).traced
+      → (traced_at (functions_at k o before) place).attached ≡ true
+      → is_away true (functions_at k o before).stage place ≡ false
+      → (traced_at (functions_at k o before) place).old ≡ 0
+      → live_process (state_after first before).system (traced_at (functions_at k o before) place).pid ≡ Some p
+      → HasOneEventAtMost p
+  pub looked_last : (before later : List Entry) (place : ℕ) (p : TracedProcess) → h ≡ before ++ later
+      → (functions_at k o before).leaving ≡ true → place < length (functions_at k o before).traced
+      → (traced_at (functions_at k o before) place).attached ≡ true
+      → is_away true (functions_at k o before).stage place ≡ true
       → live_process (state_after first before).system (traced_at (functions_at k o before) place).pid ≡ Some p
       → IsFrozen p

@@ -18,8 +18,8 @@ use Rattle.pr_truss.specs.declared.stages.Stage.{Stage}
 use Rattle.pr_truss.specs.declared.stages.Stage.TheVariants.{Opening, Closing}
 use Rattle.pr_truss_laws.specs.Exchanges.{Exchange, exchange_of, exchanges}
 use Rattle.pr_truss_laws.specs.Handles.{HasNoOtherWriter, HasNothingOpen}
-use Rattle.pr_function_laws.specs.Lifted.{HoldsFiles, MeetsBreakpoint, ReadsOnlyLast}
-use Rattle.pr_function_laws.specs.Runs.{MakesCalls, functions_after}
+use Rattle.pr_function_laws.specs.Lifted.{HasControl, HoldsFiles, MeetsBreakpoint, ReadsOnlyLast}
+use Rattle.pr_function_laws.specs.Runs.{MakesFunctionCalls, functions_after}
 use Rattle.pr_function_laws.specs.Steppable.{IsSteppable, StepsItsCode}
 use Rattle.pr_function_laws.specs.Steps.{StopsAtAll}
 use Rattle.pr_function_laws.specs.Stretches.{OthersOnlyStop}
@@ -52,7 +52,7 @@ pub record IsFunctionRun (n k : ℕ) (o : Options) (s : TracedState) (h : List E
   pub lawful : IsLawful s
   pub nothing_open : HasNothingOpen k s
   pub legal : IsLegal n s h
-  pub makes : MakesCalls (first_truss o) (exchanges k h)
+  pub makes : MakesFunctionCalls (first_truss o) (exchanges k h)
 
 -- ---- the processes that it has opened
 
@@ -72,12 +72,31 @@ pub record OwnsAndTraces (k : ℕ) (o : Options) (t : TrussState) (place : ℕ) 
   pub traces : (p : TracedProcess) → live_process s.system (traced_at t place).pid ≡ Some p → TracesAll o p.control
   pub no_agent : (p : TracedProcess) → live_process s.system (traced_at t place).pid ≡ Some p → has_agent p ≡ false
 
--- So it is of each process from the end of its opening on, until truss is interrupted or closes its files.
+-- Truss has its own control file of the process at a place, and nobody else has that process open for writing; and as
+-- long as it lives, truss traces all of it, and it has no agent.
+pub record TracesAlone (k : ℕ) (o : Options) (t : TrussState) (place : ℕ) (s : TracedState) : Type 0 where
+  pub control : HasControl k (traced_at t place).pid (traced_at t place).control s
+  pub alone : HasNoOtherWriter k (traced_at t place).pid s.opens
+  pub traces : (p : TracedProcess) → live_process s.system (traced_at t place).pid ≡ Some p → TracesAll o p.control
+  pub no_agent : (p : TracedProcess) → live_process s.system (traced_at t place).pid ≡ Some p → has_agent p ≡ false
+
+-- So it is of each process from the end of its opening on, until truss is interrupted or closes its files. Once truss
+-- was interrupted it leaves its processes, one after another: of each that was attached it has its files and traces it
+-- until it closes them, and alone has it open for writing and traces it until it closes the last one.
 pub record HoldsWhatItOpened (k : ℕ) (o : Options) (first : TracedState) (h : List Entry) : Type 0 where
   pub each : (before later : List Entry) (place : ℕ) → h ≡ before ++ later
       → All WasNotInterrupted (exchanges k before) → place < length (functions_at k o before).traced
       → is_opened (functions_at k o before).stage place ≡ true
       → OwnsAndTraces k o (functions_at k o before) place (state_after first before)
+  pub left : (before later : List Entry) (place : ℕ) → h ≡ before ++ later
+      → (functions_at k o before).leaving ≡ true → place < length (functions_at k o before).traced
+      → (traced_at (functions_at k o before) place).attached ≡ true
+      → is_opened (functions_at k o before).stage place ≡ true
+      → OwnsAndTraces k o (functions_at k o before) place (state_after first before)
+  pub closed_last : (before later : List Entry) (place : ℕ) → h ≡ before ++ later
+      → (functions_at k o before).leaving ≡ true → place < length (functions_at k o before).traced
+      → (traced_at (functions_at k o before) place).attached ≡ true
+      → TracesAlone k o (functions_at k o before) place (state_after first before)
 
 -- ---- its stops at breakpoints
 

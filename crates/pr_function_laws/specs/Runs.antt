@@ -17,9 +17,10 @@ functions_on s None = s
 functions_on s (Some x) = fed_functions s x.reply
 
 -- whether each call is the one that truss makes next
-abbrev pub MakesCalls : TrussState → List Exchange → Type 0
-MakesCalls s [] = Unit {0}
-MakesCalls s (x ∷ xs) = (next_function_call_of s ≡ Some x.call) × MakesCalls (fed_functions s x.reply) xs
+abbrev pub MakesFunctionCalls : TrussState → List Exchange → Type 0
+MakesFunctionCalls s [] = Unit {0}
+MakesFunctionCalls s (x ∷ xs) =
+    (next_function_call_of s ≡ Some x.call) × MakesFunctionCalls (fed_functions s x.reply) xs
 
 -- the replies that it got
 abbrev pub replies_in : List Exchange → List Reply

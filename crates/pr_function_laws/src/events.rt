@@ -11,8 +11,10 @@ ghost use Rattle.pr_function_laws.specs.Opened.{IsFunctionRun};
 /// In each legal history of truss with functions, from a state that the machine reaches, in which controllers write
 /// bytes: from the end of the opening of a process, until truss is interrupted or closes its files, at most one lwp of
 /// it stands on an event that it met, and then each other one is held; but where stops are left that stood before truss
-/// came. And from the poll that names the process, until truss has run it, nothing of it moves.
-#[tactic(auto, using(crate::proofs::OpenedLaws::opens))]
+/// came. And from the poll that names the process, until truss has run it, nothing of it moves. Once truss was
+/// interrupted, so it is of each process whose opening had come to its stop until truss has looked at it for the last
+/// time; and from then on, until truss closes its control file, nothing of it moves.
+#[tactic(auto, using(crate::proofs::LeavingHolds::held_open))]
 pub fn at_most_one_event_is_unread()
     ensures { (n k : ℕ) (o : Options) (s : TracedState) (h : List Entry) → IsFunctionRun n k o s h → IsReached s
         → HasBytes h → HasOneEventEach k o s h }

@@ -12,13 +12,17 @@ mod lines;
 mod listed;
 mod messages;
 mod met;
+mod named;
+mod once;
 mod opened;
 mod ordinary;
 mod planted;
+mod refusals;
 mod returns;
 mod soon;
 mod steps;
 mod stretches;
+mod texts;
 mod told;
 mod treated;
 mod turns;
@@ -33,12 +37,17 @@ pub use lines::{each_reply_tells_at_most_one_call, the_calls_reported_are_those_
 pub use listed::in_each_history_events_are_shown;
 pub use messages::what_truss_reads_plants_and_lifts;
 pub use met::{each_call_told_was_met_at_its_breakpoint, the_calls_reported_were_met};
+pub use named::what_a_poll_named_by_its_handle_is_soon_run_or_closed;
+pub use once::it_shows_no_stop_twice;
 pub use opened::{each_breakpoint_is_lifted_for_one_lwp_alone, what_truss_opened_it_traces_alone};
 pub use ordinary::{
     beside_its_breakpoints_it_is_a_truss, it_calls_closes_and_leaves_its_files_as_truss_does,
     it_shows_what_is_new, it_shows_what_it_reads_right_then,
 };
 pub use planted::what_truss_plants_it_has_read;
+pub use refusals::{
+    it_tells_no_refusal_of_what_it_watches, it_tells_refusals_before_its_first_poll_alone,
+};
 pub use returns::a_breakpoint_is_planted_again_first;
 pub use soon::what_a_poll_named_is_soon_run_or_closed;
 pub use steps::{
@@ -48,6 +57,10 @@ pub use steps::{
 };
 pub use stretches::{
     a_process_that_is_stopped_on_an_event_is_frozen, no_other_lwp_begins_an_instruction,
+};
+pub use texts::{
+    it_reads_memory_for_its_lines_alone, the_memory_of_a_line_is_that_of_its_moment,
+    what_stands_in_its_lines_is_what_it_read,
 };
 pub use told::{in_each_history_each_step_is_told, in_each_history_only_turns_are_told};
 pub use treated::what_an_event_asks_for_comes_before_the_run;

@@ -6,10 +6,12 @@ ghost use Rattle.pr_reached.specs.ByteHistories.{HasBytes};
 ghost use Rattle.pr_reached.specs.Reached.{IsReached};
 ghost use Rattle.pr_function_laws.specs.Opened.{HoldsWhatItOpened, IsFunctionRun, LiftsForOneAlone};
 
-/// From the end of the opening of a process, until truss is interrupted or closes its files, truss has its own files of
-/// that process and nobody else has it open for writing; all its signals but SIGKILL and all its faults are traced, and
-/// so are fork, vfork and exec. This is so in each legal history.
-#[tactic(auto, using(crate::proofs::OpenedLaws::opens))]
+/// From the end of the opening of a process, until truss closes its files, truss has its own files of that process and
+/// nobody else has it open for writing; all its signals but SIGKILL and all its faults are traced, and so are fork,
+/// vfork and exec. So it is also once truss was interrupted, of each process whose opening had come to its stop; and
+/// nobody else has that open for writing, and it is traced so, until truss closes its control file, the last one. This
+/// is so in each legal history.
+#[tactic(auto, using(crate::proofs::LeavingHolds::held_open))]
 pub fn what_truss_opened_it_traces_alone()
     ensures { (n k : ℕ) (o : Options) (s : TracedState) (h : List Entry) → IsFunctionRun n k o s h
         → HoldsWhatItOpened k o s h }

@@ -12,7 +12,7 @@ ghost use Rattle.pr_truss_laws.specs.Handles.{HasNothingOpen};
 ghost use Rattle.pr_function_laws.specs.Opened.{IsFunctionRun, functions_at};
 ghost use Rattle.pr_function_laws.specs.Ordinary.{IsTrussBeside};
 ghost use Rattle.pr_function_laws.specs.OrdinaryRuns.{ClosesFreelyThroughout, ShowsWhatIsNewOf, ShowsWhatItReadsOf};
-ghost use Rattle.pr_function_laws.specs.Runs.{MakesCalls};
+ghost use Rattle.pr_function_laws.specs.Runs.{MakesFunctionCalls};
 ghost use Rattle.pr_function_laws.specs.Soon.{IsCalm};
 
 /// Beside its business on breakpoints truss with calls of functions is a truss. Some messages and waits are left out:
@@ -26,7 +26,7 @@ ghost use Rattle.pr_function_laws.specs.Soon.{IsCalm};
 #[tactic(auto, using(crate::proofs::OrdinaryExchanges::ordinaries))]
 pub fn beside_its_breakpoints_it_is_a_truss()
     ensures { (o : Options) (xs : List Exchange) → has_functions o ≡ true → o.follow ≡ false
-        → MakesCalls (first_truss o) xs → All IsCalm xs → IsTrussBeside o xs }
+        → MakesFunctionCalls (first_truss o) xs → All IsCalm xs → IsTrussBeside o xs }
 {}
 
 /// In each legal history of truss with functions, in each entry and of each process: it shows nothing new, or one event

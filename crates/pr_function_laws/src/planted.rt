@@ -4,7 +4,7 @@ ghost use Rattle.pr_truss.specs.Marks.{has_functions};
 ghost use Rattle.pr_truss.specs.Trusses.{first_truss};
 ghost use Rattle.pr_truss_laws.specs.Exchanges.{Exchange};
 ghost use Rattle.pr_function_laws.specs.Planted.{PlantsWhatItRead};
-ghost use Rattle.pr_function_laws.specs.Runs.{MakesCalls};
+ghost use Rattle.pr_function_laws.specs.Runs.{MakesFunctionCalls};
 
 /// Wherever truss has opened a process as far as its traced sets, it reads the first instruction of each function, one
 /// after another, and plants right away the one whose code it read; it leaves each other one alone. Once it runs the
@@ -14,5 +14,5 @@ ghost use Rattle.pr_function_laws.specs.Runs.{MakesCalls};
 #[tactic(auto, using(crate::proofs::PlantedLaws::planteds))]
 pub fn what_truss_plants_it_has_read()
     ensures { (o : Options) (xs : List Exchange) → has_functions o ≡ true → o.follow ≡ false
-        → MakesCalls (first_truss o) xs → PlantsWhatItRead o xs }
+        → MakesFunctionCalls (first_truss o) xs → PlantsWhatItRead o xs }
 {}

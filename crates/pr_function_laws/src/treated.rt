@@ -3,7 +3,7 @@ ghost use Rattle.pr_line.specs.declared.options.Options.{Options};
 ghost use Rattle.pr_truss.specs.Marks.{has_functions};
 ghost use Rattle.pr_truss.specs.Trusses.{first_truss};
 ghost use Rattle.pr_truss_laws.specs.Exchanges.{Exchange};
-ghost use Rattle.pr_function_laws.specs.Runs.{MakesCalls};
+ghost use Rattle.pr_function_laws.specs.Runs.{MakesFunctionCalls};
 ghost use Rattle.pr_function_laws.specs.Soon.{IsCalm};
 ghost use Rattle.pr_function_laws.specs.Treated.{TreatsItsEvents};
 
@@ -15,5 +15,5 @@ ghost use Rattle.pr_function_laws.specs.Treated.{TreatsItsEvents};
 #[tactic(auto, using(crate::proofs::TreatedLaws::treats))]
 pub fn what_an_event_asks_for_comes_before_the_run()
     ensures { (o : Options) (xs : List Exchange) → has_functions o ≡ true → o.follow ≡ false
-        → MakesCalls (first_truss o) xs → All IsCalm xs → TreatsItsEvents o xs }
+        → MakesFunctionCalls (first_truss o) xs → All IsCalm xs → TreatsItsEvents o xs }
 {}

@@ -4,7 +4,7 @@ use Rattle.std.proofs.lemmas.List.{append-nil}
 use Rattle.std.specs.List.{slice_get}
 use Rattle.pr_num.proofs.ListLemmas.{drop-at}
 use Rattle.pr_model.specs.declared.events.Entry.{Entry}
-use Rattle.pr_hist.specs.Drawings.{row_after, rows_from, rows_text, told_row}
+use Rattle.pr_hist.specs.Drawings.{drawn_row, row_after, rows_from, rows_text}
 use Rattle.pr_hist.specs.Lanes.{lanes_after, with_entries, with_entry}
 use Rattle.pr_hist.specs.Names.{Names}
 use Rattle.pr_hist.specs.News.{names_beyond}
@@ -60,7 +60,7 @@ rows_from-done s i row names h all past is = ap (rows_from s i row names) (sym (
 rows_text-more : (c : Chart) (s : Selection) (i row : ℕ) (names : Names) (lanes : List Lane) (h : List Entry) (e : Entry)
     → slice_get h i ≡ Some e
     → rows_text c s i row names lanes (drop i h)
-    ≡ told_row c s i row names (lanes_after e lanes) e
+    ≡ drawn_row c s i row names (lanes_after e lanes) e
     ++ rows_text c s (i + 1) (row_after s i row names e) (names_beyond names i e) (lanes_after e lanes) (drop (i + 1) h)
 unfolding rows_text
 rows_text-more c s i row names lanes h e here = ap (rows_text c s i row names lanes) (drop-at h i e here)
@@ -68,17 +68,17 @@ rows_text-more c s i row names lanes h e here = ap (rows_text c s i row names la
 pub rows_text-next : (c : Chart) (s : Selection) (i row further : ℕ) (names beyond : Names) (lanes moved : List Lane)
     (h : List Entry) (e : Entry) (now next all : List ℕ)
     → slice_get h i ≡ Some e → further ≡ row_after s i row names e → beyond ≡ names_beyond names i e
-    → moved ≡ lanes_after e lanes → next ≡ now ++ told_row c s i row names moved e
+    → moved ≡ lanes_after e lanes → next ≡ now ++ drawn_row c s i row names moved e
     → now ++ rows_text c s i row names lanes (drop i h) ≡ all
     → next ++ rows_text c s (i + 1) further beyond moved (drop (i + 1) h) ≡ all
 rows_text-next c s i row further names beyond lanes moved h e now next all here counted noted moves is before =
     ap (λ t. t ++ rows_text c s (i + 1) further beyond moved (drop (i + 1) h)) is
-    ∙ ap (λ r. (now ++ told_row c s i row names moved e) ++ rows_text c s (i + 1) r beyond moved (drop (i + 1) h)) counted
-    ∙ ap (λ ns. (now ++ told_row c s i row names moved e)
+    ∙ ap (λ r. (now ++ drawn_row c s i row names moved e) ++ rows_text c s (i + 1) r beyond moved (drop (i + 1) h)) counted
+    ∙ ap (λ ns. (now ++ drawn_row c s i row names moved e)
     ++ rows_text c s (i + 1) (row_after s i row names e) ns moved (drop (i + 1) h)) noted
-    ∙ ap (λ ls. (now ++ told_row c s i row names ls e)
+    ∙ ap (λ ls. (now ++ drawn_row c s i row names ls e)
     ++ rows_text c s (i + 1) (row_after s i row names e) (names_beyond names i e) ls (drop (i + 1) h)) moves
-    ∙ append_assoc now (told_row c s i row names (lanes_after e lanes) e)
+    ∙ append_assoc now (drawn_row c s i row names (lanes_after e lanes) e)
     (rows_text c s (i + 1) (row_after s i row names e) (names_beyond names i e) (lanes_after e lanes) (drop (i + 1) h))
     ∙ ap (λ t. now ++ t) (sym (rows_text-more c s i row names lanes h e here))
     ∙ before

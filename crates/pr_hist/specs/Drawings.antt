@@ -21,8 +21,8 @@ unfoldable pub row_after : Selection → ℕ → ℕ → Names → Entry → ℕ
 row_after s n row names e = if is_told s n names e then row + 1 else row
 
 -- the row of an entry, where it is told
-unfoldable pub told_row : Chart → Selection → ℕ → ℕ → Names → List Lane → Entry → List ℕ
-told_row c s n row names lanes e =
+unfoldable pub drawn_row : Chart → Selection → ℕ → ℕ → Names → List Lane → Entry → List ℕ
+drawn_row c s n row names lanes e =
     if is_told s n names e then row_text (sheet_of c row lanes) s.full n names lanes e else []
 
 -- The rows of entries that count from a number. Before them there are so many rows, these handles are open, and lanes
@@ -30,7 +30,7 @@ told_row c s n row names lanes e =
 unfoldable pub rows_text : Chart → Selection → ℕ → ℕ → Names → List Lane → List Entry → List ℕ
 rows_text c s n row names lanes [] = []
 rows_text c s n row names lanes (e ∷ es) =
-    told_row c s n row names (lanes_after e lanes) e
+    drawn_row c s n row names (lanes_after e lanes) e
     ++ rows_text c s (n + 1) (row_after s n row names e) (names_beyond names n e) (lanes_after e lanes) es
 
 -- how many rows there are behind entries

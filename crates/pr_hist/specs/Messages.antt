@@ -135,16 +135,16 @@ unfoldable pub no_message_text : List ℕ → List ℕ
 no_message_text bytes = phrase NoMessage ++ bytes_text bytes
 
 -- the message with which bytes begin, or that there is none; and the bytes behind it
-abbrev pub told_first : Option Listing → List ℕ → Result (Message × ℕ) MsgFault → List ℕ
-told_first l bytes (Err fault) = no_message_text bytes
-told_first l bytes (Ok m) = message_text l m.0 bytes ++ between (drop m.1 bytes)
+abbrev pub text_of_first : Option Listing → List ℕ → Result (Message × ℕ) MsgFault → List ℕ
+text_of_first l bytes (Err fault) = no_message_text bytes
+text_of_first l bytes (Ok m) = message_text l m.0 bytes ++ between (drop m.1 bytes)
 
 abbrev pub left_behind : List ℕ → Result (Message × ℕ) MsgFault → List ℕ
 left_behind bytes (Err fault) = []
 left_behind bytes (Ok m) = drop m.1 bytes
 
 unfoldable pub first_text : Option Listing → List ℕ → List ℕ
-first_text l bytes = told_first l bytes (first_message bytes)
+first_text l bytes = text_of_first l bytes (first_message bytes)
 
 unfoldable pub rest_of : List ℕ → List ℕ
 rest_of bytes = left_behind bytes (first_message bytes)

@@ -5,14 +5,14 @@ use Rattle.std.specs.List.{flat_map}
 use Rattle.pr_num.specs.Sets.{has_number, has_entry, set_of_word}
 use Rattle.pr_text.specs.Numerals.{hex_text}
 
--- whether an entry is told: of those that a set has, or of those that it lacks
-abbrev pub is_told : Bool → Bool → Bool
-is_told lacks has = if lacks then not has else has
+-- whether an entry is picked: of those that a set has, or of those that it lacks
+abbrev pub is_picked : Bool → Bool → Bool
+is_picked lacks has = if lacks then not has else has
 
--- an entry by name, where it is told
+-- an entry by name, where it is picked
 unfoldable pub entry_text : {T : Type 0} → (T → ℕ) → (T → List ℕ) → Bool → ℕ → T → List ℕ
 entry_text number name lacks set entry =
-    if is_told lacks (has_number set (number entry)) then codes " " ++ name entry else []
+    if is_picked lacks (has_number set (number entry)) then codes " " ++ name entry else []
 
 -- the entries that a set has, or those that it lacks
 unfoldable pub entries_text : {T : Type 0} → (T → ℕ) → (T → List ℕ) → List T → Bool → ℕ → List ℕ

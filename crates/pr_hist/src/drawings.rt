@@ -1,6 +1,6 @@
 //! Whole charts: the lanes of a history, and a row for each entry that is told.
 ghost use Rattle.std.specs.Prelude.{◌≡◌, ◌++◌, ◌+◌, ◌<◌, ◌≤◌, ◌^◌, [], IfOk, OnOk};
-ghost use Rattle.pr_hist.specs.Drawings.{chart_of, drawn, is_too_long, row_after, rows_from, rows_of, rows_text, sheet_of, told_row};
+ghost use Rattle.pr_hist.specs.Drawings.{chart_of, drawn, drawn_row, is_too_long, row_after, rows_from, rows_of, rows_text, sheet_of};
 
 use crate::charts::{Chart, Sheet, write_foot, write_head, write_row};
 use crate::lanes::{Lane, lanes_of, move_lanes};
@@ -36,7 +36,7 @@ fn row_after(selection: Selection, number: usize, row: u64, names: &Names, entry
 }
 
 /// The row of an entry, where it is told.
-#[tactic(auto, unfolding(crate::specs::Drawings::told_row))]
+#[tactic(auto, unfolding(crate::specs::Drawings::drawn_row))]
 fn write_told(
     alloc: Global,
     text: &mut Text,
@@ -49,7 +49,7 @@ fn write_told(
     entry: &Entry,
 ) -> Result<(), NoMemory>
     ensures { OnOk result (text.new ≡ text.old
-        ++ told_row chart selection number row names.now lanes.now entry.now) }
+        ++ drawn_row chart selection number row names.now lanes.now entry.now) }
 {
     if !is_told(selection, number, names, entry) {
         return Ok(());

@@ -17,7 +17,7 @@ use Rattle.pr_ready.specs.Around.{is_around}
 use Rattle.pr_ready.specs.Following.{around_call, around_lwp}
 use Rattle.pr_ready.specs.Queues.{AreReady, is_movable}
 use Rattle.pr_ready.specs.Ready.{Covers, CoversMoves, CoversDozing, GrowsBut, IsDue, ReadySets, some_answer, some_dozing}
-use Rattle.pr_ready.specs.Steps.{Follows}
+use Rattle.pr_ready.specs.Steps.{KeepsUp}
 use Rattle.pr_ready.specs.declared.around.Around.{Around}
 use Rattle.pr_ready_laws.specs.Reach.{changes_files, itself, reach_of, reaches_around}
 use Rattle.pr_ready_laws.specs.Touched.{call_changes_files}
@@ -62,24 +62,24 @@ ready-dozing s r h ready = record {
 -- The sets after a call and after a turn, where what these may touch was noted before.
 pub call-follows : (s : TracedState) (by : ℕ) (c : Call) (a : Answer) (around : Around) (files : Bool) (old new : ReadySets)
     → IsLawful s → answer_to s by c ≡ Some a → around ≡ around_call s by c → files ≡ call_changes_files c
-    → Follows (is_around around) files false (is_movable a.state.system) a.state.system old new → AreReady s.system old
+    → KeepsUp (is_around around) files false (is_movable a.state.system) a.state.system old new → AreReady s.system old
     → AreReady a.state.system new
 call-follows s by c a around files old new h answer noted said follows before =
-    let whom : Follows (is_around (around_call s by c)) files false (is_movable a.state.system) a.state.system old new =
-    subst (λ (x : Around). Follows (is_around x) files false (is_movable a.state.system) a.state.system old new) noted
+    let whom : KeepsUp (is_around (around_call s by c)) files false (is_movable a.state.system) a.state.system old new =
+    subst (λ (x : Around). KeepsUp (is_around x) files false (is_movable a.state.system) a.state.system old new) noted
     follows in
     call-ready s by c a old new h answer
-    (subst (λ (b : Bool). Follows (is_around (around_call s by c)) b false (is_movable a.state.system) a.state.system old new)
+    (subst (λ (b : Bool). KeepsUp (is_around (around_call s by c)) b false (is_movable a.state.system) a.state.system old new)
     said whom) before
 
 pub turn-follows : (s : TracedSystem) (pid id : ℕ) (t : LwpTurn) (around : Around) (old new : ReadySets)
     → IsLawfulSystem s → turn_of s pid id ≡ Some t → around ≡ around_lwp s pid id
-    → Follows (λ other. eqb pid other || (reaches_around (reach_of t.turned.did) && is_around around other))
+    → KeepsUp (λ other. eqb pid other || (reaches_around (reach_of t.turned.did) && is_around around other))
     (changes_files (reach_of t.turned.did)) false (is_movable t.system) t.system old new → AreReady s old
     → AreReady t.system new
 turn-follows s pid id t around old new h turn noted follows before =
     turn-ready s pid id t old new h turn
-    (subst (λ (x : Around). Follows (λ other. eqb pid other || (reaches_around (reach_of t.turned.did) && is_around x other))
+    (subst (λ (x : Around). KeepsUp (λ other. eqb pid other || (reaches_around (reach_of t.turned.did) && is_around x other))
     (changes_files (reach_of t.turned.did)) false (is_movable t.system) t.system old new) noted follows)
     before
 

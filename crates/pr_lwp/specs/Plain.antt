@@ -61,10 +61,10 @@ outcome_of (calls call regs) = Calls call regs
 outcome_of (faults f address) = Faults f address
 outcome_of (runs_into_watch address regs store) = RunsIntoWatch address regs
 
--- what is told of an instruction: what it came to, or nothing where it ran and left the registers as they are now
-abbrev pub told : Option Outcome → List ℕ → Outcome
-told None regs = Runs regs
-told (Some outcome) regs = outcome
+-- what an instruction came to; of nothing: it ran and left the registers as they are now
+abbrev pub came_to : Option Outcome → List ℕ → Outcome
+came_to None regs = Runs regs
+came_to (Some outcome) regs = outcome
 
 -- whether that is a fault, which leaves the registers as they were
 abbrev pub tells_fault : Option Outcome → Bool

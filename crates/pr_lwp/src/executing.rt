@@ -7,7 +7,7 @@ ghost use Rattle.pr_num.specs.Spaces.{bytes_for};
 ghost use Rattle.pr_parts.specs.WatchedAreas.{hit_in};
 ghost use Rattle.pr_model.specs.Registers.{pc_of};
 ghost use Rattle.pr_model.specs.InstructionEffects.{access_fault, executed, hit_after, hit_before, instruction_effect, load_effect, of_instruction, store_effect, trapped_after, unless_exec_watched, unless_watched};
-ghost use Rattle.pr_lwp.specs.Plain.{decoded_of, load_of, loaded_from, outcome_of, size_of, space_after, store_of, stored_bytes, stores_bytes, tells_fault, told};
+ghost use Rattle.pr_lwp.specs.Plain.{came_to, decoded_of, load_of, loaded_from, outcome_of, size_of, space_after, store_of, stored_bytes, stores_bytes, tells_fault};
 
 use crate::accesses::{bad_store, fetch, load, make_store};
 use crate::decoding::{Decoded, Load, Store, Stored, decode, leaves_registers};
@@ -224,9 +224,9 @@ fn executed(
     }
 }
 
-/// What is told of an instruction that left the registers as they are now, after which a hit of the execution traps.
+/// What an instruction came to that left the registers as they are now, after which a hit of the execution traps.
 fn left(exec_hit: Option<u64>, regs: &[u64; 11]) -> Option<Outcome>
-    ensures outcome { told result regs.now ≡ outcome_of (trapped_after exec_hit None regs.now None) }
+    ensures outcome { came_to result regs.now ≡ outcome_of (trapped_after exec_hit None regs.now None) }
     ensures fault { tells_fault result ≡ false }
 {
     match exec_hit {
@@ -245,7 +245,7 @@ fn of_instruction(
     regs: &mut [u64; 11],
     instruction: Option<Instruction>,
 ) -> Result<Option<Outcome>, NoMemory>
-    ensures outcome { IfOk result (λ ran. told ran regs.new
+    ensures outcome { IfOk result (λ ran. came_to ran regs.new
         ≡ outcome_of (of_instruction space.old areas.now exec_hit regs.old instruction)) }
     ensures regs { IfOk result (λ ran. tells_fault ran ≡ true → regs.new ≡ regs.old) }
     ensures space { OnOk result (space.new
@@ -287,7 +287,7 @@ fn unless_watched(
     regs: &mut [u64; 11],
     bytes: &[u8; 16],
 ) -> Result<Option<Outcome>, NoMemory>
-    ensures outcome { IfOk result (λ ran. told ran regs.new ≡ outcome_of (unless_exec_watched space.old areas.now
+    ensures outcome { IfOk result (λ ran. came_to ran regs.new ≡ outcome_of (unless_exec_watched space.old areas.now
         (hit_in watch_exec areas.now (pc_of regs.old) 16) regs.old bytes.now)) }
     ensures regs { IfOk result (λ ran. tells_fault ran ≡ true → regs.new ≡ regs.old) }
     ensures space { OnOk result (space.new ≡ space_after (unless_exec_watched space.old areas.now
@@ -315,7 +315,7 @@ pub fn execute(
     space: &mut Space,
     areas: &Areas,
 ) -> Result<Option<Outcome>, NoMemory>
-    ensures outcome { IfOk result (λ ran. told ran regs.new
+    ensures outcome { IfOk result (λ ran. came_to ran regs.new
         ≡ outcome_of (instruction_effect space.old areas.now regs.old)) }
     ensures regs { IfOk result (λ ran. tells_fault ran ≡ true → regs.new ≡ regs.old) }
     ensures space { OnOk result (space.new ≡ space_after (instruction_effect space.old areas.now regs.old) space.old) }

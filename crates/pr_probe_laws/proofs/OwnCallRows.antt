@@ -46,7 +46,7 @@ use Rattle.pr_probe_laws.proofs.OwnFiles.{IsSmall, OwnsFiles, called-owns, fed-p
 use Rattle.pr_probe_laws.proofs.ProbeLaw as saves
 use Rattle.pr_probe_laws.proofs.ProbeStages.{So}
 use Rattle.pr_probe_laws.proofs.TextMessages.{planted-size}
-use Rattle.pr_probe_laws.specs.ProbeCalls.{IsItsFile, IsProbeCall, IsToAgent, IsToProcess, MakesItsCalls, agent_control, agent_status, asks, closes, control, exits, instructs, lstatus, makes_agent, mappings, opens, polls, reads, reads_code, reads_kind, reads_stack, runs, runs_agent, sends, status, stops, traces_entries, traces_exits, traces_faults, traces_signals, waits, writes_code, writes_stack}
+use Rattle.pr_probe_laws.specs.ProbeCalls.{IsItsFile, IsProbeCall, IsToAgent, IsToProcess, MakesProbeCalls, agent_control, agent_status, asks, closes, control, exits, instructs, lstatus, makes_agent, mappings, opens, polls, reads, reads_code, reads_kind, reads_stack, runs, runs_agent, sends, status, stops, traces_entries, traces_exits, traces_faults, traces_signals, waits, writes_code, writes_stack}
 
 -- Each call of apfiles is one of its own.
 
@@ -254,7 +254,7 @@ module _ (n k pid : ℕ) (first : TracedState) where
 
 pub makes-its-calls : (controllers : List ControllerState) (n k pid : ℕ) (s : TracedState) (h : List Entry)
     → slice_get controllers k ≡ Some (Probe (first_probe pid)) → IsLegal n s h → AreOwnCalls controllers h
-    → MakesItsCalls k pid s h
+    → MakesProbeCalls k pid s h
 unfolding saves.IsProbeKept next_call_of
 makes-its-calls controllers n k pid s h starts legal own = record {
   each = λ front back c r place.

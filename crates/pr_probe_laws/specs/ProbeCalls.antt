@@ -75,6 +75,6 @@ pub data IsProbeCall (k pid : ℕ) (s : TracedState) : Call → Type 0 where
       → IsProbeCall k pid s (call.Close handle)
 
 -- each call of a controller in a history is one of these, in the state that it finds
-pub record MakesItsCalls (k pid : ℕ) (first : TracedState) (h : List Entry) : Type 0 where
+pub record MakesProbeCalls (k pid : ℕ) (first : TracedState) (h : List Entry) : Type 0 where
   pub each : (front back : List Entry) (c : Call) (r : Reply) → h ≡ front ++ call_entry k c r ∷ back
       → IsProbeCall k pid (state_after first front) c

@@ -3,7 +3,7 @@ ghost use Rattle.pr_model.specs.Legal.{IsLegal, state_after};
 ghost use Rattle.pr_model.specs.State.{TracedState};
 ghost use Rattle.pr_model.specs.declared.events.Entry.{Entry};
 ghost use Rattle.pr_probe.specs.Probes.{ProbeState, first_probe, has_ended};
-ghost use Rattle.pr_probe_laws.specs.ProbeCalls.{MakesItsCalls};
+ghost use Rattle.pr_probe_laws.specs.ProbeCalls.{MakesProbeCalls};
 ghost use Rattle.pr_tool_laws.specs.OwnCalls.{AreOwnCalls};
 ghost use Rattle.pr_tool_laws.specs.ToolHandles.{HoldsOnly};
 ghost use Rattle.pr_truss_laws.specs.Handles.{HasNothingOpen};
@@ -19,7 +19,7 @@ ghost use Rattle.pr_world.specs.Protocol.{controllers_at};
 pub fn apfiles_makes_its_own_calls()
     ensures { (controllers : List ControllerState) (n k pid : ℕ) (s : TracedState) (h : List Entry)
         → slice_get controllers k ≡ Some (cores.Probe (first_probe pid)) → IsLegal n s h → AreOwnCalls controllers h
-        → MakesItsCalls k pid s h }
+        → MakesProbeCalls k pid s h }
 {}
 
 /// In such a history, from a state in which it has nothing open, an apfiles has files of its own process alone open at

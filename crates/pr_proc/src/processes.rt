@@ -6,7 +6,7 @@ ghost use Rattle.pr_num.specs.ById.{IsRising, under, inserted, without_id, first
 ghost use Rattle.pr_num.specs.Limits.{mapping_limit};
 ghost use Rattle.pr_model.specs.Readers.{sizes_of};
 ghost use Rattle.pr_slots.specs.Walks.{rest_from};
-ghost use Rattle.pr_proc.specs.Keeping.{IsKept};
+ghost use Rattle.pr_proc.specs.Keeping.{AreTallied};
 ghost use Rattle.pr_proc.specs.Marks.{HasNoChild, HasNoChildFrom, HasNoZombie, HasNoZombieFrom};
 ghost use Rattle.pr_proc.specs.Totals.{AreSmall, IsTotal, size_under};
 
@@ -41,13 +41,13 @@ pub struct Processes {
 impl Model for Processes {
     ghost use Rattle.std.specs.Prelude.{List, ℕ};
     ghost use Rattle.pr_model.specs.State.{TracedProcess};
-    ghost use Rattle.pr_proc.specs.Keeping.{IsKept};
+    ghost use Rattle.pr_proc.specs.Keeping.{AreTallied};
 
     ghost Value = { List (ℕ × TracedProcess) };
 
     ghost view = { λ all. all.table };
 
-    ghost invariant = { λ all. IsKept all.others all.out all.children all.zombies all.table };
+    ghost invariant = { λ all. AreTallied all.others all.out all.children all.zombies all.table };
 }
 
 /// How many bytes the process of an id has mapped; 0 where there is none.
@@ -92,8 +92,8 @@ fn leave_out(
     zombies: &mut BlockSets,
     id: u32,
 ) -> u64
-    requires { IsKept others out children.old zombies.old table.now }
-    ensures { IsKept result id children.new zombies.new table.now }
+    requires { AreTallied others out children.old zombies.old table.now }
+    ensures { AreTallied result id children.new zombies.new table.now }
 {
     if id == out {
         return others;

@@ -2,12 +2,12 @@
 ghost use Rattle.std.specs.Prelude.{◌≡◌};
 ghost use Rattle.pr_model.specs.Lives.{with_reaped};
 ghost use Rattle.pr_model.specs.Readers.{children_among, children_of};
-ghost use Rattle.pr_proc.specs.Families.{children_told};
+ghost use Rattle.pr_proc.specs.Families.{children_as};
 
 use crate::{Children, Processes, Sys};
 
 fn children_among(parent: u32, processes: &Processes) -> Children
-    ensures { children_told result ≡ children_among parent processes.now }
+    ensures { children_as result ≡ children_among parent processes.now }
 {
     processes.ids_rise();
     if let Some((child, status)) = processes.next_zombie(parent, 0) {
@@ -23,7 +23,7 @@ fn children_among(parent: u32, processes: &Processes) -> Children
 /// children has ended, or else in the first in which one stands; takes no memory.
 #[tactic(auto, unfolding(pr_model::specs::Readers::children_of))]
 pub fn children(sys: &Sys, pid: u32) -> Children
-    ensures { children_told result ≡ children_of sys.now pid }
+    ensures { children_as result ≡ children_of sys.now pid }
 {
     children_among(pid, &sys.processes)
 }

@@ -16,7 +16,7 @@ use Rattle.pr_ready.specs.Around.{around_of, is_around, is_in_kin_of, kin, targe
 use Rattle.pr_ready.specs.Following.{around_call, around_lwp, made_by, target_in_process}
 use Rattle.pr_ready.specs.Queues.{AreReady, is_movable}
 use Rattle.pr_ready.specs.Ready.{ReadySets}
-use Rattle.pr_ready.specs.Steps.{Follows}
+use Rattle.pr_ready.specs.Steps.{KeepsUp}
 use Rattle.pr_ready_laws.specs.Left.{IsLeft}
 use Rattle.pr_ready_laws.specs.Reach.{changes_files, reach_of, reaches_around}
 use Rattle.pr_ready_laws.specs.Touched.{call_changes_files, call_touches, is_kin_of, is_made_by, is_near, is_with_kin, is_with_kin_of, target_in, target_of, turn_touches}
@@ -57,7 +57,7 @@ module _ (s : TracedSystem) (pid id : ℕ) (p : TracedProcess) (l : TracedLwp) (
 
 pub turn-ready : (s : TracedSystem) (pid id : ℕ) (t : LwpTurn) (old new : ReadySets) → IsLawfulSystem s
     → turn_of s pid id ≡ Some t
-    → Follows (λ other. eqb pid other || (reaches_around (reach_of t.turned.did) && is_around (around_lwp s pid id) other))
+    → KeepsUp (λ other. eqb pid other || (reaches_around (reach_of t.turned.did) && is_around (around_lwp s pid id) other))
     (changes_files (reach_of t.turned.did)) false (is_movable t.system) t.system old new → AreReady s old
     → AreReady t.system new
 unfolding turn_touches
@@ -77,7 +77,7 @@ made-same s _ other = refl
 
 pub call-ready : (s : TracedState) (by : ℕ) (c : Call) (a : Answer) (old new : ReadySets) → IsLawful s
     → answer_to s by c ≡ Some a
-    → Follows (is_around (around_call s by c)) (call_changes_files c) false (is_movable a.state.system) a.state.system old
+    → KeepsUp (is_around (around_call s by c)) (call_changes_files c) false (is_movable a.state.system) a.state.system old
     new → AreReady s.system old → AreReady a.state.system new
 unfolding call_touches around_call
 call-ready s by c a old new h answer follows before =
@@ -90,7 +90,7 @@ call-ready s by c a old new h answer follows before =
 -- ---- the clock
 
 pub tick-ready : (s : TracedSystem) (old new : ReadySets) → IsLawfulSystem (ticked s)
-    → Follows (λ other. false) false true (is_movable (ticked s)) (ticked s) old new → AreReady s old
+    → KeepsUp (λ other. false) false true (is_movable (ticked s)) (ticked s) old new → AreReady s old
     → AreReady (ticked s) new
 tick-ready s old new h follows before =
     follows-ready (λ other. false) false true s (ticked s) old new h follows before

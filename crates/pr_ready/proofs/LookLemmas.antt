@@ -11,7 +11,7 @@ use Rattle.pr_ready.specs.Around.{is_around}
 use Rattle.pr_ready.specs.Ready.{Covers, CoversEach, Grows, GrowsBut, IsWoken, ReadySets, is_at_pipe, is_dozing, is_woken}
 use Rattle.pr_ready_laws.specs.Reach.{Reach, changes_files, itself, reaches_around}
 use Rattle.pr_ready_laws.specs.Left.{dozes, sleeps_at_pipe, wakes_between}
-use Rattle.pr_ready.specs.Steps.{Follows}
+use Rattle.pr_ready.specs.Steps.{KeepsUp}
 use Rattle.pr_ready.specs.declared.around.Around.{Around}
 
 -- Processes are looked at one after another.
@@ -87,7 +87,7 @@ module _ (answer : ℕ × ℕ → Bool) (s : TracedSystem) where
   module _ (files : Bool) (old mid new : ReadySets) (woken : files ≡ true → IsWoken answer s mid.at_pipes new.movable)
       (last : Grows mid new) where
     pub follows-call : (touches : ℕ → Bool) → CoversEach touches answer s mid → Grows old mid
-        → Follows touches files false answer s old new
+        → KeepsUp touches files false answer s old new
     follows-call touches covers first = record {
       touched = λ pid one small. covers-more pid mid new (covers.each pid one small) last;
       movable = λ pid spared has. last.movable pid (first.movable pid has);
@@ -121,7 +121,7 @@ module _ (answer : ℕ × ℕ → Bool) (s : TracedSystem) where
               let parts = and_parts wide (is_around around pid) (rw differs at one) in
               (beside parts.0).each pid parts.1 small
 
-      pub follows-turn : Follows touches files false answer s old new
+      pub follows-turn : KeepsUp touches files false answer s old new
       follows-turn = record {
         touched = λ pid one small. covers-more pid mid new (touched pid one small) last;
         movable = λ pid spared has. last.movable pid (before.movable pid (apart pid spared) has);
@@ -136,7 +136,7 @@ module _ (answer : ℕ × ℕ → Bool) (s : TracedSystem) where
   -- a process alone, which was looked at
   pub follows-alone : (which : ℕ) (old new : ReadySets) (reach : Reach) → (which < process_limit → Covers answer s new which)
       → GrowsBut which old new → reach ≡ itself → (around : Around)
-      → Follows (λ other. eqb which other || (reaches_around reach && is_around around other)) (changes_files reach) false
+      → KeepsUp (λ other. eqb which other || (reaches_around reach && is_around around other)) (changes_files reach) false
       answer s old new
   follows-alone which old new reach covers first own around =
       follows-turn (changes_files reach) old new new (λ may. absurd (false≢true (sym (ap changes_files own) ∙ may)))

@@ -17,7 +17,7 @@ use Rattle.pr_lawful.proofs.EndLemmas.{found-live}
 use Rattle.pr_pids.specs.Members.{has_pid}
 use Rattle.pr_ready.specs.Queues.{AreReady, is_movable}
 use Rattle.pr_ready.specs.Ready.{Covers, CoversEach, IsDue, ReadySets, every, is_asked, is_at_pipe, is_dozing, is_woken, some_answer, some_answer_of}
-use Rattle.pr_ready.specs.Steps.{Follows}
+use Rattle.pr_ready.specs.Steps.{KeepsUp}
 use Rattle.pr_ready_laws.specs.Left.{HasLwp, IsLeft, comes_between, moment_of, sleeps_at_pipe, waits, wakes_between}
 use Rattle.pr_ready_laws.proofs.MoveLemmas.{moves-before}
 use Rattle.pr_ready_laws.proofs.StepLemmas.{mover}
@@ -110,7 +110,7 @@ earlier-woken from on to (e ∷ es) less is =
         or-second (wakes_between from to e.1.phase) _ (rest (rw sleeps at is))
 
 module _ (touches : ℕ → Bool) (files clock : Bool) (s u : TracedSystem) (old new : ReadySets)
-    (follows : Follows touches files clock (is_movable u) u old new) (before : CoversEach every (is_movable s) s old)
+    (follows : KeepsUp touches files clock (is_movable u) u old new) (before : CoversEach every (is_movable s) s old)
     (pid : ℕ) (small : pid < process_limit) (spared : touches pid ≡ false) (left : IsLeft pid files clock s u) where
   was : Covers (is_movable s) s old pid
   was = before.each pid refl small
@@ -204,7 +204,7 @@ module _ (touches : ℕ → Bool) (files clock : Bool) (s u : TracedSystem) (old
 
 -- where a step leaves each process that it does not touch
 pub covers-every : (touches : ℕ → Bool) (files clock : Bool) (s u : TracedSystem) (old new : ReadySets)
-    → Follows touches files clock (is_movable u) u old new → CoversEach every (is_movable s) s old
+    → KeepsUp touches files clock (is_movable u) u old new → CoversEach every (is_movable s) s old
     → ((pid : ℕ) → touches pid ≡ false → (IsLeft pid files clock s u) ⊎ Covers (is_movable u) u new pid)
     → CoversEach every (is_movable u) u new
 covers-every touches files clock s u old new follows before left =
@@ -239,7 +239,7 @@ first-covers u r answer h = record {
         subst (λ (x : TracedProcess). list_any test x.lwps ≡ false) same refl
 
 pub follows-ready : (touches : ℕ → Bool) (files clock : Bool) (s u : TracedSystem) (old new : ReadySets)
-    → IsLawfulSystem u → Follows touches files clock (is_movable u) u old new → AreReady s old
+    → IsLawfulSystem u → KeepsUp touches files clock (is_movable u) u old new → AreReady s old
     → ((pid : ℕ) → pid ≢ 0 → touches pid ≡ false → IsLeft pid files clock s u) → AreReady u new
 follows-ready touches files clock s u old new h follows before left = record {
   covers =

@@ -11,7 +11,7 @@ ghost use Rattle.pr_ready.specs.Around.{is_around};
 ghost use Rattle.pr_ready.specs.Following.{around_call, around_lwp};
 ghost use Rattle.pr_ready.specs.Queues.{AreReady, IsQueue, is_movable, queue_of};
 ghost use Rattle.pr_ready.specs.Ready.{ReadySets};
-ghost use Rattle.pr_ready.specs.Steps.{Follows};
+ghost use Rattle.pr_ready.specs.Steps.{KeepsUp};
 ghost use Rattle.pr_ready_laws.specs.Left.{IsLeft};
 ghost use Rattle.pr_ready_laws.specs.Reach.{changes_files, reach_of, reaches_around};
 ghost use Rattle.pr_ready_laws.specs.Touched.{call_changes_files};
@@ -26,7 +26,7 @@ pub fn the_queue_is_in_order()
 /// touch.
 pub fn the_sets_follow_each_step()
     ensures { (touches : ℕ → Bool) (files clock : Bool) (s u : TracedSystem) (old new : ReadySets) → IsLawfulSystem u
-        → Follows touches files clock (is_movable u) u old new → AreReady s old
+        → KeepsUp touches files clock (is_movable u) u old new → AreReady s old
         → ((pid : ℕ) → pid ≢ 0 → touches pid ≡ false → IsLeft pid files clock s u) → AreReady u new }
 {}
 
@@ -34,14 +34,14 @@ pub fn the_sets_follow_each_step()
 /// process after it. After a turn in which its lwp only ran they have it as they are.
 pub fn the_sets_stay_ready()
     ensures turns { (s : TracedSystem) (pid id : ℕ) (t : LwpTurn) (old new : ReadySets) → IsLawfulSystem s → turn_of s pid id ≡ Some t
-        → Follows (λ other. (pid == other) || (reaches_around (reach_of t.turned.did) && is_around (around_lwp s pid id) other))
+        → KeepsUp (λ other. (pid == other) || (reaches_around (reach_of t.turned.did) && is_around (around_lwp s pid id) other))
         (changes_files (reach_of t.turned.did)) false (is_movable t.system) t.system old new
         → AreReady s old → AreReady t.system new }
     ensures runs { (s : TracedSystem) (pid id : ℕ) (t : LwpTurn) (sets : ReadySets) → IsLawfulSystem s
         → turn_of s pid id ≡ Some t → t.turned.did ≡ Ran → AreReady s sets → AreReady t.system sets }
     ensures calls { (s : TracedState) (by : ℕ) (c : Call) (a : Answer) (old new : ReadySets) → IsLawful s → answer_to s by c ≡ Some a
-        → Follows (is_around (around_call s by c)) (call_changes_files c) false (is_movable a.state.system) a.state.system old new
+        → KeepsUp (is_around (around_call s by c)) (call_changes_files c) false (is_movable a.state.system) a.state.system old new
         → AreReady s.system old → AreReady a.state.system new }
     ensures ticks { (s : TracedSystem) (old new : ReadySets) → IsLawfulSystem (ticked s)
-        → Follows (λ other. false) false true (is_movable (ticked s)) (ticked s) old new → AreReady s old → AreReady (ticked s) new }
+        → KeepsUp (λ other. false) false true (is_movable (ticked s)) (ticked s) old new → AreReady s old → AreReady (ticked s) new }
 {}

@@ -4,7 +4,7 @@ ghost use Rattle.pr_model.specs.declared.events.Did.TheVariants.{Ran};
 ghost use Rattle.pr_num.specs.Limits.{process_limit};
 ghost use Rattle.pr_ready.specs.Around.{is_around};
 ghost use Rattle.pr_ready.specs.Ready.{Covers, CoversEach, Grows, IsWoken};
-ghost use Rattle.pr_ready.specs.Steps.{Follows};
+ghost use Rattle.pr_ready.specs.Steps.{KeepsUp};
 ghost use Rattle.pr_ready_laws.specs.Reach.{changes_files, itself, reach_of, reach_of_call, reaches_around};
 
 use crate::around::Around;
@@ -101,7 +101,7 @@ pub fn after_turn<Q: Question>(
     did: Did,
     question: &Q,
 )
-    ensures { Follows (λ other. (pid == other) || (reaches_around (reach_of did) && is_around around other)) (changes_files (reach_of did)) false (Q.answer question.now) sys.now ready.old ready.new }
+    ensures { KeepsUp (λ other. (pid == other) || (reaches_around (reach_of did) && is_around around other)) (changes_files (reach_of did)) false (Q.answer question.now) sys.now ready.old ready.new }
 {
     renew(ready, sys, pid, question);
     look_around_if(ready, sys, reaches_around(did), around, question);
@@ -119,7 +119,7 @@ pub fn after_instruction<Q: Question>(
 )
     requires reach { reach_of did ≡ itself }
     requires ran { did ≡ Ran → pid < process_limit → Covers (Q.answer question.now) sys.now ready.old pid }
-    ensures { (around : Around) → Follows (λ other. (pid == other) || (reaches_around (reach_of did) && is_around around other)) (changes_files (reach_of did)) false (Q.answer question.now) sys.now ready.old ready.new }
+    ensures { (around : Around) → KeepsUp (λ other. (pid == other) || (reaches_around (reach_of did) && is_around around other)) (changes_files (reach_of did)) false (Q.answer question.now) sys.now ready.old ready.new }
 {
     match did {
         Did::Ran => {}
@@ -135,7 +135,7 @@ pub fn after_call<Q: Question>(
     files: bool,
     question: &Q,
 )
-    ensures { Follows (is_around around) files false (Q.answer question.now) sys.now ready.old ready.new }
+    ensures { KeepsUp (is_around around) files false (Q.answer question.now) sys.now ready.old ready.new }
 {
     look_around(ready, sys, around, question);
     wake_at_pipes_if(ready, sys, files, question);
@@ -143,7 +143,7 @@ pub fn after_call<Q: Question>(
 
 /// After a tick of the clock: those that sleep in sleep are looked at, where it has come to a moment of theirs.
 pub fn after_tick<Q: Question>(ready: &mut Ready, sys: &Sys, question: &Q)
-    ensures { Follows (λ other. false) false true (Q.answer question.now) sys.now ready.old ready.new }
+    ensures { KeepsUp (λ other. false) false true (Q.answer question.now) sys.now ready.old ready.new }
 {
     wake_due(&mut ready.movable, &mut ready.moments, sys, question);
 }

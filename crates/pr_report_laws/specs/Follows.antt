@@ -103,9 +103,9 @@ pub record IsBegunChild (child : ℕ) (due : Option Call) (xs : List Exchange) :
 
 -- What the exchanges after the read do with the child, where the parent has this control file, truss had reported so
 -- much then, and at the end of the exchanges it has reported so much and this call is due.
-pub data IsFollowedUp (child control : ℕ) (base reports : List Report) (due : Option Call)
+pub data IsHandledNext (child control : ℕ) (base reports : List Report) (due : Option Call)
     (xs : List Exchange) : Type 0 where
-  attached : IsAttachedChild child control base reports due xs → IsFollowedUp child control base reports due xs
-  refused : IsRefusedChild child control base reports due xs → IsFollowedUp child control base reports due xs
-  left : IsLeftChild child xs → IsFollowedUp child control base reports due xs
-  begun : IsBegunChild child due xs → IsFollowedUp child control base reports due xs
+  attached : IsAttachedChild child control base reports due xs → IsHandledNext child control base reports due xs
+  refused : IsRefusedChild child control base reports due xs → IsHandledNext child control base reports due xs
+  left : IsLeftChild child xs → IsHandledNext child control base reports due xs
+  begun : IsBegunChild child due xs → IsHandledNext child control base reports due xs

@@ -57,7 +57,7 @@ pub record IsLeftIn (k pid : ℕ) (s : TracedState) (before : List Entry) (e : E
   pub reads : ReadsFile k pid Lstatus (state_after s before) e
 
 -- After the entries before, in none of these does it leave the process.
-pub record IsKept (k pid : ℕ) (s : TracedState) (before h : List Entry) : Type 0 where
+pub record IsNotLeft (k pid : ℕ) (s : TracedState) (before h : List Entry) : Type 0 where
   pub none : (first rest : List Entry) (e : Entry) → h ≡ first ++ e ∷ rest → IsLeftIn k pid s (before ++ first) e → ⊥
 
 -- No entries come later, or in the first of them truss leaves the process.
@@ -77,7 +77,7 @@ pub record IsGrip (k : ℕ) (o : Options) (pid : ℕ) (s : TracedState) (before 
   pub rest : List Entry
   pub is : grip ≡ waiting ∷ (between ++ running ∷ rest)
   pub opened : IsOpenedFrom k o pid before waiting between running
-  pub kept : IsKept k pid s (before ++ waiting ∷ (between ++ running ∷ [])) rest
+  pub kept : IsNotLeft k pid s (before ++ waiting ∷ (between ++ running ∷ [])) rest
   pub ends : EndsThere k pid s (before ++ grip) later
 
 -- The same of the child of a fork. All that it has done in the history comes after the fork, so the grip of it is the
@@ -90,7 +90,7 @@ pub record IsGripOfChild (k pid : ℕ) (s : TracedState) (grip later : List Entr
   pub is : grip ≡ before ++ running ∷ rest
   pub runs : exchange_of k running ≡ Some last
   pub followed : HasFollowed k pid (before ++ running ∷ [])
-  pub kept : IsKept k pid s (before ++ running ∷ []) rest
+  pub kept : IsNotLeft k pid s (before ++ running ∷ []) rest
   pub ends : EndsThere k pid s grip later
 
 -- ---- what is logged

@@ -12,7 +12,7 @@ use Rattle.pr_truss.specs.Records.{child_of, event_stops, is_on_event, status_lw
 use Rattle.pr_truss_laws.specs.Exchanges.{Exchange, exchange_of, exchanges, truss_at}
 use Rattle.pr_truss_laws.specs.Given.{reply_at}
 use Rattle.pr_report_laws.specs.Attachments.{HasFile, HasFollowed, HasOpened, ReadsFile}
-use Rattle.pr_report_laws.specs.Follows.{IsFollowedUp, ReadsFork}
+use Rattle.pr_report_laws.specs.Follows.{IsHandledNext, ReadsFork}
 use Rattle.pr_report_laws.specs.Freed.{IsSetFree, ReadsLastFork}
 use Rattle.pr_report_laws.specs.Holds.{HasHold}
 use Rattle.pr_report_laws.specs.Reads.{AreRead}
@@ -72,7 +72,7 @@ pub record FollowsChild (k : ℕ) (o : Options) (parent child : ℕ) (s : Traced
     (later : List Entry) : Type 0 where
   pub control : ℕ
   pub has : HasFile k parent Ctl control (state_after s before)
-  pub comes : IsFollowedUp child control (truss_at k o (before ++ e ∷ [])).reports
+  pub comes : IsHandledNext child control (truss_at k o (before ++ e ∷ [])).reports
       (truss_at k o (before ++ e ∷ later)).reports (next_call_of (truss_at k o (before ++ e ∷ later)))
       (exchanges k later)
 

@@ -43,11 +43,11 @@ abbrev pub with_exchange : TrussState → Option Exchange → TrussState
 with_exchange t None = t
 with_exchange t (Some x) = fed t x.reply
 
-abbrev pub told_of : ℕ → TrussState → Entry → TrussState
-told_of k t e = with_exchange t (exchange_of k e)
+abbrev pub fed_by_entry : ℕ → TrussState → Entry → TrussState
+fed_by_entry k t e = with_exchange t (exchange_of k e)
 
 -- the events of a history, of any process, that come while truss, which is controller k, watches a process
 abbrev pub events_watched : ℕ → ℕ → TrussState → TracedState → List Entry → List Logged
 events_watched k pid t s [] = []
 events_watched k pid t s (e ∷ h) =
-    (if watches t pid then events_of s e else []) ++ events_watched k pid (told_of k t e) (after s e) h
+    (if watches t pid then events_of s e else []) ++ events_watched k pid (fed_by_entry k t e) (after s e) h

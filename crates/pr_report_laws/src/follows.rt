@@ -11,7 +11,7 @@ ghost use Rattle.pr_truss.specs.declared.reports.Report.{Report};
 ghost use Rattle.pr_truss_laws.specs.Exchanges.{Exchange, Makes, exchanges, truss_after};
 ghost use Rattle.pr_truss_laws.specs.Handles.{handles_of};
 ghost use Rattle.pr_truss_laws.specs.Runs.{IsTrussRun};
-ghost use Rattle.pr_report_laws.specs.Follows.{IsFollowedUp, IsLeftChild, ReadsFork};
+ghost use Rattle.pr_report_laws.specs.Follows.{IsHandledNext, IsLeftChild, ReadsFork};
 ghost use Rattle.pr_report_laws.specs.Freed.{IsInterruptedFreeing, IsSetFree, ReadsLastFork};
 ghost use Rattle.pr_report_laws.specs.ToldForks.{
   FollowsChild,
@@ -34,7 +34,7 @@ pub fn each_child_that_was_read_is_handled()
     ensures { (o : Options) (xs before later : List Exchange) (x : Exchange) (place child : ℕ) → o.follow ≡ true
         → Makes (first_truss o) xs → xs ≡ before ++ x ∷ later
         → ReadsFork (truss_after (first_truss o) before) x.reply place child
-        → IsFollowedUp child (traced_at (truss_after (first_truss o) before) place).control
+        → IsHandledNext child (traced_at (truss_after (first_truss o) before) place).control
         (fed (truss_after (first_truss o) before) x.reply).reports (truss_after (first_truss o) xs).reports
         (next_call_of (truss_after (first_truss o) xs)) later }
 {}

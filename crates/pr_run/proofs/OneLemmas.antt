@@ -6,7 +6,7 @@ use Rattle.pr_model.specs.declared.events.Actor.{Actor}
 use Rattle.pr_world.proofs.RestLemmas.{pick-acts}
 use Rattle.pr_world.proofs.RunLemmas.{can_act-picked, run-function, run-longer, run-places, stuck-stays}
 use Rattle.pr_world.specs.Moves.{Moves}
-use Rattle.pr_world.specs.Runs.{IsTold, RunsFor, Steps, StoppedIn, after_moves}
+use Rattle.pr_world.specs.Runs.{RunsFor, Steps, StoppedIn, TellsMachine, after_moves}
 use Rattle.pr_world.specs.Worlds.{Pick, WorldOf, WorldState, actor_of, can_act, end_of, ended_as, goes_on, next_actor, next_pick, picked, seen, with_pick}
 use Rattle.pr_world.specs.declared.ends.End.{End}
 use Rattle.pr_run.specs.OneRuns.{Advanced, IsStopped, StandsAs, end_of_run}
@@ -143,14 +143,14 @@ module _ (first w : WorldState) (i e p : ℕ) (begin : e ≡ length first.kernel
   pub is-full : p ≤ i → goes_on w ≡ false
   is-full h = let n = counted in let stay = run-places (i - length first.kernel.history) first w run in full-ends w (omega (arith, n, stay))
 
-  pub stuck-is : i ≤ p → next_pick w ≡ None → IsTold first → w ≡ end_of_run first
+  pub stuck-is : i ≤ p → next_pick w ≡ None → TellsMachine first → w ≡ end_of_run first
   stuck-is h stuck t =
       let n = i - length first.kernel.history in
       let all = first.kernel.places - length first.kernel.history in
       let is = run-function n first w t run in
       is ∙ sym (stuck-stays first n (all - n) all (omega arith) (ap next_pick (sym is) ∙ stuck))
 
-  pub full-is : i ≡ p → IsTold first → w ≡ end_of_run first
+  pub full-is : i ≡ p → TellsMachine first → w ≡ end_of_run first
   full-is h t =
       let same : i - length first.kernel.history ≡ first.kernel.places - length first.kernel.history = omega arith in
       run-function (i - length first.kernel.history) first w t run ∙ ap (λ (n : ℕ). after_moves n first) same

@@ -1,6 +1,6 @@
 ghost use Rattle.std.specs.Prelude.{◌≡◌, ◌<◌, true, false, Some, length, IfOk, OnOk, OnErr};
 ghost use Rattle.pr_run.specs.OneRuns.{Advanced, IsStopped, LedTo, StandsAs, end_of_run};
-ghost use Rattle.pr_world.specs.Runs.{IsTold};
+ghost use Rattle.pr_world.specs.Runs.{TellsMachine};
 ghost use Rattle.pr_world.specs.Worlds.{ended_as, goes_on, seen};
 
 use pr_api::Kernel;
@@ -39,7 +39,7 @@ pub(crate) fn end<Q: Kernel>(world: &World<Q>) -> End
 pub fn run_one<Q: Kernel>(world: &mut World<Q>) -> Result<End, NoMemory>
     ensures run { OnOk result (LedTo (seen Q.view world.old) (seen Q.view world.new)) }
     ensures end { IfOk result (λ end. ended_as (seen Q.view world.new) ≡ Some end) }
-    ensures told { OnOk result (IsTold (seen Q.view world.old)
+    ensures told { OnOk result (TellsMachine (seen Q.view world.old)
         → seen Q.view world.new ≡ end_of_run (seen Q.view world.old)) }
     ensures err { OnErr result (IsStopped (seen Q.view world.old) (seen Q.view world.new)) }
 {

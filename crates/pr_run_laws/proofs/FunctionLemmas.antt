@@ -20,16 +20,23 @@ use Rattle.pr_reached.specs.Reached.{IsReached}
 use Rattle.pr_function_laws.proofs.MetLemmas.{event-breaks, found-function, tells-calls}
 use Rattle.pr_function_laws.proofs.CalledLaws.{calls-are-turns}
 use Rattle.pr_function_laws.proofs.EventReads.{events-read}
-use Rattle.pr_function_laws.proofs.OpenedLaws.{holds-opened, lifts-alone, one-event-each}
+use Rattle.pr_function_laws.proofs.LeavingHolds.{has-one-event-each, holds-what-it-opened}
+use Rattle.pr_function_laws.proofs.OpenedLaws.{lifts-alone}
+use Rattle.pr_function_laws.proofs.LineMoments.{memories-stand}
+use Rattle.pr_function_laws.proofs.LineReads.{reads-for-lines}
+use Rattle.pr_function_laws.proofs.LineTexts.{have-their-texts}
 use Rattle.pr_function_laws.proofs.OrdinaryExchanges.{truss-beside}
 use Rattle.pr_function_laws.proofs.HandledLaws.{handles-its-given}
 use Rattle.pr_function_laws.proofs.LeavingLaws.{calm-exchanges, leaves-its-processes}
 use Rattle.pr_function_laws.proofs.OrdinaryLaws.{calls-its-files, closes-controls-last, closes-throughout, nothing-left}
 use Rattle.pr_function_laws.proofs.OrdinaryNew.{shows-what-is-new}
+use Rattle.pr_function_laws.proofs.OrdinaryOnce.{shows-stops-once}
 use Rattle.pr_function_laws.proofs.OrdinaryShown.{shows-what-it-reads}
 use Rattle.pr_function_laws.proofs.OwnSteps.{steps-read}
 use Rattle.pr_function_laws.proofs.PlantedLaws.{plants-what-it-read}
+use Rattle.pr_function_laws.proofs.RefusalLaws.{tells-no-refusal-of-watched, tells-refusals-at-first}
 use Rattle.pr_function_laws.proofs.SoonLemmas.{soon-done}
+use Rattle.pr_function_laws.proofs.SoonNamed.{soon-run-or-closed}
 use Rattle.pr_function_laws.proofs.ToldLaws.{tells-turns}
 use Rattle.pr_function_laws.proofs.TreatedLaws.{options-at, treats-its-events}
 use Rattle.pr_function_laws.specs.Opened.{IsFunctionRun, ReadsBreakpoint, functions_at}
@@ -119,15 +126,16 @@ function-kept controllers n s h k o reached awake bytes none at some named legal
       truss = stays.1;
       calls = tells-calls o (replies_in (exchanges k h)) has;
       soon = soon-done o (exchanges k h) has stays.0 calm;
+      named_soon = soon-run-or-closed n k o s h run;
       names = named;
       meets = record {
         each = λ before between e x place id.
             breakpoint-read k (functions_at k o before) place id (state_after s before) e between
             (subst AreShowable (sym (options-at o (exchanges k before))) named) x;
       };
-      opens = holds-opened n k o s h run;
+      opens = holds-what-it-opened n k o s h run;
       plants = plants-what-it-read o (exchanges k h) has run.follows_none stays.0;
-      events = one-event-each n k o s h run reached bytes;
+      events = has-one-event-each n k o s h run reached bytes;
       reads = events-read n k o s h run reached bytes;
       lifts = lifts-alone n k o s h run reached bytes;
       turns = calls-are-turns n k o s h run reached bytes;
@@ -141,8 +149,14 @@ function-kept controllers n s h k o reached awake bytes none at some named legal
       leaves = leaves-its-processes n k o s h run;
       ordinary = beside;
       handled = handles-its-given o (exchanges k h) has beside;
+      tells = tells-refusals-at-first n k o s h run;
+      refusals = tells-no-refusal-of-watched n k o s h run;
       shows = shows-what-it-reads n k o s h run;
       new = shows-what-is-new n k o s h run;
+      once = shows-stops-once n k o s h run;
+      asks = reads-for-lines n k o s h run;
+      texts = have-their-texts n k o s h run;
+      moments = memories-stand n k o s h run reached bytes (all-steppable o named);
       files = calls-its-files n k o s h run;
       controls_last = closes-controls-last n k o s h run;
       releases = closes-throughout n k o s h run;

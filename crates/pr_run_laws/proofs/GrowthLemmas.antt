@@ -5,7 +5,7 @@ use Rattle.pr_model.specs.declared.events.Entry.{Entry}
 use Rattle.pr_scen.specs.Scenarios.{Scenario}
 use Rattle.pr_world.proofs.RunLemmas.{moves-told, next-leads, picked-kernel, stuck-next}
 use Rattle.pr_world.specs.Moves.{entry_of}
-use Rattle.pr_world.specs.Runs.{IsTold, StepLeads, after_moves, after_next}
+use Rattle.pr_world.specs.Runs.{StepLeads, TellsMachine, after_moves, after_next}
 use Rattle.pr_world.specs.Worlds.{Pick, WorldState, next_pick}
 use Rattle.pr_run_laws.proofs.KeptLemmas.{first-told}
 use Rattle.pr_run_laws.specs.Prefixes.{IsPrefix}
@@ -33,7 +33,7 @@ step-prefix w v step = record {
       (picked-kernel step.pick w);
 }
 
-next-prefix : (w : WorldState) (next : Option Pick) → next_pick w ≡ next → IsTold w
+next-prefix : (w : WorldState) (next : Option Pick) → next_pick w ≡ next → TellsMachine w
     → IsPrefix w.kernel.history (after_next w).kernel.history
 next-prefix w None e t =
     subst (λ (v : WorldState). IsPrefix w.kernel.history v.kernel.history) (sym (stuck-next w e))
@@ -41,7 +41,7 @@ next-prefix w None e t =
 next-prefix w (Some p) e t = step-prefix w (after_next w) (next-leads w p t e)
 
 -- so many moves after so many others
-more-prefix : (first : WorldState) (m k : ℕ) → IsTold first
+more-prefix : (first : WorldState) (m k : ℕ) → TellsMachine first
     → IsPrefix (after_moves m first).kernel.history (after_moves (k + m) first).kernel.history
 unfolding after_moves
 more-prefix first m zero t =

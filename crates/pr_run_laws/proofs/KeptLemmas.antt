@@ -1,4 +1,5 @@
-use Rattle.std.proofs.Common.{◌≡◌, ◌≢◌, ◌++◌, ℕ, Bool, true, false, All, Some, List, [], ◌∷◌, flat_map, length, map, refl, sym, subst, ap, ◌∙◌}
+use Rattle.std.proofs.Common.{◌≡◌, ◌≢◌, ◌++◌, ℕ, Bool, true, false, All, Some, List, [], ◌∷◌, flat_map, length, map}
+use Rattle.std.proofs.Common.{refl, sym, subst, ap, ◌∙◌}
 use Rattle.std.specs.List.{slice_get}
 use Rattle.std.specs.Option.{option_map}
 use Rattle.std.proofs.lemmas.Option.{slice_get-map}
@@ -28,9 +29,13 @@ use Rattle.pr_function_hides.proofs.HiddenTruss.{truss-hidden, truss-tidy}
 use Rattle.pr_function_hides.proofs.SleptHistories.{first-awake}
 use Rattle.pr_function_hides.proofs.StepLaw.{own-steps}
 use Rattle.pr_function_hides.proofs.WritesLaw.{writes-tidily}
+use Rattle.pr_function_hides.specs.RunsOfTrusses.{IsRunOfTrusses}
 use Rattle.pr_function_hides.specs.SleptCopies.{NoneSleepsInCopy}
+use Rattle.pr_function_hides.specs.TidyWrites.{AreUndisturbed}
+use Rattle.pr_function_laws.specs.Opened.{IsFunctionRun}
 use Rattle.pr_hidden.proofs.FirstLemmas.{first-untouched}
 use Rattle.pr_hidden.proofs.HistoryFollows.{hidden-first}
+use Rattle.pr_hidden.specs.Hiders.{Hiders}
 use Rattle.pr_probe_laws.proofs.HiddenLaw.{alone-accepted, alone-gone, alone-hidden, alone-tidy}
 use Rattle.pr_probe_laws.proofs.MarkCalls.{untouched-unstepped}
 use Rattle.pr_probe_laws.proofs.TakesBack.{probe-takes-back}
@@ -48,6 +53,7 @@ use Rattle.pr_scen.specs.Scenarios.{Scenario, probe_in, probes_of, script_in, sc
 use Rattle.pr_scen.specs.declared.plans.Plan.{Plan}
 use Rattle.pr_scen.specs.declared.plans.Plan.TheVariants as plan
 use Rattle.pr_truss.specs.Marks.{has_functions}
+use Rattle.pr_truss.specs.Trusses.{first_truss}
 use Rattle.pr_world.proofs.RunLemmas.{moves-led}
 use Rattle.pr_tool_laws.proofs.HandleLemmas.{tool-holds}
 use Rattle.pr_tool_laws.proofs.ProtocolLemmas.{follows-own}
@@ -61,14 +67,15 @@ use Rattle.pr_tool_laws.proofs.SentLaw.{prun-runs, pstop-stops}
 use Rattle.pr_tool_laws.proofs.StackLaw.{shows-one-stack}
 use Rattle.pr_tool_laws.proofs.WholeLemmas.{tool-shows}
 use Rattle.pr_tools.specs.Tools.{first_tool}
-use Rattle.pr_world.specs.ControllerStates.{Gcore, Probe, Tool}
+use Rattle.pr_world.specs.ControllerStates.{FnTruss, Gcore, Probe, Tool}
 use Rattle.pr_world.specs.Protocol.{Follows}
-use Rattle.pr_world.specs.Runs.{CameFrom, IsFresh, IsMachineRun, IsTold, LedFrom}
+use Rattle.pr_world.specs.Runs.{CameFrom, IsFresh, IsMachineRun, LedFrom, TellsMachine}
 use Rattle.pr_world.specs.Worlds.{WorldState}
-use Rattle.pr_run_laws.specs.ScenarioRuns.{IsKept, controller_of, controllers_of, files_of, first_state_of, first_world, history_after, truss_of, world_after}
+use Rattle.pr_run_laws.specs.ScenarioRuns.{IsKept, controller_of, controllers_of, files_of, first_state_of, first_world}
+use Rattle.pr_run_laws.specs.ScenarioRuns.{history_after, truss_of, world_after}
 use Rattle.pr_run_laws.specs.ScenarioRanges.{IsScenarioInRange}
 use Rattle.pr_run_laws.specs.CoreRuns.{IsGcoreKept}
-use Rattle.pr_run_laws.specs.FunctionRuns.{IsFunctionTrussKept, WriteUnseen}
+use Rattle.pr_run_laws.specs.FunctionRuns.{HideBreakpoints, IsFunctionTrussKept, WriteUnseen}
 use Rattle.pr_run_laws.specs.ProbeRuns.{AreHidden, IsProbeKept}
 use Rattle.pr_run_laws.specs.ToolRuns.{IsToolKept}
 use Rattle.pr_run_laws.specs.Tracers.{IsTracer}
@@ -86,7 +93,7 @@ pub first-fresh : (s : Scenario) → IsFresh (first_world s)
 unfolding first_world kernel_of
 first-fresh s = record { history = refl }
 
-pub first-told : (s : Scenario) → IsTold (first_world s)
+pub first-told : (s : Scenario) → TellsMachine (first_world s)
 unfolding first_world kernel_of
 first-told s = record { machine = first_state_of s; is = refl }
 
@@ -318,63 +325,64 @@ hidden-kept s n h range bytes legal own = record {
 }
 
 -- what truss with calls of functions writes, and what programs see of it
-pub writes-kept : (s : Scenario) (n : ℕ) (h : List Entry) → IsScenarioInRange s → HasBytes h
-    → IsLegal n (first_state_of s) h → AreOwnCalls (controllers_of s) h
-    → WriteUnseen (controllers_of s) (first_state_of s) h
-writes-kept s n h range bytes legal own =
-    let reached = state-reached s range in
-    let awake = none-asleep s in
-    record {
-      tidily = λ who hide.
-          writes-tidily n who (controllers_of s) (first_state_of s) h reached awake bytes legal own
-          (hide-trusses s range who hide);
-      leaves_none = λ who hide.
-          leaves-none n who (controllers_of s) (first_state_of s) h reached awake bytes legal own
-          (hide-trusses s range who hide);
-      clears = λ who hide.
-          clears-running n who (controllers_of s) (first_state_of s) h reached awake bytes legal own
-          (hide-trusses s range who hide);
-      lists = λ who hide undisturbed unbroken sparing k pid o hider starts.
+module _ (s : Scenario) (n : ℕ) (h : List Entry) (range : IsScenarioInRange s) (bytes : HasBytes h)
+    (legal : IsLegal n (first_state_of s) h) (own : AreOwnCalls (controllers_of s) h) where
+  -- where those who hide are such trusses, and undisturbed
+  trusses-run : (who : Hiders) → HideBreakpoints who (controllers_of s)
+      → AreUndisturbed who (controllers_of s) (first_state_of s) h
+      → IsRunOfTrusses n who (controllers_of s) (first_state_of s) h
+  trusses-run who hide undisturbed = record {
+    reached = state-reached s range;
+    awake = none-asleep s;
+    bytes = bytes;
+    legal = legal;
+    own_calls = own;
+    are = hide-trusses s range who hide;
+    undisturbed = undisturbed;
+  }
+
+  pub writes-kept : WriteUnseen (controllers_of s) (first_state_of s) h
+  writes-kept = record {
+    tidily = λ who hide undisturbed. writes-tidily (trusses-run who hide undisturbed);
+    leaves_none = λ who hide undisturbed. leaves-none (trusses-run who hide undisturbed);
+    clears = λ who hide undisturbed.
+        clears-running n who (controllers_of s) (first_state_of s) h (trusses-run who hide undisturbed);
+    clears_own = λ who hide undisturbed.
+        clears-alone n who (controllers_of s) (first_state_of s) h (trusses-run who hide undisturbed);
+    lists = λ who hide undisturbed sparing k pid o hider starts.
+        let named = shown-truss s range k o starts in
+        listed-turns n k who (controllers_of s) o (first_state_of s) h (its-run k o starts)
+        (trusses-run who hide undisturbed) (all-steppable o named.1) hider starts sparing pid;
+    lists_fetched = λ who hide undisturbed k pid o hider starts fetches.
+        let named = shown-truss s range k o starts in
+        fetched-turns n k who (controllers_of s) o (first_state_of s) h (its-run k o starts)
+        (trusses-run who hide undisturbed) (all-steppable o named.1) hider starts fetches pid;
+    events = λ who hide undisturbed k pid o hider starts.
+        listed-events n k who (controllers_of s) o (first_state_of s) h hider starts (its-run k o starts)
+        (trusses-run who hide undisturbed) pid;
+    own_steps = λ who hide undisturbed passive.
+        own-steps n who (controllers_of s) (first_state_of s) h (trusses-run who hide undisturbed) passive
+        (first-unstepped s);
+    leaves_no_fault = λ who hide undisturbed passive.
+        leaves-no-fault n who (controllers_of s) (first_state_of s) h (trusses-run who hide undisturbed) passive
+        (first-unstepped s);
+    posts_none = λ who hide undisturbed passive.
+        posts-none n who (controllers_of s) (first_state_of s) h (trusses-run who hide undisturbed) passive
+        (first-unstepped s);
+    tidy = λ who hide undisturbed passive.
+        truss-tidy n who (controllers_of s) (first_state_of s) h (trusses-run who hide undisturbed) passive
+        (first-unstepped s);
+    hidden = λ who hide undisturbed passive.
+        truss-hidden n who (controllers_of s) (first_state_of s) h (trusses-run who hide undisturbed) passive
+        (first-untouched s.programs (files_of s) s.spawns);
+  }
+    where
+      its-run : (k : ℕ) (o : Options) → slice_get (controllers_of s) k ≡ Some (FnTruss (first_truss o))
+          → IsFunctionRun n k o (first_state_of s) h
+      its-run k o starts =
           let named = shown-truss s range k o starts in
-          let run =
-          function-run (controllers_of s) n (first_state_of s) h k o reached (first-held s k) starts named.0 named.1
-          legal own in
-          listed-turns n k who (controllers_of s) o (first_state_of s) h run reached awake bytes
-          (all-steppable o named.1) own (hide-trusses s range who hide) hider starts undisturbed unbroken sparing pid;
-      lists_fetched = λ who hide undisturbed unbroken k pid o hider starts fetches.
-          let named = shown-truss s range k o starts in
-          let run =
-          function-run (controllers_of s) n (first_state_of s) h k o reached (first-held s k) starts named.0 named.1
-          legal own in
-          fetched-turns n k who (controllers_of s) o (first_state_of s) h run reached awake bytes
-          (all-steppable o named.1) own (hide-trusses s range who hide) hider starts undisturbed unbroken fetches pid;
-      events = λ who hide undisturbed unbroken k pid o hider starts.
-          let named = shown-truss s range k o starts in
-          let run =
-          function-run (controllers_of s) n (first_state_of s) h k o reached (first-held s k) starts named.0 named.1
-          legal own in
-          listed-events n k who (controllers_of s) o (first_state_of s) h hider starts unbroken run reached awake
-          bytes own (hide-trusses s range who hide) undisturbed pid;
-      own_steps = λ who hide undisturbed unbroken passive.
-          own-steps n who (controllers_of s) (first_state_of s) h reached awake bytes legal own
-          (hide-trusses s range who hide) undisturbed unbroken passive (first-unstepped s);
-      leaves_no_fault = λ who hide undisturbed unbroken passive.
-          leaves-no-fault n who (controllers_of s) (first_state_of s) h reached awake bytes legal own
-          (hide-trusses s range who hide) undisturbed unbroken passive (first-unstepped s);
-      posts_none = λ who hide undisturbed unbroken passive.
-          posts-none n who (controllers_of s) (first_state_of s) h reached awake bytes legal own
-          (hide-trusses s range who hide) undisturbed unbroken passive (first-unstepped s);
-      clears_own = λ who hide undisturbed unbroken passive.
-          clears-alone n who (controllers_of s) (first_state_of s) h reached awake bytes legal own
-          (hide-trusses s range who hide) undisturbed unbroken passive (first-unstepped s);
-      tidy = λ who hide undisturbed unbroken passive.
-          truss-tidy n who (controllers_of s) (first_state_of s) h reached awake bytes legal own
-          (hide-trusses s range who hide) undisturbed unbroken passive (first-unstepped s);
-      hidden = λ who hide undisturbed unbroken passive.
-          truss-hidden n who (controllers_of s) (first_state_of s) h reached awake bytes legal own
-          (hide-trusses s range who hide) undisturbed unbroken passive
-          (first-untouched s.programs (files_of s) s.spawns);
-    }
+          function-run (controllers_of s) n (first_state_of s) h k o (state-reached s range) (first-held s k) starts
+          named.0 named.1 legal own
 
 -- ---- runs
 

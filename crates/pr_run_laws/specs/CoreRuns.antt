@@ -1,7 +1,7 @@
 use Rattle.std.specs.Prelude.{◌≡◌, ℕ, true, false, List, None, Some, IsSome, slice_get}
 use Rattle.pr_core.specs.CoreText.{printed}
 use Rattle.pr_core.specs.Gcores.{GcoreState, has_ended}
-use Rattle.pr_core_laws.specs.GcoreCalls.{MakesItsCalls}
+use Rattle.pr_core_laws.specs.GcoreCalls.{MakesGcoreCalls}
 use Rattle.pr_core_laws.specs.OneCore.{ShowsOneCore}
 use Rattle.pr_core_laws.specs.Refused.{TellsWhy}
 use Rattle.pr_model.specs.Legal.{state_after}
@@ -32,7 +32,7 @@ pub record IsGcoreKept (controllers : List ControllerState) (first : TracedState
   pub takes_back : (g : GcoreState) → slice_get (controllers_at controllers h) k ≡ Some (Gcore g) → has_ended g ≡ true
       → IsSome g.refusal → asks_still false (exchanges k h) ≡ false
   pub calls : (g : GcoreState) → slice_get (controllers_at controllers h) k ≡ Some (Gcore g)
-      → MakesItsCalls k pid first h
+      → MakesGcoreCalls k pid first h
   pub opens : (g : GcoreState) → slice_get (controllers_at controllers h) k ≡ Some (Gcore g)
       → HoldsOnly k pid (state_after first h)
   pub closes : (g : GcoreState) → slice_get (controllers_at controllers h) k ≡ Some (Gcore g) → has_ended g ≡ true

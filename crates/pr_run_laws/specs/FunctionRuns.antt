@@ -9,7 +9,7 @@ use Rattle.pr_function_hides.specs.PassiveOthers.{AreOthersPassive}
 use Rattle.pr_function_hides.specs.Replacing.{WritesNoneOnceReplaced}
 use Rattle.pr_function_hides.specs.TidyCloses.{LeavesNoBreakpoint, LeavesNoFault}
 use Rattle.pr_function_hides.specs.TidyFaults.{ClearsOwnFaultsAlone, PostsNoOwnFault}
-use Rattle.pr_function_hides.specs.TidyWrites.{AreUnbroken, AreUndisturbed, WritesTidily}
+use Rattle.pr_function_hides.specs.TidyWrites.{AreUndisturbed, WritesTidily}
 use Rattle.pr_function_laws.specs.BreakpointCalls.{AreBreakpointCalls}
 use Rattle.pr_function_laws.specs.CalledTurns.{CallsAreTurns}
 use Rattle.pr_function_laws.specs.EventKinds.{AreEventKinds}
@@ -17,14 +17,19 @@ use Rattle.pr_function_laws.specs.EventsRead.{EventsAreRead}
 use Rattle.pr_function_laws.specs.Handled.{HandlesItsGiven}
 use Rattle.pr_function_laws.specs.Leaving.{LeavesItsProcesses}
 use Rattle.pr_function_laws.specs.Lifted.{MeetsBreakpoint, ReadsOnlyLast}
+use Rattle.pr_function_laws.specs.LineMoments.{MemoriesStand}
+use Rattle.pr_function_laws.specs.LineTexts.{HaveTheirTextsIn, ReadsForItsLinesOf}
 use Rattle.pr_function_laws.specs.ListedEvents.{ListsItsEvents}
 use Rattle.pr_function_laws.specs.Met.{TellsItsCalls}
 use Rattle.pr_function_laws.specs.OneEvent.{HasOneEventEach}
+use Rattle.pr_function_laws.specs.Named.{IsSoonRunOrClosed}
 use Rattle.pr_function_laws.specs.Opened.{HoldsWhatItOpened, LiftsForOneAlone, ReadsBreakpoint, functions_at}
-use Rattle.pr_function_laws.specs.Ordinary.{IsTrussBeside}
+use Rattle.pr_function_laws.specs.Ordinary.{IsTrussBeside, ordinary_among}
 use Rattle.pr_function_laws.specs.OrdinaryRuns.{ClosesFreelyThroughout, ShowsWhatIsNewOf, ShowsWhatItReadsOf}
 use Rattle.pr_function_laws.specs.Planted.{PlantsWhatItRead}
-use Rattle.pr_function_laws.specs.Runs.{MakesCalls, functions_after, replies_in}
+use Rattle.pr_function_laws.specs.Refusals.{TellsNoRefusalOfWatched, TellsRefusalsAtFirst}
+use Rattle.pr_function_laws.specs.Runs.{MakesFunctionCalls, functions_after, replies_in}
+use Rattle.pr_function_laws.specs.ShownOnce.{ShowsStopsOnceOf}
 use Rattle.pr_function_laws.specs.Soon.{IsSoonDone}
 use Rattle.pr_function_laws.specs.ToldTurns.{StepsAreRead, TellsTurnsAlone}
 use Rattle.pr_function_laws.specs.Treated.{TreatsItsEvents}
@@ -61,7 +66,7 @@ pub record MeetsWhatWasNamed (k : ℕ) (o : Options) (first : TracedState) : Typ
 pub record IsFunctionTrussKept (controllers : List ControllerState) (first : TracedState) (h : List Entry) (k : ℕ)
     (o : Options) : Type 0 where
   -- its calls are those that it makes after the replies that it got, and what it has learnt is a function of them
-  pub makes : MakesCalls (first_truss o) (exchanges k h)
+  pub makes : MakesFunctionCalls (first_truss o) (exchanges k h)
   pub truss : slice_get (controllers_at controllers h) k
       ≡ Some (FnTruss (functions_after (first_truss o) (exchanges k h)))
   -- the calls of functions that it reports are those of which its replies told, each of an lwp that a reply before had
@@ -70,12 +75,14 @@ pub record IsFunctionTrussKept (controllers : List ControllerState) (first : Tra
   -- after a poll that named a process at most twelve of its calls, and two more for each function, come before it runs
   -- that process or closes a file of it
   pub soon : IsSoonDone o (exchanges k h)
+  -- the same of the process whose control file the poll named, by the handles that the kernel has open for truss
+  pub named_soon : IsSoonRunOrClosed k o first h
   -- its functions are as a scenario names them, and each breakpoint that it meets is that of one of them
   pub names : AreShowable o
   pub meets : MeetsWhatWasNamed k o first
-  -- Until it is interrupted, of each process that it has opened: it has its own files, alone, and traces all signals
-  -- and faults; at most one event is unread, and each that the options select is told by the next read, if the process
-  -- lives then and no stop is left that stood before truss came.
+  -- Of each process that it has opened: it has its own files, alone, and traces all signals and faults; at most one
+  -- event is unread, also while it leaves the process. Until it is interrupted, each event that the options select is
+  -- told by the next read, if the process lives then and no stop is left that stood before truss came.
   pub opens : HoldsWhatItOpened k o first h
   pub events : HasOneEventEach k o first h
   pub reads : EventsAreRead k o first h
@@ -107,11 +114,26 @@ pub record IsFunctionTrussKept (controllers : List ControllerState) (first : Tra
   -- process that it was given, or tells the refusal of it, in their order.
   pub ordinary : IsTrussBeside o (exchanges k h)
   pub handled : HandlesItsGiven o (exchanges k h) ordinary
+  -- That it cannot trace a process it says only while it is to open what it was given: before it has polled, and before
+  -- a wait of it was interrupted. It does not say so of what it watches, but where its call is an open.
+  pub tells : TellsRefusalsAtFirst k o h
+  pub refusals : TellsNoRefusalOfWatched k o h
   -- What it shows of a process it reads right then, and it is no fault of its own. And what it reads in the status of a
   -- process, the options select and is no fault of its own it shows, once no stop is left that stood before truss came;
   -- so too at its last look at the process, if it has not looked at the event before.
   pub shows : ShowsWhatItReadsOf k o first h
   pub new : ShowsWhatIsNewOf k o first h
+  -- It sends PCRUN to a process before it shows more of it; so it shows no stop twice, unless that is refused.
+  pub once : ShowsStopsOnceOf k o first h
+  -- It reads the memory file of a process for the line of the event that it has just reported, and since it read that
+  -- event it has only planted or lifted breakpoints there. What stands in a line is what stood in the memory of the
+  -- state in which it read, breakpoints too; nothing, where the line asks for none, or the process had ended.
+  pub asks : ReadsForItsLinesOf k o first h
+  pub texts : HaveTheirTextsIn k o first h (ordinary_among (functions_at k o h).reports)
+  -- Until it is interrupted, and where no stop of the process is left from before it came, that memory is the one right
+  -- after the event, as long as the process lives, up to the read of the event, and up to that of the memory, if truss
+  -- planted and lifted nothing between; else but for the code of its functions.
+  pub moments : MemoriesStand k o first h
   -- It calls no file but those that it has open. Of the files of a process it closes the control file last, and nobody
   -- has the process open for writing then; and where PR_RLC is set without PR_KLC, nothing is traced in it any more,
   -- and none of its lwps stands. Once it has finished it has nothing open.
@@ -134,48 +156,48 @@ pub record HideBreakpoints (who : Hiders) (controllers : List ControllerState) :
   pub trusses : (k : ℕ) → hides who k ≡ true → HidesAt who controllers k
 
 -- Where those who hide what they do in a history are each a truss that shows calls of functions, on the conditions of
--- AreUndisturbed. All but the first field ask besides that none of them is interrupted.
+-- AreUndisturbed. So it is also where one of them is interrupted, and leaves its processes.
 pub record WriteUnseen (controllers : List ControllerState) (first : TracedState) (h : List Entry) : Type 0 where
   -- Each PCWRITE of such a truss is tidy, so that programs have the memory after it that they had before; what each
   -- turn changes is tidy, and whom controllers kill; and the breakpoints that stand in a process that it traces are
-  -- those that it has marked; also while it leaves its processes, once it was interrupted. None stands where it closes
-  -- a file of a process that lives; and it sends no PCCFAULT.
+  -- those that it has marked; and none stands where it closes a file of a process that lives. So it is also while it
+  -- leaves its processes, once it was interrupted. It sends no PCCFAULT before it was interrupted; and PCCFAULT, and
+  -- the PCRUN by which it clears a fault or steps an lwp, find no fault but one of those who hide.
   pub tidily : (who : Hiders) → HideBreakpoints who controllers → AreUndisturbed who controllers first h
       → WritesTidily who controllers first h
   pub leaves_none : (who : Hiders) → HideBreakpoints who controllers → AreUndisturbed who controllers first h
-      → AreUnbroken who h → LeavesNoBreakpoint who first h
+      → LeavesNoBreakpoint who first h
   pub clears : (who : Hiders) → HideBreakpoints who controllers → AreUndisturbed who controllers first h
-      → AreUnbroken who h → ClearByRunning who h
+      → ClearByRunning who h
+  pub clears_own : (who : Hiders) → HideBreakpoints who controllers → AreUndisturbed who controllers first h
+      → ClearsOwnFaultsAlone who first h
   -- If programs leave its breakpoints alone, or what can be fetched where one is planted is its instruction, then the
   -- calls of functions that it has shown are the turns that are such calls, each once and in their order, and it lacks
   -- the last one at most.
   pub lists : (who : Hiders) → HideBreakpoints who controllers → AreUndisturbed who controllers first h
-      → AreUnbroken who h → IsSparing who first h → (k pid : ℕ) (o : Options) → hides who k ≡ true
+      → IsSparing who first h → (k pid : ℕ) (o : Options) → hides who k ≡ true
       → slice_get controllers k ≡ Some (FnTruss (first_truss o)) → ListsItsTurns k o first h pid
   pub lists_fetched : (who : Hiders) → HideBreakpoints who controllers → AreUndisturbed who controllers first h
-      → AreUnbroken who h → (k pid : ℕ) (o : Options) → hides who k ≡ true
+      → (k pid : ℕ) (o : Options) → hides who k ≡ true
       → slice_get controllers k ≡ Some (FnTruss (first_truss o)) → FetchesBreakpoints k o first h
       → ListsItsTurns k o first h pid
-  -- On neither of these conditions, the events of a process that it has shown are those that came while it watched the
-  -- process, that its options select, and that are no faults of its own, each once and in their order, but for the last
-  -- one at most.
-  pub events : (who : Hiders) → HideBreakpoints who controllers → AreUndisturbed who controllers first h
-      → AreUnbroken who h → (k pid : ℕ) (o : Options) → hides who k ≡ true
-      → slice_get controllers k ≡ Some (FnTruss (first_truss o)) → ListsItsEvents k o first h pid
+  -- On neither of these conditions, and also where it is interrupted, the events of a process that it has shown are
+  -- those that came while it watched the process, that its options select, and that are no faults of its own, each
+  -- once and in their order, but for the last one at most.
+  pub events : (who : Hiders) → HideBreakpoints who controllers → AreUndisturbed who controllers first h → (k pid : ℕ)
+      (o : Options) → hides who k ≡ true → slice_get controllers k ≡ Some (FnTruss (first_truss o))
+      → ListsItsEvents k o first h pid
   -- Where each call of all others is passive, FLTTRACE comes only where such a truss has the control file open; no lwp
-  -- stands at a fault of its own where it closes a file of a process that lives; no such fault is posted; and the PCRUN
-  -- by which it clears a fault or steps an lwp finds no other fault.
+  -- stands at a fault of its own where it closes a file of a process that lives; and no such fault is posted.
   pub own_steps : (who : Hiders) → HideBreakpoints who controllers → AreUndisturbed who controllers first h
-      → AreUnbroken who h → AreOthersPassive who h → AreStepsOwn who first h
+      → AreOthersPassive who h → AreStepsOwn who first h
   pub leaves_no_fault : (who : Hiders) → HideBreakpoints who controllers → AreUndisturbed who controllers first h
-      → AreUnbroken who h → AreOthersPassive who h → LeavesNoFault who first h
+      → AreOthersPassive who h → LeavesNoFault who first h
   pub posts_none : (who : Hiders) → HideBreakpoints who controllers → AreUndisturbed who controllers first h
-      → AreUnbroken who h → AreOthersPassive who h → PostsNoOwnFault who first h
-  pub clears_own : (who : Hiders) → HideBreakpoints who controllers → AreUndisturbed who controllers first h
-      → AreUnbroken who h → AreOthersPassive who h → ClearsOwnFaultsAlone who first h
+      → AreOthersPassive who h → PostsNoOwnFault who first h
   -- So it is tidy. If programs leave its breakpoints alone then, they see nothing of it: the steps that are not hidden
   -- are a run of the machine without controllers, and its trace is that of the history without what is hidden.
   pub tidy : (who : Hiders) → HideBreakpoints who controllers → AreUndisturbed who controllers first h
-      → AreUnbroken who h → AreOthersPassive who h → IsTidy who first h
+      → AreOthersPassive who h → IsTidy who first h
   pub hidden : (who : Hiders) → HideBreakpoints who controllers → AreUndisturbed who controllers first h
-      → AreUnbroken who h → AreOthersPassive who h → IsSparing who first h → IsHidden who first h
+      → AreOthersPassive who h → IsSparing who first h → IsHidden who first h

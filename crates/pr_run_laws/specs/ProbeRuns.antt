@@ -16,7 +16,7 @@ use Rattle.pr_probe.specs.AgentCode.{stack_size}
 use Rattle.pr_probe.specs.ProbeText.{printed}
 use Rattle.pr_probe.specs.Probes.{ProbeState, first_probe, has_ended}
 use Rattle.pr_probe_laws.specs.HiddenProbes.{AreLeftAlone, IsHidingAfter}
-use Rattle.pr_probe_laws.specs.ProbeCalls.{MakesItsCalls}
+use Rattle.pr_probe_laws.specs.ProbeCalls.{MakesProbeCalls}
 use Rattle.pr_probe_laws.specs.PutBack.{PutsBack}
 use Rattle.pr_probe_laws.specs.Reasons.{IsInterruptedPoll, TellsWhy}
 use Rattle.pr_probe_laws.specs.RunAgain.{LeavesItsProcess, TakesBack}
@@ -39,7 +39,7 @@ use Rattle.pr_tool_laws.specs.Leaving.{SendsTo}
 -- back its request to stop, unless every lwp stood.
 pub record IsProbeKept (controllers : List ControllerState) (first : TracedState) (h : List Entry) (k pid : ℕ)
     : Type 0 where
-  pub calls : MakesItsCalls k pid first h
+  pub calls : MakesProbeCalls k pid first h
   pub opens : (p : ProbeState) → slice_get (controllers_at controllers h) k ≡ Some (Probe p)
       → HoldsOnly k pid (state_after first h)
   pub closes : (p : ProbeState) → slice_get (controllers_at controllers h) k ≡ Some (Probe p) → has_ended p ≡ true

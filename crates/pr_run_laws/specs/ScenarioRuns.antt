@@ -81,9 +81,8 @@ first_world s = record {
 -- refusal; and it has nothing open. What a tool shows stood so in one state, whatever programs give its labels; what
 -- gcore prints is the core of one state, where others spare the process; apfiles puts back what it writes over, and
 -- programs see nothing of it where it is left alone; what truss with calls of functions writes leaves programs the
--- memory that they had, where it is undisturbed, and they see nothing of it where it is not interrupted either, others
--- are passive too and programs leave its breakpoints alone; and the programs of the machine are always those of the
--- scenario.
+-- memory that they had, where it is undisturbed, and they see nothing of it where others are passive too and programs
+-- leave its breakpoints alone; and the programs of the machine are always those of the scenario.
 pub record IsKept (s : Scenario) (h : List Entry) : Type 0 where
   pub legal : IsLegal (length (controllers_of s)) (first_state_of s) h
   pub follows : Follows (controllers_of s) (first_state_of s) h

@@ -10,7 +10,7 @@ use Rattle.pr_num.specs.Programs.{Program}
 use Rattle.pr_serve.proofs.CheckLemmas.{lost-any}
 use Rattle.pr_serve.proofs.GivingLemmas.{gives-else}
 use Rattle.pr_serve.proofs.RunEndLemmas.{status_cases}
-use Rattle.pr_serve.specs.Answers.{Answer, MayShowCore, MayShowRead, ShowsCore, refused_at, refused_for, told}
+use Rattle.pr_serve.specs.Answers.{Answer, MayShowCore, MayShowRead, ShowsCore, refused_at, refused_for, text_written}
 use Rattle.pr_serve.specs.CoreInputs.{ReadCore, core_limit, core_of_input}
 use Rattle.pr_serve.specs.Giving.{Responds, RespondsOne, RespondsWith, StopsEarly}
 use Rattle.pr_serve.specs.Histories.{RanOutEarly, no_run}
@@ -26,12 +26,12 @@ abbrev Early : Option (List ℕ) → List Entry → Option (List ℕ) → Option
 Early input h old new = RanOutEarly no_run input h old new
 
 -- The text of the tool was told.
-pub told-core : (kind : ToolKind) (programs : List Program) (core : CoreState) (text : List ℕ) (input : Option (List ℕ)) (status : Status) (h : List Entry) (old new : Option (List ℕ)) (before after : ℕ) → IsCore core → text ≡ tool_over_core kind core programs → Responds (told text) ⊥ status h old new before after → RespondsOne (ShowsCore kind programs (core_bytes core)) (Early input h old new) status h old new before after
+pub told-core : (kind : ToolKind) (programs : List Program) (core : CoreState) (text : List ℕ) (input : Option (List ℕ)) (status : Status) (h : List Entry) (old new : Option (List ℕ)) (before after : ℕ) → IsCore core → text ≡ tool_over_core kind core programs → Responds (text_written text) ⊥ status h old new before after → RespondsOne (ShowsCore kind programs (core_bytes core)) (Early input h old new) status h old new before after
 told-core kind programs core text input status h old new before after is_core is responds =
     inl (record {
-      answer = told text;
-      may = record { core = core; is_core = is_core; spelled = refl; is = ap told is };
-      responds = gives-else (told text) (told text) ⊥ _ status h old new before after refl (λ never. absurd never) responds;
+      answer = text_written text;
+      may = record { core = core; is_core = is_core; spelled = refl; is = ap text_written is };
+      responds = gives-else (text_written text) (text_written text) ⊥ _ status h old new before after refl (λ never. absurd never) responds;
     })
 
 -- Memory ran out before there was an answer.

@@ -26,7 +26,7 @@ use Rattle.pr_serve.specs.Histories.{IsLedTo}
 use Rattle.pr_world.proofs.RunLemmas.{came-first, came-on, moves-told, next-leads, picked-kernel, signalled-lawful, stuck-next}
 use Rattle.pr_world.proofs.ToldLemmas.{is-told, told-at}
 use Rattle.pr_world.specs.Moves.{IsMachines, IsShaped, Moves, entry_of}
-use Rattle.pr_world.specs.Runs.{CameFrom, IsMachineRun, IsTold, after_moves, after_next}
+use Rattle.pr_world.specs.Runs.{CameFrom, IsMachineRun, TellsMachine, after_moves, after_next}
 use Rattle.pr_world.specs.Worlds.{Pick, WorldState, goes_on, next_pick, with_pick}
 
 pub led-places : (s : Scenario) (w : WorldState) → CameFrom (first_world s) w → w.kernel.places ≡ s.turns
@@ -63,7 +63,8 @@ run-of : (s : Scenario) (w : WorldState) (came : CameFrom (first_world s) w)
 unfolding first_world kernel_of
 run-of s w came = came.led.machine
 
-machine-state : (s : Scenario) (w : WorldState) → IsScenarioInRange s → (t : IsTold w) → CameFrom (first_world s) w
+machine-state : (s : Scenario) (w : WorldState) → IsScenarioInRange s → (t : TellsMachine w)
+    → CameFrom (first_world s) w
     → IsLawfulState t.machine
 machine-state s w range t came =
     let run = run-of s w came in
@@ -73,7 +74,7 @@ machine-state s w range t came =
 
 -- How a world stands after so many further moves, or as many as there could be: while an actor can move, each was made.
 record Onward (s : Scenario) (w : WorldState) (n : ℕ) (v : WorldState) : Type 0 where
-  told : IsTold v
+  told : TellsMachine v
   came : CameFrom (first_world s) v
   begins : IsPrefix w.kernel.history v.kernel.history
   most : length v.kernel.history ≤ length w.kernel.history + n
@@ -119,7 +120,7 @@ module _ (s : Scenario) (range : IsScenarioInRange s) (w : WorldState) where
         moving = λ q again. omega (arith, more, before);
       }
 
-  onward : (n : ℕ) → IsTold w → CameFrom (first_world s) w → Onward s w n (after_moves n w)
+  onward : (n : ℕ) → TellsMachine w → CameFrom (first_world s) w → Onward s w n (after_moves n w)
   unfolding after_moves
   onward zero told came = record {
     told = told;
@@ -138,7 +139,7 @@ unfolding first_world kernel_of
 first-none s = refl
 
 -- a move adds an entry at most
-next-short : (v : WorldState) (n : ℕ) → IsTold v → length v.kernel.history ≤ n → (next : Option Pick)
+next-short : (v : WorldState) (n : ℕ) → TellsMachine v → length v.kernel.history ≤ n → (next : Option Pick)
     → next_pick v ≡ next → length (after_next v).kernel.history ≤ suc n
 next-short v n told before None rest =
     subst (λ (w : WorldState). length w.kernel.history ≤ suc n) (sym (stuck-next v rest)) (omega (arith, before))
@@ -174,7 +175,7 @@ over-after s w v n is on = of (next_pick v) refl
     of None rest = stuck-ends v rest
     of (Some p) next = full-ends v (omega (arith, is, on.moving p next, led-places s v on.came))
 
-told-end : (s : Scenario) (w : WorldState) → IsScenarioInRange s → IsTold w → CameFrom (first_world s) w
+told-end : (s : Scenario) (w : WorldState) → IsScenarioInRange s → TellsMachine w → CameFrom (first_world s) w
     → length w.kernel.history ≤ s.turns → HasEnd s w.kernel.history
 told-end s w range told came within =
     let n = s.turns - length w.kernel.history in
@@ -212,7 +213,7 @@ machine-came first w m is came = record {
   calls = came.calls;
 }
 
-machine-told : (w : WorldState) (m : TracedState) → IsTold (as_machine m w)
+machine-told : (w : WorldState) (m : TracedState) → TellsMachine (as_machine m w)
 unfolding kernel_of as_machine
 machine-told w m = record { machine = m; is = refl }
 

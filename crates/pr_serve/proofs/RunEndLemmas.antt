@@ -9,7 +9,7 @@ use Rattle.pr_run_laws.specs.ScenarioRuns.{IsKept, first_world, run_of}
 use Rattle.pr_run_laws.proofs.KeptLemmas.{first-fresh, first-told, run-kept}
 use Rattle.pr_scen.specs.Refusals.{ScenFault}
 use Rattle.pr_scen.specs.Scenarios.{Scenario}
-use Rattle.pr_world.specs.Runs.{IsFresh, IsTold, after_moves}
+use Rattle.pr_world.specs.Runs.{IsFresh, TellsMachine, after_moves}
 use Rattle.pr_world.specs.Worlds.{WorldState, all_finished, end_of, end_with, next_actor, quiet_end}
 use Rattle.pr_world.proofs.RestLemmas.{all-rest, next-acts}
 use Rattle.pr_world.proofs.RunLemmas.{moves-counted, moves-led, moves-told, signalled-lawful}
@@ -82,7 +82,7 @@ history-kept text old new status h r = by (status_cases status)
 
 -- ---- a scenario is run
 
-ended : (first : WorldState) (n : ℕ) → IsTold first → IsFresh first → (next : Option Actor) → next_actor (after_moves n first) ≡ next → EndsAs n (after_moves n first) (end_status (end_with (after_moves n first) next))
+ended : (first : WorldState) (n : ℕ) → TellsMachine first → IsFresh first → (next : Option Actor) → next_actor (after_moves n first) ≡ next → EndsAs n (after_moves n first) (end_status (end_with (after_moves n first) next))
 unfolding end_status
 ended first n told fresh None rest = by (all_finished (after_moves n first)) refl
   where

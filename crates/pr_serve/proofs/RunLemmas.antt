@@ -18,7 +18,7 @@ use Rattle.pr_run_laws.proofs.KeptLemmas.{first-fresh, first-told}
 use Rattle.pr_scen.specs.Scenarios.{IsWithinLimits, Scenario}
 use Rattle.pr_scen.specs.declared.plans.Plan.{Plan}
 use Rattle.pr_world.proofs.RunLemmas.{run-function, run-longer, run-places}
-use Rattle.pr_world.specs.Runs.{IsFresh, IsTold, StoppedIn, after_moves}
+use Rattle.pr_world.specs.Runs.{IsFresh, StoppedIn, TellsMachine, after_moves}
 use Rattle.pr_world.specs.Worlds.{WorldOf, WorldState, end_of, ended_as, goes_on, seen}
 use Rattle.pr_world.specs.ControllerStates.{ControllerState, state_of}
 use Rattle.pr_world.specs.declared.controllers.Controller.{Controller}
@@ -72,8 +72,8 @@ first-made (Ok w) s k controllers schedule state history places all acts is =
     (ap (λ (x : WorldOf Kernel). x.controllers) is ∙ all) (ap (λ (x : WorldOf Kernel). x.schedule) is ∙ acts) (ap (λ (x : WorldOf Kernel). x.last) is)
 first-made (Err e) s k controllers schedule state history places all acts is = tt
 
-pub seen-told : (s : Scenario) (w : WorldState) → w ≡ first_world s → IsTold w
-seen-told s w is = subst IsTold (sym is) (first-told s)
+pub seen-told : (s : Scenario) (w : WorldState) → w ≡ first_world s → TellsMachine w
+seen-told s w is = subst TellsMachine (sym is) (first-told s)
 
 pub seen-fresh : (s : Scenario) (w : WorldState) → w ≡ first_world s → IsFresh w
 seen-fresh s w is = subst IsFresh (sym is) (first-fresh s)
@@ -92,12 +92,12 @@ ended-is w end is = of (goes_on w) refl
     of true goes = cc
     of false goes = cc
 
-pub last-is : (first w : WorldState) → IsTold first → IsFresh first → (IsTold first → w ≡ end_of_run first) → w ≡ after_moves first.kernel.places first
+pub last-is : (first w : WorldState) → TellsMachine first → IsFresh first → (TellsMachine first → w ≡ end_of_run first) → w ≡ after_moves first.kernel.places first
 last-is first w told fresh is =
     let none = ap length fresh.history in
     is told ∙ ap (λ (n : ℕ). after_moves n first) {x = first.kernel.places - length first.kernel.history} {y = first.kernel.places} (omega (arith, none))
 
-pub run-stopped : (r : Result End NoMemory) (first w : WorldState) → IsTold first → OnErr r (StoppedIn first w) → length w.kernel.history ≤ w.kernel.places → OnErr r (IsWorldsWay first w.kernel.history)
+pub run-stopped : (r : Result End NoMemory) (first w : WorldState) → TellsMachine first → OnErr r (StoppedIn first w) → length w.kernel.history ≤ w.kernel.places → OnErr r (IsWorldsWay first w.kernel.history)
 run-stopped (Ok end) first w told stopped within = tt
 run-stopped (Err e) first w told s within =
     let history : w.kernel.history ≡ s.world.kernel.history = ap (λ (k : KernelView). k.history) s.kernel in

@@ -12,7 +12,7 @@ use Rattle.pr_run_laws.specs.ScenarioRuns.{IsKept, first_world}
 use Rattle.pr_run_laws.proofs.KeptLemmas.{came-kept}
 use Rattle.pr_scen.specs.Scenarios.{Scenario}
 use Rattle.pr_scen.specs.Refusals.{ScenFault}
-use Rattle.pr_world.specs.Runs.{CameFrom, IsTold}
+use Rattle.pr_world.specs.Runs.{CameFrom, TellsMachine}
 use Rattle.pr_world.specs.Worlds.{WorldState, all_finished, end_of, end_with, ended_as, goes_on, next_actor, quiet_end}
 use Rattle.pr_world.specs.declared.ends.End.{End}
 use Rattle.pr_world.proofs.RestLemmas.{all-rest, next-acts}
@@ -94,7 +94,7 @@ responds-left answer s w status h old new before after came within r = record {
 }
 
 -- The run that led to a world was shown, or memory had run out in it.
-pub shown-one : (showing : Showing) (s : Scenario) (w : WorldState) (end : Result End NoMemory) (status : Status) (h : List Entry) (old new : Option (List ℕ)) (before after : ℕ) → CameFrom (first_world s) w → IsTold w → length w.kernel.history ≤ w.kernel.places → IfOk end (λ end. ended_as w ≡ Some end)
+pub shown-one : (showing : Showing) (s : Scenario) (w : WorldState) (end : Result End NoMemory) (status : Status) (h : List Entry) (old new : Option (List ℕ)) (before after : ℕ) → CameFrom (first_world s) w → TellsMachine w → length w.kernel.history ≤ w.kernel.places → IfOk end (λ end. ended_as w ≡ Some end)
     → OnOk end (Responds (ran (run_shown showing) w) (LeftWith w.kernel.history h old new) status h old new before after) → OnErr end (StopsEarly (LeftWith w.kernel.history h old new) status before after) → RespondsOne (ShowsEnd showing s) (StoppedThreads s h old new) status h old new before after
 shown-one showing s w (Ok end) status h old new before after came told within ended shown stopped =
     inl (record {

@@ -17,7 +17,7 @@ use Rattle.pr_plain.specs.Generated.{generated_text}
 use Rattle.pr_run_laws.specs.ScenarioRuns.{first_state_of, first_world, run_of}
 use Rattle.pr_scen.specs.Refusals.{ScenFault}
 use Rattle.pr_scen.specs.Scenarios.{Scenario}
-use Rattle.pr_world.specs.Runs.{CameFrom, IsTold}
+use Rattle.pr_world.specs.Runs.{CameFrom, TellsMachine}
 use Rattle.pr_world.specs.Worlds.{WorldState, end_of, goes_on}
 use Rattle.pr_world.specs.declared.ends.End.{End}
 use Rattle.pr_world.specs.declared.ends.End.TheVariants as end
@@ -120,7 +120,7 @@ answer_to text input = answer_of text (scenario_of_input input)
 -- machine, and no actor can move any more, or there is no place for an entry.
 pub record IsEndOf (s : Scenario) (w : WorldState) : Type 0 where
   pub came : CameFrom (first_world s) w
-  pub told : IsTold w
+  pub told : TellsMachine w
   pub over : goes_on w ≡ false
   pub within : length w.kernel.history ≤ w.kernel.places
 
@@ -170,8 +170,8 @@ check_of input = judgement_of (checked_of_input input)
 -- ---- the command `core`
 
 -- a text is written, and the work is done
-abbrev pub told : List ℕ → Answer
-told text = record { status = Done; history = []; text = text }
+abbrev pub text_written : List ℕ → Answer
+text_written text = record { status = Done; history = []; text = text }
 
 -- What is written of the core with these bytes: the text of a tool over it, with the labels of these programs. No other
 -- core has its bytes.
@@ -179,7 +179,7 @@ pub record ShowsCore (kind : ToolKind) (programs : List Program) (bytes : List �
   pub core : CoreState
   pub is_core : IsCore core
   pub spelled : core_bytes core ≡ bytes
-  pub is : answer ≡ told (tool_over_core kind core programs)
+  pub is : answer ≡ text_written (tool_over_core kind core programs)
 
 abbrev pub MayShowRead : ToolKind → Result ReadCore Wrong → Answer → Type 0
 MayShowRead kind (Err w) answer = answer ≡ refused_for w

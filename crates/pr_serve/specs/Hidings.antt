@@ -33,7 +33,8 @@ hider_of (plan.Probe pid) = Probe
 abbrev pub hiders_in : Scenario → Hiders
 hiders_in s = hiders_of (map hider_of s.controllers)
 
--- A history of a scenario that can be played on a new kernel, whether a run made it or not: it is legal.
+-- A history of a scenario that can be played on a new kernel, whether a run made it or not: the scenario is within its
+-- limits, and the history has fewer than 2^32 entries, and is legal.
 pub record IsOf (s : Scenario) (h : List Entry) : Type 0 where
   pub limits : IsWithinLimits s
   pub few : length h < 2 ^ 32

@@ -2,7 +2,7 @@
 ghost use Rattle.std.specs.Prelude.{◌≡◌, ◌≤◌, ◌<◌, ◌^◌, length, None, IfSome};
 ghost use Rattle.pr_core.specs.CoreBytes.{core_bytes};
 ghost use Rattle.pr_core.specs.CoreRanges.{IsCore};
-ghost use Rattle.pr_serve.specs.Answers.{MayShowCore, ShowsCore, told};
+ghost use Rattle.pr_serve.specs.Answers.{MayShowCore, ShowsCore, text_written};
 ghost use Rattle.pr_serve.specs.CoreInputs.{core_limit};
 ghost use Rattle.pr_serve.specs.Giving.{Responds, RespondsOne};
 ghost use Rattle.pr_serve.specs.Histories.{RanOutEarly, no_run};
@@ -20,7 +20,7 @@ use std::alloc::Global;
 
 /// Writes a text, and is done.
 fn tell<K: Sink>(alloc: Global, text: &[u8], sink: &mut K) -> Ending
-    ensures { Responds (told text.now) ⊥ result.status result.history.entries
+    ensures { Responds (text_written text.now) ⊥ result.status result.history.entries
         (K.written sink.old) (K.written sink.new) (K.faults sink.old) (K.faults sink.new) }
 {
     let pieces = [text];

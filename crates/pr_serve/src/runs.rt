@@ -4,7 +4,7 @@ ghost use Rattle.pr_run_laws.specs.ScenarioRuns.{controller_of, first_world, run
 ghost use Rattle.pr_scen.specs.Scenarios.{IsWithinLimits};
 ghost use Rattle.pr_truss.specs.Marks.{has_functions};
 ghost use Rattle.pr_world.specs.ControllerStates.{state_of};
-ghost use Rattle.pr_world.specs.Runs.{IsFresh, IsTold, after_moves};
+ghost use Rattle.pr_world.specs.Runs.{IsFresh, TellsMachine, after_moves};
 ghost use Rattle.pr_world.specs.Worlds.{end_of, seen};
 ghost use Rattle.pr_serve.specs.Made.{IsBroughtSoFar, IsWorldsWay, kern_view};
 ghost use Rattle.pr_serve.specs.Reports.{reports_of};
@@ -113,7 +113,7 @@ pub fn make_run(alloc: Global, scenario: Scenario) -> Made
 
 /// Makes all moves of a world in which no actor has moved, and has its controllers print.
 fn finish(alloc: Global, world: &mut World<Kern>) -> Result<Ran, NoMemory>
-    requires told { IsTold (seen kern_view world.old) }
+    requires told { TellsMachine (seen kern_view world.old) }
     requires fresh { IsFresh (seen kern_view world.old) }
     ensures ended { IfOk result (λ ran. ran.end ≡ end_of (after_moves world.old.kernel.places (seen kern_view world.old))) }
     ensures reports { IfOk result (λ ran. ran.reports.items ≡ reports_of (after_moves world.old.kernel.places (seen kern_view world.old))) }
@@ -129,7 +129,7 @@ fn finish(alloc: Global, world: &mut World<Kern>) -> Result<Ran, NoMemory>
 
 /// Makes the run of a world in which no actor has moved.
 fn run_world(alloc: Global, mut world: World<Kern>) -> Made
-    requires told { IsTold (seen kern_view world) }
+    requires told { TellsMachine (seen kern_view world) }
     requires fresh { IsFresh (seen kern_view world) }
     ensures ended { IfOk result.ran (λ ran. ran.end ≡ end_of (after_moves world.kernel.places (seen kern_view world))) }
     ensures reports { IfOk result.ran (λ ran. ran.reports.items ≡ reports_of (after_moves world.kernel.places (seen kern_view world))) }

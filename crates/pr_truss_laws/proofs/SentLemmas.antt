@@ -25,7 +25,7 @@ use Rattle.pr_truss_laws.proofs.OptionLemmas.{fed-options}
 use Rattle.pr_truss_laws.proofs.ReplySteps as step
 use Rattle.pr_truss_laws.proofs.ReplySteps.{GoesOn, Learns, Opens, ReplyStep, StopOver, Turns}
 use Rattle.pr_truss_laws.specs.Exchanges.{Exchange, Makes}
-use Rattle.pr_truss_laws.specs.Sent.{IsInOrder, MayFollow, SendsInOrder, clears, follows, opens, releases, releases_child, runs, sends, stops, traces_entries, traces_exits, traces_faults, traces_signals, unfollows, waits}
+use Rattle.pr_truss_laws.specs.Sent.{IsInOrder, MaySendNext, SendsInOrder, clears, follows, opens, releases, releases_child, runs, sends, stops, traces_entries, traces_exits, traces_faults, traces_signals, unfollows, waits}
 
 -- Each message of truss has its place.
 
@@ -34,7 +34,7 @@ use Rattle.pr_truss_laws.specs.Sent.{IsInOrder, MayFollow, SendsInOrder, clears,
 -- where the call of a state sends a message, it may come after this call
 abbrev Comes : Options → Call → Option Call → Type 0
 Comes o last None = Unit {0}
-Comes o last (Some c) = sends c ≡ true → MayFollow o last c
+Comes o last (Some c) = sends c ≡ true → MaySendNext o last c
 
 silent : (o : Options) (last c : Call) → sends c ≡ false → Comes o last (Some c)
 silent o last c none sent = absurd (false≢true (sym none ∙ sent))
@@ -189,7 +189,7 @@ ready-after o front x (Some c) (Some d) is comes = λ sent. record {
   earlier = front;
   last = x;
   is = refl;
-  may = subst (λ l. MayFollow o l d) (same_Some c x.call is) (comes sent);
+  may = subst (λ l. MaySendNext o l d) (same_Some c x.call is) (comes sent);
 }
 
 module _ (o : Options) where

@@ -38,10 +38,10 @@ pub data Precedes (o : Options) : Call → Call → Type 0 where
       (message_call control (message.Set fork_mode))
 
 -- What may be sent right after this call.
-pub data MayFollow (o : Options) (last : Call) : Call → Type 0 where
-  runs : {control : ℕ} → MayFollow o last (message_call control (message.Run 0))
-  unfollows : {control : ℕ} → MayFollow o last (message_call control (message.Unset fork_mode))
-  opens : {c : Call} → Precedes o last c → MayFollow o last c
+pub data MaySendNext (o : Options) (last : Call) : Call → Type 0 where
+  runs : {control : ℕ} → MaySendNext o last (message_call control (message.Run 0))
+  unfollows : {control : ℕ} → MaySendNext o last (message_call control (message.Unset fork_mode))
+  opens : {c : Call} → Precedes o last c → MaySendNext o last c
 
 -- whether a call sends a message
 abbrev pub sends : Call → Bool
@@ -54,7 +54,7 @@ pub record IsInOrder (o : Options) (xs : List Exchange) (c : Call) : Type 0 wher
   pub earlier : List Exchange
   pub last : Exchange
   pub is : xs ≡ earlier ++ last ∷ []
-  pub may : MayFollow o last.call c
+  pub may : MaySendNext o last.call c
 
 -- Each message is sent so.
 pub record SendsInOrder (o : Options) (xs : List Exchange) : Type 0 where

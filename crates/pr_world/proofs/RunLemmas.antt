@@ -15,7 +15,7 @@ use Rattle.pr_model.specs.declared.events.Entry.{Entry}
 use Rattle.pr_world.specs.Controllers.{is_clock_awaited}
 use Rattle.pr_world.specs.Moves.{Does, IsMachines, IsShaped, Leads, Moves, after_move, entry_of, move_in}
 use Rattle.pr_world.specs.Protocol.{FollowsAt, IsNextCall, controllers_after, controllers_at}
-use Rattle.pr_world.specs.Runs.{CameFrom, IsFresh, IsMachineRun, IsTold, LedFrom, RunsFor, StepLeads, Steps, after_moves, after_next, moved_by, or_unmoved}
+use Rattle.pr_world.specs.Runs.{CameFrom, IsFresh, IsMachineRun, LedFrom, RunsFor, StepLeads, Steps, TellsMachine, after_moves, after_next, moved_by, or_unmoved}
 use Rattle.pr_world.specs.Worlds.{Pick, WorldState, actor_of, can_act, next_actor, next_pick, with_pick}
 use Rattle.pr_world.specs.ControllerStates.{ControllerState}
 use Rattle.pr_world.proofs.MoveLemmas.{told-clock}
@@ -162,29 +162,29 @@ run-places (suc n) first w run = run.2.moves.leads.places ∙ ap (λ (k : Kernel
 
 -- ---- runs of a machine that is told
 
-pub signalled-lawful : (w : WorldState) → IsTold w → IsLawful w.kernel
+pub signalled-lawful : (w : WorldState) → TellsMachine w → IsLawful w.kernel
 signalled-lawful w t = subst IsLawful (sym t.is) (machine-lawful t.machine w.kernel.history w.kernel.places)
 
-told-is : (w : WorldState) (t : IsTold w) → w.kernel.machine ≡ Some t.machine
+told-is : (w : WorldState) (t : TellsMachine w) → w.kernel.machine ≡ Some t.machine
 told-is w t = is-told t.machine w t.is
 
 -- a world that a told one moved to is told
-told-on : (w v : WorldState) (actor : Actor) → IsTold w → Leads w actor v → IsTold v
+told-on : (w v : WorldState) (actor : Actor) → TellsMachine w → Leads w actor v → TellsMachine v
 told-on w v actor t m =
     let e = entry_of actor m.act in
     let made : IsMachines (length w.controllers) e v.kernel.machine t.machine = let P : Option TracedState → Type 0 = λ o. IfSome o (IsMachines (length w.controllers) e v.kernel.machine) in subst P (told-is w t) m.machine in
     record { machine = after t.machine e; is = m.lawful.told (after t.machine e) made.state }
 
-told-picked : (w : WorldState) (p : Pick) → IsTold w → IsTold (with_pick p w)
+told-picked : (w : WorldState) (p : Pick) → TellsMachine w → TellsMachine (with_pick p w)
 unfolding with_pick
 told-picked w p t = record { machine = t.machine; is = t.is }
 
 -- a move of a told world is the function's
-after_move-is : (w v : WorldState) (actor : Actor) → IsTold w → Leads w actor v → after_move w actor ≡ Some v
+after_move-is : (w v : WorldState) (actor : Actor) → TellsMachine w → Leads w actor v → after_move w actor ≡ Some v
 unfolding after_move
 after_move-is w v actor t m = ap (option_and_then (λ s. move_in s w actor)) (told-is w t) ∙ move-is t.machine w v actor (signalled-lawful w t) (told-is w t) m
 
-step-is : (w v : WorldState) → IsTold w → StepLeads w v → after_next w ≡ v
+step-is : (w v : WorldState) → TellsMachine w → StepLeads w v → after_next w ≡ v
 unfolding after_next
 step-is w v t step = ap (moved_by w) step.next ∙ ap (or_unmoved w) (after_move-is (with_pick step.pick w) v step.pick.actor (told-picked w step.pick t) step.leads)
 
@@ -201,7 +201,7 @@ can_act-picked w p (Lwp pid id) = refl
 can_act-picked w p Clock = refl
 
 -- the next move of a told world
-pub next-leads : (w : WorldState) (p : Pick) → IsTold w → next_pick w ≡ Some p → StepLeads w (after_next w)
+pub next-leads : (w : WorldState) (p : Pick) → TellsMachine w → next_pick w ≡ Some p → StepLeads w (after_next w)
 next-leads w p t e =
     let u = with_pick p w in
     let told = told-picked w p t in
@@ -209,27 +209,27 @@ next-leads w p t e =
     let step : StepLeads w goes.to = record { pick = p; next = e; leads = goes.leads } in
     subst (StepLeads w) (sym (step-is w goes.to t step)) step
 
-step-told : (w v : WorldState) → IsTold w → StepLeads w v → IsTold v
+step-told : (w v : WorldState) → TellsMachine w → StepLeads w v → TellsMachine v
 step-told w v t step = told-on (with_pick step.pick w) v step.pick.actor (told-picked w step.pick t) step.leads
 
 record IsRun (n : ℕ) (first w : WorldState) : Type 0 where
-  told : IsTold w
+  told : TellsMachine w
   is : w ≡ after_moves n first
 
-runs-function : (n : ℕ) (first w : WorldState) → IsTold first → RunsFor n first w → IsRun n first w
+runs-function : (n : ℕ) (first w : WorldState) → TellsMachine first → RunsFor n first w → IsRun n first w
 unfolding RunsFor after_moves
-runs-function zero first w t run = record { told = subst IsTold (sym run) t; is = run }
+runs-function zero first w t run = record { told = subst TellsMachine (sym run) t; is = run }
 runs-function (suc n) first w t run =
     let before = runs-function n first run.0 t run.1 in
     let step = step-leads run.0 w run.2 in
     record { told = step-told run.0 w before.told step; is = sym (step-is run.0 w before.told step) ∙ ap after_next before.is }
 
-pub run-function : (n : ℕ) (first w : WorldState) → IsTold first → RunsFor n first w → w ≡ after_moves n first
+pub run-function : (n : ℕ) (first w : WorldState) → TellsMachine first → RunsFor n first w → w ≡ after_moves n first
 run-function n first w t run = (runs-function n first w t run).is
 
 -- and after so many moves of the function
 record Reached (first w : WorldState) : Type 0 where
-  told : IsTold w
+  told : TellsMachine w
   led : LedFrom first w
 
 reached-next : (first w : WorldState) (next : Option Pick) → next_pick w ≡ next → Reached first w → Reached first (after_next w)
@@ -238,15 +238,15 @@ reached-next first w (Some p) e r =
     let step = next-leads w p r.told e in
     record { told = step-told w (after_next w) r.told step; led = led-step first w (after_next w) (signalled-lawful w r.told) r.led step }
 
-reached : (first : WorldState) (n : ℕ) → IsTold first → Reached first (after_moves n first)
+reached : (first : WorldState) (n : ℕ) → TellsMachine first → Reached first (after_moves n first)
 unfolding after_moves
 reached first zero t = record { told = t; led = led-first first }
 reached first (suc n) t = reached-next first (after_moves n first) (next_pick (after_moves n first)) refl (reached first n t)
 
-pub moves-told : (first : WorldState) (n : ℕ) → IsTold first → IsTold (after_moves n first)
+pub moves-told : (first : WorldState) (n : ℕ) → TellsMachine first → TellsMachine (after_moves n first)
 moves-told first n t = (reached first n t).told
 
-pub moves-led : (first : WorldState) (n : ℕ) → IsTold first → LedFrom first (after_moves n first)
+pub moves-led : (first : WorldState) (n : ℕ) → TellsMachine first → LedFrom first (after_moves n first)
 moves-led first n t = (reached first n t).led
 
 -- ---- how many entries there are
@@ -269,14 +269,14 @@ unfolding next_actor
 some_next w p e = ap (λ (o : Option Pick). is_some (option_map actor_of o)) e
 
 -- While an actor can move, there are as many entries as there were moves.
-counted-on : (w : WorldState) (n : ℕ) (next : Option Pick) → next_pick w ≡ next → IsTold w → (is_some (next_actor w) ≡ true → length w.kernel.history ≡ n) → is_some (next_actor (after_next w)) ≡ true → length (after_next w).kernel.history ≡ n + 1
+counted-on : (w : WorldState) (n : ℕ) (next : Option Pick) → next_pick w ≡ next → TellsMachine w → (is_some (next_actor w) ≡ true → length w.kernel.history ≡ n) → is_some (next_actor (after_next w)) ≡ true → length (after_next w).kernel.history ≡ n + 1
 counted-on w n None e t before h = let same = ap (λ (x : WorldState). is_some (next_actor x)) (stuck-next w e) in let no = not_next w e in cc
 counted-on w n (Some p) e t before h =
     let so_far = before (some_next w p e) in
     let more = step-longer w (after_next w) (next-leads w p t e) in
     omega (arith, so_far, more)
 
-pub moves-counted : (first : WorldState) (n : ℕ) → IsTold first → IsFresh first → is_some (next_actor (after_moves n first)) ≡ true → length (after_moves n first).kernel.history ≡ n
+pub moves-counted : (first : WorldState) (n : ℕ) → TellsMachine first → IsFresh first → is_some (next_actor (after_moves n first)) ≡ true → length (after_moves n first).kernel.history ≡ n
 unfolding after_moves
 moves-counted first zero t fresh h = ap length fresh.history
 moves-counted first (suc n) t fresh h =

@@ -65,7 +65,7 @@ pub record StoppedIn (first w : WorldState) : Type 0 where
 -- ---- over a machine that is told a run is a function
 
 -- a world whose kernel tells its machine
-pub record IsTold (w : WorldState) : Type 0 where
+pub record TellsMachine (w : WorldState) : Type 0 where
   pub machine : TracedState
   pub is : w.kernel ≡ kernel_of machine w.kernel.history w.kernel.places
 

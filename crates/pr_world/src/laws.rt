@@ -3,7 +3,7 @@ ghost use Rattle.std.specs.Prelude.{◌≡◌, ℕ, true, false, Some, None, len
 ghost use Rattle.pr_api.specs.Views.{IsLawful};
 ghost use Rattle.pr_model.specs.declared.events.Actor.{Actor as AnyActor};
 ghost use Rattle.pr_world.specs.Moves.{Moves};
-ghost use Rattle.pr_world.specs.Runs.{CameFrom, IsFresh, IsTold, RunsFor, after_moves};
+ghost use Rattle.pr_world.specs.Runs.{CameFrom, IsFresh, RunsFor, TellsMachine, after_moves};
 ghost use Rattle.pr_world.specs.Worlds.{WorldState, can_act, next_actor};
 
 /// A move goes on from where a world came: whoever moves, each controller has made the calls that it makes after the
@@ -20,7 +20,7 @@ pub fn a_run_is_legal_and_follows_the_protocol()
 
 /// Over a machine that is told, a run is a function of the world that it began with.
 pub fn a_run_over_a_machine_is_a_function()
-    ensures { (first w : WorldState) (n : ℕ) → IsTold first → RunsFor n first w → w ≡ after_moves n first }
+    ensures { (first w : WorldState) (n : ℕ) → TellsMachine first → RunsFor n first w → w ≡ after_moves n first }
 {}
 
 /// Who is next can move; where none is next, no actor can move.
@@ -31,5 +31,5 @@ pub fn next_is_who_can_move()
 
 /// A fresh world over a machine, in which an actor can move after so many moves, has made just so many entries.
 pub fn each_move_is_an_entry()
-    ensures { (first : WorldState) (n : ℕ) → IsTold first → IsFresh first → is_some (next_actor (after_moves n first)) ≡ true → length (after_moves n first).kernel.history ≡ n }
+    ensures { (first : WorldState) (n : ℕ) → TellsMachine first → IsFresh first → is_some (next_actor (after_moves n first)) ≡ true → length (after_moves n first).kernel.history ≡ n }
 {}

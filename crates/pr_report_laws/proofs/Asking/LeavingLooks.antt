@@ -47,7 +47,7 @@ use Rattle.pr_report_laws.proofs.Watching.HistoryParts.{front-run, rest-makes}
 use Rattle.pr_report_laws.proofs.Watching.LeavingOn.{interrupted-leaves}
 use Rattle.pr_report_laws.specs.Attachments.{HasFile, WasInterrupted}
 use Rattle.pr_report_laws.specs.Looks.{LooksAtWhatItLeaves, LooksFirst}
-use Rattle.pr_report_laws.specs.Watching.{told_of, with_exchange}
+use Rattle.pr_report_laws.specs.Watching.{fed_by_entry, with_exchange}
 
 -- Right behind the message by which truss begins to leave a process it looks at the process.
 
@@ -114,7 +114,7 @@ module _ (n k : ℕ) (o : Options) (first : TracedState) (before later : List En
   on : t.leaving ≡ true
   on = interrupted-leaves n k o first before front interrupted
 
-  makes : MakesNext t (exchange_of k e) × Makes (told_of k t e) (exchanges k later)
+  makes : MakesNext t (exchange_of k e) × Makes (fed_by_entry k t e) (exchanges k later)
   makes = makes-next k t e later (rest-makes n k o first before (e ∷ later) run)
 
   at : (t.stage ≡ Unfollowing) × ((traced_at t 0).control ≡ control)
@@ -172,11 +172,11 @@ module _ (n k : ℕ) (o : Options) (first : TracedState) (before later : List En
   answered (Refused errno) w x xs is = looked x is
   answered Interrupted w x xs is = looked x is
 
-  fed-is : told_of k t e ≡ with_unfollowed t (answer_of r)
+  fed-is : fed_by_entry k t e ≡ with_unfollowed t (answer_of r)
   unfolding fed with_reply
   fed-is = let a = at in ap (with_exchange t) own ∙ ap (with_reply t r) a.0
 
-  behind : (xs : List Exchange) → Makes (told_of k t e) xs → LooksFirst k pid s xs
+  behind : (xs : List Exchange) → Makes (fed_by_entry k t e) xs → LooksFirst k pid s xs
   behind [] made = tt
   behind (x ∷ xs) made =
       answered (answer_of r) (answer-is r) x xs (subst (λ (u : TrussState). next_call_of u ≡ Some x.call) fed-is made.0)

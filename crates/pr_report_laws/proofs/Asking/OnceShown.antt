@@ -52,7 +52,7 @@ use Rattle.pr_report_laws.proofs.Watching.NamedSoon.{near-on, nearer-by}
 use Rattle.pr_report_laws.proofs.Watching.OnceLaws.{watched-once}
 use Rattle.pr_report_laws.specs.Shown.{LwpEvent, shown}
 use Rattle.pr_report_laws.specs.ShownOnce.{IsLeftStanding, ShowsIn, ShowsStopsOnce}
-use Rattle.pr_report_laws.specs.Watching.{is_away, place_of, told_of, watches, with_exchange}
+use Rattle.pr_report_laws.specs.Watching.{fed_by_entry, is_away, place_of, watches, with_exchange}
 
 -- Truss shows what a process stands on once.
 
@@ -181,13 +181,13 @@ module _ (n k : ℕ) (o : Options) (pid : ℕ) (s : TracedState) (before between
   later : Reaches k u (state_after s (before ++ e ∷ between))
   later = run-reaches n k o s (before ++ e ∷ between) run-between
 
-  makes : MakesNext t (exchange_of k e) × Makes (told_of k t e) (exchanges k between)
+  makes : MakesNext t (exchange_of k e) × Makes (fed_by_entry k t e) (exchanges k between)
   makes = makes-next k t e between (rest-makes n k o s before (e ∷ between) run-between)
 
   legal : IsLegal n now (e ∷ between)
   legal = rest-legal n k o s before (e ∷ between) run-between
 
-  ends-at : truss_after (told_of k t e) (exchanges k between) ≡ u
+  ends-at : truss_after (fed_by_entry k t e) (exchanges k between) ≡ u
   ends-at = sym (truss_at-both k o before (e ∷ between) ∙ after-next k t e between)
 
   options-of : (h : List Entry) → IsTrussRun n k o s h → (truss_at k o h).options ≡ o
@@ -204,8 +204,8 @@ module _ (n k : ℕ) (o : Options) (pid : ℕ) (s : TracedState) (before between
       let stands : Stands t.traced t.leaving ReadingLwps = standing k t now ReadingLwps g.files at in
       let within : 0 < length t.traced = subst (Fits t.traced) at (fits k pid t now g) in
       let v : TrussState = truss_at k o (before ++ e ∷ []) in
-      let to : v ≡ told_of k t e = truss_at-push k o before e in
-      let it : told_of k t e ≡ with_exchange t (Some (record { call = x.call; reply = reply.Bytes bytes })) =
+      let to : v ≡ fed_by_entry k t e = truss_at-push k o before e in
+      let it : fed_by_entry k t e ≡ with_exchange t (Some (record { call = x.call; reply = reply.Bytes bytes })) =
       ap (with_exchange t) own
       ∙ ap (λ (r : Reply). with_exchange t (Some (record { call = x.call; reply = r }))) is in
       let away : IsAway t v = subst (IsAway t) (sym (to ∙ it)) (lwps-away t stands.leaves within bytes at) in
@@ -239,11 +239,11 @@ module _ (n k : ℕ) (o : Options) (pid : ℕ) (s : TracedState) (before between
     p = traced_at t place
 
     at-both : (first : List Entry)
-        → truss_after (told_of k t e) (exchanges k first) ≡ truss_at k o (before ++ e ∷ first)
+        → truss_after (fed_by_entry k t e) (exchanges k first) ≡ truss_at k o (before ++ e ∷ first)
     at-both first = sym (truss_at-both k o before (e ∷ first) ∙ after-next k t e first)
 
     no-end-at : (first rest : List Entry) (g : Entry) (x : Exchange) (m : ℕ) → between ≡ first ++ g ∷ rest
-        → exchange_of k g ≡ Some x → (v : TrussState) → truss_after (told_of k t e) (exchanges k first) ≡ v
+        → exchange_of k g ≡ Some x → (v : TrussState) → truss_after (fed_by_entry k t e) (exchanges k first) ≡ v
         → Near p place m v → Reaches k v (state_after (after now e) first) → next_call_of v ≡ Some x.call
         → IsNoEndOf p x
     no-end-at first rest g x m is own v same near reaches next =
@@ -311,9 +311,9 @@ module _ (n k : ℕ) (o : Options) (pid : ℕ) (s : TracedState) (before between
       } in
       let one = nearer-by n k pid p of place t now e x 12 g near legal.0 own next none in
       let left = one.0 in
-      let then : told_of k t e ≡ with_exchange t (Some x) = ap (with_exchange t) own in
+      let then : fed_by_entry k t e ≡ with_exchange t (Some x) = ap (with_exchange t) own in
       let on =
-      near-on n k pid p of place between (told_of k t e) (after now e) left
+      near-on n k pid p of place between (fed_by_entry k t e) (after now e) left
       (entry-reaches n k t now e g legal.0 makes.0) (subst (Near p place left) (sym then) one.1.1) legal.1 makes.1
       (record {
         none = λ first rest g y m is its near reaches called.

@@ -40,7 +40,7 @@ use Rattle.pr_report_laws.proofs.Files.FedFiles.{fed-keeps}
 use Rattle.pr_report_laws.proofs.Files.FileLaws.{FileOf, HasFiles, IsFileOf, control-in, each-has, has-each, lstatus-in, memory-in, remembered, remembered-freed, same-files, stands-once, status-in}
 use Rattle.pr_report_laws.proofs.Files.KeepLemmas.{FilesAre, FreedIs, Grants, IsCalm, Keeps, can_wait, freed-weaker}
 use Rattle.pr_report_laws.proofs.Invariant.StandLemmas.{Each, Rests, Stands}
-use Rattle.pr_report_laws.specs.Watching.{told_of, with_exchange}
+use Rattle.pr_report_laws.specs.Watching.{fed_by_entry, with_exchange}
 
 -- Each entry of a history keeps it that the handles of truss are those of the files that it opened them for.
 
@@ -272,7 +272,7 @@ makes-first t (Some x) xs makes = makes
 
 -- the first entry of a history, and the others
 pub makes-next : (k : ℕ) (t : TrussState) (e : Entry) (h : List Entry) → Makes t (exchanges k (e ∷ h))
-    → MakesNext t (exchange_of k e) × Makes (told_of k t e) (exchanges k h)
+    → MakesNext t (exchange_of k e) × Makes (fed_by_entry k t e) (exchanges k h)
 unfolding exchanges
 makes-next k t e h makes = makes-first t (exchange_of k e) (exchanges k h) makes
 
@@ -287,7 +287,7 @@ first-after t (Some x) = refl
 
 -- truss has just the handles open that it remembers
 pub entry-owns : (n k : ℕ) (t : TrussState) (s : TracedState) (e : Entry) → Owns k t s → IsLegalEntry n s e
-    → MakesNext t (exchange_of k e) → Owns k (told_of k t e) (after s e)
+    → MakesNext t (exchange_of k e) → Owns k (fed_by_entry k t e) (after s e)
 unfolding exchanges
 entry-owns n k t s e o legal next =
     subst (λ (u : TrussState). Owns k u (after s e)) (first-after t (exchange_of k e))
@@ -340,5 +340,5 @@ module _ (n k : ℕ) (t : TrussState) (s : TracedState) (lawful : IsLawful s) (c
   actor-goes Clock (act.Turn did) legal later next = absurd legal
 
   pub entry-files : (e : Entry) → IsLegalEntry n s e → MakesNext t (exchange_of k e)
-      → HasFiles k (told_of k t e) (after s e)
+      → HasFiles k (fed_by_entry k t e) (after s e)
   entry-files e legal next = actor-goes e.actor e.act legal (entry-lawful n s e lawful legal) next

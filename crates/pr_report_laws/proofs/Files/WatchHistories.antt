@@ -27,7 +27,7 @@ use Rattle.pr_report_laws.proofs.Files.FileLaws.{HasFiles}
 use Rattle.pr_report_laws.proofs.Files.FileSteps.{IsUninterrupted, MakesNext, entry-files, entry-lawful, entry-owns, first-files, makes-next}
 use Rattle.pr_report_laws.proofs.Files.KeepLemmas.{can_wait}
 use Rattle.pr_report_laws.proofs.Machine.PollLaws.{never-interrupted}
-use Rattle.pr_report_laws.specs.Watching.{told_of, with_exchange}
+use Rattle.pr_report_laws.specs.Watching.{fed_by_entry, with_exchange}
 pub use Rattle.pr_truss_laws.proofs.ExchangeLemmas.{after-append, makes-front, makes-rest}
 
 -- Truss along a history: what it was asked and told so far, and that the files that it remembers are its own.
@@ -50,7 +50,7 @@ after-one t None = refl
 after-one t (Some x) = refl
 
 pub truss_at-push : (k : ℕ) (o : Options) (h : List Entry) (e : Entry)
-    → truss_at k o (h ++ e ∷ []) ≡ told_of k (truss_at k o h) e
+    → truss_at k o (h ++ e ∷ []) ≡ fed_by_entry k (truss_at k o h) e
 truss_at-push k o h e =
     ap (truss_after (first_truss o)) (exchanges-push k h e)
     ∙ after-append (first_truss o) (exchanges k h) (cons_option (exchange_of k e) [])
@@ -76,7 +76,7 @@ pub first-reaches : (k : ℕ) (o : Options) (s : TracedState) → IsLawful s →
 first-reaches k o s lawful none = record { lawful = lawful; owns = first-owns k o s none; files = first-files k o s }
 
 pub entry-reaches : (n k : ℕ) (t : TrussState) (s : TracedState) (e : Entry) → Reaches k t s → IsLegalEntry n s e
-    → MakesNext t (exchange_of k e) → Reaches k (told_of k t e) (after s e)
+    → MakesNext t (exchange_of k e) → Reaches k (fed_by_entry k t e) (after s e)
 entry-reaches n k t s e r legal next = record {
   lawful = entry-lawful n s e r.lawful legal;
   owns = entry-owns n k t s e r.owns legal next;
@@ -104,7 +104,7 @@ later-reaches (e ∷ h) n k t s r legal makes =
     let m = makes-next k t e h makes in
     subst (λ (u : TrussState). Reaches k u (state_after (after s e) h)) (sym (ap (truss_after t) (cons-exchanges k e h)
     ∙ after-cons t (exchange_of k e) (exchanges k h)))
-    (later-reaches h n k (told_of k t e) (after s e) (entry-reaches n k t s e r legal.0 m.0) legal.1 m.1)
+    (later-reaches h n k (fed_by_entry k t e) (after s e) (entry-reaches n k t s e r legal.0 m.0) legal.1 m.1)
 
 pub run-reaches : (n k : ℕ) (o : Options) (s : TracedState) (h : List Entry) → IsTrussRun n k o s h
     → Reaches k (truss_at k o h) (state_after s h)

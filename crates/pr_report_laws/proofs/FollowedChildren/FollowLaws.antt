@@ -34,7 +34,7 @@ use Rattle.pr_report_laws.proofs.Invariant.OpeningRuns.{born-fed}
 use Rattle.pr_report_laws.proofs.Replies.TracedPlaces.{opened-before}
 use Rattle.pr_report_laws.proofs.Files.WatchHistories.{after-append, makes-rest}
 use Rattle.pr_report_laws.proofs.Memory.WatchMemory.{child-calls}
-use Rattle.pr_report_laws.specs.Follows.{IsFollowedUp, IsRefusedFollowing, ReadsFork, attached, begun, left, refused}
+use Rattle.pr_report_laws.specs.Follows.{IsHandledNext, IsRefusedFollowing, ReadsFork, attached, begun, left, refused}
 
 -- What becomes of the child of each fork that truss has read.
 
@@ -44,7 +44,7 @@ short-five x xs less = omega (arith, less)
 module _ (f t : TrussState) (parent of control : ℕ) (stage : t.stage ≡ OpeningChildControl parent of)
     (fits : Fits t.traced t.stage) (runs : (traced_at t parent).control ≡ control) where
   abbrev Goal : List Exchange → Type 0
-  Goal xs = IsFollowedUp of control t.reports f.reports (next_call_of f) xs
+  Goal xs = IsHandledNext of control t.reports f.reports (next_call_of f) xs
 
   parent-within : parent < length t.traced
   parent-within = subst (Fits t.traced) stage fits
@@ -206,7 +206,7 @@ module _ (f t : TrussState) (parent of control : ℕ) (stage : t.stage ≡ Openi
 pub read-followed : (o : Options) (xs before later : List Exchange) (x : Exchange) (place of : ℕ) → o.follow ≡ true
     → Makes (first_truss o) xs → xs ≡ before ++ x ∷ later
     → ReadsFork (truss_after (first_truss o) before) x.reply place of
-    → IsFollowedUp of (traced_at (truss_after (first_truss o) before) place).control
+    → IsHandledNext of (traced_at (truss_after (first_truss o) before) place).control
     (fed (truss_after (first_truss o) before) x.reply).reports (truss_after (first_truss o) xs).reports
     (next_call_of (truss_after (first_truss o) xs)) later
 read-followed o xs before later x place of follow makes is reads =

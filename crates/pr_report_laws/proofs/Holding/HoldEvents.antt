@@ -19,7 +19,7 @@ use Rattle.pr_report_laws.proofs.Watching.HistoryParts.{front-run, truss_at-both
 use Rattle.pr_report_laws.proofs.Watching.OnceLaws.{PastAfter, past-after, past-let}
 use Rattle.pr_report_laws.proofs.Watching.QuietOpenings.{own-logs}
 use Rattle.pr_report_laws.specs.Holds.{CameHeld, HasHold, IsHold, IsNeverHeld, KeepsHold, LetsGoIn, LetsGoThen, ends_in, in_hold, leaves_it, never, not_yet, told_end}
-use Rattle.pr_report_laws.specs.Watching.{events_watched, told_of, watches}
+use Rattle.pr_report_laws.specs.Watching.{events_watched, fed_by_entry, watches}
 
 -- What comes while truss watches a process is what comes while it has hold of it.
 
@@ -38,12 +38,12 @@ module _ (n k : ℕ) (o : Options) (pid : ℕ) (s : TracedState) where
   hold-logs (e ∷ hold) before run on keeps =
       let t : TrussState = truss_at k o before in
       let now : TracedState = state_after s before in
-      let told : told_of k t e ≡ truss_at k o (before ++ e ∷ []) = sym (truss_at-push k o before e) in
+      let told : fed_by_entry k t e ≡ truss_at k o (before ++ e ∷ []) = sym (truss_at-push k o before e) in
       let next : after now e ≡ state_after s (before ++ e ∷ []) = sym (state_after-push s before e) in
       let rest =
       hold-logs hold (before ++ e ∷ []) (more-run n k o pid s before hold e run)
       (keeps-still n k o pid s before hold e run on keeps) (keeps-rest n k o pid s before hold e keeps) in
-      ap (λ b. cond b (events_of now e) [] ++ events_watched k pid (told_of k t e) (after now e) hold) on
+      ap (λ b. cond b (events_of now e) [] ++ events_watched k pid (fed_by_entry k t e) (after now e) hold) on
       ∙ ap (λ (ls : List Logged). events_of now e ++ ls)
       (ap₂ (λ (u : TrussState) (v : TracedState). events_watched k pid u v hold) told next ∙ rest
       ∙ ap (λ (v : TracedState). events_from v hold) (sym next))
@@ -80,7 +80,7 @@ module _ (n k : ℕ) (o : Options) (pid : ℕ) (s : TracedState) where
   later-none (e ∷ later) before run on (ends_in _ _ w) =
       let t : TrussState = truss_at k o before in
       let now : TracedState = state_after s before in
-      let told : told_of k t e ≡ truss_at k o (before ++ e ∷ []) = sym (truss_at-push k o before e) in
+      let told : fed_by_entry k t e ≡ truss_at k o (before ++ e ∷ []) = sym (truss_at-push k o before e) in
       let next : after now e ≡ state_after s (before ++ e ∷ []) = sym (state_after-push s before e) in
       let one = one-run n k o pid s before later e run in
       let past = past-let n k o pid s before e one on (goes-off n k o pid s before e one on w) in

@@ -30,7 +30,7 @@ use Rattle.pr_report_laws.specs.Lineages.{IsLeftToTruss}
 use Rattle.pr_report_laws.specs.Positions.{Position, StandsWithTruss, Tally}
 use Rattle.pr_report_laws.specs.Reads.{traced, traces}
 use Rattle.pr_report_laws.specs.Shown.{LwpEvent, picked}
-use Rattle.pr_report_laws.specs.Watching.{events_watched, place_of, told_of, watches}
+use Rattle.pr_report_laws.specs.Watching.{events_watched, fed_by_entry, place_of, watches}
 
 -- How a process stands with truss after a history.
 
@@ -69,12 +69,12 @@ module _ (n k : ℕ) (o : Options) (pid : ℕ) (p : TracedProcess) where
       ap₂ (λ (xs ys : List LwpEvent). record y { came = xs; told = ys }) (append-nil y.came) (append-nil y.told)
 
   tally-next : (t : TrussState) (s : TracedState) (y : Tally) (e : Entry) (h : List Entry)
-      → tally_end (told_of k t e) (after s e) (tally_after k pid t s y e) h ≡ tally_end t s y (e ∷ h)
+      → tally_end (fed_by_entry k t e) (after s e) (tally_after k pid t s y e) h ≡ tally_end t s y (e ∷ h)
   tally-next t s y e h =
       ap₂ (λ (xs ys : List LwpEvent). record y { came = xs; told = ys })
       (sym (watched-next k o pid y.picks t s y.came e h))
       (append_assoc y.told (told_in y.picks (read_of pid t (exchange_of k e)))
-      (told_along y.picks k pid (told_of k t e) h))
+      (told_along y.picks k pid (fed_by_entry k t e) h))
 
   placed-end : (h : List Entry) (K : Type 0) (t : TrussState) (s : TracedState) (tally : Tally)
       → Along K n k o pid t s tally h → watches (truss_after t (exchanges k h)) pid ≡ true
@@ -88,11 +88,12 @@ module _ (n k : ℕ) (o : Options) (pid : ℕ) (p : TracedProcess) where
       (ap (λ (u : TrussState). watches u pid) (sym (no-exchanges k t)) ∙ on) live))
   placed-end (e ∷ h) K t s tally g on live =
       let later =
-      placed-end h (K ⊎ EndsByKill pid t s e) (told_of k t e) (after s e) (tally_after k pid t s tally e)
+      placed-end h (K ⊎ EndsByKill pid t s e) (fed_by_entry k t e) (after s e) (tally_after k pid t s tally e)
       (along-next K n k o pid t s tally e h g)
       (ap (λ (u : TrussState). watches u pid) (sym (after-next k t e h)) ∙ on) live in
       subst (λ (u : TrussState). Placed u (tally_end t s tally (e ∷ h))) (sym (after-next k t e h))
-      (subst (λ (y : Tally). Placed (truss_after (told_of k t e) (exchanges k h)) y) (tally-next t s tally e h) later)
+      (subst (λ (y : Tally). Placed (truss_after (fed_by_entry k t e) (exchanges k h)) y)
+      (tally-next t s tally e h) later)
 
 born-stands : (n k : ℕ) (o : Options) (pid : ℕ) (s : TracedState) (h : List Entry) → IsReached s
     → IsTrussRun n k o s h → HasBytes h → OpensAtBirth k o pid s h → StandsWithTruss k o pid s h

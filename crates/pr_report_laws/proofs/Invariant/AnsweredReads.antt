@@ -57,7 +57,7 @@ use Rattle.pr_report_laws.proofs.Replies.StopsOver.{StopOver}
 use Rattle.pr_report_laws.proofs.Replies.StopsRead.{stop_read-over}
 use Rattle.pr_report_laws.proofs.Files.WatchHistories.{Reaches, exchange-answered}
 use Rattle.pr_report_laws.specs.Attachments.{ReadsFile}
-use Rattle.pr_report_laws.specs.Watching.{is_away, place_of, told_of, with_exchange}
+use Rattle.pr_report_laws.specs.Watching.{fed_by_entry, is_away, place_of, with_exchange}
 
 -- Where a read of its status, or of the statuses of its lwps, gave truss bytes, nothing is missing of a process.
 
@@ -249,7 +249,7 @@ module _ (n k pid : ℕ) (t : TrussState) (s : TracedState) (e : Entry) (g : Rea
       read-lives s k w.handle w.held w.there y.answer w.from w.len f w.bytes w.file (tells-read f tells) y.is y.reply
       (ap (live_process s.system) w.of ∙ ap (λ (x : TracedSystem). live_process x pid) (sym same) ∙ none)
 
-  told : IsTold pid (told_of k t e)
+  told : IsTold pid (fed_by_entry k t e)
   told =
       let owns : Owns k t s = g.owns in
       subst (λ x. IsTold pid (with_exchange t x)) (sym w.is)
@@ -258,28 +258,30 @@ module _ (n k pid : ℕ) (t : TrussState) (s : TracedState) (e : Entry) (g : Rea
 
   -- Nothing is missing after the read.
   pub read-whole : (K : Type 0) (o : Options) (tally : Tally)
-      → Standing (Lost K pid (after s e)) o pid (told_of k t e) (after s e) tally → IsWhole tally
+      → Standing (Lost K pid (after s e)) o pid (fed_by_entry k t e) (after s e) tally → IsWhole tally
   read-whole K o tally standing = by standing
     where
       whole : Accounted (Lost K pid (after s e)) tally → IsWhole tally
       whole a = accounted-whole (Lost K pid (after s e)) tally (λ lost. lives-on lost.over) a
 
-      unread-no : (place : ℕ) → place_of (told_of k t e) pid ≡ Some place
-          → is_away (told_of k t e).leaving (told_of k t e).stage place ≡ false
-          → has_read (told_of k t e).stage place ≡ false → ⊥
+      unread-no : (place : ℕ) → place_of (fed_by_entry k t e) pid ≡ Some place
+          → is_away (fed_by_entry k t e).leaving (fed_by_entry k t e).stage place ≡ false
+          → has_read (fed_by_entry k t e).stage place ≡ false → ⊥
       unread-no place at here read =
-          let it : IsTold pid (told_of k t e) = told in
+          let it : IsTold pid (fed_by_entry k t e) = told in
           let same : it.place ≡ place = same_Some it.place place (sym it.at ∙ at) in
           false≢true (sym read
-          ∙ subst (λ q. has_read (told_of k t e).stage q ≡ true) same
-          (it.read (subst (λ q. is_away (told_of k t e).leaving (told_of k t e).stage q ≡ false) (sym same) here)))
+          ∙ subst (λ q. has_read (fed_by_entry k t e).stage q ≡ true) same
+          (it.read (subst (λ q. is_away (fed_by_entry k t e).leaving (fed_by_entry k t e).stage q ≡ false)
+          (sym same) here)))
 
-      by : Standing (Lost K pid (after s e)) o pid (told_of k t e) (after s e) tally → IsWhole tally
+      by : Standing (Lost K pid (after s e)) o pid (fed_by_entry k t e) (after s e) tally → IsWhole tally
       by (apart unwatched a) = whole a
       by (over watched none a) = whole a
       by (lives place p at attached here live traced position) = stood position
         where
-          stood : Position o (told_of k t e).stage place (traced_at (told_of k t e) place).old p tally → IsWhole tally
+          stood : Position o (fed_by_entry k t e).stage place (traced_at (fed_by_entry k t e) place).old p
+              tally → IsWhole tally
           stood (stop_read read waits is) = is
           stood (old_stops count read counts waits is) = is
           stood (goes read named none quiet is) = is

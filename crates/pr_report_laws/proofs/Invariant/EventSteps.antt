@@ -63,7 +63,7 @@ use Rattle.pr_report_laws.proofs.Invariant.UnreadLaws.{missing-before, missing-n
 use Rattle.pr_report_laws.proofs.Files.WatchHistories.{truss_at-push}
 use Rattle.pr_report_laws.specs.Memories.{range_asked}
 use Rattle.pr_report_laws.specs.Shown.{LwpEvent, picked, selected, shown}
-use Rattle.pr_report_laws.specs.Watching.{place_of, told_of, watches, with_exchange}
+use Rattle.pr_report_laws.specs.Watching.{fed_by_entry, place_of, watches, with_exchange}
 
 -- What one entry of a history leaves of the events that have come.
 
@@ -134,8 +134,8 @@ module _ (K : Type 0) (n k : ℕ) (o : Options) (pid : ℕ) (first : TracedState
     (s : TracedState) (base : List LwpEvent) (e : Entry) (g : Holds K k o pid t s (shown_tally o pid t base))
     (links : Links k o pid first past t s base) (knows : Knows k o pid first past t s base)
     (legal : IsLegalEntry n s e) (next : MakesNext t (exchange_of k e))
-    (later : Standing (Lost (K ⊎ EndsByKill pid t s e) pid (after s e)) o pid (told_of k t e) (after s e)
-    (shown_tally o pid (told_of k t e) (base ++ selected_of o pid t s e))) where
+    (later : Standing (Lost (K ⊎ EndsByKill pid t s e) pid (after s e)) o pid (fed_by_entry k t e) (after s e)
+    (shown_tally o pid (fed_by_entry k t e) (base ++ selected_of o pid t s e))) where
   few : Accounted (Unit {0}) (shown_tally o pid t base)
   few = standing-accounted (Lost K pid s) o pid t s (shown_tally o pid t base) g.standing
 
@@ -176,7 +176,7 @@ module _ (K : Type 0) (n k : ℕ) (o : Options) (pid : ℕ) (first : TracedState
     same-base = sym (ap (λ (xs : List LwpEvent). base ++ xs) (own-picks (is_selected o) k pid t s e x own)
         ∙ append-nil base)
 
-    told-is : told_of k t e ≡ fed t x.reply
+    told-is : fed_by_entry k t e ≡ fed t x.reply
     told-is = ap (with_exchange t) own
 
     own-event-halts : (event : LwpEvent) → base ≡ shown pid t ++ event ∷ [] → (p : TracedProcess)
@@ -188,27 +188,28 @@ module _ (K : Type 0) (n k : ℕ) (o : Options) (pid : ℕ) (first : TracedState
         (own-halts k t s x.call y.answer g.lawful g.owns g.files makes y.is pid w.place w.at w.here w.unread p live
         halting)
 
-    own-unread : (event : LwpEvent) → base ++ selected_of o pid t s e ≡ shown pid (told_of k t e) ++ event ∷ []
-        → HasCome k o pid first (past ++ e ∷ []) (shown pid (told_of k t e)) event (after s e)
+    own-unread : (event : LwpEvent) → base ++ selected_of o pid t s e ≡ shown pid (fed_by_entry k t e) ++ event ∷ []
+        → HasCome k o pid first (past ++ e ∷ []) (shown pid (fed_by_entry k t e)) event (after s e)
     own-unread event still =
         let owns : Owns k t s = g.owns in
         let more : List LwpEvent = told_in (is_selected o) (read_of pid t (exchange_of k e)) in
         let missing : base ≡ shown pid t ++ event ∷ [] =
-        missing-before (shown_tally o pid t base) few event (shown pid (told_of k t e)) more
+        missing-before (shown_tally o pid t base) few event (shown pid (fed_by_entry k t e)) more
         (exchange-shows o pid t (exchange_of k e) g.options) (same-base
         ∙ still) in
-        let same : shown pid t ≡ shown pid (told_of k t e) =
-        append_cancel_right (shown pid t) (shown pid (told_of k t e)) (event ∷ []) (sym missing ∙ same-base
+        let same : shown pid t ≡ shown pid (fed_by_entry k t e) =
+        append_cancel_right (shown pid t) (shown pid (fed_by_entry k t e)) (event ∷ []) (sym missing ∙ same-base
         ∙ still) in
         let come : HasCome k o pid first past (shown pid t) event s = knows.unread event missing in
         subst (λ (xs : List LwpEvent). HasCome k o pid first (past ++ e ∷ []) xs event (after s e)) same
         (come-on k o pid first n s e g.lawful legal (own-event-halts event missing) past (shown pid t) event come)
 
     -- the memory of an event is to be read, whose stop was read now
-    module _ (place : ℕ) (l : LwpStatus) (from len : ℕ) (stage : (told_of k t e).stage ≡ ReadingText place l from len)
-        (mine : (traced_at (told_of k t e) place).pid ≡ pid) where
+    module _ (place : ℕ) (l : LwpStatus) (from len : ℕ)
+        (stage : (fed_by_entry k t e).stage ≡ ReadingText place l from len)
+        (mine : (traced_at (fed_by_entry k t e) place).pid ≡ pid) where
       abbrev u : TrussState
-      u = told_of k t e
+      u = fed_by_entry k t e
 
       asks : AsksNow o t u.reports l from len
       asks =
@@ -285,12 +286,12 @@ module _ (K : Type 0) (n k : ℕ) (o : Options) (pid : ℕ) (first : TracedState
             come-on k o pid first n s e g.lawful legal look-halts past (shown pid t) event (knows.unread event missing);
       }
 
-    own-knows : Knows k o pid first (past ++ e ∷ []) (told_of k t e) (after s e) (base ++ selected_of o pid t s e)
+    own-knows : Knows k o pid first (past ++ e ∷ []) (fed_by_entry k t e) (after s e) (base ++ selected_of o pid t s e)
     own-knows = record { unread = own-unread; reading = own-reading }
 
   -- ---- no call of truss
 
-  module _ (others : e.actor ≢ Controller k) (same : told_of k t e ≡ t) where
+  module _ (others : e.actor ≢ Controller k) (same : fed_by_entry k t e ≡ t) where
     stands : Standing (Lost Why pid (after s e)) o pid t (after s e)
         (shown_tally o pid t (base ++ selected_of o pid t s e))
     stands =
@@ -360,24 +361,27 @@ module _ (K : Type 0) (n k : ℕ) (o : Options) (pid : ℕ) (first : TracedState
           come = come-on k o pid first n s e g.lawful legal (placed-halts others place at) past r.before r.event r.come;
         }
 
-    others-knows : Knows k o pid first (past ++ e ∷ []) (told_of k t e) (after s e) (base ++ selected_of o pid t s e)
+    others-knows : Knows k o pid first (past ++ e ∷ []) (fed_by_entry k t e) (after s e)
+        (base ++ selected_of o pid t s e)
     others-knows =
         subst (λ (u : TrussState). Knows k o pid first (past ++ e ∷ []) u (after s e)
         (base ++ selected_of o pid t s e)) (sym same) (record { unread = others-unread; reading = others-reading })
 
   -- ---- any entry
 
-  pub knows-next : Knows k o pid first (past ++ e ∷ []) (told_of k t e) (after s e) (base ++ selected_of o pid t s e)
+  pub knows-next : Knows k o pid first (past ++ e ∷ []) (fed_by_entry k t e) (after s e)
+      (base ++ selected_of o pid t s e)
   knows-next = by (exchange_of k e) refl
     where
       by : (x : Option Exchange) → exchange_of k e ≡ x
-          → Knows k o pid first (past ++ e ∷ []) (told_of k t e) (after s e) (base ++ selected_of o pid t s e)
+          → Knows k o pid first (past ++ e ∷ []) (fed_by_entry k t e) (after s e) (base ++ selected_of o pid t s e)
       by None none = others-knows (others-in n k s e.actor e.act legal none) (ap (with_exchange t) none)
       by (Some x) own = own-knows x own
 
-  pub links-next : Links k o pid first (past ++ e ∷ []) (told_of k t e) (after s e) (base ++ selected_of o pid t s e)
+  pub links-next : Links k o pid first (past ++ e ∷ []) (fed_by_entry k t e) (after s e)
+      (base ++ selected_of o pid t s e)
   links-next = record {
-    at = ap (λ (u : TrussState). told_of k u e) links.at ∙ sym (truss_at-push k o past e);
+    at = ap (λ (u : TrussState). fed_by_entry k u e) links.at ∙ sym (truss_at-push k o past e);
     now = ap (λ (u : TracedState). after u e) links.now ∙ sym (state_after-push first past e);
     all =
         ap (λ (xs : List LwpEvent). xs ++ selected_of o pid t s e) links.all

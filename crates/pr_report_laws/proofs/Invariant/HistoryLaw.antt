@@ -38,7 +38,7 @@ use Rattle.pr_report_laws.proofs.Files.WatchHistories.{uninterrupted}
 use Rattle.pr_report_laws.proofs.Invariant.Positions.{IsAtBirth}
 use Rattle.pr_report_laws.specs.Reported.{IsKilled}
 use Rattle.pr_report_laws.specs.Shown.{LwpEvent, event_picked, picked, shown}
-use Rattle.pr_report_laws.specs.Watching.{events_watched, told_of, watches, with_exchange}
+use Rattle.pr_report_laws.specs.Watching.{events_watched, fed_by_entry, watches, with_exchange}
 
 -- What truss was told of a process after a history.
 
@@ -60,7 +60,7 @@ after-first t None xs = refl
 after-first t (Some x) xs = refl
 
 pub after-next : (k : ℕ) (t : TrussState) (e : Entry) (h : List Entry)
-    → truss_after t (exchanges k (e ∷ h)) ≡ truss_after (told_of k t e) (exchanges k h)
+    → truss_after t (exchanges k (e ∷ h)) ≡ truss_after (fed_by_entry k t e) (exchanges k h)
 unfolding exchanges
 after-next k t e h = after-first t (exchange_of k e) (exchanges k h)
 
@@ -76,7 +76,7 @@ module _ (k : ℕ) (o : Options) (pid : ℕ) (t : TrussState) (s : TracedState) 
             (ap (λ (u : TrussState). u.stage) (no-exchanges k t) ∙ stage) reply live;
       }
 
-  births-later : BirthsFrom k o pid t s (e ∷ h) → BirthsFrom k o pid (told_of k t e) (after s e) h
+  births-later : BirthsFrom k o pid t s (e ∷ h) → BirthsFrom k o pid (fed_by_entry k t e) (after s e) h
   births-later b = record {
     child = λ before later f x handle parent p is own stage reply live.
         b.child (e ∷ before) later f x handle parent p (ap (λ (es : List Entry). e ∷ es) is) own
@@ -101,7 +101,7 @@ picked-both picks pid xs ys = filter_map-append (event_picked picks pid) xs ys
 abbrev pub told_along : (Event → Bool) → ℕ → ℕ → TrussState → List Entry → List LwpEvent
 told_along picks k pid t [] = []
 told_along picks k pid t (e ∷ h) =
-    told_in picks (read_of pid t (exchange_of k e)) ++ told_along picks k pid (told_of k t e) h
+    told_in picks (read_of pid t (exchange_of k e)) ++ told_along picks k pid (fed_by_entry k t e) h
 
 -- ---- SIGKILL in a history
 
@@ -121,7 +121,7 @@ killed-first k pid t s e h w = record {
 }
 
 killed-later : (k pid : ℕ) (t : TrussState) (s : TracedState) (e : Entry) (h : List Entry)
-    → IsKilled k pid (told_of k t e) (after s e) h → IsKilled k pid t s (e ∷ h)
+    → IsKilled k pid (fed_by_entry k t e) (after s e) h → IsKilled k pid t s (e ∷ h)
 killed-later k pid t s e h w = record {
   before = e ∷ w.before;
   entry = w.entry;
@@ -149,7 +149,7 @@ pub record Along (K : Type 0) (n k : ℕ) (o : Options) (pid : ℕ) (t : TrussSt
 
 pub along-next : (K : Type 0) (n k : ℕ) (o : Options) (pid : ℕ) (t : TrussState) (s : TracedState)
     (tally : Tally) (e : Entry) (h : List Entry) → Along K n k o pid t s tally (e ∷ h)
-    → Along (K ⊎ EndsByKill pid t s e) n k o pid (told_of k t e) (after s e) (tally_after k pid t s tally e) h
+    → Along (K ⊎ EndsByKill pid t s e) n k o pid (fed_by_entry k t e) (after s e) (tally_after k pid t s tally e) h
 along-next K n k o pid t s tally e h g =
     let holds : Holds K k o pid t s tally = g.holds in
     let first = makes-next k t e h g.makes in
@@ -236,7 +236,8 @@ module _ (k : ℕ) (o : Options) (pid : ℕ) where
 
   -- the causes of the first entry are those of the history
   causes-on : (K : Type 0) (t : TrussState) (s : TracedState) (e : Entry) (h : List Entry)
-      → ((K ⊎ EndsByKill pid t s e) ⊎ IsKilled k pid (told_of k t e) (after s e) h) → K ⊎ IsKilled k pid t s (e ∷ h)
+      → ((K ⊎ EndsByKill pid t s e) ⊎ IsKilled k pid (fed_by_entry k t e) (after s e) h)
+      → K ⊎ IsKilled k pid t s (e ∷ h)
   causes-on K t s e h (inl (inl cause)) = inl cause
   causes-on K t s e h (inl (inr now)) = inr (killed-first k pid t s e h now)
   causes-on K t s e h (inr later) = inr (killed-later k pid t s e h later)
@@ -245,16 +246,17 @@ module _ (k : ℕ) (o : Options) (pid : ℕ) where
   pub watched-next : (picks : Event → Bool) (t : TrussState) (s : TracedState) (came : List LwpEvent) (e : Entry)
       (h : List Entry)
       → came ++ picked picks pid (events_watched k pid t s (e ∷ h)) ≡
-      (came ++ picked_of picks pid t s e) ++ picked picks pid (events_watched k pid (told_of k t e) (after s e) h)
+      (came ++ picked_of picks pid t s e) ++ picked picks pid (events_watched k pid (fed_by_entry k t e) (after s e) h)
   watched-next picks t s came e h =
       ap (λ (xs : List LwpEvent). came ++ xs)
       (picked-both picks pid (cond (watches t pid) (events_of s e) [])
-      (events_watched k pid (told_of k t e) (after s e) h))
+      (events_watched k pid (fed_by_entry k t e) (after s e) h))
       ∙ sym (append_assoc came (picked_of picks pid t s e)
-      (picked picks pid (events_watched k pid (told_of k t e) (after s e) h)))
+      (picked picks pid (events_watched k pid (fed_by_entry k t e) (after s e) h)))
 
   next-told : (K : Type 0) (t : TrussState) (s : TracedState) (tally : Tally) (e : Entry) (h : List Entry)
-      → IsTold ((K ⊎ EndsByKill pid t s e) ⊎ IsKilled k pid (told_of k t e) (after s e) h) k o pid (told_of k t e)
+      → IsTold ((K ⊎ EndsByKill pid t s e) ⊎ IsKilled k pid (fed_by_entry k t e) (after s e) h) k o pid
+      (fed_by_entry k t e)
       (after s e) (tally_after k pid t s tally e) h
       → IsTold (K ⊎ IsKilled k pid t s (e ∷ h)) k o pid t s tally (e ∷ h)
   next-told K t s tally e h r =
@@ -265,7 +267,7 @@ module _ (k : ℕ) (o : Options) (pid : ℕ) where
             watched-next tally.picks t s tally.came e h ∙ r.is
             ∙ ap (λ (xs : List LwpEvent). xs ++ r.missing)
             (append_assoc tally.told (told_in tally.picks (read_of pid t (exchange_of k e)))
-            (told_along tally.picks k pid (told_of k t e) h));
+            (told_along tally.picks k pid (fed_by_entry k t e) h));
         few =
             subst (λ (u : TrussState). (r.missing ≡ []) ⊎
             ((event : LwpEvent) ×
@@ -298,7 +300,7 @@ module _ (k : ℕ) (o : Options) (pid : ℕ) where
       weaker K (K ⊎ IsKilled k pid t s []) t s tally (λ cause. inl cause) (last-told K t s tally holds.standing)
   history-told (e ∷ h) K n t s tally g =
       next-told K t s tally e h
-      (history-told h (K ⊎ EndsByKill pid t s e) n (told_of k t e) (after s e) (tally_after k pid t s tally e)
+      (history-told h (K ⊎ EndsByKill pid t s e) n (fed_by_entry k t e) (after s e) (tally_after k pid t s tally e)
       (along-next K n k o pid t s tally e h g))
 
 -- ---- the first state

@@ -41,7 +41,7 @@ use Rattle.pr_report_laws.proofs.Invariant.Standing.{Prepares, Standing}
 use Rattle.pr_reached.specs.Fits.{IsFitSystem}
 use Rattle.pr_report_laws.proofs.Invariant.Positions.{IsAtBirth}
 use Rattle.pr_report_laws.specs.Shown.{LwpEvent, picked}
-use Rattle.pr_report_laws.specs.Watching.{told_of, watches, with_exchange}
+use Rattle.pr_report_laws.specs.Watching.{fed_by_entry, watches, with_exchange}
 
 -- What each entry of a history leaves.
 
@@ -311,7 +311,7 @@ module _ (K : Type 0) (n k : ℕ) (o : Options) (pid : ℕ) (t : TrussState) (s 
 
   pub entry-holds : ReadsBack pid s → (e : Entry) → IsBorn k o pid t s e → IsLegalEntry n s e
       → MakesNext t (exchange_of k e)
-      → Holds (K ⊎ EndsByKill pid t s e) k o pid (told_of k t e) (after s e) (tally_after k pid t s tally e)
+      → Holds (K ⊎ EndsByKill pid t s e) k o pid (fed_by_entry k t e) (after s e) (tally_after k pid t s tally e)
   entry-holds reads e born legal next =
       let lawful = entry-lawful n s e h.lawful legal in
       let files = entry-files n k t s h.lawful calm h.owns h.files e legal next in

@@ -20,7 +20,7 @@ use Rattle.pr_report_laws.proofs.Replies.OptionLemmas.{told-options}
 use Rattle.pr_report_laws.proofs.Replies.ShownReads.{shown-fed}
 use Rattle.pr_report_laws.specs.Reported.{IsReported}
 use Rattle.pr_report_laws.specs.Shown.{LwpEvent, shown}
-use Rattle.pr_report_laws.specs.Watching.{told_of, with_exchange}
+use Rattle.pr_report_laws.specs.Watching.{fed_by_entry, with_exchange}
 
 -- What truss has shown of a process is what it was told of the events that its options select.
 
@@ -44,7 +44,7 @@ exchange-shows o pid t (Some x) options =
 entry-tally : (k : ℕ) (o : Options) (pid : ℕ) (t : TrussState) (s : TracedState) (base : List LwpEvent) (e : Entry)
     → t.options ≡ o
     → tally_after k pid t s (shown_tally o pid t base) e ≡
-    shown_tally o pid (told_of k t e) (base ++ selected_of o pid t s e)
+    shown_tally o pid (fed_by_entry k t e) (base ++ selected_of o pid t s e)
 entry-tally k o pid t s base e options =
     ap (λ (xs : List LwpEvent). let y : Tally = record {
       picks = is_selected o;
@@ -57,11 +57,11 @@ entry-tally k o pid t s base e options =
 
 pub shown-next : (K : Type 0) (n k : ℕ) (o : Options) (pid : ℕ) (t : TrussState) (s : TracedState)
     (base : List LwpEvent) (e : Entry) (h : List Entry) → Along K n k o pid t s (shown_tally o pid t base) (e ∷ h)
-    → Along (K ⊎ EndsByKill pid t s e) n k o pid (told_of k t e) (after s e)
-    (shown_tally o pid (told_of k t e) (base ++ selected_of o pid t s e)) h
+    → Along (K ⊎ EndsByKill pid t s e) n k o pid (fed_by_entry k t e) (after s e)
+    (shown_tally o pid (fed_by_entry k t e) (base ++ selected_of o pid t s e)) h
 shown-next K n k o pid t s base e h g =
     let holds : Holds K k o pid t s (shown_tally o pid t base) = g.holds in
-    subst (λ (y : Tally). Along (K ⊎ EndsByKill pid t s e) n k o pid (told_of k t e) (after s e) y h)
+    subst (λ (y : Tally). Along (K ⊎ EndsByKill pid t s e) n k o pid (fed_by_entry k t e) (after s e) y h)
     (entry-tally k o pid t s base e holds.options)
     (along-next K n k o pid t s (shown_tally o pid t base) e h g)
 
@@ -83,11 +83,11 @@ pub shown-along : (k : ℕ) (o : Options) (pid : ℕ) (t : TrussState) (h : List
     → shown pid (truss_after t (exchanges k h)) ≡ shown pid t ++ told_along (is_selected o) k pid t h
 shown-along k o pid t [] options = ap (shown pid) (no-exchanges k t) ∙ sym (append-nil (shown pid t))
 shown-along k o pid t (e ∷ h) options =
-    ap (shown pid) (after-next k t e h) ∙ shown-along k o pid (told_of k t e) h (told-options k t e ∙ options)
-    ∙ ap (λ (xs : List LwpEvent). xs ++ told_along (is_selected o) k pid (told_of k t e) h)
+    ap (shown pid) (after-next k t e h) ∙ shown-along k o pid (fed_by_entry k t e) h (told-options k t e ∙ options)
+    ∙ ap (λ (xs : List LwpEvent). xs ++ told_along (is_selected o) k pid (fed_by_entry k t e) h)
     (exchange-shows o pid t (exchange_of k e) options)
     ∙ append_assoc (shown pid t) (told_in (is_selected o) (read_of pid t (exchange_of k e)))
-    (told_along (is_selected o) k pid (told_of k t e) h)
+    (told_along (is_selected o) k pid (fed_by_entry k t e) h)
 
 pub shown-all-along : (k : ℕ) (o : Options) (pid : ℕ) (h : List Entry)
     → shown pid (truss_after (first_truss o) (exchanges k h)) ≡ told_along (is_selected o) k pid (first_truss o) h

@@ -31,7 +31,7 @@ use Rattle.pr_report_laws.proofs.Files.WatchHistories.{Reaches}
 use Rattle.pr_report_laws.specs.Attachments.{ReadsFile}
 use Rattle.pr_report_laws.specs.Reported.{IsMissed, IsUnread}
 use Rattle.pr_report_laws.specs.Shown.{LwpEvent, picked}
-use Rattle.pr_report_laws.specs.Watching.{events_watched, told_of, watches}
+use Rattle.pr_report_laws.specs.Watching.{events_watched, fed_by_entry, watches}
 
 -- An event that is missing came in an entry of the history, and since then truss had no answer that told it. With that
 -- the law of what truss has shown is whole.
@@ -135,7 +135,8 @@ record IsLeft (k pid : ℕ) (s : TracedState) (tally : Tally) (h : List Entry) (
 
 came-later : (picks : Event → Bool) (k : ℕ) (o : Options) (pid : ℕ) (t : TrussState) (s : TracedState) (e : Entry)
     (h : List Entry)
-    (event : LwpEvent) → Came picks k o pid (told_of k t e) (after s e) h event → Came picks k o pid t s (e ∷ h) event
+    (event : LwpEvent) → Came picks k o pid (fed_by_entry k t e) (after s e) h event
+    → Came picks k o pid t s (e ∷ h) event
 came-later picks k o pid t s e h event c = record {
   before = e ∷ c.before;
   entry = c.entry;
@@ -184,7 +185,7 @@ own-picks picks k pid t s e x own = by (watches t pid)
 
 module _ (K : Type 0) (n k : ℕ) (o : Options) (pid : ℕ) (t : TrussState) (s : TracedState) (tally : Tally)
     (e : Entry) (g : Holds K k o pid t s tally) (legal : IsLegalEntry n s e) (next : MakesNext t (exchange_of k e))
-    (later : Standing (Lost (K ⊎ EndsByKill pid t s e) pid (after s e)) o pid (told_of k t e) (after s e)
+    (later : Standing (Lost (K ⊎ EndsByKill pid t s e) pid (after s e)) o pid (fed_by_entry k t e) (after s e)
     (tally_after k pid t s tally e)) (h : List Entry) (event : LwpEvent) where
   abbrev Before : Type 0
   Before = IsLeft k pid s tally (e ∷ h) event ⊎ Came tally.picks k o pid t s (e ∷ h) event
@@ -230,7 +231,7 @@ module _ (K : Type 0) (n k : ℕ) (o : Options) (pid : ℕ) (t : TrussState) (s 
       ]
 
   entry-before : IsLeft k pid (after s e) (tally_after k pid t s tally e) h event
-      ⊎ Came tally.picks k o pid (told_of k t e) (after s e) h event → Before
+      ⊎ Came tally.picks k o pid (fed_by_entry k t e) (after s e) h event → Before
   entry-before (inl l) = by (exchange_of k e) refl
     where
       by : (x : Option Exchange) → exchange_of k e ≡ x → Before
@@ -259,15 +260,17 @@ module _ (n k : ℕ) (o : Options) (pid : ℕ) (event : LwpEvent) where
       nowhere (x ∷ between) behind e split = cc
   history-before (e ∷ h) K t s tally g is =
       let later = along-next K n k o pid t s tally e h g in
-      let holds : Holds (K ⊎ EndsByKill pid t s e) k o pid (told_of k t e) (after s e) (tally_after k pid t s tally e) =
+      let holds : Holds (K ⊎ EndsByKill pid t s e) k o pid (fed_by_entry k t e) (after s e)
+      (tally_after k pid t s tally e) =
       later.holds in
       let next = makes-next k t e h g.makes in
       entry-before K n k o pid t s tally e g.holds g.legal.0 next.0 holds.standing h event
-      (history-before h (K ⊎ EndsByKill pid t s e) (told_of k t e) (after s e) (tally_after k pid t s tally e) later
+      (history-before h (K ⊎ EndsByKill pid t s e) (fed_by_entry k t e) (after s e)
+      (tally_after k pid t s tally e) later
       (sym (watched-next k o pid tally.picks t s tally.came e h) ∙ is
       ∙ ap (λ (xs : List LwpEvent). xs ++ event ∷ [])
       (sym (append_assoc tally.told (told_in tally.picks (read_of pid t (exchange_of k e)))
-      (told_along tally.picks k pid (told_of k t e) h)))))
+      (told_along tally.picks k pid (fed_by_entry k t e) h)))))
 
 -- ---- the law
 

@@ -42,7 +42,7 @@ use Rattle.pr_report_laws.specs.Births.{granted}
 use Rattle.pr_report_laws.specs.Lineages.{IsNamed, WasHad}
 use Rattle.pr_report_laws.proofs.Invariant.Positions.{IsAtBirth}
 use Rattle.pr_report_laws.proofs.UnopenedChildren.LeftChildren.{OpensAsChild, opens-now, opens-on, had-on}
-use Rattle.pr_report_laws.specs.Watching.{told_of}
+use Rattle.pr_report_laws.specs.Watching.{fed_by_entry}
 
 -- A child of a fork that nobody has open for writing stands at its birth.
 
@@ -53,7 +53,7 @@ pub record IsLeftTo (k : ℕ) (o : Options) (c : ℕ) (t : TrussState) (h : List
   pub each : (w : OpensAsChild k c t h) → WasHad k o c w.front → ⊥
 
 pub left-later : (k : ℕ) (o : Options) (c : ℕ) (t : TrussState) (e : Entry) (h : List Entry) → IsLeftTo k o c t (e ∷ h)
-    → IsLeftTo k o c (told_of k t e) h
+    → IsLeftTo k o c (fed_by_entry k t e) h
 left-later k o c t e h left = record {
   each = λ w had. left.each (opens-on k c t e h w) (had-on k o c e w.front had);
 }
@@ -63,7 +63,7 @@ pub record IsNeverGranted (k c : ℕ) (t : TrussState) (h : List Entry) : Type 0
   pub none : OpensAsChild k c t h → ⊥
 
 pub never-later : (k c : ℕ) (t : TrussState) (e : Entry) (h : List Entry) → IsNeverGranted k c t (e ∷ h)
-    → IsNeverGranted k c (told_of k t e) h
+    → IsNeverGranted k c (fed_by_entry k t e) h
 never-later k c t e h never = record { none = λ w. never.none (opens-on k c t e h w) }
 
 -- it stands at its birth, its own children are to be followed too, and its last close leaves it as it is
@@ -282,7 +282,7 @@ module _ (n k : ℕ) (o : Options) (t : TrussState) (s : TracedState) (h : List 
     pub untouched-on :
         ((lwp handle : ℕ) (file : File)
         (mode : Mode) → e ≡ granted k c lwp file mode handle → is_writable mode ≡ true → ⊥)
-        → Stands k o (told_of k t e) (after s e) h c
+        → Stands k o (fed_by_entry k t e) (after s e) h c
     untouched-on own = elim (cases_Bool (has_writer c (after s e).opens)) [
       | inr none ↦ stands_new
           (record { alone = none; born = new-on; left = left-later k o c t e h new.left })

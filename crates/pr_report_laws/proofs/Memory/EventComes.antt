@@ -28,7 +28,7 @@ use Rattle.pr_report_laws.proofs.Invariant.Standing.{Accounted, Position, Standi
 use Rattle.pr_report_laws.proofs.Invariant.UnreadLaws.{one-more}
 use Rattle.pr_report_laws.specs.Memories.{WasKilled}
 use Rattle.pr_report_laws.specs.Shown.{LwpEvent, event_told, picked, selected, shown}
-use Rattle.pr_report_laws.specs.Watching.{events_watched, is_away, place_of, told_of, watches}
+use Rattle.pr_report_laws.specs.Watching.{events_watched, fed_by_entry, is_away, place_of, watches}
 
 -- Where an event came, and that the memory of its process is as it was then: until truss reads the event, and then
 -- until it reads the memory.
@@ -206,10 +206,10 @@ module _ (k : ℕ) (o : Options) (pid : ℕ) (first : TracedState) where
       ∙ ap (λ (u : TrussState). selected_of o pid u s e) (sym (no-exchanges k t))
   selected-push (x ∷ h) t s e =
       watched-next k o pid (is_selected o) t s [] x (h ++ e ∷ [])
-      ∙ ap (λ (ys : List LwpEvent). selected_of o pid t s x ++ ys) (selected-push h (told_of k t x) (after s x) e)
+      ∙ ap (λ (ys : List LwpEvent). selected_of o pid t s x ++ ys) (selected-push h (fed_by_entry k t x) (after s x) e)
       ∙ sym (append_assoc (selected_of o pid t s x)
-      (selected o pid (events_watched k pid (told_of k t x) (after s x) h)) _)
-      ∙ ap (λ (ys : List LwpEvent). ys ++ selected_of o pid (truss_after (told_of k t x) (exchanges k h))
+      (selected o pid (events_watched k pid (fed_by_entry k t x) (after s x) h)) _)
+      ∙ ap (λ (ys : List LwpEvent). ys ++ selected_of o pid (truss_after (fed_by_entry k t x) (exchanges k h))
       (state_after (after s x) h) e) (sym (watched-next k o pid (is_selected o) t s [] x h))
       ∙ ap (λ (u : TrussState). selected o pid (events_watched k pid t s (x ∷ h)) ++ selected_of o pid u
       (state_after (after s x) h) e) (sym (after-next k t x h))

@@ -67,7 +67,7 @@ use Rattle.pr_report_laws.specs.Births.{IsNeverFollowed, LeavesForks, NamesNoChi
 use Rattle.pr_report_laws.specs.Lineages.{IsLeftToTruss}
 use Rattle.pr_report_laws.specs.Memories.{AreOfTheirEvents, IsMemoryRead, IsOfItsEvent, IsTextOf, WasKilled, range_asked, read, unasked}
 use Rattle.pr_report_laws.specs.Shown.{LwpEvent, event_reported, event_told, picked}
-use Rattle.pr_report_laws.specs.Watching.{told_of, with_exchange}
+use Rattle.pr_report_laws.specs.Watching.{fed_by_entry, with_exchange}
 
 -- The memory that is reported with an event is that of the state right after the event.
 
@@ -116,11 +116,11 @@ module _ (n k : ℕ) (o : Options) (pid : ℕ) (first : TracedState) where
       })
   arrives (e ∷ todo) rest past K t s base g links knows =
       let later = shown-next K n k o pid t s base e (todo ++ rest) g in
-      let holds : Holds _ k o pid (told_of k t e) (after s e)
-      (shown_tally o pid (told_of k t e) (base ++ selected_of o pid t s e)) = later.holds in
+      let holds : Holds _ k o pid (fed_by_entry k t e) (after s e)
+      (shown_tally o pid (fed_by_entry k t e) (base ++ selected_of o pid t s e)) = later.holds in
       let next = makes-next k t e (todo ++ rest) g.makes in
       subst (λ es. Arrives n k o pid first es rest) (append_assoc past (e ∷ []) todo)
-      (arrives todo rest (past ++ e ∷ []) _ (told_of k t e) (after s e) (base ++ selected_of o pid t s e) later
+      (arrives todo rest (past ++ e ∷ []) _ (fed_by_entry k t e) (after s e) (base ++ selected_of o pid t s e) later
       (links-next K n k o pid first past t s base e g.holds links knows g.legal.0 next.0 holds.standing)
       (knows-next K n k o pid first past t s base e g.holds links knows g.legal.0 next.0 holds.standing))
 

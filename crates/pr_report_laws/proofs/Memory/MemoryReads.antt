@@ -42,7 +42,7 @@ use Rattle.pr_report_laws.proofs.Machine.RecordLaws.{held-is, read-is}
 use Rattle.pr_report_laws.proofs.Replies.TextReports.{AsksItsRange, Grows, IsTold, IsToldEvent, as_before, asks-range, fed-goes, first-silent, one_more, silent, told}
 use Rattle.pr_report_laws.proofs.Files.WatchHistories.{IsAnswered, Reaches, after-cons, cons-exchanges, entry-reaches, exchange-answered, first-reaches, no-exchanges, truss_at-push}
 use Rattle.pr_report_laws.specs.Memories.{HasItsText, HaveTheirTexts, IsMemoryRead, IsTextOf, read, unasked}
-use Rattle.pr_report_laws.specs.Watching.{told_of, with_exchange}
+use Rattle.pr_report_laws.specs.Watching.{fed_by_entry, with_exchange}
 
 -- The text that is reported with an event is what stood in the memory of its process when truss read it.
 
@@ -223,8 +223,8 @@ module _ (n k : ℕ) (o : Options) (s : TracedState) (h : List Entry) (e : Entry
         subst (HaveTheirTexts k o s (h ++ e ∷ [])) (sym is)
         (more-reported k o s (h ++ e ∷ []) t.reports r kept (told-has r new))
 
-  still-at : truss_at k o (h ++ e ∷ []) ≡ told_of k t e
-  still-at = truss_at-push k o h e ∙ ap (λ (u : TrussState). told_of k u e) w.at
+  still-at : truss_at k o (h ++ e ∷ []) ≡ fed_by_entry k t e
+  still-at = truss_at-push k o h e ∙ ap (λ (u : TrussState). fed_by_entry k u e) w.at
 
   signalled-keeps : (x : Option Exchange) → exchange_of k e ≡ x → MakesNext t x
       → truss_at k o (h ++ e ∷ []) ≡ with_exchange t x → KeepsTexts k o s (h ++ e ∷ []) (with_exchange t x)
@@ -238,7 +238,7 @@ module _ (n k : ℕ) (o : Options) (s : TracedState) (h : List Entry) (e : Entry
         asks = asks-range o t (fed t x.reply).reports (fed t x.reply).stage c.asks;
       }
 
-  entry-keeps : MakesNext t (exchange_of k e) → KeepsTexts k o s (h ++ e ∷ []) (told_of k t e)
+  entry-keeps : MakesNext t (exchange_of k e) → KeepsTexts k o s (h ++ e ∷ []) (fed_by_entry k t e)
   entry-keeps next = signalled-keeps (exchange_of k e) refl next still-at
 
 later-keeps : (h : List Entry) (n k : ℕ) (o : Options) (s : TracedState) (past : List Entry) (t : TrussState)
@@ -249,10 +249,10 @@ later-keeps [] n k o s past t g legal makes w =
 later-keeps (e ∷ h) n k o s past t g legal makes w =
     let first = makes-next k t e h makes in
     let now : after (state_after s past) e ≡ state_after s (past ++ e ∷ []) = sym (state_after-push s past e) in
-    let reached : Reaches k (told_of k t e) (state_after s (past ++ e ∷ [])) =
-    subst (Reaches k (told_of k t e)) now (entry-reaches n k t (state_after s past) e g legal.0 first.0) in
+    let reached : Reaches k (fed_by_entry k t e) (state_after s (past ++ e ∷ [])) =
+    subst (Reaches k (fed_by_entry k t e)) now (entry-reaches n k t (state_after s past) e g legal.0 first.0) in
     let rest =
-    later-keeps h n k o s (past ++ e ∷ []) (told_of k t e) reached
+    later-keeps h n k o s (past ++ e ∷ []) (fed_by_entry k t e) reached
     (subst (λ (x : TracedState). IsLegal n x h) now legal.1) first.1
     (entry-keeps n k o s past e t g legal.0 w first.0) in
     same-keeps k o s _ _ _ _ (append_assoc past (e ∷ []) h) (sym (ap (truss_after t) (cons-exchanges k e h)

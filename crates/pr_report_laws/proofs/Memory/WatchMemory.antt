@@ -45,7 +45,7 @@ use Rattle.pr_report_laws.proofs.Replies.StageReplies.{fed-comes}
 use Rattle.pr_report_laws.proofs.Invariant.StandLemmas.{Stands}
 use Rattle.pr_report_laws.proofs.Files.WatchHistories.{Reaches, after-cons, cons-exchanges, entry-reaches, first-reaches, no-exchanges}
 use Rattle.pr_report_laws.specs.Attachments.{child_calls}
-use Rattle.pr_report_laws.specs.Watching.{told_of, with_exchange}
+use Rattle.pr_report_laws.specs.Watching.{fed_by_entry, with_exchange}
 
 -- The exchanges that stand behind where truss has come to: those of the opening that is under way, and the wait that
 -- was interrupted where it leaves.
@@ -380,9 +380,9 @@ later-recalls (e ∷ h) n k o t s past g m legal makes =
     let x : Option Exchange = exchange_of k e in
     let first = makes-next k t e h makes in
     let rest =
-    later-recalls h n k o (told_of k t e) (after s e) (past ++ cons_option x [])
+    later-recalls h n k o (fed_by_entry k t e) (after s e) (past ++ cons_option x [])
     (entry-reaches n k t s e g legal.0 first.0) (told-recalls k o t s past x g m first.0) legal.1 first.1 in
-    same-recalls o (truss_after (told_of k t e) (exchanges k h)) (truss_after t (exchanges k (e ∷ h))) _ _
+    same-recalls o (truss_after (fed_by_entry k t e) (exchanges k h)) (truss_after t (exchanges k (e ∷ h))) _ _
     (sym (ap (truss_after t) (cons-exchanges k e h) ∙ after-cons t x (exchanges k h)))
     (append_assoc past (cons_option x []) (exchanges k h)
     ∙ ap (λ xs. past ++ xs) (cons-append x (exchanges k h) ∙ sym (cons-exchanges k e h)))

@@ -67,7 +67,7 @@ use Rattle.pr_report_laws.proofs.Files.WatchHistories.{IsAnswered, Reaches, exch
 use Rattle.pr_report_laws.proofs.Memory.WatchMemory.{reached-comes}
 use Rattle.pr_report_laws.specs.Births.{granted}
 use Rattle.pr_report_laws.specs.Newborn.{IsNoTurnOf, WasForked}
-use Rattle.pr_report_laws.specs.Watching.{told_of, with_exchange}
+use Rattle.pr_report_laws.specs.Watching.{fed_by_entry, with_exchange}
 
 -- A child of a fork that truss follows has had no turn, from its fork on, until truss runs it.
 
@@ -265,7 +265,7 @@ module _ (Line : ℕ → Type 0) (n k : ℕ) (o : Options) (t : TrussState) (s :
 
   still-later : (stays : t.leaving ≡ false) (pid c : ℕ) → Line pid → Line c → ClaimsIn o t s pid c
       → ((p : TracedProcess) → live_process s.system c ≡ Some p → IsNew o p)
-      → All (IsNoTurnOf c) (past ++ e ∷ []) ⊎ IsNeverGranted k c (told_of k t e) h
+      → All (IsNoTurnOf c) (past ++ e ∷ []) ⊎ IsNeverGranted k c (fed_by_entry k t e) h
   still-later stays pid c line its claim born = elim (r.claimed stays pid c line its claim) [
     | inr never ↦ inr (never-later k c t e h never)
     | inl all ↦ inl
@@ -273,7 +273,7 @@ module _ (Line : ℕ → Type 0) (n k : ℕ) (o : Options) (t : TrussState) (s :
   ]
 
   claim-later : (stays : t.leaving ≡ false) (pid c : ℕ) → Line pid → Line c → ClaimsIn o t s pid c
-      → All (IsNoTurnOf c) (past ++ e ∷ []) ⊎ IsNeverGranted k c (told_of k t e) h
+      → All (IsNoTurnOf c) (past ++ e ∷ []) ⊎ IsNeverGranted k c (fed_by_entry k t e) h
   claim-later stays pid c line its claim =
       let f = g.children stays in
       let b = f.born pid c line its claim in
@@ -288,7 +288,7 @@ module _ (Line : ℕ → Type 0) (n k : ℕ) (o : Options) (t : TrussState) (s :
   came-forked pid c line its (new is fork) = forked-last c past e fork
 
   came-later : (pid c : ℕ) → Line pid → Line c → Came o t s e pid c
-      → All (IsNoTurnOf c) (past ++ e ∷ []) ⊎ IsNeverGranted k c (told_of k t e) h
+      → All (IsNoTurnOf c) (past ++ e ∷ []) ⊎ IsNeverGranted k c (fed_by_entry k t e) h
   came-later pid c line its (was stays claim) = claim-later stays pid c line its claim
   came-later pid c line its (new is fork) =
       inl (pushed c (unmade-turn c (omega (arith, is))) (r.unmade c (omega (arith, is))))
@@ -394,7 +394,7 @@ module _ (Line : ℕ → Type 0) (n k : ℕ) (o : Options) (t : TrussState) (s :
       rested (traced_at (fed t x.reply) place).pid (call-turn k (traced_at (fed t x.reply) place).pid e x is)
       (how-past x is (fed t x.reply) c.how parent place step now line)
 
-  pub rests-on : Rests Line k o (told_of k t e) (after s e) (past ++ e ∷ []) h
+  pub rests-on : Rests Line k o (fed_by_entry k t e) (after s e) (past ++ e ∷ []) h
   rests-on = record {
     unmade = unmade-later;
     claimed =
@@ -423,9 +423,9 @@ rests-after Line (e ∷ before) n k o rest past t s g legal makes range bytes fo
     let later = rests-on Line n k o t s (before ++ rest) past e g reads forks legal.0 first.0 r in
     subst (λ (u : TrussState). Rests Line k o u (state_after (after s e) before) (past ++ e ∷ before) rest)
     (sym (after-next k t e before))
-    (subst (λ (es : List Entry). Rests Line k o (truss_after (told_of k t e) (exchanges k before))
+    (subst (λ (es : List Entry). Rests Line k o (truss_after (fed_by_entry k t e) (exchanges k before))
     (state_after (after s e) before) es rest) (append_assoc past (e ∷ []) before)
-    (rests-after Line before n k o rest (past ++ e ∷ []) (told_of k t e) (after s e)
+    (rests-after Line before n k o rest (past ++ e ∷ []) (fed_by_entry k t e) (after s e)
     (going-on Line n k o t s (before ++ rest) reads e g forks legal.0 first.0) legal.1 first.1
     (history-range n s (e ∷ []) w.lawful range
     (All-cons IsEntryOfBytes e [] (All-head IsEntryOfBytes e (before ++ rest) bytes) (All-nil IsEntryOfBytes))

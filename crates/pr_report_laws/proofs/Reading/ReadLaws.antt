@@ -27,7 +27,7 @@ use Rattle.pr_report_laws.specs.Births.{IsNeverFollowed, LeavesForks, NamesNoChi
 use Rattle.pr_report_laws.specs.Lineages.{IsLeftToTruss}
 use Rattle.pr_report_laws.specs.Reads.{AreRead, HasRead, ReadsEvent, is_chosen_of, later, none, now, traces}
 use Rattle.pr_report_laws.specs.Shown.{LwpEvent}
-use Rattle.pr_report_laws.specs.Watching.{told_of}
+use Rattle.pr_report_laws.specs.Watching.{fed_by_entry}
 
 -- What truss has read of a process along a history, and what it has shown of that.
 
@@ -54,9 +54,9 @@ module _ (picks : Event → Bool) (n k pid : ℕ) where
   are-read [] t s g legal makes = none
   are-read (e ∷ h) t s g legal makes =
       let next = makes-next k t e h makes in
-      read-first t s e h (told_along picks k pid (told_of k t e) h)
+      read-first t s e h (told_along picks k pid (fed_by_entry k t e) h)
       (λ event is. entry-event k pid t s e g next.0 event is)
-      (are-read h (told_of k t e) (after s e) (entry-reaches n k t s e g legal.0 next.0) legal.1 next.1)
+      (are-read h (fed_by_entry k t e) (after s e) (entry-reaches n k t s e g legal.0 next.0) legal.1 next.1)
 
 -- ---- what is shown was read
 
@@ -77,10 +77,10 @@ chosen-along : (k : ℕ) (o : Options) (pid : ℕ) (t : TrussState) (h : List En
 chosen-along k o pid t [] = refl
 chosen-along k o pid t (e ∷ h) =
     let x : Option LwpEvent = read_of pid t (exchange_of k e) in
-    ap (λ (xs : List LwpEvent). xs ++ told_along (is_selected o) k pid (told_of k t e) h) (chosen-one o x)
+    ap (λ (xs : List LwpEvent). xs ++ told_along (is_selected o) k pid (fed_by_entry k t e) h) (chosen-one o x)
     ∙ ap (λ (xs : List LwpEvent). filter (is_chosen_of o) (told_in (traces o) x) ++ xs)
-    (chosen-along k o pid (told_of k t e) h)
-    ∙ sym (filter-append (is_chosen_of o) (told_in (traces o) x) (told_along (traces o) k pid (told_of k t e) h))
+    (chosen-along k o pid (fed_by_entry k t e) h)
+    ∙ sym (filter-append (is_chosen_of o) (told_in (traces o) x) (told_along (traces o) k pid (fed_by_entry k t e) h))
 
 -- ---- the law
 

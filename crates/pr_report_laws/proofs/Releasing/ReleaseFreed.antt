@@ -54,7 +54,7 @@ use Rattle.pr_report_laws.proofs.Invariant.StandLemmas.{IsAttached, Stands, Stan
 use Rattle.pr_report_laws.proofs.Releasing.ReleaseSteps.{modes_told}
 use Rattle.pr_report_laws.proofs.Files.WatchHistories.{IsAnswered, Reaches, answered-calm, entry-reaches, exchange-answered}
 use Rattle.pr_report_laws.specs.Releases.{Modes, if_accepted, modes_next, released, spared}
-use Rattle.pr_report_laws.specs.Watching.{is_away, told_of, with_exchange}
+use Rattle.pr_report_laws.specs.Watching.{fed_by_entry, is_away, with_exchange}
 
 -- Truss has set the modes of a child that it sets free.
 
@@ -333,7 +333,7 @@ module _ (n k pid : ℕ) (t : TrussState) (s : TracedState) (m : Modes) (e : Ent
     }
 
   pub entry-freed : MakesNext t (exchange_of k e)
-      → HasFreed pid (told_of k t e) (after s e) (modes_told pid t m (exchange_of k e))
+      → HasFreed pid (fed_by_entry k t e) (after s e) (modes_told pid t m (exchange_of k e))
   entry-freed next = by (exchange_of k e) refl next (entry-reaches n k t s e r legal next)
     where
       by : (x : Option Exchange) → exchange_of k e ≡ x → MakesNext t x → Reaches k (with_exchange t x) (after s e)

@@ -37,7 +37,7 @@ use Rattle.pr_report_laws.proofs.Releasing.ReleaseStays.{released-stays}
 use Rattle.pr_report_laws.proofs.Releasing.ReleaseSteps.{modes-later, modes-none, modes_told, truss-modes, truss-releases}
 use Rattle.pr_report_laws.proofs.Files.WatchHistories.{exchange-answered, exchanges-push, run-front, run-last, run-next, run-reaches, Reaches, entry-reaches, first-reaches}
 use Rattle.pr_report_laws.specs.Releases.{HasModes, Modes, has_set_at, is_child_past, is_opened_past, is_past, modes_after, modes_next, modes_set, released, spared}
-use Rattle.pr_report_laws.specs.Watching.{told_of, with_exchange}
+use Rattle.pr_report_laws.specs.Watching.{fed_by_entry, with_exchange}
 
 -- The laws of what truss leaves.
 
@@ -72,9 +72,9 @@ history-set (e ∷ h) n k pid t s m r set legal makes =
     let later = entry-reaches n k t s e r legal.0 first.0 in
     subst (λ x. HasSet pid (truss_after t (exchanges k (e ∷ h))) x) (sym (modes-later k pid t m e h))
     (subst (λ (u : TrussState). HasSet pid u
-    (modes_after pid (told_of k t e) (modes_told pid t m (exchange_of k e)) (exchanges k h)))
+    (modes_after pid (fed_by_entry k t e) (modes_told pid t m (exchange_of k e)) (exchanges k h)))
     (sym (after-next k t e h))
-    (history-set h n k pid (told_of k t e) (after s e) (modes_told pid t m (exchange_of k e)) later
+    (history-set h n k pid (fed_by_entry k t e) (after s e) (modes_told pid t m (exchange_of k e)) later
     (told-set k pid t m s (after s e) (exchange_of k e) r later set) legal.1 first.1))
 
 first-set : (o : Options) (pid : ℕ) → HasSet pid (first_truss o) spared
@@ -190,9 +190,9 @@ history-freed (e ∷ h) n k pid t s m some r had legal makes =
     subst (λ x. HasFreed pid (truss_after t (exchanges k (e ∷ h))) (state_after (after s e) h) x)
     (sym (modes-later k pid t m e h))
     (subst (λ (u : TrussState). HasFreed pid u (state_after (after s e) h)
-    (modes_after pid (told_of k t e) (modes_told pid t m (exchange_of k e)) (exchanges k h)))
+    (modes_after pid (fed_by_entry k t e) (modes_told pid t m (exchange_of k e)) (exchanges k h)))
     (sym (after-next k t e h))
-    (history-freed h n k pid (told_of k t e) (after s e) (modes_told pid t m (exchange_of k e)) some
+    (history-freed h n k pid (fed_by_entry k t e) (after s e) (modes_told pid t m (exchange_of k e)) some
     (entry-reaches n k t s e r legal.0 first.0)
     (entry-freed n k pid t s m e some r had legal.0 first.0) legal.1 first.1))
 

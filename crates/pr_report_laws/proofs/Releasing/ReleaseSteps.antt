@@ -36,7 +36,7 @@ use Rattle.pr_report_laws.proofs.Releasing.ReleaseModes.{HasSameFlags, alone-fla
 use Rattle.pr_report_laws.proofs.Machine.TurnSettings.{turn-settings}
 use Rattle.pr_report_laws.proofs.Files.WatchHistories.{Reaches, entry-reaches, first-reaches}
 use Rattle.pr_report_laws.specs.Releases.{HasModes, Modes, modes_after, modes_next, modes_set, released, spared}
-use Rattle.pr_report_laws.specs.Watching.{told_of, with_exchange}
+use Rattle.pr_report_laws.specs.Watching.{fed_by_entry, with_exchange}
 
 -- Along a history the modes of each process stay as truss has set them, as long as truss has its control file open.
 
@@ -51,7 +51,7 @@ modes-first pid t m None xs = refl
 modes-first pid t m (Some x) xs = refl
 
 pub modes-later : (k pid : ℕ) (t : TrussState) (m : Modes) (e : Entry) (h : List Entry)
-    → modes_after pid t m (exchanges k (e ∷ h)) ≡ modes_after pid (told_of k t e)
+    → modes_after pid t m (exchanges k (e ∷ h)) ≡ modes_after pid (fed_by_entry k t e)
     (modes_told pid t m (exchange_of k e)) (exchanges k h)
 unfolding exchanges
 modes-later k pid t m e h = modes-first pid t m (exchange_of k e) (exchanges k h)
@@ -218,7 +218,7 @@ history-modes [] n k pid t s m r keeps legal makes =
 history-modes (e ∷ h) n k pid t s m r keeps legal makes =
     let first = makes-next k t e h makes in
     subst (λ x. KeepsModes k pid x (state_after (after s e) h)) (sym (modes-later k pid t m e h))
-    (history-modes h n k pid (told_of k t e) (after s e) (modes_told pid t m (exchange_of k e))
+    (history-modes h n k pid (fed_by_entry k t e) (after s e) (modes_told pid t m (exchange_of k e))
     (entry-reaches n k t s e r legal.0 first.0)
     (entry-modes n k pid t s m r keeps e legal.0 first.0) legal.1 first.1)
 

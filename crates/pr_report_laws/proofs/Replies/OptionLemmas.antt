@@ -3,11 +3,11 @@ use Rattle.pr_model.specs.declared.events.Entry.{Entry}
 use Rattle.pr_truss.specs.Trusses.{TrussState}
 use Rattle.pr_truss_laws.proofs.OptionLemmas.{fed-options}
 use Rattle.pr_truss_laws.specs.Exchanges.{Exchange, exchange_of}
-use Rattle.pr_report_laws.specs.Watching.{told_of, with_exchange}
+use Rattle.pr_report_laws.specs.Watching.{fed_by_entry, with_exchange}
 
 -- Truss keeps its options, whatever an entry tells it.
 
-pub told-options : (k : ℕ) (t : TrussState) (e : Entry) → (told_of k t e).options ≡ t.options
+pub told-options : (k : ℕ) (t : TrussState) (e : Entry) → (fed_by_entry k t e).options ≡ t.options
 told-options k t e = by (exchange_of k e)
   where
     by : (x : Option Exchange) → (with_exchange t x).options ≡ t.options

@@ -43,7 +43,7 @@ use Rattle.pr_report_laws.specs.Reported.{IsMissed, IsUnread}
 use Rattle.pr_report_laws.specs.SeenTo as seen
 use Rattle.pr_report_laws.specs.SeenTo.{IsSeenTo, LeavesNoChild, WasLost}
 use Rattle.pr_report_laws.specs.Shown.{LwpEvent, picked}
-use Rattle.pr_report_laws.specs.Watching.{events_watched, told_of, watches}
+use Rattle.pr_report_laws.specs.Watching.{events_watched, fed_by_entry, watches}
 
 -- No child is left of a fork that came while truss watched its parent, once truss has finished.
 
@@ -276,7 +276,7 @@ module _ (n k : ℕ) (o : Options) (parent id child : ℕ) (turned : Turned) (s 
         ∙ ap (λ (v : TracedState). picked (traces o) parent (events_of v u.entry)) (sym same_state) ∙ u.came in
         let front_part : List LwpEvent = picked (traces o) parent (events_watched k parent then left_then between) in
         let end_part : List LwpEvent =
-        picked (traces o) parent (events_watched k parent (told_of k at u.entry) (after now u.entry) u.later) in
+        picked (traces o) parent (events_watched k parent (fed_by_entry k at u.entry) (after now u.entry) u.later) in
         no-list front_part end_part m.event
         (sym none_after
         ∙ ap (λ (es : List Entry). picked (traces o) parent (events_watched k parent then left_then es)) two

@@ -19,7 +19,7 @@ use Rattle.pr_report_laws.proofs.FollowedChildren.FollowLaws.{read-followed}
 use Rattle.pr_report_laws.proofs.FollowedChildren.FreedLaws.{read-freed}
 use Rattle.pr_report_laws.proofs.SeenChildren.ReadForks.{ReadsIt, at_last, at_stop}
 use Rattle.pr_report_laws.specs.Attachments.{child_calls}
-use Rattle.pr_report_laws.specs.Follows.{ComeNext, IsFollowedUp, attached, begun, following_calls, left}
+use Rattle.pr_report_laws.specs.Follows.{ComeNext, IsHandledNext, attached, begun, following_calls, left}
 use Rattle.pr_report_laws.specs.Follows as follows
 use Rattle.pr_report_laws.specs.Freed.{IsSetFree, closing_calls, freeing_calls, interrupted}
 use Rattle.pr_report_laws.specs.Freed as frees
@@ -48,7 +48,7 @@ none-short child control (suc (suc (suc (suc (suc (suc n)))))) less is = omega (
 
 module _ (n k : ℕ) (s : TracedState) (h : List Entry) (legal : IsLegal n s h) (past xs : List Exchange)
     (split : exchanges k h ≡ past ++ xs) (child : ℕ) (base reports : List Report) where
-  followed-done : (control : ℕ) → IsFollowedUp child control base reports None xs → IsDone child base reports xs
+  followed-done : (control : ℕ) → IsHandledNext child control base reports None xs → IsDone child base reports xs
   followed-done control (attached d) = opened (record {
     before = [];
     opening = d.opening;
@@ -110,7 +110,7 @@ read-done n k o s h past xs x child follow legal makes split finished reads = by
         let base : List Report = (fed (truss_after (first_truss o) past) x.reply).reports in
         let reports : List Report = (truss_after (first_truss o) (exchanges k h)).reports in
         followed-done n k s h legal (past ++ x ∷ []) xs later child base reports control
-        (subst (λ due. IsFollowedUp child control base reports due xs) finished
+        (subst (λ due. IsHandledNext child control base reports due xs) finished
         (read-followed o (exchanges k h) past xs x place child follow makes split w))
     by (at_last w) =
         let handles : List ℕ = handles_of (traced_at (truss_after (first_truss o) past) 0) in

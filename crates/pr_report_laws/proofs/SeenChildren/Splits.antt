@@ -13,7 +13,7 @@ use Rattle.pr_report_laws.proofs.Invariant.HistoryLaw.{after-next, no-exchanges,
 use Rattle.pr_report_laws.proofs.Invariant.HistorySteps.{picked_of, read_of}
 use Rattle.pr_report_laws.proofs.Invariant.Tallies.{told_in}
 use Rattle.pr_report_laws.specs.Shown.{LwpEvent, picked}
-use Rattle.pr_report_laws.specs.Watching.{events_watched, told_of}
+use Rattle.pr_report_laws.specs.Watching.{events_watched, fed_by_entry}
 
 -- Where in a history an event came, and where truss was told it.
 
@@ -55,12 +55,12 @@ watched-both picks k pid o [] ys t s =
 watched-both picks k pid o (x ∷ xs) ys t s =
     let rest : List LwpEvent =
     picked picks pid
-    (events_watched k pid (truss_after (told_of k t x) (exchanges k xs)) (state_after (after s x) xs) ys) in
+    (events_watched k pid (truss_after (fed_by_entry k t x) (exchanges k xs)) (state_after (after s x) xs) ys) in
     watched-next k o pid picks t s [] x (xs ++ ys)
     ∙ ap (λ (es : List LwpEvent). picked_of picks pid t s x ++ es)
-    (watched-both picks k pid o xs ys (told_of k t x) (after s x))
+    (watched-both picks k pid o xs ys (fed_by_entry k t x) (after s x))
     ∙ sym (append_assoc (picked_of picks pid t s x)
-    (picked picks pid (events_watched k pid (told_of k t x) (after s x) xs)) rest)
+    (picked picks pid (events_watched k pid (fed_by_entry k t x) (after s x) xs)) rest)
     ∙ ap (λ (es : List LwpEvent). es ++ rest) (sym (watched-next k o pid picks t s [] x xs))
     ∙ ap (λ (u : TrussState). picked picks pid (events_watched k pid t s (x ∷ xs)) ++ picked picks pid
     (events_watched k pid u (state_after (after s x) xs) ys)) (sym (after-next k t x xs))
@@ -72,9 +72,9 @@ pub told-both : (picks : Event → Bool) (k pid : ℕ) (xs ys : List Entry) (t :
 told-both picks k pid [] ys t = ap (λ (u : TrussState). told_along picks k pid u ys) (sym (no-exchanges k t))
 told-both picks k pid (x ∷ xs) ys t =
     let now : List LwpEvent = told_in picks (read_of pid t (exchange_of k x)) in
-    let rest : List LwpEvent = told_along picks k pid (truss_after (told_of k t x) (exchanges k xs)) ys in
-    ap (λ (es : List LwpEvent). now ++ es) (told-both picks k pid xs ys (told_of k t x))
-    ∙ sym (append_assoc now (told_along picks k pid (told_of k t x) xs) rest)
+    let rest : List LwpEvent = told_along picks k pid (truss_after (fed_by_entry k t x) (exchanges k xs)) ys in
+    ap (λ (es : List LwpEvent). now ++ es) (told-both picks k pid xs ys (fed_by_entry k t x))
+    ∙ sym (append_assoc now (told_along picks k pid (fed_by_entry k t x) xs) rest)
     ∙ ap (λ (u : TrussState). told_along picks k pid t (x ∷ xs) ++ told_along picks k pid u ys)
     (sym (after-next k t x xs))
 
@@ -89,7 +89,7 @@ pub record WasTold (k pid : ℕ) (t : TrussState) (h : List Entry) (event : LwpE
   pub reads : read_of pid (truss_after t (exchanges k before)) (exchange_of k entry) ≡ Some event
 
 told-later : (k pid : ℕ) (t : TrussState) (e : Entry) (h : List Entry) (event : LwpEvent)
-    → WasTold k pid (told_of k t e) h event → WasTold k pid t (e ∷ h) event
+    → WasTold k pid (fed_by_entry k t e) h event → WasTold k pid t (e ∷ h) event
 told-later k pid t e h event w = record {
   before = e ∷ w.before;
   entry = w.entry;
@@ -111,24 +111,24 @@ told-now k pid t e h event reads = record {
 module _ (picks : Event → Bool) (k pid : ℕ) (event : LwpEvent) where
   -- one entry, and then others
   module _ (t : TrussState) (e : Entry) (h : List Entry) (ys : List LwpEvent)
-      (next : (zs : List LwpEvent) → told_along picks k pid (told_of k t e) h ≡ zs ++ event ∷ ys
+      (next : (zs : List LwpEvent) → told_along picks k pid (fed_by_entry k t e) h ≡ zs ++ event ∷ ys
       → WasTold k pid t (e ∷ h) event) where
     told-first : (y : LwpEvent) → read_of pid t (exchange_of k e) ≡ Some y → (zs : List LwpEvent)
-        → y ∷ told_along picks k pid (told_of k t e) h ≡ zs ++ event ∷ ys → WasTold k pid t (e ∷ h) event
+        → y ∷ told_along picks k pid (fed_by_entry k t e) h ≡ zs ++ event ∷ ys → WasTold k pid t (e ∷ h) event
     told-first y reads [] split =
         let same : y ≡ event = cc in
         told-now k pid t e h event (reads ∙ ap (λ (z : LwpEvent). Some z) same)
     told-first y reads (z ∷ zs) split =
-        let rest : told_along picks k pid (told_of k t e) h ≡ zs ++ event ∷ ys = cc in next zs rest
+        let rest : told_along picks k pid (fed_by_entry k t e) h ≡ zs ++ event ∷ ys = cc in next zs rest
 
     told-chosen : (y : LwpEvent) → read_of pid t (exchange_of k e) ≡ Some y → (b : Bool) → (xs : List LwpEvent)
-        → cond b (y ∷ []) [] ++ told_along picks k pid (told_of k t e) h ≡ xs ++ event ∷ ys
+        → cond b (y ∷ []) [] ++ told_along picks k pid (fed_by_entry k t e) h ≡ xs ++ event ∷ ys
         → WasTold k pid t (e ∷ h) event
     told-chosen y reads true xs it = told-first y reads xs it
     told-chosen y reads false xs it = next xs it
 
     told-by : (x : Option LwpEvent) → read_of pid t (exchange_of k e) ≡ x → (xs : List LwpEvent)
-        → told_in picks x ++ told_along picks k pid (told_of k t e) h ≡ xs ++ event ∷ ys
+        → told_in picks x ++ told_along picks k pid (fed_by_entry k t e) h ≡ xs ++ event ∷ ys
         → WasTold k pid t (e ∷ h) event
     told-by None none xs split = next xs split
     told-by (Some y) reads xs split = told-chosen y reads (picks y.event) xs split
@@ -141,7 +141,7 @@ module _ (picks : Event → Bool) (k pid : ℕ) (event : LwpEvent) where
       nothing [] split = cc
       nothing (z ∷ zs) split = cc
   was-told (e ∷ h) t xs ys is =
-      told-by t e h ys (λ zs rest. told-later k pid t e h event (was-told h (told_of k t e) zs ys rest))
+      told-by t e h ys (λ zs rest. told-later k pid t e h event (was-told h (fed_by_entry k t e) zs ys rest))
       (read_of pid t (exchange_of k e)) refl xs is
 
 -- ---- told, or missing

@@ -37,7 +37,7 @@ use Rattle.pr_report_laws.proofs.ToldForks.OldStops.{AllLeft, at-left}
 use Rattle.pr_report_laws.proofs.Watching.ExchangeEntries.{HasEntryOf, entry-of}
 use Rattle.pr_report_laws.proofs.Watching.HistoryParts.{front-run}
 use Rattle.pr_report_laws.specs.Attachments.{HasFile, HasFollowed, HasOpened, ReadsFile}
-use Rattle.pr_report_laws.specs.Follows.{IsFollowedUp, ReadsFork}
+use Rattle.pr_report_laws.specs.Follows.{IsHandledNext, ReadsFork}
 use Rattle.pr_report_laws.specs.Freed.{IsSetFree, ReadsLastFork}
 use Rattle.pr_report_laws.specs.Holds.{HasHold}
 use Rattle.pr_report_laws.specs.ToldForks.{FollowsChild, FreesChild, HasNoOldStop, IsReadAt, IsLastReadAt, ReadsChild, ReadsLastChild, TellsFork, TellsLastFork, old_stops}
@@ -264,7 +264,7 @@ module _ (n k : ℕ) (o : Options) (s : TracedState) (before later : List Entry)
             (subst (λ p. IsFileOf k v p (traced_at t at.0).control file.Ctl WriteExcl) at.1.1
             (f.control at.0 within));
         comes =
-            subst (λ (base : List Report). IsFollowedUp child (traced_at t at.0).control base
+            subst (λ (base : List Report). IsHandledNext child (traced_at t at.0).control base
             (truss_at k o (before ++ e ∷ later)).reports (next_call_of (truss_at k o (before ++ e ∷ later)))
             (exchanges k later)) (reported told.exchange told.own)
             (read-followed o (exchanges k (before ++ e ∷ later)) (exchanges k before) (exchanges k later) told.exchange

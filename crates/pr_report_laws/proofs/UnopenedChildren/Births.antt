@@ -67,7 +67,7 @@ use Rattle.pr_report_laws.proofs.Machine.TracedPoints.{picks-traced}
 use Rattle.pr_report_laws.proofs.Invariant.Tallies.{Tally}
 use Rattle.pr_report_laws.specs.Reads.{traces}
 use Rattle.pr_report_laws.specs.Reported.{IsReported}
-use Rattle.pr_report_laws.specs.Watching.{told_of, with_exchange}
+use Rattle.pr_report_laws.specs.Watching.{fed_by_entry, with_exchange}
 
 -- Where truss opens the child of a fork, the child stands at its birth.
 
@@ -180,7 +180,7 @@ module _ (Line : ℕ → Type 0) (n k : ℕ) (o : Options) (t : TrussState) (s :
     later : IsLawful (after s e)
     later = entry-lawful n s e w.lawful legal
 
-    pub common-later : Common k o (told_of k t e) (after s e)
+    pub common-later : Common k o (fed_by_entry k t e) (after s e)
     common-later = record {
       lawful = later;
       fit = history-fits n s (e ∷ []) w.lawful w.fit (legal, tt);
@@ -190,7 +190,7 @@ module _ (Line : ℕ → Type 0) (n k : ℕ) (o : Options) (t : TrussState) (s :
       leaves = told-leaves (exchange_of k e) w.leaves;
     }
 
-    each-later : LeavesTo Line k o t (e ∷ h) → (pid : ℕ) → Line pid → Holding k o pid (told_of k t e) (after s e)
+    each-later : LeavesTo Line k o t (e ∷ h) → (pid : ℕ) → Line pid → Holding k o pid (fed_by_entry k t e) (after s e)
     each-later forks pid line =
         let x = g.each pid line in
         record {
@@ -216,7 +216,7 @@ module _ (Line : ℕ → Type 0) (n k : ℕ) (o : Options) (t : TrussState) (s :
     unfolding after
     own-after = ap (after_call s) answer
 
-    told-is : told_of k t (call_entry k c a) ≡ fed t a.reply
+    told-is : fed_by_entry k t (call_entry k c a) ≡ fed t a.reply
     told-is = ap (with_exchange t) own-exchange
 
     pub is-call : (pid : ℕ) → IsCall k o pid t s c a
@@ -328,7 +328,7 @@ module _ (Line : ℕ → Type 0) (n k : ℕ) (o : Options) (t : TrussState) (s :
     actor-follow (Controller by) (act.Tick moment) g forks legal next on = absurd legal
 
     pub going-on : (e : Entry) → Going Line k o t s (e ∷ h) → LeavesTo Line k o t (e ∷ h)
-        → IsLegalEntry n s e → MakesNext t (exchange_of k e) → Going Line k o (told_of k t e) (after s e) h
+        → IsLegalEntry n s e → MakesNext t (exchange_of k e) → Going Line k o (fed_by_entry k t e) (after s e) h
     going-on e g forks legal next = record {
       common = common-later e g reads legal next;
       each = each-later e g reads legal next forks;
@@ -339,7 +339,7 @@ module _ (Line : ℕ → Type 0) (n k : ℕ) (o : Options) (t : TrussState) (s :
 
 -- what was asked of the first entry, and of those after it
 births-join : (k : ℕ) (o : Options) (pid : ℕ) (t : TrussState) (s : TracedState) (e : Entry) (h : List Entry)
-    → IsBorn k o pid t s e → BirthsFrom k o pid (told_of k t e) (after s e) h → BirthsFrom k o pid t s (e ∷ h)
+    → IsBorn k o pid t s e → BirthsFrom k o pid (fed_by_entry k t e) (after s e) h → BirthsFrom k o pid t s (e ∷ h)
 births-join k o pid t s e h now rest = record { child = by }
   where
     first-is-it : {e' : Entry} {xs ys : List Entry} → e' ∷ xs ≡ e ∷ ys → e' ≡ e
@@ -374,7 +374,7 @@ history-births Line n k o (e ∷ h) t s g legal makes range bytes forks pid line
     let first = makes-next k t e h makes in
     let w = g.common in
     births-join k o pid t s e h (born-now Line n k o t s h e g forks first.0 pid line)
-    (history-births Line n k o h (told_of k t e) (after s e)
+    (history-births Line n k o h (fed_by_entry k t e) (after s e)
     (going-on Line n k o t s h (λ of. reads-back of s w.lawful range) e g forks legal.0 first.0) legal.1 first.1
     (history-range n s (e ∷ []) w.lawful range
     (All-cons IsEntryOfBytes e [] (All-head IsEntryOfBytes e h bytes) (All-nil IsEntryOfBytes)) (legal.0, tt))

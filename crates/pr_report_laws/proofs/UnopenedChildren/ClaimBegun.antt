@@ -52,13 +52,13 @@ use Rattle.pr_report_laws.proofs.UnopenedChildren.ClaimRuns.{IsOwn, call-is, cal
 use Rattle.pr_report_laws.proofs.UnopenedChildren.LeftChildren.{opens-on}
 use Rattle.pr_report_laws.specs.Births.{granted}
 use Rattle.pr_report_laws.specs.Lineages.{IsNamed}
-use Rattle.pr_report_laws.specs.Watching.{told_of, with_exchange}
+use Rattle.pr_report_laws.specs.Watching.{fed_by_entry, with_exchange}
 
 -- A child that truss opens by its id too, before it has come behind the opens of its files: a call of truss leaves it
 -- at its birth.
 
 -- what the entry of a call tells truss
-pub own-told : (k : ℕ) (t : TrussState) (c : Call) (a : Answer) → told_of k t (call_entry k c a) ≡ fed t a.reply
+pub own-told : (k : ℕ) (t : TrussState) (c : Call) (a : Answer) → fed_by_entry k t (call_entry k c a) ≡ fed t a.reply
 own-told k t c a =
     ap (λ (b : Bool). with_exchange t
     (cond {A = Option Exchange} b (Some (record { call = c; reply = a.reply })) None)) (eq-eqb k k refl)

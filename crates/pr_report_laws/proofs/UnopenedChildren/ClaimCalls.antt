@@ -73,7 +73,7 @@ use Rattle.pr_report_laws.proofs.Replies.TracedPlaces.{opened-before, opened-len
 use Rattle.pr_report_laws.specs.Births.{granted}
 use Rattle.pr_report_laws.specs.Lineages.{IsNamed}
 use Rattle.pr_report_laws.proofs.Invariant.Positions.{IsTracedBy}
-use Rattle.pr_report_laws.specs.Watching.{is_away, place_of, told_of}
+use Rattle.pr_report_laws.specs.Watching.{fed_by_entry, is_away, place_of}
 
 -- A call of truss leaves the children of forks that it is to open at their births.
 
@@ -149,7 +149,7 @@ module _ (Line : ℕ → Type 0) (n k : ℕ) (o : Options) (t : TrussState) (s :
   abbrev u : TrussState
   u = fed t a.reply
 
-  told-is : told_of k t (call_entry k c a) ≡ u
+  told-is : fed_by_entry k t (call_entry k c a) ≡ u
   told-is = own-told k t c a
 
   comes : Comes t a.reply u
@@ -547,7 +547,7 @@ module _ (Line : ℕ → Type 0) (n k : ℕ) (o : Options) (t : TrussState) (s :
           → Stands k o u a.state h of
       untouched-stands never =
           subst (λ (x : TrussState). Stands k o x a.state h of) told-is
-          (subst (λ (x : TracedState). Stands k o (told_of k t (call_entry k c a)) x h of) own.later
+          (subst (λ (x : TracedState). Stands k o (fed_by_entry k t (call_entry k c a)) x h of) own.later
           (untouched-on n k o t s h of (call_entry k c a) i.lawful own.legal made new never))
 
       -- the open of it by its id

@@ -16,7 +16,7 @@ use Rattle.pr_report_laws.proofs.Invariant.HistoryLaw.{after-next, no-exchanges}
 use Rattle.pr_report_laws.specs.AsChildren.{WasOpenedAsChild}
 use Rattle.pr_report_laws.specs.Births.{granted}
 use Rattle.pr_report_laws.specs.Lineages.{IsLeftToTruss, Lineage, WasHad, WasTaken, descends, itself}
-use Rattle.pr_report_laws.specs.Watching.{told_of, with_exchange}
+use Rattle.pr_report_laws.specs.Watching.{fed_by_entry, with_exchange}
 
 -- What the rest of a history leaves to truss of the processes of a line, to which each belongs of which truss opens one
 -- of them as a child.
@@ -46,7 +46,7 @@ opens-now k c place handle t e h is at = record {
 }
 
 -- it comes after this entry
-abbrev pub opens-on : (k c : ℕ) (t : TrussState) (e : Entry) (h : List Entry) → OpensAsChild k c (told_of k t e) h
+abbrev pub opens-on : (k c : ℕ) (t : TrussState) (e : Entry) (h : List Entry) → OpensAsChild k c (fed_by_entry k t e) h
     → OpensAsChild k c t (e ∷ h)
 opens-on k c t e h w = record {
   front = e ∷ w.front;
@@ -67,7 +67,7 @@ none-told k t (Controller by) (act.Call c r) other =
     (ne_eqb by k (λ same. other (ap (λ m. Controller m) same)))
 none-told k t _ _ other = refl
 
-pub other-told : (k : ℕ) (t : TrussState) (e : Entry) → e.actor ≢ Controller k → told_of k t e ≡ t
+pub other-told : (k : ℕ) (t : TrussState) (e : Entry) → e.actor ≢ Controller k → fed_by_entry k t e ≡ t
 other-told k t e others = none-told k t e.actor e.act others
 
 pub had-on : (k : ℕ) (o : Options) (c : ℕ) (e : Entry) (h : List Entry) → WasHad k o c h
@@ -106,7 +106,7 @@ pub record LeavesTo (Line : ℕ → Type 0) (k : ℕ) (o : Options) (t : TrussSt
 
 -- the rest of it leaves them to truss too
 pub leaves-later : (Line : ℕ → Type 0) (k : ℕ) (o : Options) (t : TrussState) (e : Entry) (h : List Entry)
-    → LeavesTo Line k o t (e ∷ h) → LeavesTo Line k o (told_of k t e) h
+    → LeavesTo Line k o t (e ∷ h) → LeavesTo Line k o (fed_by_entry k t e) h
 leaves-later Line k o t e h leaves = record {
   parents =
       λ child line w. subst (λ (u : TrussState). Line (traced_at u w.place).pid) (after-next k t e w.front)

@@ -33,10 +33,10 @@ use Rattle.pr_report_laws.proofs.Watching.OpeningWaits.{opening-waits}
 use Rattle.pr_report_laws.proofs.Watching.QuietOpenings.{own-logs, quiet-entry}
 use Rattle.pr_report_laws.specs.Attachments.{HasFollowed, HasOpened, IsLetGo, ended, left}
 use Rattle.pr_report_laws.specs.Lineages.{IsLeftToTruss}
-use Rattle.pr_report_laws.specs.Grips.{EndsThere, IsGrip, IsGripOfChild, IsKept, IsLeftIn, IsOfOther, IsOpenedFrom, left_in, with_history}
+use Rattle.pr_report_laws.specs.Grips.{EndsThere, IsGrip, IsGripOfChild, IsLeftIn, IsNotLeft, IsOfOther, IsOpenedFrom, left_in, with_history}
 use Rattle.pr_report_laws.specs.Shown.{LwpEvent, event_picked, picked, selected}
 use Rattle.pr_report_laws.specs.WatchedGrips.{HasGrips}
-use Rattle.pr_report_laws.specs.Watching.{events_watched, told_of, watches}
+use Rattle.pr_report_laws.specs.Watching.{events_watched, fed_by_entry, watches}
 
 -- What is selected of a process in the grip of truss is what is selected of it while truss watches it.
 
@@ -63,7 +63,7 @@ events_watched-append k pid t s [] ys =
     ap (λ (u : TrussState). events_watched k pid u s ys) (sym (ap (truss_after t) (no-exchanges k)))
 events_watched-append k pid t s (x ∷ xs) ys =
     let one : List Logged = cond (watches t pid) (events_of s x) [] in
-    let u : TrussState = told_of k t x in
+    let u : TrussState = fed_by_entry k t x in
     ap (λ (ls : List Logged). one ++ ls) (events_watched-append k pid u (after s x) xs ys)
     ∙ sym (append_assoc one (events_watched k pid u (after s x) xs)
     (events_watched k pid (truss_after u (exchanges k xs)) (state_after (after s x) xs) ys))
@@ -81,8 +81,8 @@ unwatched-none k pid [] t s w = refl
 unwatched-none k pid (e ∷ h) t s w =
     let now : watches t pid ≡ false =
     ap (λ (u : TrussState). watches u pid) (sym (ap (truss_after t) (no-exchanges k))) ∙ w.off [] h e refl in
-    ap (λ b. cond b (events_of s e) [] ++ events_watched k pid (told_of k t e) (after s e) h) now
-    ∙ unwatched-none k pid h (told_of k t e) (after s e) (record {
+    ap (λ b. cond b (events_of s e) [] ++ events_watched k pid (fed_by_entry k t e) (after s e) h) now
+    ∙ unwatched-none k pid h (fed_by_entry k t e) (after s e) (record {
       off = λ before later f is. ap (λ (u : TrussState). watches u pid) (sym (after-next k t e before))
           ∙ w.off (e ∷ before) later f (ap (λ (es : List Entry). e ∷ es) is);
     })
@@ -113,9 +113,9 @@ module _ (n k pid : ℕ) where
   ended-watched [] t s lawful legal over = All-nil (IsOfOther pid)
   ended-watched (e ∷ h) t s lawful legal over =
       All-append (IsOfOther pid) (cond (watches t pid) (events_of s e) [])
-      (events_watched k pid (told_of k t e) (after s e) h)
+      (events_watched k pid (fed_by_entry k t e) (after s e) h)
       (by (watches t pid))
-      (ended-watched h (told_of k t e) (after s e) (entry-lawful n s e lawful legal.0) legal.1
+      (ended-watched h (fed_by_entry k t e) (after s e) (entry-lawful n s e lawful legal.0) legal.1
       (ended-next s e lawful over (legal.0, tt)))
     where
       by : (b : Bool) → All (IsOfOther pid) (cond b (events_of s e) [])
@@ -189,10 +189,11 @@ module _ (n k : ℕ) (o : Options) (pid : ℕ) (s : TracedState) where
   watched-cons before h e on rest =
       let t : TrussState = truss_at k o before in
       let now : TracedState = state_after s before in
-      let told : told_of k t e ≡ truss_at k o (before ++ e ∷ []) = sym (truss_at-push k o before e) in
+      let told : fed_by_entry k t e ≡ truss_at k o (before ++ e ∷ []) = sym (truss_at-push k o before e) in
       let next : after now e ≡ state_after s (before ++ e ∷ []) = sym (state_after-push s before e) in
-      ap (λ b. selected o pid (cond b (events_of now e) [] ++ events_watched k pid (told_of k t e) (after now e) h)) on
-      ∙ picked-both (is_selected o) pid (events_of now e) (events_watched k pid (told_of k t e) (after now e) h)
+      ap (λ b. selected o pid (cond b (events_of now e) []
+      ++ events_watched k pid (fed_by_entry k t e) (after now e) h)) on
+      ∙ picked-both (is_selected o) pid (events_of now e) (events_watched k pid (fed_by_entry k t e) (after now e) h)
       ∙ ap (λ (xs : List LwpEvent). selected o pid (events_of now e) ++ xs)
       (ap₂ (λ (u : TrussState) (v : TracedState). selected o pid (events_watched k pid u v h)) told next
       ∙ rest ∙ ap (λ (v : TracedState). selected o pid (events_from v h)) (sym next))
@@ -208,7 +209,7 @@ module _ (n k : ℕ) (o : Options) (pid : ℕ) (s : TracedState) where
       ∙ sym (others-selected o pid (events_from (state_after s before) h)
       (ended-logs n k pid h (state_after s before) g.lawful legal over))
 
-  let-ended : (before later : List Entry) (e : Entry) → Run (before ++ e ∷ []) → IsKept k pid s before (e ∷ later)
+  let-ended : (before later : List Entry) (e : Entry) → Run (before ++ e ∷ []) → IsNotLeft k pid s before (e ∷ later)
       → watches (truss_at k o before) pid ≡ true → IsLetGo k pid s before e
       → HasEnded pid (state_after s (before ++ e ∷ []))
   let-ended before later e run kept on (ended over) =
@@ -224,7 +225,7 @@ module _ (n k : ℕ) (o : Options) (pid : ℕ) (s : TracedState) where
 
   -- Until truss leaves it, all that is logged of it comes while truss watches it.
   kept-watched : (h before : List Entry) → Run (before ++ h) → watches (truss_at k o before) pid ≡ true
-      → IsKept k pid s before h → Watched before h ≡ Logs before h
+      → IsNotLeft k pid s before h → Watched before h ≡ Logs before h
   kept-watched [] before run on kept = refl
   kept-watched (e ∷ h) before run on kept =
       watched-cons before h e on
@@ -291,7 +292,7 @@ module _ (n k : ℕ) (o : Options) (pid : ℕ) (s : TracedState) where
   held-watched : (before : List Entry) (e : Entry) (rest later : List Entry) (x : Exchange)
       → Run ((before ++ e ∷ []) ++ (rest ++ later)) → exchange_of k e ≡ Some x
       → HasOpened k o pid (before ++ e ∷ []) ⊎ HasFollowed k pid (before ++ e ∷ [])
-      → IsKept k pid s (before ++ e ∷ []) rest → EndsThere k pid s ((before ++ e ∷ []) ++ rest) later
+      → IsNotLeft k pid s (before ++ e ∷ []) rest → EndsThere k pid s ((before ++ e ∷ []) ++ rest) later
       → selected o pid (events_watched k pid (first_truss o) s ((before ++ e ∷ []) ++ (rest ++ later)))
       ≡ Logs (before ++ e ∷ []) rest
   held-watched before e rest later x run own complete kept ends =
@@ -342,7 +343,7 @@ module _ (n k : ℕ) (o : Options) (pid : ℕ) (s : TracedState) where
       → IsTrussRun n k o s ((before ++ waiting ∷ (between ++ running ∷ [])) ++ (rest ++ later))
       → HasBytes ((before ++ waiting ∷ (between ++ running ∷ [])) ++ (rest ++ later))
       → IsOpenedFrom k o pid before waiting between running
-      → IsKept k pid s (before ++ waiting ∷ (between ++ running ∷ [])) rest
+      → IsNotLeft k pid s (before ++ waiting ∷ (between ++ running ∷ [])) rest
       → EndsThere k pid s ((before ++ waiting ∷ (between ++ running ∷ [])) ++ rest) later
       → selected o pid (events_from (state_after s before) ((waiting ∷ (between ++ running ∷ [])) ++ rest))
       ≡ selected o pid
@@ -360,7 +361,7 @@ module _ (n k : ℕ) (o : Options) (pid : ℕ) (s : TracedState) where
       held-watched n k o pid s most running rest later w.run
       (subst (λ (h : List Entry). IsTrussRun n k o s (h ++ (rest ++ later))) (sym same) run) w.runs
       (inl (subst (HasOpened k o pid) (sym same) (opened-whole k o pid before waiting between running w)))
-      (subst (λ (h : List Entry). IsKept k pid s h rest) (sym same) kept)
+      (subst (λ (h : List Entry). IsNotLeft k pid s h rest) (sym same) kept)
       (subst (λ (h : List Entry). EndsThere k pid s (h ++ rest) later) (sym same) ends) in
       let there = subst (λ (h : List Entry). selected o pid
       (events_watched k pid (first_truss o) s (h ++ (rest ++ later))) ≡ selected o pid

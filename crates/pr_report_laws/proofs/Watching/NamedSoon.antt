@@ -49,7 +49,7 @@ use Rattle.pr_report_laws.proofs.Memory.WatchMemory.{reached-comes}
 use Rattle.pr_report_laws.proofs.Watching.BeginsOnlyLaws.{child-waits}
 use Rattle.pr_report_laws.proofs.Watching.HistoryParts.{front-run, rest-legal, rest-makes, truss_at-both}
 use Rattle.pr_report_laws.specs.Named.{IsNamedIn, IsRunOrClosedIn, IsSoonDone, IsWaitedFor, LooksAtWhatIsNamed, ReadsStatusFirst, RunsBeforeItPolls, closes, runs}
-use Rattle.pr_report_laws.specs.Watching.{told_of, with_exchange}
+use Rattle.pr_report_laws.specs.Watching.{fed_by_entry, with_exchange}
 
 -- In a legal history truss makes at most twelve calls between a poll that named a process and the end of its look at
 -- it: no call that comes between waits, so none is interrupted.
@@ -153,12 +153,12 @@ module _ (n k pid : ℕ) (p : Traced) (own : p.pid ≡ pid) (place : ℕ) where
         Near p place m u → Reaches k u (state_after s before) → next_call_of u ≡ Some x.call → IsNoEndOf p x
 
   pub after-entry : (t : TrussState) (e : Entry) (before : List Entry)
-      → truss_after t (exchanges k (e ∷ before)) ≡ truss_after (told_of k t e) (exchanges k before)
+      → truss_after t (exchanges k (e ∷ before)) ≡ truss_after (fed_by_entry k t e) (exchanges k before)
   after-entry t e before =
       ap (truss_after t) (cons-exchanges k e before) ∙ after-cons t (exchange_of k e) (exchanges k before)
 
   later-ends : (t : TrussState) (s : TracedState) (e : Entry) (h : List Entry) → EndsNowhere t s (e ∷ h)
-      → EndsNowhere (told_of k t e) (after s e) h
+      → EndsNowhere (fed_by_entry k t e) (after s e) h
   later-ends t s e h w = record {
     none = λ before later f x m is own near reached next.
         let same = sym (after-entry t e before) in
@@ -189,7 +189,7 @@ module _ (n k pid : ℕ) (p : Traced) (own : p.pid ≡ pid) (place : ℕ) where
       let first = makes-next k t e h makes in
       let it =
       by (exchange_of k e) refl first.0 (entry-reaches n k t s e g legal.0 first.0) first.1
-      (λ left later near rest. near-on h (told_of k t e) (after s e) left later near legal.1 rest
+      (λ left later near rest. near-on h (fed_by_entry k t e) (after s e) left later near legal.1 rest
       (later-ends t s e h ends)) in (
         it.0,
         (
@@ -199,11 +199,11 @@ module _ (n k pid : ℕ) (p : Traced) (own : p.pid ≡ pid) (place : ℕ) where
       )
     where
       by : (x : Option Exchange) → exchange_of k e ≡ x → MakesNext t x
-          → Reaches k (told_of k t e) (after s e) → Makes (told_of k t e) (exchanges k h)
-          → ((left : ℕ) → Reaches k (told_of k t e) (after s e) → Near p place left (told_of k t e)
-          → Makes (told_of k t e) (exchanges k h)
-          → (low : ℕ) × ((low ≤ left) × Near p place low (truss_after (told_of k t e) (exchanges k h))))
-          → (low : ℕ) × ((low ≤ m) × Near p place low (truss_after (told_of k t e) (exchanges k h)))
+          → Reaches k (fed_by_entry k t e) (after s e) → Makes (fed_by_entry k t e) (exchanges k h)
+          → ((left : ℕ) → Reaches k (fed_by_entry k t e) (after s e) → Near p place left (fed_by_entry k t e)
+          → Makes (fed_by_entry k t e) (exchanges k h)
+          → (low : ℕ) × ((low ≤ left) × Near p place low (truss_after (fed_by_entry k t e) (exchanges k h))))
+          → (low : ℕ) × ((low ≤ m) × Near p place low (truss_after (fed_by_entry k t e) (exchanges k h)))
       by None its next later rest others =
           others m later (subst (Near p place m) (sym (ap (with_exchange t) its)) near) rest
       by (Some x) its next later rest others =
@@ -293,7 +293,7 @@ module _ (n k : ℕ) (o : Options) (pid handle : ℕ) (s : TracedState) (before 
   unfolding now
   legal = rest-legal n k o s before (e ∷ between) run
 
-  makes : MakesNext t (exchange_of k e) × Makes (told_of k t e) (exchanges k between)
+  makes : MakesNext t (exchange_of k e) × Makes (fed_by_entry k t e) (exchanges k between)
   unfolding t
   makes = makes-next k (truss_at k o before) e between (rest-makes n k o s before (e ∷ between) run)
 
@@ -345,11 +345,11 @@ module _ (n k : ℕ) (o : Options) (pid handle : ℕ) (s : TracedState) (before 
             (polled-place k t now g.files place at.1.0);
       }
 
-  reads : told_of k t e ≡ with_stage t (ReadingStatus place)
+  reads : fed_by_entry k t e ≡ with_stage t (ReadingStatus place)
   reads = ap (with_exchange t) names.is ∙ named-read t (reply.Ready handle) place named
 
   -- the call that comes next reads the status of the process
-  looked : (xs : List Exchange) → Makes (told_of k t e) xs → ReadsStatusFirst k pid (after now e) xs
+  looked : (xs : List Exchange) → Makes (fed_by_entry k t e) xs → ReadsStatusFirst k pid (after now e) xs
   unfolding next_call_of call_of
   looked [] made = tt
   looked (x ∷ xs) made =
@@ -367,7 +367,7 @@ module _ (n k : ℕ) (o : Options) (pid handle : ℕ) (s : TracedState) (before 
         ),
       )
 
-  pub named-looks : (xs : List Exchange) → Makes (told_of k (truss_at k o before) e) xs
+  pub named-looks : (xs : List Exchange) → Makes (fed_by_entry k (truss_at k o before) e) xs
       → ReadsStatusFirst k pid (after (state_after s before) e) xs
   unfolding t now
   named-looks xs made = looked xs made

@@ -36,7 +36,7 @@ use Rattle.pr_report_laws.proofs.Invariant.Standing.{Opened}
 use Rattle.pr_report_laws.proofs.Invariant.Tallies.{Tally}
 use Rattle.pr_report_laws.proofs.Watching.OpeningPlaces.{OpensWith, opens-on}
 use Rattle.pr_report_laws.specs.Grips.{IsOfOther}
-use Rattle.pr_report_laws.specs.Watching.{told_of, with_exchange}
+use Rattle.pr_report_laws.specs.Watching.{fed_by_entry, with_exchange}
 
 -- A process that truss opens does nothing from the wait for its stop on: no event of it is logged.
 
@@ -207,7 +207,7 @@ module _ (n k : ℕ) (o : Options) (pid place : ℕ) where
       (All-tail IsEntryOfBytes e h bytes) all))
     where
       by : (x : Option Exchange) → exchange_of k e ≡ x → MakesNext t (exchange_of k e)
-          → Makes (told_of k t e) (exchanges k h)
+          → Makes (fed_by_entry k t e) (exchanges k h)
           → left ≡ length (cons_option x (exchanges k h)) + rest → All IsGranted (cons_option x (exchanges k h))
           → ((u : TrussState) (more : ℕ) → Goes k o pid place more u (after s e) → Makes u (exchanges k h)
           → All IsGranted (exchanges k h) → more ≡ length (exchanges k h) + rest
@@ -242,7 +242,7 @@ module _ (n k : ℕ) (o : Options) (pid place : ℕ) where
       (All-tail IsEntryOfBytes e h bytes) all))
     where
       by : (x : Option Exchange) → exchange_of k e ≡ x → MakesNext t (exchange_of k e)
-          → Makes (told_of k t e) (exchanges k h)
+          → Makes (fed_by_entry k t e) (exchanges k h)
           → left ≡ length (cons_option x (exchanges k h)) + rest → All IsGranted (cons_option x (exchanges k h))
           → ((u : TrussState) (more : ℕ) → Goes k o pid place more u (after s e) → more ≤ 6 + cond o.follow 2 1
           → Makes u (exchanges k h) → All IsGranted (exchanges k h) → more ≡ length (exchanges k h) + rest
