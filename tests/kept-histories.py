@@ -7,8 +7,8 @@ requests from the Nth on refused, and once with the Nth alone. Where that ends w
 - it is not shorter than where the request before was refused;
 - it is as long as the run was when memory ran out, which runs of K turns tell, of which no request is refused: a
   request behind theirs leaves K entries at least. Where nothing is printed, what they ask for behind their last entry
-  is the same for each K, and then the length is known but for one entry. Else it is at least what a run of one turn
-  asks for there, and so the length is only known to be no less than some K;
+  is the same for each K, and then the length is known but for one entry. Else it is taken to be no less than what a run
+  of one, two or three turns asks for there, and so the length is only known to be no less than some K;
 - `check` calls it legal.
 
 So it is with `run -q` and with `plain`, which goes over the whole history behind its last entry, and so counts as one
@@ -194,8 +194,8 @@ def wrong_lengths(kept):
 def wrong_moments(scenario, kept, prints):
     """What is wrong with these lengths, of which the last is that of the whole run, by the runs of fewer turns."""
     size = len(scenario.whole.entries)
-    least = Scenario(scenario.program, scenario.words, scenario.text, scenario.room, 1)
-    behind = (least if prints else scenario).asked_behind()
+    short = [Scenario(scenario.program, scenario.words, scenario.text, scenario.room, turns) for turns in (1, 2, 3)]
+    behind = min(one.asked_behind() for one in (short if prints else [scenario]))
     for number, length in kept.items():
         made = scenario.made_before(number + behind)
         if length < made or not prints and length > made + 1:
