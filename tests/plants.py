@@ -122,7 +122,7 @@ def gives_equations(source, f):
         changed = re.match(r"OnOk result \((\w+)\.new ≡ ", clause)
         if changed:
             told.update({changed[1]}, ["result"] * (f.ret[:4] == ["Result", "<", "(", ")"]))
-        told.update(["result"] * bool(re.match(GIVEN, clause)))
+        told.update(["result"] * bool(re.match(GIVEN, clause) and "→" not in clause))
     return told >= {*lent(f), *["result"] * (f.ret not in ([], ["(", ")"]))}
 
 

@@ -11,7 +11,7 @@ use Rattle.pr_model.specs.declared.calls.Call.{Call}
 use Rattle.pr_model.specs.declared.calls.File.TheVariants.{Ctl}
 use Rattle.pr_model.specs.declared.calls.Mode.TheVariants.{WriteExcl}
 use Rattle.pr_model.specs.declared.calls.Reply.{Reply}
-use Rattle.pr_truss_laws.proofs.OpensLemmas.{Opens, Refuses, held_by, keeps_handles, open-opens, own-other, own-set, plain-leaves}
+use Rattle.pr_truss_laws.proofs.Files.OpensLemmas.{Opens, Refuses, held_by, keeps_handles, open-opens, own-other, own-set, plain-leaves}
 use Rattle.pr_truss_laws.specs.Handles.{HasNothingOpen}
 use Rattle.own_tracer.specs.Calls.{open_call}
 use Rattle.own_tracer.specs.Stances.{Holds, HoldsNothing, gripped}

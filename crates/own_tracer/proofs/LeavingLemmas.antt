@@ -17,10 +17,10 @@ use Rattle.pr_model.specs.declared.calls.Call.TheVariants as call
 use Rattle.pr_model.specs.declared.handles.Held.{Held}
 use Rattle.pr_num.specs.Control.{has_flags, klc_mode, rlc_mode}
 use Rattle.pr_num.specs.Messages.{spelling}
-use Rattle.pr_truss_laws.proofs.OpensLemmas.{ClosesOne, close-closes, own-other, own-set}
-use Rattle.pr_truss_laws.proofs.ReleaseLemmas.{was-last}
-use Rattle.pr_truss_laws.proofs.StillLemmas.{live-changed}
-use Rattle.pr_truss_laws.proofs.TakenLemmas.{ctl-is}
+use Rattle.pr_truss_laws.proofs.Files.OpensLemmas.{ClosesOne, close-closes, own-other, own-set}
+use Rattle.pr_truss_laws.proofs.Files.ReleaseLemmas.{was-last}
+use Rattle.pr_truss_laws.proofs.Machine.StillLemmas.{live-changed}
+use Rattle.pr_truss_laws.proofs.Machine.TakenLemmas.{ctl-is}
 use Rattle.own_tracer.proofs.GoingLemmas.{call-goes, call-told, goes-on, made, made-is}
 use Rattle.own_tracer.proofs.HoldingLemmas.{plain-holds}
 use Rattle.own_tracer.proofs.OrderLemmas.{closes-control, order-reads, orders-control, releases, spared, still-spared}

@@ -21,7 +21,7 @@ use Rattle.pr_model.specs.declared.handles.Held.{Held}
 use Rattle.pr_num.specs.Limits.{handle_limit}
 use Rattle.pr_num.specs.Programs.{Program}
 use Rattle.pr_num.specs.declared.files.StoredFile.{StoredFile}
-use Rattle.pr_truss_laws.proofs.OpensLemmas.{keeps_handles}
+use Rattle.pr_truss_laws.proofs.Files.OpensLemmas.{keeps_handles}
 use Rattle.own_tracer.proofs.GoingLemmas.{IsLegal-append, call-goes, goes-keeping, goes-nowhere, goes-on, last-reply, made, made-is, memory-append, stands-so, state_after-append, told-state}
 use Rattle.own_tracer.proofs.HoldingLemmas.{Opened, holds-kept, holds-lawful, nothing-kept, nothing-lawful, open-holds, plain-holds}
 use Rattle.own_tracer.proofs.OrderLemmas.{opens-control, orders-control, polls-control}

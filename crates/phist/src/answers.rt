@@ -9,13 +9,14 @@ use crate::inputs::Unread;
 use crate::sources::names_of;
 use crate::statuses::Status;
 use crate::words::Work;
-use pr_hist::{Names, Text, bytes_of_line, chart_of, selected_text, text_of};
+use pr_hist::{Names, bytes_of_line, chart_of, selected_text, text_of, write_hex_bytes};
 use pr_input::{Mark, kind_name, lines_above};
 use pr_model::History;
 use pr_num::limits::SCENARIO_LIMIT;
 use pr_num::{Bytes, NoMemory};
 use pr_plain::{HistRefusal, read_history};
 use pr_scen::{ScenRefusal, read_scenario};
+use pr_text::Text;
 use std::alloc::Global;
 
 /// A status, and what is written.
@@ -235,7 +236,7 @@ fn spelled_or(alloc: Global, bytes: Option<Bytes>) -> Result<Answer, NoMemory>
             })
         }
         Some(bytes) => {
-            text.hex_bytes(bytes.as_slice())?;
+            write_hex_bytes(&mut text, bytes.as_slice())?;
             text.text(b"\n")?;
             Ok(Answer {
                 status: Status::Done,

@@ -2,9 +2,9 @@
 ghost use Rattle.std.specs.Prelude.{◌≡◌, ◌==◌, ◌<◌, length, map, position, IfOk, IfSome, option_map, string_bytes, Some};
 ghost use Rattle.phist.specs.Words.{asked_for, begun, cut_at, every, has_width, is_width, joined, lwp_of, range_of, ready, waiting, with_flag, with_operand, with_range, with_who, with_width, with_word, with_words, work_of, work_with};
 
-use pr_hist::{Chart, Selection, Text, Who};
+use pr_hist::{Chart, Selection, Who, write_spaced};
 use pr_num::{Bytes, NoMemory};
-use pr_text::{id_of, number_of};
+use pr_text::{Text, id_of, number_of};
 use std::alloc::Global;
 
 /// What words ask for.
@@ -282,7 +282,7 @@ fn joined(alloc: Global, words: &[String]) -> Result<Bytes, NoMemory>
 {
     let mut line = Text::new(alloc)?;
     for word in words {
-        line.spaced(word.as_str().as_bytes())?;
+        write_spaced(&mut line, word.as_str().as_bytes())?;
     }
     Ok(line.into_bytes())
 }

@@ -2,11 +2,11 @@ pub mod CoreLemmas
 pub mod CoreStandLemmas
 pub mod CutLemmas
 pub mod DecodingLemmas
-pub mod DigitLemmas
 pub mod EntryLemmas
 pub mod ExtentLemmas
 pub mod FaultLemmas
 pub mod FrameLemmas
+pub mod HexLineLemmas
 pub mod MemoryByteLemmas
 pub mod PieceLemmas
 pub mod PieceStandLemmas

@@ -1,25 +1,13 @@
 //! The text of a core.
-ghost use Rattle.std.specs.Prelude.{◌≡◌, ◌*◌, ◌≤◌, ◌++◌, length, take, OnOk};
-ghost use Rattle.pr_text.specs.HexWords.{digits_of_bytes};
+ghost use Rattle.std.specs.Prelude.{◌≡◌, ◌++◌, OnOk};
 ghost use Rattle.pr_core.specs.CoreText.{core_text, hex_lines, lines_of, line_bytes};
 
 use pr_num::NoMemory;
-use pr_text::hex_digit;
-use pr_tools::Text;
+use pr_text::{Text, put_digits};
+use pr_tools::end_line;
 
 /// How many bytes a line has.
 const LINE: usize = 1_024;
-
-/// Puts the digits of bytes at the front of a piece.
-fn put_digits(piece: &mut [u8], bytes: &[u8])
-    requires { 2 * length bytes.now ≤ length piece.old }
-    ensures { take (2 * length bytes.now) piece.new ≡ digits_of_bytes bytes.now }
-{
-    for (i, b) in bytes.iter().enumerate() {
-        piece[2 * i] = hex_digit(*b / 16);
-        piece[2 * i + 1] = hex_digit(*b % 16);
-    }
-}
 
 /// The lines of bytes in hex; the last has the rest.
 fn push_lines(text: &mut Text, bytes: &[u8]) -> Result<(), NoMemory>
@@ -31,7 +19,7 @@ fn push_lines(text: &mut Text, bytes: &[u8]) -> Result<(), NoMemory>
         let (line, others) = rest.split_at(rest.len().min(LINE));
         put_digits(&mut digits, line);
         text.text(&digits[..2 * line.len()])?;
-        text.end_line()?;
+        end_line(text)?;
         rest = others;
     }
     Ok(())
@@ -44,6 +32,6 @@ pub(crate) fn push_core(text: &mut Text, bytes: &[u8]) -> Result<(), NoMemory>
 {
     text.text(b"core ")?;
     text.decimal(bytes.len() as u64)?;
-    text.end_line()?;
+    end_line(text)?;
     push_lines(text, bytes)
 }

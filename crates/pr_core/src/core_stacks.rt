@@ -15,7 +15,10 @@ use pr_model::PC;
 use pr_num::NoMemory;
 use pr_num::layout::TEXT_BASE;
 use pr_rec::LwpStatus;
-use pr_tools::{READ_FRAMES, Text, instruction_in, program_of, push_frame};
+use pr_text::Text;
+use pr_tools::{
+    READ_FRAMES, end_line, instruction_in, program_of, push_frame, push_header, push_label,
+};
 use std::alloc::Global;
 
 /// The place of the frame pointer among the registers.
@@ -57,8 +60,8 @@ fn push_stack(
 ) -> Result<(), NoMemory>
     ensures { OnOk result (text.new ≡ text.old ++ lwp_stack (option_copied program.entry) (space_in space.now) lwp.now) }
 {
-    text.lwp(u64::from(lwp.id))?;
-    text.end_line()?;
+    push_label(text, u64::from(lwp.id))?;
+    end_line(text)?;
     push_frame(text, program, lwp.regs[PC])?;
     push_frames(alloc, text, program, space, lwp.regs[FP])
 }
@@ -106,7 +109,7 @@ pub(crate) fn push_stacks(
 ) -> Result<(), NoMemory>
     ensures { OnOk result (text.new ≡ text.old ++ lwps_stacks pid programs.now (space_in space.now) lwps.now) }
 {
-    text.header(pid)?;
+    push_header(text, pid)?;
     let program = program_in(alloc, programs, space)?;
     push_all(alloc, text, program, space, lwps)
 }

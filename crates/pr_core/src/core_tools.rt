@@ -14,7 +14,8 @@ use pr_asm::Program;
 use pr_model::ToolKind;
 use pr_num::{Bytes, NoMemory};
 use pr_rec::{LwpStatus, encode_sigact, write_lstatus, write_map};
-use pr_tools::{Text, text_of_record};
+use pr_text::Text;
+use pr_tools::text_of_record;
 use std::alloc::Global;
 
 /// The text of the stacks of lwps in a memory.

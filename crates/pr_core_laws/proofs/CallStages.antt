@@ -19,13 +19,13 @@ use Rattle.pr_model.specs.declared.events.Act.{Act}
 use Rattle.pr_model.specs.declared.events.Actor.{Actor}
 use Rattle.pr_model.specs.declared.events.Entry.{Entry}
 use Rattle.pr_num.specs.declared.errnos.Errno.{Errno}
-use Rattle.pr_tool_laws.proofs.LeavingLemmas.{entry-call}
-use Rattle.pr_tool_laws.proofs.StackReads.{control_of}
-use Rattle.pr_tool_laws.proofs.StandingLemmas.{IsOther, Stands, others-keep}
+use Rattle.pr_tool_laws.proofs.RunningAgain.LeavingLemmas.{entry-call}
+use Rattle.pr_tool_laws.proofs.Pstack.StackReads.{control_of}
+use Rattle.pr_tool_laws.proofs.OwnFiles.StandingLemmas.{IsOther, Stands, others-keep}
 use Rattle.pr_tool_laws.specs.Leaving.{IsClose}
 use Rattle.pr_tools.specs.Handles.{handle_at, last_open}
 use Rattle.pr_tools.specs.declared.handles.Opened.{Opened}
-use Rattle.pr_truss_laws.proofs.OpensLemmas.{keeps_handles, plain-leaves}
+use Rattle.pr_truss_laws.proofs.Files.OpensLemmas.{keeps_handles, plain-leaves}
 use Rattle.pr_core_laws.proofs.GcoreHolds.{Holds, goes_on}
 use Rattle.pr_core_laws.proofs.GcoreStages.{open_at}
 use Rattle.pr_core_laws.proofs.KeptParts.{accepted-kept, moves_files}

@@ -32,14 +32,14 @@ use Rattle.pr_reached.specs.InRange.{IsInRange}
 use Rattle.pr_rec.specs.Reading.{record_read}
 use Rattle.pr_rec.specs.RecordBytes.{status_bytes}
 use Rattle.pr_core.specs.Gcores.{lends}
-use Rattle.pr_tool_laws.proofs.LeavingLemmas.{others-none}
-use Rattle.pr_tool_laws.proofs.LookLemmas.{legal-at, looks}
-use Rattle.pr_tool_laws.proofs.ProtocolLemmas.{KeptByCalls, KeptByOthers, own-keeps}
-use Rattle.pr_tool_laws.proofs.RequestLemmas.{asks-push}
-use Rattle.pr_tool_laws.proofs.SentStages.{exchange, others-made, own-made}
-use Rattle.pr_tool_laws.proofs.StackReads.{read-answer}
-use Rattle.pr_tool_laws.proofs.StageLemmas.{state-called}
-use Rattle.pr_tool_laws.proofs.WholeLemmas.{front-bytes, front-legal}
+use Rattle.pr_tool_laws.proofs.RunningAgain.LeavingLemmas.{others-none}
+use Rattle.pr_tool_laws.proofs.RunningAgain.LookLemmas.{legal-at, looks}
+use Rattle.pr_tool_laws.proofs.Stages.ProtocolLemmas.{KeptByCalls, KeptByOthers, own-keeps}
+use Rattle.pr_tool_laws.proofs.RunningAgain.RequestLemmas.{asks-push}
+use Rattle.pr_tool_laws.proofs.Sending.SentStages.{exchange, others-made, own-made}
+use Rattle.pr_tool_laws.proofs.Pstack.StackReads.{read-answer}
+use Rattle.pr_tool_laws.proofs.Stages.StageLemmas.{state-called}
+use Rattle.pr_tool_laws.proofs.Records.WholeLemmas.{front-bytes, front-legal}
 use Rattle.pr_tool_laws.specs.Leaving.{RunsAtLast}
 use Rattle.pr_tool_laws.specs.OwnCalls.{AreOwnCalls}
 use Rattle.pr_tool_laws.specs.Requests.{asks_still}

@@ -41,15 +41,15 @@ use Rattle.pr_tools.specs.Handles.{most_open, with_handle, without_last}
 use Rattle.pr_tools.specs.Replies.{bytes_read}
 use Rattle.pr_tools.specs.Stacks.{process_stands}
 use Rattle.pr_tools.specs.declared.handles.Opened.{Opened}
-use Rattle.pr_tool_laws.proofs.StackHalts.{HaltsWith}
-use Rattle.pr_tool_laws.proofs.StackReads.{control_of, halts-here, own-seen, read-answer, stop-halts}
-use Rattle.pr_tool_laws.proofs.StackSteps.{wait-used}
-use Rattle.pr_tool_laws.proofs.StageLemmas.{state-called}
-use Rattle.pr_tool_laws.proofs.StandingLemmas.{Stands}
+use Rattle.pr_tool_laws.proofs.Pstack.StackHalts.{HaltsWith}
+use Rattle.pr_tool_laws.proofs.Pstack.StackReads.{control_of, halts-here, own-seen, read-answer, stop-halts}
+use Rattle.pr_tool_laws.proofs.Pstack.StackSteps.{wait-used}
+use Rattle.pr_tool_laws.proofs.Stages.StageLemmas.{state-called}
+use Rattle.pr_tool_laws.proofs.OwnFiles.StandingLemmas.{Stands}
 use Rattle.pr_tool_laws.specs.OneState.{AreMappingsRead}
 use Rattle.pr_tool_laws.specs.Reads.{ReadsFile}
 use Rattle.pr_tool_laws.specs.Stacks.{HasStopped}
-use Rattle.pr_truss_laws.proofs.OpensLemmas.{Opens, Refuses, looking-stays, only_looks, open-opens, plain-leaves}
+use Rattle.pr_truss_laws.proofs.Files.OpensLemmas.{Opens, Refuses, looking-stays, only_looks, open-opens, plain-leaves}
 use Rattle.pr_core_laws.proofs.GcoreStages.{HasRead, HasReadAll, HasTaken, IsFine, IsGood, NotesMaps, Reads, Seen, So, Stage, Walks, fine-front, found, goes, has_read, kept-more, open_at, records_of, refused, section_of, seen-still, still-read, taken-still, up_to, with_map}
 use Rattle.pr_core_laws.proofs.GcoreSteps as steps
 use Rattle.pr_core_laws.proofs.GcoreSteps.{Ends, IsEnding, IsOpening, Notes, a-mapping, a-piece, gcore_at, head_of, heading_of, no-mapping, unless-refused, with_section}

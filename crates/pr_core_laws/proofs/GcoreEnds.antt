@@ -28,7 +28,7 @@ use Rattle.pr_reached.specs.ByteHistories.{HasBytes}
 use Rattle.pr_reached.specs.InRange.{IsInRange}
 use Rattle.pr_rec.specs.InRange.{IsStatus}
 use Rattle.pr_rec.specs.RecordBytes.{fds_bytes, lstatus_bytes, map_bytes, psinfo_bytes, sigact_bytes}
-use Rattle.pr_tool_laws.proofs.WholeLemmas.{all-read, front-bytes, front-legal}
+use Rattle.pr_tool_laws.proofs.Records.WholeLemmas.{all-read, front-bytes, front-legal}
 use Rattle.pr_tool_laws.specs.OneState.{AreDescriptorsRead, AreDispositionsRead, AreLwpsRead, AreMappingsRead, IsReadBack}
 use Rattle.pr_tool_laws.specs.Reads.{ReadsFile}
 use Rattle.pr_tool_laws.specs.ToolTexts.{reads_once}

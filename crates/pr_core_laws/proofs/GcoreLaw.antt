@@ -12,8 +12,8 @@ use Rattle.pr_model.specs.State.{TracedState}
 use Rattle.pr_model.specs.declared.events.Entry.{Entry}
 use Rattle.pr_reached.specs.ByteHistories.{HasBytes}
 use Rattle.pr_reached.specs.InRange.{IsInRange}
-use Rattle.pr_tool_laws.proofs.ProtocolLemmas.{KeptByCalls, KeptByOthers, own-keeps}
-use Rattle.pr_tool_laws.proofs.StageLemmas.{state-called}
+use Rattle.pr_tool_laws.proofs.Stages.ProtocolLemmas.{KeptByCalls, KeptByOthers, own-keeps}
+use Rattle.pr_tool_laws.proofs.Stages.StageLemmas.{state-called}
 use Rattle.pr_tools.specs.Handles.{nothing_open}
 use Rattle.pr_world.specs.Controllers.{after_reply, next_call}
 use Rattle.pr_world.specs.ControllerStates.{ControllerState, Gcore}

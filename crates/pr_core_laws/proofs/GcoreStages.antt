@@ -27,15 +27,15 @@ use Rattle.pr_rec.specs.RecordBytes.{map_bytes}
 use Rattle.pr_num.specs.Spaces.{IsSpace}
 use Rattle.pr_tools.specs.Handles.{most_open}
 use Rattle.pr_tools.specs.declared.handles.Opened.{Opened}
-use Rattle.pr_tool_laws.proofs.StackHalts.{HaltsWith, others-halt, pid-made}
-use Rattle.pr_tool_laws.proofs.StackReads.{control_of}
-use Rattle.pr_tool_laws.proofs.StackStages.{stopped-still}
-use Rattle.pr_tool_laws.proofs.StandingLemmas.{IsOther, Stands, others-keep}
-use Rattle.pr_tool_laws.proofs.ToolLemmas.{place-still}
+use Rattle.pr_tool_laws.proofs.Pstack.StackHalts.{HaltsWith, others-halt, pid-made}
+use Rattle.pr_tool_laws.proofs.Pstack.StackReads.{control_of}
+use Rattle.pr_tool_laws.proofs.Pstack.StackStages.{stopped-still}
+use Rattle.pr_tool_laws.proofs.OwnFiles.StandingLemmas.{IsOther, Stands, others-keep}
+use Rattle.pr_tool_laws.proofs.Stages.ToolLemmas.{place-still}
 use Rattle.pr_tool_laws.specs.OneState.{AreDescriptorsRead, AreDispositionsRead, AreLwpsRead, AreMappingsRead}
 use Rattle.pr_tool_laws.specs.Reads.{ReadsFile}
 use Rattle.pr_tool_laws.specs.Stacks.{HasStopped}
-use Rattle.pr_truss_laws.proofs.ForeignLemmas.{exclusive-sole}
+use Rattle.pr_truss_laws.proofs.Machine.ForeignLemmas.{exclusive-sole}
 use Rattle.pr_truss_laws.specs.Handles.{HasNoOtherWriter}
 use Rattle.pr_truss_laws.specs.Stills.{IsFrozen}
 use Rattle.pr_core_laws.proofs.GcoreSteps.{IsEnding, Notes, first_notes, gcore_at, head_of}

@@ -24,7 +24,7 @@ use Rattle.pr_tools.specs.Handles.{handle_at, nothing_open, with_handle, without
 use Rattle.pr_tools.specs.Replies.{bytes_read}
 use Rattle.pr_tools.specs.Stacks.{process_stands}
 use Rattle.pr_tools.specs.declared.handles.Opened.{Opened}
-use Rattle.pr_tool_laws.proofs.StackReads.{control_of}
+use Rattle.pr_tool_laws.proofs.Pstack.StackReads.{control_of}
 use Rattle.pr_core_laws.proofs.HandleLemmas.{file_of}
 
 -- The calls of gcore stage by stage, and what a reply makes of it.

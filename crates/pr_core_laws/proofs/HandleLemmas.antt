@@ -14,9 +14,9 @@ use Rattle.pr_model.specs.declared.handles.Held.{Held}
 use Rattle.pr_tools.specs.Handles.{handle_at, most_open, nothing_open, with_handle}
 use Rattle.pr_tools.specs.declared.handles.Opened.{Opened}
 use Rattle.pr_num.proofs.SearchLemmas.{All-at}
-use Rattle.pr_tool_laws.proofs.StackReads.{control_of, new-stands, old-stands}
-use Rattle.pr_tool_laws.proofs.StandingLemmas.{Stands}
-use Rattle.pr_truss_laws.proofs.OpensLemmas.{Opens, held_by}
+use Rattle.pr_tool_laws.proofs.Pstack.StackReads.{control_of, new-stands, old-stands}
+use Rattle.pr_tool_laws.proofs.OwnFiles.StandingLemmas.{Stands}
+use Rattle.pr_truss_laws.proofs.Files.OpensLemmas.{Opens, held_by}
 
 -- The files that gcore has open, by their places.
 

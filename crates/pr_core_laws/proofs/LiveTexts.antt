@@ -8,8 +8,8 @@ use Rattle.pr_model.specs.State.{TracedProcess, TracedSystem, live_process}
 use Rattle.pr_model.specs.declared.tools.ToolKind.TheVariants.{Pfiles, Pflags, Pmap, Psig, Pstack}
 use Rattle.pr_num.specs.Programs.{Program}
 use Rattle.pr_reached.specs.InRange.{IsInRange}
-use Rattle.pr_tool_laws.proofs.ReadBackLemmas.{pfiles-shown, pflags-shown, pmap-shown, psig-shown}
-use Rattle.pr_tool_laws.proofs.WholeLemmas.{all-read}
+use Rattle.pr_tool_laws.proofs.Records.ReadBackLemmas.{pfiles-shown, pflags-shown, pmap-shown, psig-shown}
+use Rattle.pr_tool_laws.proofs.Records.WholeLemmas.{all-read}
 use Rattle.pr_tool_laws.specs.OneState.{AreDescriptorsRead, AreDispositionsRead, AreLwpsRead, AreMappingsRead, IsReadBack}
 use Rattle.pr_tool_laws.specs.Stacks.{stacks_in, stacks_text}
 use Rattle.pr_tool_laws.specs.TextsOfRecords.{descriptors_text, dispositions_text, lwps_text, mappings_text}

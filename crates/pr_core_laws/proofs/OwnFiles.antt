@@ -25,17 +25,17 @@ use Rattle.pr_num.specs.Records.{status_ranges}
 use Rattle.pr_num.specs.declared.errnos.Errno.{Errno}
 use Rattle.pr_num.specs.declared.errnos.Errno.TheVariants.{Busy}
 use Rattle.pr_rec.specs.Reading.{record_read}
-use Rattle.pr_tool_laws.proofs.HandleLemmas.{IsOf, OpensSo, call-all, none-held, others-all}
-use Rattle.pr_tool_laws.proofs.NotedFiles.{Knows, closed-known, denied-known, no-handle, opened-known, same-known}
-use Rattle.pr_tool_laws.proofs.ProtocolLemmas.{KeptByCalls, KeptByOthers, own-keeps}
-use Rattle.pr_tool_laws.proofs.StageLemmas.{state-called}
-use Rattle.pr_tool_laws.proofs.StandingLemmas.{others-handles}
+use Rattle.pr_tool_laws.proofs.OwnFiles.HandleLemmas.{IsOf, OpensSo, call-all, none-held, others-all}
+use Rattle.pr_tool_laws.proofs.OwnFiles.NotedFiles.{Knows, closed-known, denied-known, no-handle, opened-known, same-known}
+use Rattle.pr_tool_laws.proofs.Stages.ProtocolLemmas.{KeptByCalls, KeptByOthers, own-keeps}
+use Rattle.pr_tool_laws.proofs.Stages.StageLemmas.{state-called}
+use Rattle.pr_tool_laws.proofs.OwnFiles.StandingLemmas.{others-handles}
 use Rattle.pr_tool_laws.specs.OwnCalls.{AreOwnCalls}
 use Rattle.pr_tool_laws.specs.ToolHandles.{HoldsOnly}
 use Rattle.pr_tools.specs.Handles.{handle_at, last_open, last_place, most_open, nothing_open, with_handle, without_last}
 use Rattle.pr_tools.specs.Replies.{bytes_read}
 use Rattle.pr_tools.specs.declared.handles.Opened.{Opened}
-use Rattle.pr_truss_laws.proofs.OpensLemmas.{keeps_handles, plain-leaves}
+use Rattle.pr_truss_laws.proofs.Files.OpensLemmas.{keeps_handles, plain-leaves}
 use Rattle.pr_truss_laws.specs.Handles.{HasNothingOpen}
 use Rattle.pr_world.specs.Controllers.{after_reply, next_call}
 use Rattle.pr_world.specs.ControllerStates.{ControllerState, Gcore}

@@ -29,8 +29,8 @@ use Rattle.pr_rec.specs.Reading.{record_read}
 use Rattle.pr_rec.specs.RecordBytes.{fds_bytes, lstatus_bytes, map_bytes, psinfo_bytes, sigact_bytes, status_bytes}
 use Rattle.pr_rec.specs.RecordWords.{fd_entry_words_of, psinfo_words_of, status_words_of}
 use Rattle.pr_rec.specs.declared.statuses.Status.{Status}
-use Rattle.pr_tool_laws.proofs.EntryLemmas.{record-back}
-use Rattle.pr_tool_laws.proofs.ReadBackLemmas.{lwps-length}
+use Rattle.pr_tool_laws.proofs.Records.EntryLemmas.{record-back}
+use Rattle.pr_tool_laws.proofs.Records.ReadBackLemmas.{lwps-length}
 use Rattle.pr_tool_laws.specs.OneState.{AreDescriptorsRead, AreDispositionsRead, AreLwpsRead}
 
 -- What the reads of gcore give: the status, the records of a core, and the memory.

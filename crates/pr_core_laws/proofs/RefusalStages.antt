@@ -30,8 +30,8 @@ use Rattle.pr_num.specs.Records.{status_ranges}
 use Rattle.pr_num.specs.declared.errnos.Errno.{Errno}
 use Rattle.pr_num.specs.declared.errnos.Errno.TheVariants.{Busy}
 use Rattle.pr_rec.specs.Reading.{record_read}
-use Rattle.pr_tool_laws.proofs.StackReads.{control_of}
-use Rattle.pr_tool_laws.proofs.ToolLemmas.{place-still}
+use Rattle.pr_tool_laws.proofs.Pstack.StackReads.{control_of}
+use Rattle.pr_tool_laws.proofs.Stages.ToolLemmas.{place-still}
 use Rattle.pr_tool_laws.specs.FileHandles.{HasHandleOf}
 use Rattle.pr_tools.specs.Handles.{handle_at, most_open}
 use Rattle.pr_tools.specs.Replies.{bytes_read}

@@ -29,17 +29,17 @@ use Rattle.pr_num.specs.Records.{status_ranges}
 use Rattle.pr_num.specs.declared.errnos.Errno.{Errno}
 use Rattle.pr_num.specs.declared.errnos.Errno.TheVariants.{Busy}
 use Rattle.pr_rec.specs.Reading.{record_read}
-use Rattle.pr_tool_laws.proofs.LeavingLemmas.{Comes, HasLookedFirst, closes-more, comes-still, looked-still, opens-more, others-none, ran-still}
-use Rattle.pr_tool_laws.proofs.SentEffects.{runs}
-use Rattle.pr_tool_laws.proofs.StackReads.{control_of}
-use Rattle.pr_tool_laws.proofs.StageLemmas.{state-called}
-use Rattle.pr_tool_laws.proofs.StandingLemmas.{IsOther, others-keep}
+use Rattle.pr_tool_laws.proofs.RunningAgain.LeavingLemmas.{Comes, HasLookedFirst, closes-more, comes-still, looked-still, opens-more, others-none, ran-still}
+use Rattle.pr_tool_laws.proofs.Sending.SentEffects.{runs}
+use Rattle.pr_tool_laws.proofs.Pstack.StackReads.{control_of}
+use Rattle.pr_tool_laws.proofs.Stages.StageLemmas.{state-called}
+use Rattle.pr_tool_laws.proofs.OwnFiles.StandingLemmas.{IsOther, others-keep}
 use Rattle.pr_tool_laws.specs.Leaving.{ClosesAtMost, HasRunAtLast}
 use Rattle.pr_tools.specs.Calls.{run_bytes}
 use Rattle.pr_tools.specs.Handles.{handle_at, last_open, most_open}
 use Rattle.pr_tools.specs.Replies.{bytes_read}
 use Rattle.pr_tools.specs.Stacks.{process_stands}
-use Rattle.pr_truss_laws.proofs.OpensLemmas.{keeps_handles, plain-leaves}
+use Rattle.pr_truss_laws.proofs.Files.OpensLemmas.{keeps_handles, plain-leaves}
 use Rattle.pr_core_laws.proofs.GcoreHolds.{Holds, goes_on, granted-at, takes}
 use Rattle.pr_core_laws.proofs.GcoreStages.{open_at}
 use Rattle.pr_core_laws.proofs.HandleLemmas.{HasFirst, HasOpen, file_of}

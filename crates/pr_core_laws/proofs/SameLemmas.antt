@@ -11,7 +11,7 @@ use Rattle.pr_num.specs.Files.{FileTable}
 use Rattle.pr_num.specs.Spaces.{Space, mapped_size}
 use Rattle.pr_parts.specs.PendingSignals.{Pending}
 use Rattle.pr_rec.specs.declared.lwps.LwpStatus.{LwpStatus}
-use Rattle.pr_tool_laws.proofs.StackReads.{own-seen}
+use Rattle.pr_tool_laws.proofs.Pstack.StackReads.{own-seen}
 use Rattle.pr_truss_laws.specs.Stills.{IsFrozen, IsUndisturbed, unsignalled}
 use Rattle.pr_core_laws.specs.Spared.{IsSpared, IsSparedIn, StoodIn, signalled_as}
 

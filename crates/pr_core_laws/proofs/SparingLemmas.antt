@@ -53,9 +53,9 @@ use Rattle.pr_num.specs.declared.signals.Sig.{Sig}
 use Rattle.pr_num.specs.declared.signals.Sig.TheVariants.{Cld}
 use Rattle.pr_parts.specs.FileCalls.{with_all_shared}
 use Rattle.pr_parts.specs.SignalRules.{deleted_by}
-use Rattle.pr_tool_laws.proofs.StandingLemmas.{IsOther}
-use Rattle.pr_truss_laws.proofs.FrameLemmas.{lent-apart, was-made}
-use Rattle.pr_truss_laws.proofs.StoresLemmas.{may_have_lent, row-stores, stores_after, stores_by}
+use Rattle.pr_tool_laws.proofs.OwnFiles.StandingLemmas.{IsOther}
+use Rattle.pr_truss_laws.proofs.Machine.FrameLemmas.{lent-apart, was-made}
+use Rattle.pr_truss_laws.proofs.Machine.StoresLemmas.{may_have_lent, row-stores, stores_after, stores_by}
 use Rattle.pr_truss_laws.specs.Handles.{HasNoOtherWriter}
 use Rattle.pr_core_laws.specs.Spared.{SendsNoStop, SparesBy, pending_of_lwps}
 

@@ -14,13 +14,13 @@ use Rattle.pr_model.specs.declared.events.Entry.{Entry}
 use Rattle.pr_num.proofs.ByIdLaws.{under-change_under, under-change_under_other}
 use Rattle.pr_num.specs.Agents.{agent_id}
 use Rattle.pr_num.specs.ById.{change_under, under}
-use Rattle.pr_tool_laws.proofs.StandingLemmas.{IsOther}
-use Rattle.pr_truss_laws.proofs.AloneLemmas.{alone-frozen}
-use Rattle.pr_truss_laws.proofs.FrameLemmas.{lwp-alike}
-use Rattle.pr_truss_laws.proofs.OutlastLemmas as outlast
-use Rattle.pr_truss_laws.proofs.OutlastLemmas.{Outlasts, others-entry}
-use Rattle.pr_truss_laws.proofs.OverLemmas.{stays-over}
-use Rattle.pr_truss_laws.proofs.StillLemmas.{frozen-turns, halting-leaves}
+use Rattle.pr_tool_laws.proofs.OwnFiles.StandingLemmas.{IsOther}
+use Rattle.pr_truss_laws.proofs.EventStops.AloneLemmas.{alone-frozen}
+use Rattle.pr_truss_laws.proofs.Machine.FrameLemmas.{lwp-alike}
+use Rattle.pr_truss_laws.proofs.Machine.OutlastLemmas as outlast
+use Rattle.pr_truss_laws.proofs.Machine.OutlastLemmas.{Outlasts, others-entry}
+use Rattle.pr_truss_laws.proofs.Machine.OverLemmas.{stays-over}
+use Rattle.pr_truss_laws.proofs.Machine.StillLemmas.{frozen-turns, halting-leaves}
 use Rattle.pr_truss_laws.specs.Handles.{HasNoOtherWriter}
 use Rattle.pr_truss_laws.specs.Stills.{IsFrozen, IsHalting, IsUndisturbed, stopped_lwp, with_lwp_stopped}
 

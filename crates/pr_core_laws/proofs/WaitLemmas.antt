@@ -13,9 +13,9 @@ use Rattle.pr_num.specs.declared.errnos.Errno.{Errno}
 use Rattle.pr_num.specs.declared.errnos.Errno.TheVariants.{Busy, Intr, Inval}
 use Rattle.pr_num.specs.declared.messages.Message.{Message}
 use Rattle.pr_num.specs.declared.messages.Message.TheVariants as message
-use Rattle.pr_tool_laws.proofs.StackReads.{control_of}
+use Rattle.pr_tool_laws.proofs.Pstack.StackReads.{control_of}
 use Rattle.pr_tools.specs.Calls.{stop_bytes}
-use Rattle.pr_truss_laws.proofs.TakenLemmas.{Read, ReadsAs, control-held, stop-reads, target-live}
+use Rattle.pr_truss_laws.proofs.Machine.TakenLemmas.{Read, ReadsAs, control-held, stop-reads, target-live}
 
 -- A wait for a process to stop that has no end of its own and was not refused: the process is stopped on an event.
 

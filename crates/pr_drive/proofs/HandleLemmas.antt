@@ -19,7 +19,7 @@ use Rattle.pr_model.specs.declared.handles.Held.{Held}
 use Rattle.pr_num.proofs.BoolLemmas.{and_true, not_both}
 use Rattle.pr_num.specs.Limits.{handle_limit}
 use Rattle.pr_num.specs.declared.errnos.Errno.TheVariants.{Badf}
-use Rattle.pr_truss_laws.proofs.OpensLemmas.{foreign-call}
+use Rattle.pr_truss_laws.proofs.Files.OpensLemmas.{foreign-call}
 use Rattle.pr_drive.specs.Exchanges.{HasNoneReady, HasReady, is_answered_now, is_open, poll_of, polls_if, polls_of}
 use Rattle.pr_drive.specs.Going.{IsMove, SeatsState, after_entries, after_entry, has_place, outside_of}
 use Rattle.pr_drive.proofs.EntryLemmas.{AreMoves}

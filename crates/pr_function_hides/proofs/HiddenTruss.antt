@@ -10,28 +10,28 @@ use Rattle.std.proofs.lemmas.Option.{slice_get-get_or}
 use Rattle.std.proofs.Common.{get_or}
 use Rattle.pr_api.specs.Entries.{call_entry}
 use Rattle.pr_erasure.specs.Untouched.{IsUntouched}
-use Rattle.pr_function_hides.proofs.CalledCovers.{covers-push}
+use Rattle.pr_function_hides.proofs.Tidy.CalledCovers.{covers-push}
 use Rattle.pr_function_hides.specs.FunctionHiders.{AreTrusses}
 use Rattle.pr_function_hides.specs.OwnSteps.{AreStepsOwn}
 use Rattle.pr_function_hides.specs.PassiveOthers.{AreOthersPassive}
 use Rattle.pr_function_hides.specs.TidyCloses.{LeavesNoBreakpoint, LeavesNoFault}
 use Rattle.pr_function_hides.specs.TidyFaults.{ClearsOwnFaultsAlone, PostsNoOwnFault, is_clearing}
 use Rattle.pr_function_hides.specs.TidyWrites.{AreUndisturbed, WritesTidily}
-use Rattle.pr_function_hides.proofs.CleanLaw.{leaves-no-fault}
-use Rattle.pr_function_hides.proofs.ClearedLaw.{clears-alone}
-use Rattle.pr_function_hides.proofs.ClosingLaw.{leaves-none}
-use Rattle.pr_function_hides.proofs.PassiveHiders.{passive-but}
-use Rattle.pr_function_hides.proofs.PostedLaw.{posts-none}
-use Rattle.pr_function_hides.proofs.StepLaw.{own-steps}
+use Rattle.pr_function_hides.proofs.Clean.CleanLaw.{leaves-no-fault}
+use Rattle.pr_function_hides.proofs.LeavingFaults.ClearedLaw.{clears-alone}
+use Rattle.pr_function_hides.proofs.Closing.ClosingLaw.{leaves-none}
+use Rattle.pr_function_hides.proofs.StepMarks.PassiveHiders.{passive-but}
+use Rattle.pr_function_hides.proofs.FaultStops.PostedLaw.{posts-none}
+use Rattle.pr_function_hides.proofs.StepMarks.StepLaw.{own-steps}
 use Rattle.pr_function_hides.specs.RunsOfTrusses.{IsRunOfTrusses}
-use Rattle.pr_function_hides.proofs.WritesLaw.{writes-tidily}
+use Rattle.pr_function_hides.proofs.Tidy.WritesLaw.{writes-tidily}
 use Rattle.pr_function_hides.specs.SleptCopies.{NoneSleepsInCopy}
 use Rattle.pr_lawful.proofs.HistoryLemmas.{history-state}
 use Rattle.pr_lawful.proofs.UseLemmas.{live-lawful}
 use Rattle.pr_num.proofs.ByIdLemmas.{under-at}
 use Rattle.pr_num.specs.ById.{IsRising}
-use Rattle.pr_tool_laws.proofs.WholeLemmas.{front-legal}
-use Rattle.pr_hidden.proofs.HistoryFollows.{hidden-later}
+use Rattle.pr_tool_laws.proofs.Records.WholeLemmas.{front-legal}
+use Rattle.pr_hidden.proofs.Follows.HistoryFollows.{hidden-later}
 use Rattle.pr_hidden.specs.Covers.{Covers}
 use Rattle.pr_hidden.specs.HiddenSteps.{IsHidden}
 use Rattle.pr_hidden.specs.Hiders.{Hiders, are_some, covers_after, covers_at, hides, is_ctl, no_covers}
@@ -63,7 +63,7 @@ use Rattle.pr_num.specs.Messages.{first_message}
 use Rattle.pr_num.specs.declared.messages.Message.{Message}
 use Rattle.pr_num.specs.declared.messages.Message.TheVariants as message
 use Rattle.pr_num.specs.declared.messages.MsgFault.{MsgFault}
-use Rattle.pr_probe_laws.proofs.MarkCalls.{untouched-unstepped}
+use Rattle.pr_probe_laws.proofs.StepMarks.MarkCalls.{untouched-unstepped}
 use Rattle.pr_probe_laws.specs.StepMarks.{IsUnstepped}
 use Rattle.pr_reached.specs.ByteHistories.{HasBytes}
 use Rattle.pr_tool_laws.specs.OwnCalls.{AreOwnCalls}

@@ -1,10 +1,9 @@
 -- Functions that count as planted though their breakpoints do not stand, and programs that leave them alone.
-use Rattle.std.specs.Prelude.{◌≡◌, ◌≤◌, ◌<◌, ◌⊎◌, ℕ, Bool, true, false, List, [], ◌∷◌, Option, None, Some, length, slice_get}
+use Rattle.std.specs.Prelude.{◌≡◌, ◌⊎◌, ℕ, Bool, true, false, List, [], ◌∷◌, Option, None, Some, length}
 use Rattle.pr_hidden.specs.Covers.{Patch}
 use Rattle.pr_hidden.specs.Following.{RunsInstruction}
 use Rattle.pr_hidden.specs.Hiders.{replaces}
 use Rattle.pr_hidden.specs.Sparing.{are_spared, spares_call}
-use Rattle.pr_line.specs.declared.functions.Function.{Function}
 use Rattle.pr_model.specs.InstructionEffects.{InstructionEffect, Store, calls, faults, instruction_effect, runs, runs_into_watch}
 use Rattle.pr_model.specs.Readers.{borrower_at}
 use Rattle.pr_model.specs.Registers.{arguments}
@@ -18,13 +17,14 @@ use Rattle.pr_truss.specs.Asides.{marks_at}
 use Rattle.pr_truss.specs.FunctionEvents.{is_exec}
 use Rattle.pr_truss.specs.Marks.{has_function}
 use Rattle.pr_truss.specs.Trusses.{TrussState}
-use Rattle.pr_truss.specs.declared.asides.Aside.TheVariants.{Patching, Planting, Reading}
+use Rattle.pr_truss.specs.declared.asides.Aside.TheVariants.{Patching, Planting}
 use Rattle.pr_truss.specs.declared.marks.Stepped.{Stepped}
 
 -- ---- which functions these are
 
 -- Truss is to plant the breakpoint of a function again in the process at a place: it has lifted it, for a call that
--- copies or replaces the memory or for the step of an lwp, and not planted it again.
+-- copies or replaces the memory or for the step of an lwp, and not planted it again. Or the function is among those
+-- whose breakpoints it plants or lifts right now, one after another.
 pub data Counts (u : TrussState) (place function : ℕ) : Type 0 where
   lifted : has_function (marks_at u place).lifted function ≡ true → Counts u place function
   stepped : (step : Stepped) → (marks_at u place).stepped ≡ Some step → step.function ≡ function
@@ -39,17 +39,10 @@ pub data HasBorrowed (s : TracedSystem) (pid : ℕ) : ℕ → Type 0 where
   directly : {borrower : ℕ} → borrower_at s pid ≡ Some borrower → HasBorrowed s pid borrower
   through : {a borrower : ℕ} → HasBorrowed s pid a → borrower_at s a ≡ Some borrower → HasBorrowed s pid borrower
 
--- Truss opens a process, and comes to a function in it: it reads its code next, or plants its breakpoint next.
-abbrev pub IsAt : TrussState → ℕ → ℕ → Type 0
-IsAt u place function = (u.aside ≡ Reading place function) ⊎ (u.aside ≡ Planting place function)
-
 -- Truss has read the code of a function in a process that it opens, and rests on what it read: it plants its breakpoint
--- next; or it read other code there, and another function at that address is still to come.
-pub data IsRead (u : TrussState) (place function : ℕ) : Type 0 where
-  to_plant : u.aside ≡ Planting place function → IsRead u place function
-  comes_again : (next later : ℕ) (f g : Function) → IsAt u place next → function < next → next ≤ later
-      → slice_get u.options.functions function ≡ Some f → slice_get u.options.functions later ≡ Some g
-      → g.at ≡ f.at → IsRead u place function
+-- next.
+abbrev pub IsRead : TrussState → ℕ → ℕ → Type 0
+IsRead u place function = u.aside ≡ Planting place function
 
 -- ---- programs that leave them alone
 

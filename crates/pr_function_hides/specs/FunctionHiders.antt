@@ -1,6 +1,7 @@
 -- Which trusses hide breakpoints, and which of their breakpoints stand.
-use Rattle.std.specs.Prelude.{◌≡◌, ◌≤◌, ◌+◌, ◌%◌, ◌^◌, ℕ, Bool, true, false, All, List, Some, length, map, position, slice_get}
+use Rattle.std.specs.Prelude.{◌≡◌, ◌≤◌, ◌+◌, ◌%◌, ◌^◌, ℕ, Bool, true, false, All, List, Some, length, map, slice_get}
 use Rattle.std.specs.Str.{bytes_eq}
+use Rattle.pr_function_laws.specs.Planted.{IsFirstThere}
 use Rattle.pr_hidden.specs.Covers.{Patch}
 use Rattle.pr_hidden.specs.Hiders.{Hiders, hides, patch_at}
 use Rattle.pr_hidden.specs.Tidiness.{AreApart}
@@ -10,7 +11,6 @@ use Rattle.pr_line.specs.declared.options.Options.{Options}
 use Rattle.pr_model.specs.State.{TracedState}
 use Rattle.pr_num.specs.Limits.{instruction_size}
 use Rattle.pr_num.specs.Words.{IsByte}
-use Rattle.pr_truss.specs.FunctionEvents.{begins_at}
 use Rattle.pr_truss.specs.Marks.{breakpoint, has_function, has_functions}
 use Rattle.pr_truss.specs.Trusses.{first_truss}
 use Rattle.pr_truss_laws.specs.Handles.{HasNothingOpen}
@@ -36,10 +36,6 @@ pub record ArePatchable (o : Options) : Type 0 where
   pub each : All IsPatchable o.functions
   pub alike : (i j : ℕ) (f g : Function) → slice_get o.functions i ≡ Some f → slice_get o.functions j ≡ Some g
       → f.at ≡ g.at → f.code ≡ g.code
-
--- of the functions at its address this one is the first that the options name
-abbrev pub IsFirstThere : Options → ℕ → Function → Type 0
-IsFirstThere o function f = position (begins_at f.at) o.functions ≡ Some function
 
 -- ---- who hides
 

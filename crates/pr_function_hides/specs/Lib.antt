@@ -2,10 +2,11 @@ pub mod ClearedFaults
 pub mod Copying
 pub mod CountedFunctions
 pub mod FunctionHiders
-pub mod ListedCalls
 pub mod LiftedCopies
+pub mod ListedCalls
 pub mod OwnSteps
 pub mod PassiveOthers
+pub mod PlantedBreakpoints
 pub mod Replacing
 pub mod RunsOfTrusses
 pub mod SleptCopies

@@ -62,10 +62,9 @@ module _ (who : Hiders) (controllers : List ControllerState) (first : TracedStat
 
   -- Programs leave alone each function that counts as planted. While its breakpoint does not stand they store nothing
   -- there, and ask for no memory there; and as long as their process lives they unmap no byte of one that stands. Who
-  -- has borrowed the memory of a process that truss opens leaves alone what truss has read there, until truss has
-  -- planted it, or gone past the last function at that address; and no PCWRITE to who has borrowed it, which a
-  -- controller that hides nothing is granted, touches that. A process has borrowed its memory from nobody when truss
-  -- opens its control file.
+  -- has borrowed the memory of a process that truss opens leaves alone a function whose code truss has just read there,
+  -- until truss plants it; and no PCWRITE to who has borrowed it, which a controller that hides nothing is granted,
+  -- touches that function. A process has borrowed its memory from nobody when truss opens its control file.
   pub record AreUntouched : Type 0 where
     pub spares : (front back : List Entry) (pid id : ℕ) (t : Turned) (p : TracedProcess) (l : TracedLwp) (k : ℕ)
         (u : TrussState) (place function : ℕ) (f : Function)

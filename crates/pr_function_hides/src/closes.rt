@@ -12,7 +12,7 @@ ghost use Rattle.pr_world.specs.ControllerStates.{ControllerState};
 /// stands there. It closes one that lives only where its opening was refused, or where it leaves its processes, once a
 /// wait of it was interrupted. It lifts first what it had planted; in a process whose opening had not come to its stop
 /// that is nothing. Any other process of which it closes a file has ended.
-#[tactic(auto, using(crate::proofs::ClosingLaw::leaves))]
+#[tactic(auto, using(crate::proofs::Closing::ClosingLaw::leaves))]
 pub fn truss_leaves_no_breakpoint()
     ensures { (n : ℕ) (who : Hiders) (controllers : List ControllerState) (s : TracedState) (h : List Entry)
         → IsRunOfTrusses n who controllers s h → LeavesNoBreakpoint who s h }
@@ -24,7 +24,7 @@ pub fn truss_leaves_no_breakpoint()
 /// step mark is set in it, and while a breakpoint stands in it each lwp of it stands still, or stops before it does
 /// anything else. Where truss leaves a process it waits for the stop and looks at the lwps; if one stands at a fault of
 /// its own, that is the event it is told of, and it clears it before it closes a file.
-#[tactic(auto, using(crate::proofs::CleanLaw::no_fault))]
+#[tactic(auto, using(crate::proofs::Clean::CleanLaw::no_fault))]
 pub fn truss_leaves_no_fault()
     ensures { (n : ℕ) (who : Hiders) (controllers : List ControllerState) (s : TracedState) (h : List Entry)
         → IsRunOfTrusses n who controllers s h → AreOthersPassive who h

@@ -29,7 +29,7 @@ ghost use Rattle.pr_function_hides.specs.Copying.{CopiesStand, HaveNoCopyGoing, 
 
 /// Where the lwps of a process stop at the entry of each fork, vfork and exec, and none has been run from there, no
 /// turn makes such a call, and it stays so; so it does where others leave the process alone. And so of all but one.
-#[tactic(auto, using(crate::proofs::CopyTurns::copy_turns))]
+#[tactic(auto, using(crate::proofs::StoppedCopies::CopyTurns::copy_turns))]
 pub fn no_copy_is_made_before_its_entry_is_run()
     ensures makes_none { (s : TracedSystem) (pid : ℕ) (p : TracedProcess) (id : ℕ) (t : LwpTurn) → IsLawfulSystem s
         → live_process s pid ≡ Some p → turn_of s pid id ≡ Some t → (but : Option ℕ) → HaveNoCopyGoing but p
@@ -44,7 +44,7 @@ pub fn no_copy_is_made_before_its_entry_is_run()
 
 /// PCRUN on a process, with whatever run flags, lets no fork, vfork or exec of it go on but that at whose entry its
 /// representative stands; and none where the representative is at none.
-#[tactic(auto, using(crate::proofs::CopyRuns::copy_runs))]
+#[tactic(auto, using(crate::proofs::StoppedCopies::CopyRuns::copy_runs))]
 pub fn a_run_lets_one_copy_go_on()
     ensures one { (p : TracedProcess) (flags : ℕ) (e : ℕ × TracedLwp) → IsRising p.lwps
         → representative p ≡ Some e → HaveNoCopyGoing None p → HaveNoCopyGoing (Some e.0) (with_run flags p) }
@@ -58,7 +58,7 @@ pub fn a_run_lets_one_copy_go_on()
 
 /// In a process that truss traces, nothing but a call of truss lets a fork, a vfork or an exec go on, whatever other
 /// controllers and processes do.
-#[tactic(auto, using(crate::proofs::CopyOthers::copy_others))]
+#[tactic(auto, using(crate::proofs::StoppedCopies::CopyOthers::copy_others))]
 pub fn beside_truss_no_copy_goes_on()
     ensures { (n k : ℕ) (o : Options) (s : TracedState) (e : Entry) (pid control : ℕ) (but : Option ℕ) → IsLawful s
         → IsLegalEntry n s e → exchange_of k e ≡ None → HasControl k pid control s
@@ -70,7 +70,7 @@ pub fn beside_truss_no_copy_goes_on()
 /// done what it does at that event PCRUN leaves the forks, vforks and execs of the process as they are to stand with
 /// what is planted. Where it was told that one was made, all is lifted. And so PCRUN does where the representative
 /// tells no event, or met nothing.
-#[tactic(auto, using(crate::proofs::CopyRows::copy_rows))]
+#[tactic(auto, using(crate::proofs::Copying::CopyRows::copy_rows))]
 pub fn what_truss_read_stands_until_it_is_run()
     ensures told { (p : TracedProcess) (id : ℕ) (l : TracedLwp) (o : Options) (m : Marks) (ev : Event)
         → event_of (lwpstatus_of p id l) ≡ Some ev → IsFitLwp l → Tells m (function_event o m id ev) l }
@@ -91,7 +91,7 @@ pub fn what_truss_read_stands_until_it_is_run()
 
 /// Between two calls of truss the forks, vforks and execs of a process that it has opened stand as they did, by what it
 /// has planted there; and a turn of it that makes such a call, which is granted, finds all lifted.
-#[tactic(auto, using(crate::proofs::CopyStretches::copy_stretches))]
+#[tactic(auto, using(crate::proofs::Copying::CopyStretches::copy_stretches))]
 pub fn between_calls_of_truss_copies_stand()
     ensures stays { (n k : ℕ) (o : Options) (s : TracedState) (h before between later : List Entry) (place : ℕ)
         → IsFunctionRun n k o s h → h ≡ before ++ (between ++ later) → All WasNotInterrupted (exchanges k before)

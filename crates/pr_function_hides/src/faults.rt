@@ -13,7 +13,7 @@ ghost use Rattle.pr_world.specs.ControllerStates.{ControllerState};
 /// stands there until truss clears it; and as long as stops are left in a process that stood there before truss came,
 /// the process stands still, so that none of its lwps meets one. This is so also once a truss was interrupted: while it
 /// leaves a process nothing runs an lwp that stands on a stop, until truss closes the control file.
-#[tactic(auto, using(crate::proofs::PostedLaw::posts))]
+#[tactic(auto, using(crate::proofs::FaultStops::PostedLaw::posts))]
 pub fn truss_posts_no_own_fault()
     ensures { (n : ℕ) (who : Hiders) (controllers : List ControllerState) (s : TracedState) (h : List Entry)
         → IsRunOfTrusses n who controllers s h → AreOthersPassive who h → IsUnstepped s.system
@@ -27,7 +27,7 @@ pub fn truss_posts_no_own_fault()
 /// last look at the lwps tells of one of the two faults. An lwp that meets one of the two once truss has opened its
 /// process counts as standing at it; while a breakpoint is lifted the code of its function stands there, and no FLTBPT
 /// comes of that.
-#[tactic(auto, using(crate::proofs::ClearedLaw::clears_own))]
+#[tactic(auto, using(crate::proofs::LeavingFaults::ClearedLaw::clears_own))]
 pub fn truss_clears_its_own_faults_alone()
     ensures { (n : ℕ) (who : Hiders) (controllers : List ControllerState) (s : TracedState) (h : List Entry)
         → IsRunOfTrusses n who controllers s h → ClearsOwnFaultsAlone who s h }

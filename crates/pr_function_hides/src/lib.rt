@@ -16,6 +16,7 @@ mod faults;
 mod hidden;
 mod lifted;
 mod lists;
+mod planted;
 mod replaced;
 mod slept;
 mod steps;
@@ -31,8 +32,10 @@ pub use copies::{
 pub use faults::{truss_clears_its_own_faults_alone, truss_posts_no_own_fault};
 pub use hidden::truss_is_hidden;
 pub use lifted::a_copy_finds_no_breakpoint;
-pub use lists::{
-    in_each_history_calls_are_those_turns, in_each_history_events_are_those_that_came,
+pub use lists::in_each_history_calls_are_those_turns;
+pub use planted::{
+    what_is_fetched_at_a_planted_function_is_a_breakpoint,
+    who_spares_breakpoints_leaves_planted_functions_alone,
 };
 pub use replaced::after_a_replacement_truss_writes_nothing;
 pub use slept::no_lwp_sleeps_in_a_copy;

@@ -15,7 +15,7 @@ ghost use Rattle.pr_reached.specs.Reached.{IsReached};
 /// where the status of a process tells that its memory was replaced, or that a child has it too; and where truss leaves
 /// a process and its look at the lwps tells so, none is marked there. Nothing else is asked of other controllers, nor
 /// of the stops from before truss came.
-#[tactic(auto, using(crate::proofs::CopyHistory::copies_lifted))]
+#[tactic(auto, using(crate::proofs::LeavingCopies::CopyHistory::copies_lifted))]
 pub fn a_copy_finds_no_breakpoint()
     ensures { (n k : ℕ) (o : Options) (s : TracedState) (h : List Entry) → IsFunctionRun n k o s h → IsReached s
         → NoneSleepsInCopy s.system → HasBytes h → OpensOutOfCopies k o s h → CopiesFindNone k o s h }

@@ -14,7 +14,7 @@ ghost use Rattle.pr_reached.specs.Reached.{IsReached};
 /// exec when the wait of its opening is granted: once a vfork or an exec was granted in a process that truss has opened
 /// whole, and of which it does not close the files, truss sends no PCWRITE to that process any more, as long as the
 /// process lives and truss has not been interrupted. So it plants no breakpoint there.
-#[tactic(auto, using(crate::proofs::ReplacedWalk::writes_none))]
+#[tactic(auto, using(crate::proofs::Replacing::ReplacedWalk::writes_none))]
 pub fn after_a_replacement_truss_writes_nothing()
     ensures { (n k : ℕ) (o : Options) (s : TracedState) (h : List Entry) → IsFunctionRun n k o s h → IsReached s
         → NoneSleepsInCopy s.system → HasBytes h → OpensOutOfCopies k o s h → WritesNoneOnceReplaced k o s h }

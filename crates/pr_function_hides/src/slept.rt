@@ -9,7 +9,7 @@ ghost use Rattle.pr_num.specs.declared.files.StoredFile.{StoredFile};
 
 /// No lwp is asleep in a fork, a vfork or an exec in the first state of a scenario, nor after a legal history from a
 /// state in which none is: such a call is over at once.
-#[tactic(auto, using(crate::proofs::SleptHistories::none_sleeps))]
+#[tactic(auto, using(crate::proofs::StoppedCopies::SleptHistories::none_sleeps))]
 pub fn no_lwp_sleeps_in_a_copy()
     ensures first { (programs : List Program) (files : List StoredFile) (spawns : List ℕ)
         → NoneSleepsInCopy (first_state programs files spawns).system }

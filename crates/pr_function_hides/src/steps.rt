@@ -12,7 +12,7 @@ ghost use Rattle.pr_world.specs.ControllerStates.{ControllerState};
 /// passive: an lwp incurs FLTTRACE only where such a truss has the control file of its process open. This is so also
 /// once a truss was interrupted, and leaves its processes. The reason: who hides runs a process with PRSTEP only once
 /// it has opened it whole, and has set PR_RLC of it; and so the close of the control file leaves no step mark.
-#[tactic(auto, using(crate::proofs::StepLaw::steps))]
+#[tactic(auto, using(crate::proofs::StepMarks::StepLaw::steps))]
 pub fn truss_alone_steps()
     ensures { (n : ℕ) (who : Hiders) (controllers : List ControllerState) (s : TracedState) (h : List Entry)
         → IsRunOfTrusses n who controllers s h → AreOthersPassive who h → IsUnstepped s.system

@@ -11,7 +11,7 @@ ghost use Rattle.pr_world.specs.ControllerStates.{ControllerState};
 /// a process that it traces are those that its marks say, of the functions at one address that of the first alone. So
 /// it is also while it leaves its processes, once a wait of it was interrupted. Where it plants one the code of the
 /// function stands: truss has read it, or lifted the breakpoint, and nobody has written there meanwhile.
-#[tactic(auto, using(crate::proofs::WritesLaw::tidily))]
+#[tactic(auto, using(crate::proofs::Tidy::WritesLaw::tidily))]
 pub fn truss_writes_tidily()
     ensures { (n : ℕ) (who : Hiders) (controllers : List ControllerState) (s : TracedState) (h : List Entry)
         → IsRunOfTrusses n who controllers s h → WritesTidily who controllers s h }

@@ -6,8 +6,11 @@ pub mod EventsRead
 pub mod Coming
 pub mod FunctionTurns
 pub mod Handled
+pub mod Holds
 pub mod Leaving
+pub mod LeftAlone
 pub mod Lifted
+pub mod LineEvents
 pub mod LineMoments
 pub mod LineTexts
 pub mod ListedEvents
@@ -21,6 +24,7 @@ pub mod Planted
 pub mod Refusals
 pub mod Returns
 pub mod Runs
+pub mod SentSets
 pub mod ShownOnce
 pub mod Soon
 pub mod Steppable

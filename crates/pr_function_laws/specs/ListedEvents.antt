@@ -15,6 +15,7 @@ use Rattle.pr_report_laws.specs.Memories.{WasKilled}
 use Rattle.pr_report_laws.specs.Shown.{LwpEvent, picked, shown}
 use Rattle.pr_report_laws.specs.Watching.{place_of, watches}
 use Rattle.pr_truss.specs.Asides.{marks_at}
+use Rattle.pr_truss.specs.FunctionCalls.{next_function_call_of}
 use Rattle.pr_truss.specs.FunctionEvents.{function_at}
 use Rattle.pr_truss.specs.Trusses.{TrussState, first_truss, traced_at}
 use Rattle.pr_truss.specs.declared.marks.Marks.{Marks}
@@ -89,8 +90,11 @@ pub data MayMiss (k : ℕ) (o : Options) (first : TracedState) (h : List Entry) 
       → WasKilled pid (state_after first (w.before ++ w.entry ∷ [])) w.later → MayMiss k o first h pid (event ∷ [])
 
 -- The events of a process that truss has shown are those that came while it watched the process, that the options
--- select, and that are no faults of its own, each once and in their order, but for the last one at most.
+-- select, and that are no faults of its own, each once and in their order, but for the last one at most. Once truss has
+-- finished, one is missing only of a process that has ended; so none is unread then.
 pub record ListsItsEvents (k : ℕ) (o : Options) (first : TracedState) (h : List Entry) (pid : ℕ) : Type 0 where
   pub missing : List LwpEvent
   pub are : events_to_show k pid (first_truss o) first h ≡ shown pid (functions_at k o h) ++ missing
   pub few : MayMiss k o first h pid missing
+  pub at_last : next_function_call_of (functions_at k o h) ≡ None → missing ≢ []
+      → live_process (state_after first h).system pid ≡ None

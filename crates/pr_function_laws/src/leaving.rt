@@ -10,7 +10,7 @@ ghost use Rattle.pr_function_laws.specs.Opened.{IsFunctionRun};
 /// it is interrupted; it looks at the lwps once, lifts all breakpoints that stand, clears the fault where what it read
 /// tells of one of its own, and closes the four files. A process that has ended it closes at once, and one whose
 /// opening had not come to its stop too.
-#[tactic(auto, using(crate::proofs::LeavingLaws::leaving))]
+#[tactic(auto, using(crate::proofs::LeavingProcesses::LeavingLaws::leaving))]
 pub fn an_interrupted_truss_lifts_clears_and_closes()
     ensures { (n k : ℕ) (o : Options) (s : TracedState) (h : List Entry) → IsFunctionRun n k o s h
         → LeavesItsProcesses k o h }

@@ -23,7 +23,7 @@ ghost use Rattle.pr_function_laws.specs.Soon.{IsCalm};
 /// calls. So that truss does its own business in these exchanges, and nothing else. All that it has reported, calls
 /// too, stands in the order in which it learnt it, a line for each. This is so whatever it was replied, as long as only
 /// waits are interrupted.
-#[tactic(auto, using(crate::proofs::OrdinaryExchanges::ordinaries))]
+#[tactic(auto, using(crate::proofs::OrdinaryTruss::OrdinaryExchanges::ordinaries))]
 pub fn beside_its_breakpoints_it_is_a_truss()
     ensures { (o : Options) (xs : List Exchange) → has_functions o ≡ true → o.follow ≡ false
         → MakesFunctionCalls (first_truss o) xs → All IsCalm xs → IsTrussBeside o xs }
@@ -31,7 +31,7 @@ pub fn beside_its_breakpoints_it_is_a_truss()
 
 /// In each legal history of truss with functions, in each entry and of each process: it shows nothing new, or one event
 /// more, which it reads in this entry, the options select, and is no fault of its own.
-#[tactic(auto, using(crate::proofs::OrdinaryShown::shown_now))]
+#[tactic(auto, using(crate::proofs::OrdinaryTruss::OrdinaryShown::shown_now))]
 pub fn it_shows_what_it_reads_right_then()
     ensures { (n k : ℕ) (o : Options) (s : TracedState) (h : List Entry) → IsFunctionRun n k o s h
         → ShowsWhatItReadsOf k o s h }
@@ -41,7 +41,7 @@ pub fn it_shows_what_it_reads_right_then()
 /// select, and that is no fault of its own, it shows this event in that entry, once no stop is left that stood before
 /// truss came. The same of the statuses of the lwps of a process that it leaves, if it has not looked at the event
 /// before.
-#[tactic(auto, using(crate::proofs::OrdinaryNew::new_shown))]
+#[tactic(auto, using(crate::proofs::ShownOnce::OrdinaryNew::new_shown))]
 pub fn it_shows_what_is_new()
     ensures { (n k : ℕ) (o : Options) (s : TracedState) (h : List Entry) → IsFunctionRun n k o s h
         → ShowsWhatIsNewOf k o s h }
@@ -51,7 +51,7 @@ pub fn it_shows_what_is_new()
 /// files that it has open, and of the right kind; of the files of a process it closes the control file last, and then
 /// nobody has the process open for writing, and under PR_RLC nothing of the tracing is left in it. When it has finished
 /// it has nothing open.
-#[tactic(auto, using(crate::proofs::OrdinaryLaws::own_files))]
+#[tactic(auto, using(crate::proofs::OrdinaryTruss::OrdinaryLaws::own_files))]
 pub fn it_calls_closes_and_leaves_its_files_as_truss_does()
     ensures calls { (n k : ℕ) (o : Options) (s : TracedState) (h : List Entry) → IsFunctionRun n k o s h
         → CallsItsFiles k s h }

@@ -10,7 +10,7 @@ ghost use Rattle.pr_function_laws.specs.Steps.{StopsAtAll};
 ghost use Rattle.pr_function_laws.specs.Stretches.{IsAtStop, IsStretch, OthersOnlyStop};
 
 /// In a process that is stopped on an event, and has no agent, each lwp stands still.
-#[tactic(auto, using(crate::proofs::StretchLemmas::stretches))]
+#[tactic(auto, using(crate::proofs::Stepping::StretchLemmas::stretches))]
 pub fn a_process_that_is_stopped_on_an_event_is_frozen()
     ensures { (p : TracedProcess) → IsRising p.lwps → IsAtStop p → IsFrozen p }
 {}
@@ -19,7 +19,7 @@ pub fn a_process_that_is_stopped_on_an_event_is_frozen()
 /// open for writing does nothing to it but write its memory while it is stopped, and step one lwp that stands at a
 /// fault, by PCRUN with PRCFAULT and PRSTEP, no other lwp of it begins an instruction, whatever others do: each of
 /// their turns is only the stop to which that lwp was directed.
-#[tactic(auto, using(crate::proofs::StretchLemmas::stretches))]
+#[tactic(auto, using(crate::proofs::Stepping::StretchLemmas::stretches))]
 pub fn no_other_lwp_begins_an_instruction()
     ensures { (n k pid id number : ℕ) (s : TracedState) (p : TracedProcess) (h : List Entry) → IsLawful s
         → IsFitSystem s.system → live_process s.system pid ≡ Some p → IsAtStop p → StopsAtAll p.control → IsLegal n s h

@@ -12,7 +12,7 @@ ghost use Rattle.pr_function_laws.specs.Treated.{TreatsItsEvents};
 /// each function once and in their order, before it runs the process; or it is told that the process has ended, and
 /// closes its files. It runs the process with the run flags of that kind, and with none where the stop is not its own.
 /// This is so whatever it was replied, as long as only waits are interrupted.
-#[tactic(auto, using(crate::proofs::TreatedLaws::treats))]
+#[tactic(auto, using(crate::proofs::NextCalls::TreatedLaws::treats))]
 pub fn what_an_event_asks_for_comes_before_the_run()
     ensures { (o : Options) (xs : List Exchange) → has_functions o ≡ true → o.follow ≡ false
         → MakesFunctionCalls (first_truss o) xs → All IsCalm xs → TreatsItsEvents o xs }

@@ -14,7 +14,7 @@ ghost use Rattle.pr_hidden.specs.Sparing.{AreWithin, spares_call, spares_instruc
 /// Whatever a turn changes of the system, the system without what is hidden changes alike, but that the space which is
 /// left is as programs have it. A child is made and a program run without patches there; an lwp is made where no agent
 /// is hidden; and a process that is killed returns what it borrowed as it is seen there.
-#[tactic(auto, using(crate::proofs::ChangeCovers::follows))]
+#[tactic(auto, using(crate::proofs::Covers::ChangeCovers::follows))]
 pub fn changes_are_followed()
     ensures { (covers : Covers) (pid : ℕ) (p : TracedProcess) (id : ℕ) (l : TracedLwp) (c : Change) (s : TracedSystem)
         → Allows covers s pid p id c
@@ -25,7 +25,7 @@ pub fn changes_are_followed()
 
 /// A system call that touches no patch, in a process of which no agent is hidden, does the same without what is hidden,
 /// but that the space which it leaves is as programs have it.
-#[tactic(auto, using(crate::proofs::CallCovers::follows))]
+#[tactic(auto, using(crate::proofs::Covers::CallCovers::follows))]
 pub fn calls_spare_patches()
     ensures { (covers : Covers) (s : TracedSystem) (pid : ℕ) (p : TracedProcess) (id : ℕ) (own : Bool)
         (l : TracedLwp) (c : Cover)
@@ -37,7 +37,7 @@ pub fn calls_spare_patches()
 
 /// An instruction that touches no patch, neither with its fetch nor with its data, does the same in the space as
 /// programs have it, also where areas are watched.
-#[tactic(auto, using(crate::proofs::InstructionCovers::follows))]
+#[tactic(auto, using(crate::proofs::Covers::InstructionCovers::follows))]
 pub fn instructions_spare_patches()
     ensures { (patches : List Patch) (space : Space) (areas : List Area) (regs : List ℕ)
         → spares_instruction patches space regs ≡ true

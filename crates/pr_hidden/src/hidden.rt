@@ -17,7 +17,7 @@ ghost use Rattle.pr_hidden.specs.Hiding.{ChangesOwn, IsSeenAlike, Stands, with_f
 
 /// What leaves a state but for what controllers set, as a stop, a run, or a traced set, leaves what programs see,
 /// whatever is hidden of it; and so does a step mark.
-#[tactic(auto, using(crate::proofs::BareCovers::controls, crate::proofs::HiddenCovers::marking))]
+#[tactic(auto, using(crate::proofs::Covers::BareCovers::controls, crate::proofs::Covers::HiddenCovers::marking))]
 pub fn what_controllers_set_is_hidden()
     ensures set { (covers : Covers) (s t : TracedSystem) → uncontrolled_system t ≡ uncontrolled_system s
         → seen covers t ≡ seen covers s }
@@ -27,7 +27,7 @@ pub fn what_controllers_set_is_hidden()
 
 /// Patches that come and go with the memory under them are hidden: programs see nothing of it where they have the same
 /// space after it as before.
-#[tactic(auto, using(crate::proofs::HiddenCovers::patching))]
+#[tactic(auto, using(crate::proofs::Covers::HiddenCovers::patching))]
 pub fn patching_is_hidden()
     ensures { (covers : Covers) (s : TracedSystem) (pid : ℕ) (p : TracedProcess) (patches : List Patch) (space : Space)
         → IsRising s.processes → live_process s pid ≡ Some p → IsSeenAlike patches space (covers pid).patches p.space
@@ -36,7 +36,7 @@ pub fn patching_is_hidden()
 {}
 
 /// A fault of the controller's that is cleared (PRCFAULT, PCCFAULT) is hidden: it was none to the programs before.
-#[tactic(auto, using(crate::proofs::HiddenCovers::clearing))]
+#[tactic(auto, using(crate::proofs::Covers::HiddenCovers::clearing))]
 pub fn clearing_an_own_fault_is_hidden()
     ensures { (covers : Covers) (s : TracedSystem) (pid : ℕ) (p : TracedProcess) (id : ℕ) (l : TracedLwp)
         (f : AnyFault) (address : ℕ)
@@ -48,7 +48,7 @@ pub fn clearing_an_own_fault_is_hidden()
 
 /// The agent of a controller comes (PCAGENT) and goes (lwp_exit(2)) without a trace, and whatever it does between, it
 /// is not seen, as long as it changes nothing but patched bytes of its own memory.
-#[tactic(auto, using(crate::proofs::HiddenCovers::agents))]
+#[tactic(auto, using(crate::proofs::Covers::HiddenCovers::agents))]
 pub fn an_own_agent_is_hidden()
     ensures comes { (covers : Covers) (s : TracedSystem) (pid : ℕ) (p : TracedProcess) (regs : List ℕ)
         → IsRising s.processes → live_process s pid ≡ Some p → (covers pid).agent ≡ false → lwp_of p agent_id ≡ None

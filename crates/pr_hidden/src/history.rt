@@ -19,7 +19,7 @@ ghost use Rattle.pr_hidden.specs.Tidiness.{IsPassiveBut, IsSparing, IsTidy};
 /// what they see of the last one without what is hidden there, and its trace is the trace of the history without what
 /// is hidden. It holds where the other calls are passive, where programs leave the patches alone, and where those who
 /// hide are tidy.
-#[tactic(auto, using(crate::proofs::HistoryFollows::histories))]
+#[tactic(auto, using(crate::proofs::Follows::HistoryFollows::histories))]
 pub fn breakpoints_and_agents_are_hidden()
     ensures first { (n : ℕ) (who : Hiders) (programs : List Program) (files : List StoredFile) (spawns : List ℕ)
         (h : List Entry)
@@ -33,7 +33,7 @@ pub fn breakpoints_and_agents_are_hidden()
 
 /// The trace of a history without what is hidden stands among its steps that are not hidden: it is their calls that are
 /// over, their faults and their taken signals. That is so of every history, whether those who hide are tidy or not.
-#[tactic(auto, using(crate::proofs::HistoryFollows::traced))]
+#[tactic(auto, using(crate::proofs::Follows::HistoryFollows::traced))]
 pub fn what_is_traced_is_among_the_steps()
     ensures { (who : Hiders) (s : TracedState) (h : List Entry)
         → hidden_trace who s h ≡ flat_map traced_step (hidden_steps who s h) }

@@ -9,7 +9,7 @@ ghost use Rattle.pr_hidden.specs.Hiders.{covers_at, no_covers, nobody};
 
 /// Where nobody hides anything, what is seen of a history is all of it: its steps, its trace, and the state that it
 /// leads to.
-#[tactic(auto, using(crate::proofs::NobodyLemmas::seen_whole))]
+#[tactic(auto, using(crate::proofs::NothingHidden::NobodyLemmas::seen_whole))]
 pub fn where_nobody_hides_all_is_seen()
     ensures steps { (s : TracedState) (h : List Entry) → hidden_steps nobody s h ≡ untraced_steps h }
     ensures trace { (s : TracedState) (h : List Entry) → hidden_trace nobody s h ≡ untraced_trace h }

@@ -14,7 +14,7 @@ ghost use Rattle.pr_hidden.specs.Sparing.{AreWithin, spares_instruction};
 
 /// A turn that is nothing of a controller's is what it would be without controllers: the machine without them can make
 /// its steps from what programs see before it, and they lead to what programs see after it.
-#[tactic(auto, using(crate::proofs::RunCovers::opens))]
+#[tactic(auto, using(crate::proofs::Covers::RunCovers::opens))]
 pub fn open_turns_are_steps()
     ensures { (covers : Covers) (s : TracedSystem) (pid id : ℕ) (t : LwpTurn) (p : TracedProcess) (l : TracedLwp)
         (returning : Bool)
@@ -25,7 +25,7 @@ pub fn open_turns_are_steps()
 
 /// A turn that runs into a breakpoint of the controller's is nothing: programs see what they saw before, once the lwp
 /// is noted as one at a fault of the controller's.
-#[tactic(auto, using(crate::proofs::RunCovers::breakpoints))]
+#[tactic(auto, using(crate::proofs::Covers::RunCovers::breakpoints))]
 pub fn breakpoints_are_hidden()
     ensures { (covers : Covers) (s : TracedSystem) (pid id : ℕ) (t : LwpTurn) (p : TracedProcess) (l : TracedLwp)
         (address : ℕ)
@@ -37,7 +37,7 @@ pub fn breakpoints_are_hidden()
 
 /// A turn that a controller makes an lwp take by a step mark, and that ends at FLTTRACE, is the instruction that it
 /// ran.
-#[tactic(auto, using(crate::proofs::RunCovers::steps))]
+#[tactic(auto, using(crate::proofs::Covers::RunCovers::steps))]
 pub fn stepped_instructions_are_instructions()
     ensures { (covers : Covers) (s : TracedSystem) (pid id : ℕ) (p : TracedProcess) (l : TracedLwp)
         → Stands s pid p id l → (covers pid).agent ≡ false → (covers pid).faulted id ≡ false

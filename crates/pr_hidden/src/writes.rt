@@ -8,7 +8,7 @@ ghost use Rattle.pr_hidden.specs.Tidiness.{AreSound, IsTidyWrite};
 
 /// What a controller that hides writes is nothing to programs: a breakpoint where the function's code stands and the
 /// code again, and a probe's agent and what stood in its place. And the patches stay apart.
-#[tactic(auto, using(crate::proofs::WrittenCovers::writes))]
+#[tactic(auto, using(crate::proofs::PatchedSpaces::WrittenCovers::writes))]
 pub fn tidy_writes_are_hidden()
     ensures alike { (who : Hiders) (k : ℕ) (ps : List Patch) (space : Space) (at : ℕ) (bytes : List ℕ)
         → AreSound ps → IsTidyWrite who k ps space at bytes

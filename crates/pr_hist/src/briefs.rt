@@ -9,10 +9,10 @@ use crate::calls::{calling, write_operands};
 use crate::entries::write_tick;
 use crate::messages::write_messages;
 use crate::names::{Names, write_handle};
-use crate::texts::Text;
 use crate::turns::{doing, object, write_outcome};
 use pr_model::{Act, Call, Reply, Turned};
 use pr_num::NoMemory;
+use pr_text::Text;
 
 /// That a call was refused, and how.
 #[tactic(auto, unfolding(crate::specs::Briefs::refused))]

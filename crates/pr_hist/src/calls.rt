@@ -2,11 +2,13 @@
 ghost use Rattle.std.specs.Prelude.{◌≡◌, ◌++◌, OnOk};
 ghost use Rattle.pr_hist.specs.Calls.{calling, kill_text, operands_text, part_text, spawn_text, until_text, wait_text, write_text};
 
+use crate::listings::write_place;
 use crate::messages::{write_messages, write_signal};
 use crate::names::{Known, Names, write_handle, write_handles, write_known};
-use crate::texts::Text;
+use crate::texts::{write_number, write_size, write_time};
 use pr_model::{Call, File, Mode};
 use pr_num::{Name, NoMemory};
+use pr_text::Text;
 
 /// What a controller does in a call.
 #[tactic(auto, unfolding(crate::specs::Calls::calling))]
@@ -37,7 +39,7 @@ pub fn write_until(text: &mut Text, n: u64) -> Result<(), NoMemory>
         return Ok(());
     }
     text.text(b", until ")?;
-    text.time(n)
+    write_time(text, n)
 }
 
 /// The messages of a write.
@@ -80,10 +82,10 @@ fn write_part(
 {
     write_handle(text, names, handle)?;
     text.text(b", ")?;
-    text.size(len)?;
+    write_size(text, len)?;
     text.text(b" at ")?;
-    text.number(at)?;
-    text.place(names.memory_by(handle), at)
+    write_number(text, at)?;
+    write_place(text, names.memory_by(handle), at)
 }
 
 /// A program, and whether its process is directed to stop.
@@ -152,7 +154,7 @@ pub fn write_operands(text: &mut Text, names: &Names, call: &Call) -> Result<(),
         Call::Interrupt { controller } => text.decimal(u64::from(*controller)),
         Call::Spawn { program, held } => write_spawn(text, *program, *held),
         Call::Kill { pid, sig } => write_kill(text, *pid, *sig),
-        Call::Until { moment } => text.time(*moment),
+        Call::Until { moment } => write_time(text, *moment),
         Call::List => Ok(()),
     }
 }

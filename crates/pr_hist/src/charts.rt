@@ -13,9 +13,10 @@ use crate::pictures::{
     write_picture_cell, write_picture_foot, write_picture_head, write_picture_name,
     write_picture_row,
 };
-use crate::texts::{Text, front};
+use crate::texts::{end_line, front};
 use pr_model::{Act, Actor, Call, Entry, Reply};
 use pr_num::NoMemory;
+use pr_text::Text;
 use std::alloc::Global;
 
 /// The kinds of charts.
@@ -399,7 +400,7 @@ fn write_lanes_row(
     let mut digits = itoa::Buffer::new();
     write_fitted(text, b' ', 8, digits.format(number as u64).as_bytes())?;
     write_cells(text, sheet, names, entry, label, lanes)?;
-    text.end_line(start)
+    end_line(text, start)
 }
 
 /// The row of an entry in a picture.
@@ -491,7 +492,7 @@ fn write_names_line(
     let start = text.len();
     write_fitted(text, b' ', 8, b"")?;
     write_names(alloc, text, sheet, lanes)?;
-    text.end_line(start)
+    end_line(text, start)
 }
 
 /// What stands above the rows, of which there are so many.

@@ -6,9 +6,9 @@ use crate::charts::{Chart, Sheet, write_foot, write_head, write_row};
 use crate::lanes::{Lane, lanes_of, move_lanes};
 use crate::names::{Names, note};
 use crate::selections::{Selection, is_told};
-use crate::texts::Text;
 use pr_model::{Entry, History};
 use pr_num::{Bytes, NoMemory};
+use pr_text::Text;
 use std::alloc::Global;
 
 fn sheet_of(chart: Chart, row: u64, lanes: &[Lane]) -> Sheet

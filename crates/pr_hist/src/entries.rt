@@ -5,10 +5,11 @@ ghost use Rattle.pr_hist.specs.Entries.{act_text, tick_text, words_of};
 
 use crate::names::Names;
 use crate::replies::write_call;
-use crate::texts::Text;
+use crate::texts::{write_lwp, write_time};
 use crate::turns::write_turn;
 use pr_model::{Act, Actor, Entry};
 use pr_num::NoMemory;
+use pr_text::Text;
 
 /// Who acted.
 #[tactic(auto, unfolding(pr_plain::specs::HistoryText::actor_text))]
@@ -20,7 +21,7 @@ pub fn write_actor(text: &mut Text, actor: Actor) -> Result<(), NoMemory>
             text.text(b"c")?;
             text.decimal(u64::from(k))
         }
-        Actor::Lwp(pid, lwp) => text.lwp(pid, lwp),
+        Actor::Lwp(pid, lwp) => write_lwp(text, pid, lwp),
         Actor::Clock => text.text(b"clock"),
     }
 }
@@ -30,7 +31,7 @@ pub fn write_tick(text: &mut Text, n: u64) -> Result<(), NoMemory>
     ensures { OnOk result (text.new ≡ text.old ++ tick_text n) }
 {
     text.text(b"comes to ")?;
-    text.time(n)
+    write_time(text, n)
 }
 
 /// What was done.

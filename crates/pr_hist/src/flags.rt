@@ -3,8 +3,8 @@ ghost use Rattle.std.specs.Prelude.{◌≡◌, ◌++◌, ◌<◌, codes, OnOk};
 ghost use Rattle.pr_text.specs.Numerals.{hex_text};
 ghost use Rattle.pr_hist.specs.Flags.{flag_text, lwp_flags_text, mode_names, modes_text, process_flags_text, protection_text, run_flags_text, watch_flags_text};
 
-use crate::texts::Text;
 use pr_num::NoMemory;
+use pr_text::Text;
 
 /// A flag by name, where it is set.
 #[tactic(auto, unfolding(crate::specs::Flags::flag_text))]

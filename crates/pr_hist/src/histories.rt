@@ -6,9 +6,9 @@ ghost use Rattle.pr_hist.specs.Selections.{selected_text};
 use crate::entries::words_of;
 use crate::names::{Names, note};
 use crate::selections::{Selection, write_selected};
-use crate::texts::Text;
 use pr_model::History;
 use pr_num::{Bytes, NoMemory};
+use pr_text::Text;
 use std::alloc::Global;
 
 /// A history in words, before which this is known: a block for each entry, in their order, none left out.

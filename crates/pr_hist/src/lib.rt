@@ -40,4 +40,4 @@ pub use listings::Listing;
 pub use names::{Known, Names};
 pub use selections::{Selection, Who};
 pub use spellings::bytes_of_line;
-pub use texts::Text;
+pub use texts::{write_hex_bytes, write_spaced};

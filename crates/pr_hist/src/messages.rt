@@ -4,12 +4,13 @@ ghost use Rattle.std.specs.Option.{option_copied};
 ghost use Rattle.pr_hist.specs.Messages.{address_text, all_messages, area_text, between, calls_text, code_text, faults_text, first_text, general_text, message_name, message_text, messages_text, no_message_text, operands_text, pointers_text, register_text, registers_text, rest_of, signal_text, signals_text, wait_text, written_text};
 
 use crate::flags::{modes, run_flags, watch_flags};
-use crate::listings::Listing;
-use crate::phrases::Phrase;
+use crate::listings::{Listing, write_place};
+use crate::phrases::{Phrase, write_phrase};
 use crate::sets::set_word;
-use crate::texts::{Text, behind, front};
+use crate::texts::{behind, front, write_hex_and_text, write_number, write_size, write_time};
 use pr_msg::{Message, decode_one};
 use pr_num::{Flt, NoMemory, Sig, Sysno};
+use pr_text::Text;
 
 /// The name of a message.
 #[tactic(auto, unfolding(crate::specs::Messages::message_name))]
@@ -50,7 +51,7 @@ pub fn write_signal(text: &mut Text, n: u64) -> Result<(), NoMemory>
 {
     text.text(b" ")?;
     match Sig::from_number(n) {
-        None => text.number(n),
+        None => write_number(text, n),
         Some(signal) => text.text(signal.name().as_bytes()),
     }
 }
@@ -84,7 +85,7 @@ fn write_wait(text: &mut Text, ms: u64) -> Result<(), NoMemory>
     ensures { OnOk result (text.new ≡ text.old ++ wait_text ms) }
 {
     text.text(b" ")?;
-    text.time(ms)
+    write_time(text, ms)
 }
 
 /// An address.
@@ -102,7 +103,7 @@ pub fn write_code(text: &mut Text, source: Option<&Listing>, at: u64) -> Result<
     ensures { OnOk result (text.new ≡ text.old ++ code_text (option_copied source.entry) at) }
 {
     write_address(text, at)?;
-    text.place(source, at)
+    write_place(text, source, at)
 }
 
 /// Bytes at an address.
@@ -111,10 +112,10 @@ fn write_area(text: &mut Text, source: Option<&Listing>, at: u64, size: u64) -> 
     ensures { OnOk result (text.new ≡ text.old ++ area_text (option_copied source.entry) at size) }
 {
     text.text(b" ")?;
-    text.size(size)?;
+    write_size(text, size)?;
     text.text(b" at ")?;
     text.hex(at)?;
-    text.place(source, at)
+    write_place(text, source, at)
 }
 
 /// A register by name.
@@ -125,7 +126,7 @@ fn write_register(text: &mut Text, name: &[u8], value: u64) -> Result<(), NoMemo
     text.text(b" ")?;
     text.text(name)?;
     text.text(b" ")?;
-    text.number(value)
+    write_number(text, value)
 }
 
 #[tactic(auto, unfolding(crate::specs::Messages::general_text))]
@@ -153,7 +154,7 @@ fn write_pointers(
     write_register(text, b"sp", regs[8])?;
     write_register(text, b"fp", regs[9])?;
     write_register(text, b"pc", regs[10])?;
-    text.place(source, regs[10])
+    write_place(text, source, regs[10])
 }
 
 #[tactic(auto, unfolding(crate::specs::Messages::registers_text))]
@@ -181,7 +182,7 @@ fn write_written(
 {
     write_area(text, source, at, len)?;
     text.text(b": ")?;
-    text.bytes(front(behind(bytes, 24), len as usize))
+    write_hex_and_text(text, front(behind(bytes, 24), len as usize))
 }
 
 #[tactic(auto, unfolding(crate::specs::Messages::operands_text))]
@@ -264,8 +265,8 @@ fn write_between(text: &mut Text, rest: &[u8]) -> Result<(), NoMemory>
 fn write_no_message(text: &mut Text, bytes: &[u8]) -> Result<(), NoMemory>
     ensures { OnOk result (text.new ≡ text.old ++ no_message_text bytes.now) }
 {
-    text.phrase(Phrase::NoMessage)?;
-    text.bytes(bytes)
+    write_phrase(text, Phrase::NoMessage)?;
+    write_hex_and_text(text, bytes)
 }
 
 /// The message with which bytes begin, or that there is none. Answers the bytes behind it.

@@ -5,10 +5,10 @@ ghost use Rattle.pr_hist.specs.Names.{moved_or_none, moved_text};
 ghost use Rattle.pr_hist.specs.News.{moved_after, moved_now};
 
 use crate::names::Names;
-use crate::phrases::Phrase;
-use crate::texts::Text;
+use crate::phrases::{Phrase, write_phrase};
 use pr_model::Actor;
 use pr_num::{ById, NoMemory};
+use pr_text::Text;
 
 /// Notes when a process moved.
 #[tactic(auto, unfolding(crate::specs::News::moved_now))]
@@ -43,7 +43,7 @@ fn write_moved_in(text: &mut Text, pid: u32, number: Option<&usize>) -> Result<(
         Some(number) => {
             text.text(b"; process ")?;
             text.decimal(u64::from(pid))?;
-            text.phrase(Phrase::LastMoved)?;
+            write_phrase(text, Phrase::LastMoved)?;
             text.decimal(*number as u64)
         }
     }

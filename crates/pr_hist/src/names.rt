@@ -11,9 +11,10 @@ use crate::fields::{Layout, layout_of};
 use crate::listings::Listing;
 use crate::moves::note_turn;
 use crate::news::{News, news_of};
-use crate::texts::Text;
+use crate::texts::write_lwp;
 use pr_model::{Act, Call, Entry, File, Mode, Reply, file_name};
 use pr_num::{ById, NoMemory};
+use pr_text::Text;
 use std::alloc::Global;
 use std::marker::Model;
 
@@ -173,7 +174,7 @@ fn write_target(text: &mut Text, pid: u32, lwp: u32) -> Result<(), NoMemory>
     if lwp == 0 {
         text.decimal(u64::from(pid))
     } else {
-        text.lwp(pid, lwp)
+        write_lwp(text, pid, lwp)
     }
 }
 

@@ -2,8 +2,8 @@
 ghost use Rattle.std.specs.Prelude.{◌≡◌, ◌++◌, OnOk};
 ghost use Rattle.pr_hist.specs.Phrases.{phrase};
 
-use crate::texts::Text;
 use pr_num::NoMemory;
+use pr_text::Text;
 
 /// A phrase, by what it says.
 #[derive(Clone, Copy)]
@@ -24,11 +24,9 @@ fn words(which: Phrase) -> &'static [u8]
     }
 }
 
-impl Text {
-    /// Appends a phrase.
-    pub fn phrase(&mut self, which: Phrase) -> Result<(), NoMemory>
-        ensures { OnOk result (self.new ≡ self.old ++ phrase which) }
-    {
-        self.text(words(which))
-    }
+/// Appends a phrase.
+pub fn write_phrase(text: &mut Text, which: Phrase) -> Result<(), NoMemory>
+    ensures { OnOk result (text.new ≡ text.old ++ phrase which) }
+{
+    text.text(words(which))
 }

@@ -5,8 +5,9 @@ ghost use Rattle.pr_hist.specs.Pictures.{across, act_if, arrow, arrow_if, arrow_
 
 use crate::charts::Marks;
 use crate::lanes::Stand;
-use crate::texts::{Text, front};
+use crate::texts::front;
 use pr_num::NoMemory;
+use pr_text::Text;
 
 /// A fixed text between what is drawn, by its name.
 #[derive(Clone, Copy)]
@@ -101,64 +102,62 @@ fn bytes_of(piece: Piece) -> &'static [u8]
     }
 }
 
-impl Text {
-    /// Appends a fixed text.
-    fn piece(&mut self, piece: Piece) -> Result<(), NoMemory>
-        ensures { OnOk result (self.new ≡ self.old ++ piece_text piece) }
-    {
-        self.text(bytes_of(piece))
-    }
+/// Appends a fixed text.
+fn write_piece(text: &mut Text, piece: Piece) -> Result<(), NoMemory>
+    ensures { OnOk result (text.new ≡ text.old ++ piece_text piece) }
+{
+    text.text(bytes_of(piece))
+}
 
-    #[tactic(auto, unfolding(crate::specs::Pictures::escaped_byte))]
-    fn escaped_byte(&mut self, byte: u8) -> Result<(), NoMemory>
-        ensures { OnOk result (self.new ≡ self.old ++ escaped_byte byte) }
-    {
-        if byte == b'&' {
-            self.text(b"&amp;")
-        } else if byte == b'<' {
-            self.text(b"&lt;")
-        } else if byte == b'>' {
-            self.text(b"&gt;")
-        } else {
-            self.text(&[byte])
-        }
+#[tactic(auto, unfolding(crate::specs::Pictures::escaped_byte))]
+fn write_escaped_byte(text: &mut Text, byte: u8) -> Result<(), NoMemory>
+    ensures { OnOk result (text.new ≡ text.old ++ escaped_byte byte) }
+{
+    if byte == b'&' {
+        text.text(b"&amp;")
+    } else if byte == b'<' {
+        text.text(b"&lt;")
+    } else if byte == b'>' {
+        text.text(b"&gt;")
+    } else {
+        text.text(&[byte])
     }
+}
 
-    /// Appends text in XML.
-    #[tactic(auto, unfolding(crate::specs::Pictures::escaped))]
-    fn escaped(&mut self, bytes: &[u8]) -> Result<(), NoMemory>
-        ensures { OnOk result (self.new ≡ self.old ++ escaped bytes.now) }
-    {
-        for byte in bytes {
-            self.escaped_byte(*byte)?;
-        }
-        Ok(())
+/// Appends text in XML.
+#[tactic(auto, unfolding(crate::specs::Pictures::escaped))]
+fn write_escaped(text: &mut Text, bytes: &[u8]) -> Result<(), NoMemory>
+    ensures { OnOk result (text.new ≡ text.old ++ escaped bytes.now) }
+{
+    for byte in bytes {
+        write_escaped_byte(text, *byte)?;
     }
+    Ok(())
+}
 
-    /// Appends where a column stands.
-    #[tactic(auto, unfolding(crate::specs::Pictures::across))]
-    fn across(&mut self, column: u64) -> Result<(), NoMemory>
-        ensures { OnOk result (self.new ≡ self.old ++ across column) }
-    {
-        self.decimal(80 + 180 * column.min(10_000))
-    }
+/// Appends where a column stands.
+#[tactic(auto, unfolding(crate::specs::Pictures::across))]
+fn write_across(text: &mut Text, column: u64) -> Result<(), NoMemory>
+    ensures { OnOk result (text.new ≡ text.old ++ across column) }
+{
+    text.decimal(80 + 180 * column.min(10_000))
+}
 
-    /// Appends where a row stands.
-    #[tactic(auto, unfolding(crate::specs::Pictures::down))]
-    fn down(&mut self, row: u64) -> Result<(), NoMemory>
-        ensures { OnOk result (self.new ≡ self.old ++ down row) }
-    {
-        self.decimal(84 + 22 * row.min(5_000))
-    }
+/// Appends where a row stands.
+#[tactic(auto, unfolding(crate::specs::Pictures::down))]
+fn write_down(text: &mut Text, row: u64) -> Result<(), NoMemory>
+    ensures { OnOk result (text.new ≡ text.old ++ down row) }
+{
+    text.decimal(84 + 22 * row.min(5_000))
+}
 
-    #[tactic(auto, unfolding(crate::specs::Pictures::point))]
-    fn point(&mut self, row: u64, column: u64) -> Result<(), NoMemory>
-        ensures { OnOk result (self.new ≡ self.old ++ point row column) }
-    {
-        self.across(column)?;
-        self.text(b" ")?;
-        self.down(row)
-    }
+#[tactic(auto, unfolding(crate::specs::Pictures::point))]
+fn write_point(text: &mut Text, row: u64, column: u64) -> Result<(), NoMemory>
+    ensures { OnOk result (text.new ≡ text.old ++ point row column) }
+{
+    write_across(text, column)?;
+    text.text(b" ")?;
+    write_down(text, row)
 }
 
 /// The kind of a bar, by how its lane stands.
@@ -182,11 +181,11 @@ fn bar_kind(stand: Stand) -> &'static [u8]
 fn write_bar_of(text: &mut Text, row: u64, column: u64, kind: &[u8]) -> Result<(), NoMemory>
     ensures { OnOk result (text.new ≡ text.old ++ bar_of row column kind.now) }
 {
-    text.piece(Piece::Bar)?;
+    write_piece(text, Piece::Bar)?;
     text.text(kind)?;
-    text.piece(Piece::From)?;
-    text.point(row, column)?;
-    text.piece(Piece::Down)
+    write_piece(text, Piece::From)?;
+    write_point(text, row, column)?;
+    write_piece(text, Piece::Down)
 }
 
 /// A bar, where there is an lwp.
@@ -205,48 +204,48 @@ fn write_bar(text: &mut Text, row: u64, column: u64, stand: Stand) -> Result<(),
 fn write_arrow(text: &mut Text, row: u64, column: u64) -> Result<(), NoMemory>
     ensures { OnOk result (text.new ≡ text.old ++ arrow row column) }
 {
-    text.piece(Piece::Arrow)?;
-    text.point(row, column)?;
-    text.piece(Piece::Across)
+    write_piece(text, Piece::Arrow)?;
+    write_point(text, row, column)?;
+    write_piece(text, Piece::Across)
 }
 
 #[tactic(auto, unfolding(crate::specs::Pictures::arrow_tip))]
 fn write_arrow_tip(text: &mut Text, row: u64, column: u64) -> Result<(), NoMemory>
     ensures { OnOk result (text.new ≡ text.old ++ arrow_tip row column) }
 {
-    text.piece(Piece::Tip)?;
-    text.point(row, column)?;
-    text.piece(Piece::Head)
+    write_piece(text, Piece::Tip)?;
+    write_point(text, row, column)?;
+    write_piece(text, Piece::Head)
 }
 
 #[tactic(auto, unfolding(crate::specs::Pictures::dot))]
 fn write_dot(text: &mut Text, row: u64, column: u64) -> Result<(), NoMemory>
     ensures { OnOk result (text.new ≡ text.old ++ dot row column) }
 {
-    text.piece(Piece::Dot)?;
-    text.across(column)?;
-    text.piece(Piece::DotRow)?;
-    text.down(row)?;
-    text.piece(Piece::Shut)
+    write_piece(text, Piece::Dot)?;
+    write_across(text, column)?;
+    write_piece(text, Piece::DotRow)?;
+    write_down(text, row)?;
+    write_piece(text, Piece::Shut)
 }
 
 #[tactic(auto, unfolding(crate::specs::Pictures::label_place))]
 fn write_label_place(text: &mut Text, row: u64, column: u64) -> Result<(), NoMemory>
     ensures { OnOk result (text.new ≡ text.old ++ label_place row column) }
 {
-    text.piece(Piece::Label)?;
-    text.across(column)?;
-    text.piece(Piece::LabelRow)?;
-    text.down(row)
+    write_piece(text, Piece::Label)?;
+    write_across(text, column)?;
+    write_piece(text, Piece::LabelRow)?;
+    write_down(text, row)
 }
 
 #[tactic(auto, unfolding(crate::specs::Pictures::label_words))]
 fn write_label_words(text: &mut Text, words: &[u8]) -> Result<(), NoMemory>
     ensures { OnOk result (text.new ≡ text.old ++ label_words words.now) }
 {
-    text.piece(Piece::TextOpen)?;
-    text.escaped(front(words, 25))?;
-    text.piece(Piece::TextEnd)
+    write_piece(text, Piece::TextOpen)?;
+    write_escaped(text, front(words, 25))?;
+    write_piece(text, Piece::TextEnd)
 }
 
 #[tactic(auto, unfolding(crate::specs::Pictures::label))]
@@ -310,19 +309,19 @@ pub fn write_picture_cell(
 fn write_row_title(text: &mut Text, words: &[u8]) -> Result<(), NoMemory>
     ensures { OnOk result (text.new ≡ text.old ++ row_title words.now) }
 {
-    text.piece(Piece::RowTitle)?;
-    text.escaped(words)
+    write_piece(text, Piece::RowTitle)?;
+    write_escaped(text, words)
 }
 
 #[tactic(auto, unfolding(crate::specs::Pictures::row_number))]
 fn write_row_number(text: &mut Text, row: u64, number: u64) -> Result<(), NoMemory>
     ensures { OnOk result (text.new ≡ text.old ++ row_number row number) }
 {
-    text.piece(Piece::RowNumber)?;
-    text.down(row)?;
-    text.piece(Piece::TextOpen)?;
+    write_piece(text, Piece::RowNumber)?;
+    write_down(text, row)?;
+    write_piece(text, Piece::TextOpen)?;
     text.decimal(number)?;
-    text.piece(Piece::TextEnd)
+    write_piece(text, Piece::TextEnd)
 }
 
 /// A row: its title, the number of the entry, and the cells.
@@ -339,7 +338,7 @@ pub fn write_picture_row(
     write_row_title(text, words)?;
     write_row_number(text, row, number)?;
     text.text(drawn)?;
-    text.piece(Piece::RowEnd)
+    write_piece(text, Piece::RowEnd)
 }
 
 /// The name of a lane.
@@ -347,11 +346,11 @@ pub fn write_picture_row(
 pub fn write_picture_name(text: &mut Text, column: u64, name: &[u8]) -> Result<(), NoMemory>
     ensures { OnOk result (text.new ≡ text.old ++ picture_name column name.now) }
 {
-    text.piece(Piece::Name)?;
-    text.across(column)?;
-    text.piece(Piece::TextOpen)?;
+    write_piece(text, Piece::Name)?;
+    write_across(text, column)?;
+    write_piece(text, Piece::TextOpen)?;
     text.text(name)?;
-    text.piece(Piece::TextEnd)
+    write_piece(text, Piece::TextEnd)
 }
 
 /// What stands behind the size of a picture: its styles, its ground and the legend.
@@ -377,7 +376,7 @@ fn write_pieces(text: &mut Text, pieces: &[Piece]) -> Result<(), NoMemory>
     ensures { OnOk result (text.new ≡ text.old ++ flat_map piece_text pieces.now) }
 {
     for piece in pieces {
-        text.piece(*piece)?;
+        write_piece(text, *piece)?;
     }
     Ok(())
 }
@@ -387,10 +386,10 @@ fn write_pieces(text: &mut Text, pieces: &[Piece]) -> Result<(), NoMemory>
 pub fn write_picture_head(text: &mut Text, rows: u64, lanes: u64) -> Result<(), NoMemory>
     ensures { OnOk result (text.new ≡ text.old ++ picture_head rows lanes) }
 {
-    text.piece(Piece::Open)?;
-    text.across(lanes.max(4))?;
-    text.piece(Piece::Height)?;
-    text.down(rows)?;
+    write_piece(text, Piece::Open)?;
+    write_across(text, lanes.max(4))?;
+    write_piece(text, Piece::Height)?;
+    write_down(text, rows)?;
     write_pieces(text, &PAGE)
 }
 
@@ -398,5 +397,5 @@ pub fn write_picture_head(text: &mut Text, rows: u64, lanes: u64) -> Result<(), 
 pub fn write_picture_foot(text: &mut Text) -> Result<(), NoMemory>
     ensures { OnOk result (text.new ≡ text.old ++ picture_foot) }
 {
-    text.piece(Piece::Close)
+    write_piece(text, Piece::Close)
 }

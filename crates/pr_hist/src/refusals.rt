@@ -2,10 +2,10 @@
 ghost use Rattle.std.specs.Prelude.{◌≡◌, ◌++◌, OnOk};
 ghost use Rattle.pr_hist.specs.Refusals.{close_reason, control_reason, interrupt_reason, kill_reason, open_reason, poll_reason, read_reason, spawn_reason, until_reason, busy_reason, by_message, control_reason_of, invalid_reason, reason, refusal_text, sentence_text};
 
-use crate::texts::Text;
 use pr_model::Call;
 use pr_msg::{Message, decode_one};
 use pr_num::{Errno, NoMemory};
+use pr_text::Text;
 
 /// Why an open is refused.
 #[tactic(auto, unfolding(crate::specs::Refusals::open_reason))]

@@ -10,9 +10,10 @@ use crate::moves::write_moved;
 use crate::names::{Names, layout_in, write_handle};
 use crate::records::{write_raw, write_record};
 use crate::refusals::write_refusal;
-use crate::texts::Text;
+use crate::texts::write_size;
 use pr_model::{Call, Reply};
 use pr_num::NoMemory;
+use pr_text::Text;
 
 /// What the kernel answered.
 #[tactic(auto, unfolding(crate::specs::Calls::answering))]
@@ -66,7 +67,7 @@ fn write_bytes(
 ) -> Result<(), NoMemory>
     ensures { OnOk result (text.new ≡ text.old ++ bytes_answer full names.now call.now bytes.now) }
 {
-    text.size(bytes.len() as u64)?;
+    write_size(text, bytes.len() as u64)?;
     write_read(text, full, names, call, bytes)
 }
 
@@ -84,7 +85,7 @@ fn write_waited(text: &mut Text, names: &Names, call: &Call) -> Result<(), NoMem
 fn write_used(text: &mut Text, names: &Names, call: &Call, n: u64) -> Result<(), NoMemory>
     ensures { OnOk result (text.new ≡ text.old ++ (size_text n ++ waited_text names.now call.now)) }
 {
-    text.size(n)?;
+    write_size(text, n)?;
     write_waited(text, names, call)
 }
 

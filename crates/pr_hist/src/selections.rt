@@ -5,9 +5,9 @@ ghost use Rattle.pr_hist.specs.Selections.{is_about, is_call_about, is_of, is_of
 
 use crate::entries::words_of;
 use crate::names::Names;
-use crate::texts::Text;
 use pr_model::{Act, Actor, Call, Entry, Reply};
 use pr_num::NoMemory;
+use pr_text::Text;
 
 /// Whose entries are told.
 #[derive(Clone, Copy, Debug, PartialEq, Eq)]

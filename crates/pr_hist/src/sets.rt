@@ -3,8 +3,8 @@ ghost use Rattle.std.specs.Prelude.{◌≡◌, ◌++◌, List, ℕ, count_by, On
 ghost use Rattle.pr_num.specs.Sets.{has_entry};
 ghost use Rattle.pr_hist.specs.Sets.{counted_text, entries_text, entry_text, set_text, set_word_text};
 
-use crate::texts::Text;
 use pr_num::{Flt, NoMemory, Numbered, SetOf, Sig, Sysno};
+use pr_text::Text;
 
 /// What stands in a table by name.
 pub trait Named: Copy {

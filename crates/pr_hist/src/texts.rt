@@ -1,35 +1,15 @@
-//! A text that is being written.
-ghost use Rattle.std.specs.Prelude.{◌≡◌, ◌++◌, ◌<◌, ◌≤◌, ◌^◌, [], codes, false, decimal, drop, length, replicate, take, IfOk, OnOk};
+//! Numbers, times and bytes in words, written at the end of a text.
+ghost use Rattle.std.specs.Prelude.{◌≡◌, ◌++◌, ◌≤◌, codes, drop, length, take, OnOk};
 ghost use Rattle.std.specs.List.{before_first, flat_map};
 ghost use Rattle.pr_num.specs.Limits.{shown_limit};
 ghost use Rattle.pr_num.specs.Padding.{is_zero};
 ghost use Rattle.pr_text.specs.HexWords.{byte_digits, digits_of_bytes};
 ghost use Rattle.pr_text.specs.LwpWords.{lwp_text};
-ghost use Rattle.pr_text.specs.Numerals.{hex_text};
-ghost use Rattle.pr_text.specs.Quotes.{quoted_text};
 ghost use Rattle.pr_hist.specs.Texts.{bytes_text, digits_text, name_in, number_text, plus_as_blank, size_text, spaced_text, time_text, trimmed};
 
 use pr_num::limits::SHOWN_LIMIT;
-use pr_num::{Bytes, NoMemory, zero_in};
-use pr_text::{Line, hex_digit, numbers_are_their_digits, quoted_text_tells_its_bytes};
-use std::alloc::Global;
-use std::marker::Model;
-
-/// A text that is being written, seen by contracts as the list of its bytes.
-#[derive(Drop)]
-pub struct Text {
-    bytes: Vec<u8>,
-    /// Where numbers in hex and quoted bytes are written first.
-    line: Line,
-}
-
-impl Model for Text {
-    ghost use Rattle.std.specs.Prelude.{ℕ, List};
-
-    ghost Value = { List ℕ };
-
-    ghost view = { λ text. text.bytes.items };
-}
+use pr_num::{NoMemory, zero_in};
+use pr_text::{Text, hex_digit};
 
 /// The bytes behind the first `n`.
 #[tactic(auto, using(std::proofs::lemmas::List::drop_min))]
@@ -83,211 +63,127 @@ fn shown(bytes: &[u8]) -> &[u8]
     front(bytes, SHOWN_LIMIT)
 }
 
-impl Text {
-    /// No text.
-    pub fn new(alloc: Global) -> Result<Text, NoMemory>
-        ensures { IfOk result (λ text. text ≡ []) }
-    {
-        let line = Line::new(alloc)?;
-        Ok(Text {
-            bytes: Vec::new(alloc),
-            line,
-        })
-    }
+/// Ends the line that begins at a place, without the blanks at its end.
+pub fn end_line(text: &mut Text, start: usize) -> Result<(), NoMemory>
+    requires { start ≤ length text.old }
+    ensures { OnOk result (text.new ≡ take start text.old ++ (trimmed (drop start text.old) ++ codes "\n")) }
+{
+    let kept = trimmed(behind(text.as_slice(), start)).len();
+    text.truncate(start + kept);
+    text.text(b"\n")
+}
 
-    /// The bytes of the text. Takes no memory.
-    pub fn into_bytes(self) -> Bytes
-        ensures { result ≡ self }
-    {
-        Bytes::from_vec(self.bytes)
+/// Appends a number that may be an address.
+#[tactic(auto, unfolding(crate::specs::Texts::number_text))]
+pub fn write_number(text: &mut Text, n: u64) -> Result<(), NoMemory>
+    ensures { OnOk result (text.new ≡ text.old ++ number_text n) }
+{
+    if n < 65_536 {
+        text.decimal(n)
+    } else {
+        text.hex(n)
     }
+}
 
-    /// The bytes so far.
-    pub fn as_slice(&self) -> &[u8]
-        ensures { result.now ≡ self.now }
-    {
-        &self.bytes
+/// Appends a moment of the clock, or a time.
+#[tactic(auto, unfolding(crate::specs::Texts::time_text))]
+pub fn write_time(text: &mut Text, n: u64) -> Result<(), NoMemory>
+    ensures { OnOk result (text.new ≡ text.old ++ time_text n) }
+{
+    text.decimal(n)?;
+    text.text(b" ms")
+}
+
+/// Appends an lwp, by its process and its own id.
+#[tactic(auto, unfolding(pr_text::specs::LwpWords::lwp_text))]
+pub fn write_lwp(text: &mut Text, pid: u32, lwp: u32) -> Result<(), NoMemory>
+    ensures { OnOk result (text.new ≡ text.old ++ lwp_text pid lwp) }
+{
+    text.decimal(u64::from(pid))?;
+    text.text(b"/")?;
+    text.decimal(u64::from(lwp))
+}
+
+/// Appends how many bytes there are.
+#[tactic(auto, unfolding(crate::specs::Texts::size_text))]
+pub fn write_size(text: &mut Text, n: u64) -> Result<(), NoMemory>
+    ensures { OnOk result (text.new ≡ text.old ++ size_text n) }
+{
+    text.decimal(n)?;
+    if n == 1 {
+        text.text(b" byte")
+    } else {
+        text.text(b" bytes")
     }
+}
 
-    /// How many bytes there are so far.
-    pub fn len(&self) -> usize
-        ensures { result ≡ length self.now }
-    {
-        self.bytes.len()
+/// Appends a byte in hex.
+#[tactic(auto, unfolding(pr_text::specs::HexWords::byte_digits))]
+fn write_hex_byte(text: &mut Text, byte: u8) -> Result<(), NoMemory>
+    ensures { OnOk result (text.new ≡ text.old ++ byte_digits byte) }
+{
+    text.text(&[hex_digit(byte / 16), hex_digit(byte % 16)])
+}
+
+/// Appends bytes in hex.
+pub fn write_hex_bytes(text: &mut Text, bytes: &[u8]) -> Result<(), NoMemory>
+    ensures { OnOk result (text.new ≡ text.old ++ digits_of_bytes bytes.now) }
+{
+    for byte in bytes {
+        write_hex_byte(text, *byte)?;
     }
+    Ok(())
+}
 
-    /// Appends bytes as they are.
-    pub fn text(&mut self, bytes: &[u8]) -> Result<(), NoMemory>
-        ensures { OnOk result (self.new ≡ self.old ++ bytes.now) }
-    {
-        self.bytes.extend_from_slice(bytes)?;
+/// Appends a byte of a word.
+#[tactic(auto, unfolding(crate::specs::Texts::plus_as_blank))]
+fn write_plus_as_blank(text: &mut Text, byte: u8) -> Result<(), NoMemory>
+    ensures { OnOk result (text.new ≡ text.old ++ plus_as_blank byte) }
+{
+    if byte == b'+' {
+        text.text(b" ")
+    } else {
+        text.text(&[byte])
+    }
+}
+
+fn write_plus_as_blanks(text: &mut Text, bytes: &[u8]) -> Result<(), NoMemory>
+    ensures { OnOk result (text.new ≡ text.old ++ flat_map plus_as_blank bytes.now) }
+{
+    for byte in bytes {
+        write_plus_as_blank(text, *byte)?;
+    }
+    Ok(())
+}
+
+/// Appends a word behind a blank; `+` parts it as a blank does.
+#[tactic(auto, unfolding(crate::specs::Texts::spaced_text))]
+pub fn write_spaced(text: &mut Text, word: &[u8]) -> Result<(), NoMemory>
+    ensures { OnOk result (text.new ≡ text.old ++ spaced_text word.now) }
+{
+    text.text(b" ")?;
+    write_plus_as_blanks(text, word)
+}
+
+/// Appends bytes in hex, as many as a quoted text shows.
+#[tactic(auto, unfolding(crate::specs::Texts::digits_text))]
+fn write_digits(text: &mut Text, bytes: &[u8]) -> Result<(), NoMemory>
+    ensures { OnOk result (text.new ≡ text.old ++ digits_text bytes.now) }
+{
+    write_hex_bytes(text, shown(bytes))?;
+    if bytes.len() > SHOWN_LIMIT {
+        text.text(b"..")
+    } else {
         Ok(())
     }
+}
 
-    /// Appends a byte, so many times.
-    pub fn times(&mut self, byte: u8, count: usize) -> Result<(), NoMemory>
-        requires { count < 2 ^ 63 }
-        ensures { OnOk result (self.new ≡ self.old ++ replicate count byte) }
-    {
-        self.bytes.resize(self.bytes.len() + count, byte)?;
-        Ok(())
-    }
-
-    /// Ends the line that begins at a place, without the blanks at its end.
-    pub fn end_line(&mut self, start: usize) -> Result<(), NoMemory>
-        requires { start ≤ length self.old }
-        ensures { OnOk result (self.new ≡ take start self.old ++ (trimmed (drop start self.old) ++ codes "\n")) }
-    {
-        let kept = trimmed(behind(&self.bytes, start)).len();
-        self.bytes.truncate(start + kept);
-        self.text(b"\n")
-    }
-
-    /// Appends a number in decimal.
-    pub fn decimal(&mut self, n: u64) -> Result<(), NoMemory>
-        ensures { OnOk result (self.new ≡ self.old ++ decimal n) }
-    {
-        self.text(itoa::Buffer::new().format(n).as_bytes())
-    }
-
-    /// Appends a number in hex, without leading zeros.
-    pub fn hex(&mut self, n: u64) -> Result<(), NoMemory>
-        ensures { OnOk result (self.new ≡ self.old ++ hex_text n) }
-    {
-        numbers_are_their_digits();
-        self.line.clear();
-        if self.line.hex(n).is_err() {
-            unreachable!()
-        }
-        self.bytes.extend_from_slice(self.line.bytes())?;
-        Ok(())
-    }
-
-    /// Appends bytes in quotes.
-    pub fn quoted(&mut self, bytes: &[u8]) -> Result<(), NoMemory>
-        ensures { OnOk result (self.new ≡ self.old ++ quoted_text bytes.now false) }
-    {
-        quoted_text_tells_its_bytes();
-        self.line.clear();
-        if self.line.quoted(bytes, false).is_err() {
-            unreachable!()
-        }
-        self.bytes.extend_from_slice(self.line.bytes())?;
-        Ok(())
-    }
-
-    /// Appends a number that may be an address.
-    #[tactic(auto, unfolding(crate::specs::Texts::number_text))]
-    pub fn number(&mut self, n: u64) -> Result<(), NoMemory>
-        ensures { OnOk result (self.new ≡ self.old ++ number_text n) }
-    {
-        if n < 65_536 {
-            self.decimal(n)
-        } else {
-            self.hex(n)
-        }
-    }
-
-    /// Appends a moment of the clock, or a time.
-    #[tactic(auto, unfolding(crate::specs::Texts::time_text))]
-    pub fn time(&mut self, n: u64) -> Result<(), NoMemory>
-        ensures { OnOk result (self.new ≡ self.old ++ time_text n) }
-    {
-        self.decimal(n)?;
-        self.text(b" ms")
-    }
-
-    /// Appends an lwp, by its process and its own id.
-    #[tactic(auto, unfolding(pr_text::specs::LwpWords::lwp_text))]
-    pub fn lwp(&mut self, pid: u32, lwp: u32) -> Result<(), NoMemory>
-        ensures { OnOk result (self.new ≡ self.old ++ lwp_text pid lwp) }
-    {
-        self.decimal(u64::from(pid))?;
-        self.text(b"/")?;
-        self.decimal(u64::from(lwp))
-    }
-
-    /// Appends how many bytes there are.
-    #[tactic(auto, unfolding(crate::specs::Texts::size_text))]
-    pub fn size(&mut self, n: u64) -> Result<(), NoMemory>
-        ensures { OnOk result (self.new ≡ self.old ++ size_text n) }
-    {
-        self.decimal(n)?;
-        if n == 1 {
-            self.text(b" byte")
-        } else {
-            self.text(b" bytes")
-        }
-    }
-
-    /// Appends a byte in hex.
-    #[tactic(auto, unfolding(pr_text::specs::HexWords::byte_digits))]
-    fn hex_byte(&mut self, byte: u8) -> Result<(), NoMemory>
-        ensures { OnOk result (self.new ≡ self.old ++ byte_digits byte) }
-    {
-        self.text(&[hex_digit(byte / 16), hex_digit(byte % 16)])
-    }
-
-    /// Appends bytes in hex.
-    pub fn hex_bytes(&mut self, bytes: &[u8]) -> Result<(), NoMemory>
-        ensures { OnOk result (self.new ≡ self.old ++ digits_of_bytes bytes.now) }
-    {
-        for byte in bytes {
-            self.hex_byte(*byte)?;
-        }
-        Ok(())
-    }
-
-    /// Appends a byte of a word.
-    #[tactic(auto, unfolding(crate::specs::Texts::plus_as_blank))]
-    fn plus_as_blank(&mut self, byte: u8) -> Result<(), NoMemory>
-        ensures { OnOk result (self.new ≡ self.old ++ plus_as_blank byte) }
-    {
-        if byte == b'+' {
-            self.text(b" ")
-        } else {
-            self.text(&[byte])
-        }
-    }
-
-    fn plus_as_blanks(&mut self, bytes: &[u8]) -> Result<(), NoMemory>
-        ensures { OnOk result (self.new ≡ self.old ++ flat_map plus_as_blank bytes.now) }
-    {
-        for byte in bytes {
-            self.plus_as_blank(*byte)?;
-        }
-        Ok(())
-    }
-
-    /// Appends a word behind a blank; `+` parts it as a blank does.
-    #[tactic(auto, unfolding(crate::specs::Texts::spaced_text))]
-    pub fn spaced(&mut self, word: &[u8]) -> Result<(), NoMemory>
-        ensures { OnOk result (self.new ≡ self.old ++ spaced_text word.now) }
-    {
-        self.text(b" ")?;
-        self.plus_as_blanks(word)
-    }
-
-    /// Appends bytes in hex, as many as a quoted text shows.
-    #[tactic(auto, unfolding(crate::specs::Texts::digits_text))]
-    fn digits(&mut self, bytes: &[u8]) -> Result<(), NoMemory>
-        ensures { OnOk result (self.new ≡ self.old ++ digits_text bytes.now) }
-    {
-        self.hex_bytes(shown(bytes))?;
-        if bytes.len() > SHOWN_LIMIT {
-            self.text(b"..")
-        } else {
-            Ok(())
-        }
-    }
-
-    /// Appends bytes in hex and as text.
-    #[tactic(auto, unfolding(crate::specs::Texts::bytes_text))]
-    pub fn bytes(&mut self, bytes: &[u8]) -> Result<(), NoMemory>
-        ensures { OnOk result (self.new ≡ self.old ++ bytes_text bytes.now) }
-    {
-        self.digits(bytes)?;
-        self.text(b" ")?;
-        self.quoted(bytes)
-    }
+/// Appends bytes in hex and as text.
+#[tactic(auto, unfolding(crate::specs::Texts::bytes_text))]
+pub fn write_hex_and_text(text: &mut Text, bytes: &[u8]) -> Result<(), NoMemory>
+    ensures { OnOk result (text.new ≡ text.old ++ bytes_text bytes.now) }
+{
+    write_digits(text, bytes)?;
+    text.text(b" ")?;
+    text.quoted(bytes)
 }

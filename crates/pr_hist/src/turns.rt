@@ -2,10 +2,11 @@
 ghost use Rattle.std.specs.Prelude.{◌≡◌, ◌++◌, OnOk};
 ghost use Rattle.pr_hist.specs.Turns.{acting, doing, object, outcome_text, reason, result_text, stop_text, turn_text};
 
-use crate::phrases::Phrase;
-use crate::texts::Text;
+use crate::phrases::{Phrase, write_phrase};
+use crate::texts::write_number;
 use pr_model::{Did, How, Res, Turned};
 use pr_num::NoMemory;
+use pr_text::Text;
 
 /// How an lwp acts on a signal.
 #[tactic(auto, unfolding(crate::specs::Turns::acting))]
@@ -68,7 +69,7 @@ fn write_result(text: &mut Text, res: Res) -> Result<(), NoMemory>
     match res {
         Res::Value(n) => {
             text.text(b" = ")?;
-            text.number(n)
+            write_number(text, n)
         }
         Res::Error(e) => {
             text.text(b": ")?;
@@ -110,7 +111,7 @@ fn write_stop(text: &mut Text, did: Did, stop: bool) -> Result<(), NoMemory>
     ensures { OnOk result (text.new ≡ text.old ++ stop_text did stop) }
 {
     if stop {
-        text.phrase(Phrase::AndStops)?;
+        write_phrase(text, Phrase::AndStops)?;
         text.text(reason(did))
     } else {
         Ok(())

@@ -9,8 +9,9 @@ use crate::listings::Listing;
 use crate::messages::{
     write_address, write_calls, write_code, write_faults, write_signal, write_signals,
 };
-use crate::texts::{Text, name_in};
+use crate::texts::{name_in, write_number};
 use pr_num::{Errno, Flt, NoMemory, StopReason, Sysno};
+use pr_text::Text;
 
 #[tactic(auto, unfolding(crate::specs::Values::count_text))]
 fn write_count(text: &mut Text, w: u64) -> Result<(), NoMemory>
@@ -25,7 +26,7 @@ fn write_plain(text: &mut Text, w: u64) -> Result<(), NoMemory>
     ensures { OnOk result (text.new ≡ text.old ++ plain_text w) }
 {
     text.text(b" ")?;
-    text.number(w)
+    write_number(text, w)
 }
 
 #[tactic(auto, unfolding(crate::specs::Values::why_text))]

@@ -9,7 +9,8 @@ use Rattle.pr_num.specs.declared.mappings.BadByte.{BadByte}
 use Rattle.pr_num.specs.declared.mappings.Mapping.{Mapping}
 use Rattle.pr_parts.specs.AddressSpaces.{written_bytes}
 use Rattle.pr_parts.proofs.AccessLemmas.{bytes_for-append, bytes_for-fails, bytes_for-run, found-low, found-high, found-limit, joined, written_bytes-append, written_bytes-inside, written_bytes-outside}
-use Rattle.pr_mem.specs.Answers.{checked, IsRun}
+use Rattle.pr_parts.specs.Accesses.{checked}
+use Rattle.pr_mem.specs.Answers.{IsRun}
 use borrow.Rule.Slice.PartMut.{put_mid}
 use Rattle.pr_num.proofs.NumberLemmas.{unwrapped}
 

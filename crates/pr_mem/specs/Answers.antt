@@ -6,6 +6,7 @@ use Rattle.pr_num.specs.Spaces.{Space, bytes_for, mapped_size, mapping_limit}
 use Rattle.pr_num.specs.declared.mappings.BadByte.{BadByte}
 use Rattle.pr_num.specs.declared.mappings.BadByte.TheVariants as bad
 use Rattle.pr_num.specs.declared.mappings.Mapping.{Mapping}
+use Rattle.pr_parts.specs.Accesses.{checked}
 use Rattle.pr_parts.specs.AddressSpaces.{has_range, has_room, is_break_heap, is_free, with_heap}
 use Rattle.pr_mem.specs.declared.faults.MemFault.{MemFault}
 use Rattle.pr_mem.specs.declared.faults.MemFault.TheVariants.{Hole, NotAllowed, Overlap, TooBig}
@@ -45,11 +46,6 @@ bytes_of (Some heap) = length heap.bytes
 
 abbrev pub heap_bytes : Space → ℕ
 heap_bytes space = bytes_of (find is_break_heap space)
-
--- whether an access can be made, or the first byte at which it fails
-abbrev pub checked : {X : Type 0} → Result X BadByte → Result (Unit {0}) BadByte
-checked (Ok bytes) = Ok tt
-checked (Err byte) = Err byte
 
 -- the same as an answer of an address space
 abbrev pub answered : {X : Type 0} → Result X BadByte → Result X MemFault

@@ -3,19 +3,14 @@ use Rattle.std.specs.Prelude.{◌≡◌, ◌+◌, ◌%◌, ◌^◌, ◌<◌, ◌
 use Rattle.pr_num.specs.Layout.{gap_base, stack_base, page_size}
 use Rattle.pr_num.specs.Spaces.{Space, byte_for, bytes_for}
 use Rattle.pr_num.specs.declared.mappings.BadByte.{BadByte}
+use Rattle.pr_parts.specs.Accesses.{byte_after_write, checked}
 use Rattle.pr_parts.specs.AddressSpaces.{is_free, with_bytes, written_byte}
-use Rattle.pr_mem.specs.Answers.{checked}
-
--- what an access to a byte gets after bytes were written from an address on, and what it got before
-abbrev pub after_write : ℕ → List ℕ → ℕ → Result ℕ BadByte → Result ℕ BadByte
-after_write at bytes address (Ok old) = Ok (written_byte at bytes address old)
-after_write at bytes address (Err bad) = Err bad
 
 -- After a write a byte that was written over is the one that was written, any other is as before, and what could not be
 -- accessed still cannot.
 abbrev pub WritesEachByte : Space → Type 0
 WritesEachByte space =
-    (at : ℕ) (bytes : List ℕ) (need address : ℕ) → byte_for need (with_bytes at bytes space) address ≡ after_write at bytes address (byte_for need space address)
+    (at : ℕ) (bytes : List ℕ) (need address : ℕ) → byte_for need (with_bytes at bytes space) address ≡ byte_after_write at bytes address (byte_for need space address)
 
 -- what was written where it can be read is read back
 abbrev pub IsReadBack : Space → Type 0

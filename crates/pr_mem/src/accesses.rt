@@ -1,6 +1,7 @@
 ghost use Rattle.std.specs.Prelude.{◌≡◌, ◌≤◌, ◌<◌, ◌+◌, ◌^◌, length, Ok, Err, IfOk, IfErr, IfSome, OnOk, OnErr};
 ghost use Rattle.pr_num.specs.Spaces.{IsSpace, byte_for, bytes_for};
-ghost use Rattle.pr_mem.specs.Answers.{checked, IsRun};
+ghost use Rattle.pr_parts.specs.Accesses.{checked};
+ghost use Rattle.pr_mem.specs.Answers.{IsRun};
 ghost use Rattle.pr_mem.specs.Places.{IsPlace};
 
 use crate::mappings::Mapping;

@@ -8,3 +8,4 @@ pub mod HeapPlaceLemmas
 pub mod PendingLemmas
 pub mod SignalLemmas
 pub mod SpaceLemmas
+pub mod WriteLemmas

@@ -1,3 +1,4 @@
+pub mod Accesses
 pub mod AddressSpaces
 pub mod ByAddress
 pub mod FileCalls

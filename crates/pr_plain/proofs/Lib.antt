@@ -1,5 +1,4 @@
 pub mod BufferLemmas
-pub mod DigitLemmas
 pub mod CallLaws
 pub mod DecimalLemmas
 pub mod EntryLaws

@@ -1,5 +1,5 @@
 //! Words on a line, each with a blank before it.
-ghost use Rattle.std.specs.Prelude.{◌≡◌, ◌*◌, ◌<◌, ◌≤◌, ◌++◌, [], ◌∷◌, false, decimal, map, length, take, OnOk};
+ghost use Rattle.std.specs.Prelude.{◌≡◌, ◌++◌, [], ◌∷◌, decimal, map, OnOk};
 ghost use Rattle.pr_text.specs.LwpWords.{lwp_text};
 ghost use Rattle.pr_text.specs.SpacedWords.{spaced};
 ghost use Rattle.pr_plain.specs.HistoryText.{target_text};
@@ -7,7 +7,7 @@ ghost use Rattle.pr_text.specs.HexWords.{digits_of_bytes};
 ghost use Rattle.pr_plain.specs.HexWords.{hex_word};
 ghost use Rattle.pr_plain.specs.Buffers.{StartsWith};
 
-use pr_text::hex_digit;
+use pr_text::put_digits;
 use std::alloc::AllocError;
 
 /// Appends bytes. All that is written is appended by this.
@@ -75,17 +75,6 @@ pub fn write_target(out: &mut Vec<u8>, pid: u32, lwp: u32) -> Result<(), AllocEr
 
 /// How many bytes become digits at a time.
 const PIECE: usize = 256;
-
-/// Puts the digits of bytes at the front of a piece.
-fn put_digits(piece: &mut [u8], bytes: &[u8])
-    requires { 2 * length bytes.now ≤ length piece.old }
-    ensures { take (2 * length bytes.now) piece.new ≡ digits_of_bytes bytes.now }
-{
-    for (i, b) in bytes.iter().enumerate() {
-        piece[2 * i] = hex_digit(*b / 16);
-        piece[2 * i + 1] = hex_digit(*b % 16);
-    }
-}
 
 /// Writes bytes in hex, with no blank before them.
 #[tactic(auto, using(crate::proofs::BufferLemmas::kept))]

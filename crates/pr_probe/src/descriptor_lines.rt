@@ -5,7 +5,8 @@ ghost use Rattle.pr_probe.specs.DescriptorLines.{kind_of_word, kind_in, kind_tex
 
 use pr_codec::word;
 use pr_num::{FdKind, NoMemory};
-use pr_tools::Text;
+use pr_text::Text;
+use pr_tools::{end_line, push_header};
 
 /// A descriptor that is open, and what it stands for.
 #[derive(Clone, Copy)]
@@ -59,7 +60,7 @@ fn push_line(text: &mut Text, line: OpenDescriptor) -> Result<(), NoMemory>
     text.decimal(u64::from(line.descriptor))?;
     text.text(b": ")?;
     push_kind(text, line.kind)?;
-    text.end_line()
+    end_line(text)
 }
 
 /// The lines of descriptors.
@@ -81,6 +82,6 @@ pub(crate) fn push_apfiles(
 ) -> Result<(), NoMemory>
     ensures { OnOk result (text.new ≡ text.old ++ apfiles_text pid lines.now) }
 {
-    text.header(pid)?;
+    push_header(text, pid)?;
     push_lines(text, lines)
 }

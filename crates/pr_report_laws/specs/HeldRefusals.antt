@@ -1,4 +1,4 @@
-use Rattle.std.specs.Prelude.{◌≡◌, ◌==◌, ◌⊎◌, ℕ, Bool, false, All, List, [], ◌∷◌, ◌++◌, None, Some, filter}
+use Rattle.std.specs.Prelude.{◌≡◌, ◌==◌, ◌⊎◌, ℕ, Bool, false, All, List, [], ◌∷◌, ◌++◌, Some, filter}
 use Rattle.pr_line.specs.declared.options.Options.{Options}
 use Rattle.pr_model.specs.State.{TracedState}
 use Rattle.pr_model.specs.declared.calls.Call.{Call}
@@ -11,7 +11,7 @@ use Rattle.pr_num.specs.declared.messages.Message.TheVariants.{Set}
 use Rattle.pr_truss.specs.Messages.{message_call}
 use Rattle.pr_truss.specs.declared.reports.Report.{Report}
 use Rattle.pr_truss.specs.declared.reports.Report.TheVariants as report
-use Rattle.pr_truss_laws.specs.Exchanges.{Exchange, exchange_of, exchanges, opened_by, truss_at}
+use Rattle.pr_truss_laws.specs.Exchanges.{Exchange, exchange_of, exchanges, truss_at}
 use Rattle.pr_report_laws.specs.Holds.{HasHold}
 use Rattle.pr_report_laws.specs.LaterSends.{WasJustOpened}
 use Rattle.pr_report_laws.specs.OwnOpens.{IsGoingOn}
@@ -28,12 +28,17 @@ tells_refusal_of pid _ = false
 abbrev pub refusals_of : ℕ → List Report → List Report
 refusals_of pid reports = filter (tells_refusal_of pid) reports
 
--- While it has hold of a process, and in the entry by which it gets hold of it, it reports none, but where it is
--- refused an open of that process, as where the words name it twice.
+-- whether a call opens a file of this process
+abbrev pub opens_file_of : ℕ → Call → Bool
+opens_file_of pid (call.Open of id file mode) = of == pid
+opens_file_of pid _ = false
+
+-- While it has hold of a process, and in the entry by which it gets hold of it, it reports none of that process, but
+-- where it is refused an open of it, as where the words name it twice.
 pub record TellsNoRefusalOfWhatItHolds (k : ℕ) (o : Options) (first : TracedState) (h : List Entry) : Type 0 where
   pub each : (before later : List Entry) (e : Entry) (x : Exchange) (pid : ℕ) → h ≡ before ++ e ∷ later
       → exchange_of k e ≡ Some x → HasHold k o pid first before ⊎ HasHold k o pid first (before ++ e ∷ [])
-      → opened_by x.call x.reply ≡ None
+      → opens_file_of pid x.call ≡ false
       → refusals_of pid (truss_at k o (before ++ e ∷ [])).reports ≡ refusals_of pid (truss_at k o before).reports
 
 -- By which call of truss, after these entries, it may be told that it cannot trace a process: by an open of it; by

@@ -84,12 +84,12 @@ use Rattle.pr_truss.specs.declared.stages.OpeningStep.{OpeningStep}
 use Rattle.pr_truss.specs.declared.stages.OpeningStep.TheVariants as opening
 use Rattle.pr_truss.specs.declared.stages.Stage.{Stage}
 use Rattle.pr_truss.specs.declared.stages.Stage.TheVariants as stage
-use Rattle.pr_truss_laws.proofs.FunctionOptionLemmas.{fed_functions-options}
+use Rattle.pr_truss_laws.proofs.Replies.FunctionOptionLemmas.{fed_functions-options}
 use Rattle.pr_world.specs.Controllers.{after_reply, call_by, feed_at, next_call, with_fed}
 use Rattle.pr_world.specs.ControllerStates.{ControllerState, Script, Truss, FnTruss, Tool, Gcore, Probe}
 use Rattle.pr_world.specs.Protocol.{Follows, FollowsAt, controllers_after}
 use Rattle.pr_world.proofs.ProtocolLemmas.{controllers_at-count}
-use Rattle.pr_tool_laws.proofs.ProtocolLemmas.{follows-own}
+use Rattle.pr_tool_laws.proofs.Stages.ProtocolLemmas.{follows-own}
 use Rattle.pr_tool_laws.specs.OwnCalls.{AreOwnCalls, IsOwnCall}
 
 -- What the controllers of a run write is bytes.

@@ -17,28 +17,34 @@ use Rattle.pr_truss_laws.specs.Exchanges.{exchange_of}
 use Rattle.pr_truss_laws.specs.Handles.{HasNothingOpen}
 use Rattle.pr_reached.specs.ByteHistories.{HasBytes}
 use Rattle.pr_reached.specs.Reached.{IsReached}
-use Rattle.pr_function_laws.proofs.MetLemmas.{event-breaks, found-function, tells-calls}
-use Rattle.pr_function_laws.proofs.CalledLaws.{calls-are-turns}
-use Rattle.pr_function_laws.proofs.EventReads.{events-read}
-use Rattle.pr_function_laws.proofs.LeavingHolds.{has-one-event-each, holds-what-it-opened}
-use Rattle.pr_function_laws.proofs.OpenedLaws.{lifts-alone}
-use Rattle.pr_function_laws.proofs.LineMoments.{memories-stand}
-use Rattle.pr_function_laws.proofs.LineReads.{reads-for-lines}
-use Rattle.pr_function_laws.proofs.LineTexts.{have-their-texts}
-use Rattle.pr_function_laws.proofs.OrdinaryExchanges.{truss-beside}
-use Rattle.pr_function_laws.proofs.HandledLaws.{handles-its-given}
-use Rattle.pr_function_laws.proofs.LeavingLaws.{calm-exchanges, leaves-its-processes}
-use Rattle.pr_function_laws.proofs.OrdinaryLaws.{calls-its-files, closes-controls-last, closes-throughout, nothing-left}
-use Rattle.pr_function_laws.proofs.OrdinaryNew.{shows-what-is-new}
-use Rattle.pr_function_laws.proofs.OrdinaryOnce.{shows-stops-once}
-use Rattle.pr_function_laws.proofs.OrdinaryShown.{shows-what-it-reads}
-use Rattle.pr_function_laws.proofs.OwnSteps.{steps-read}
-use Rattle.pr_function_laws.proofs.PlantedLaws.{plants-what-it-read}
-use Rattle.pr_function_laws.proofs.RefusalLaws.{tells-no-refusal-of-watched, tells-refusals-at-first}
-use Rattle.pr_function_laws.proofs.SoonLemmas.{soon-done}
-use Rattle.pr_function_laws.proofs.SoonNamed.{soon-run-or-closed}
-use Rattle.pr_function_laws.proofs.ToldLaws.{tells-turns}
-use Rattle.pr_function_laws.proofs.TreatedLaws.{options-at, treats-its-events}
+use Rattle.pr_function_laws.proofs.Marks.MetLemmas.{event-breaks, found-function, tells-calls}
+use Rattle.pr_function_laws.proofs.CallTurns.CalledLaws.{calls-are-turns}
+use Rattle.pr_function_laws.proofs.Pending.EventReads.{events-read}
+use Rattle.pr_function_laws.proofs.Listing.LeavingEvents.{lists-its-events}
+use Rattle.pr_function_laws.proofs.LeavingProcesses.LeavingHolds.{has-one-event-each, holds-what-it-opened}
+use Rattle.pr_function_laws.proofs.LeavingProcesses.LeavingAlone.{is-left-alone}
+use Rattle.pr_function_laws.proofs.OpenedProcesses.OpenedLaws.{lifts-alone}
+use Rattle.pr_function_laws.proofs.LineMemory.LineEvents.{are-of-their-events}
+use Rattle.pr_function_laws.proofs.LineMemory.LineMoments.{memories-stand}
+use Rattle.pr_function_laws.proofs.LineMemory.LineReads.{reads-for-lines}
+use Rattle.pr_function_laws.proofs.LineMemory.LineTexts.{have-their-texts}
+use Rattle.pr_function_laws.proofs.OrdinaryTruss.OrdinaryExchanges.{truss-beside}
+use Rattle.pr_function_laws.proofs.OrdinaryTruss.HandledLaws.{handles-its-given}
+use Rattle.pr_function_laws.proofs.Holding.HoldLaws.{watches-what-it-holds}
+use Rattle.pr_function_laws.proofs.Holding.HoldOnce.{keeps-its-holds}
+use Rattle.pr_function_laws.proofs.Holding.HoldQuiet.{opens-quietly}
+use Rattle.pr_function_laws.proofs.LeavingProcesses.LeavingLaws.{calm-exchanges, leaves-its-processes}
+use Rattle.pr_function_laws.proofs.OrdinaryTruss.OrdinaryLaws.{calls-its-files, closes-controls-last, closes-throughout, nothing-left}
+use Rattle.pr_function_laws.proofs.ShownOnce.OrdinaryNew.{shows-what-is-new}
+use Rattle.pr_function_laws.proofs.ShownOnce.OrdinaryOnce.{shows-stops-once}
+use Rattle.pr_function_laws.proofs.OrdinaryTruss.OrdinaryShown.{shows-what-it-reads}
+use Rattle.pr_function_laws.proofs.CallTurns.OwnSteps.{steps-read}
+use Rattle.pr_function_laws.proofs.NextCalls.PlantedLaws.{plants-what-it-read}
+use Rattle.pr_function_laws.proofs.OrdinaryTruss.RefusalLaws.{tells-no-refusal-of-held, tells-refusals-at-first}
+use Rattle.pr_function_laws.proofs.NextCalls.SoonLemmas.{soon-done}
+use Rattle.pr_function_laws.proofs.NextCalls.SoonNamed.{soon-run-or-closed}
+use Rattle.pr_function_laws.proofs.CallTurns.ToldLaws.{tells-turns}
+use Rattle.pr_function_laws.proofs.NextCalls.TreatedLaws.{options-at, treats-its-events}
 use Rattle.pr_function_laws.specs.Opened.{IsFunctionRun, ReadsBreakpoint, functions_at}
 use Rattle.pr_function_laws.specs.Runs.{functions_after, replies_in}
 use Rattle.pr_function_laws.specs.Soon.{IsCalm}
@@ -47,16 +53,21 @@ use Rattle.pr_function_laws.specs.ToldTurns.{AreSteppable}
 use Rattle.pr_function_laws.specs.Lifted.{MeetsBreakpoint, ReadsOnlyLast}
 use Rattle.pr_model.specs.Legal.{state_after}
 use Rattle.pr_num.proofs.SearchLemmas.{All-at}
+use Rattle.pr_run_laws.proofs.TrussHiders.{all-patchable}
 use Rattle.pr_run_laws.proofs.TrussOptions.{full-truss}
 use Rattle.pr_run_laws.specs.FunctionRuns.{IsFunctionTrussKept}
 use Rattle.pr_run_laws.specs.NamedFunctions.{AreShowable, IsShowable}
 use Rattle.pr_truss.specs.Asides.{marks_at}
-use Rattle.pr_function_hides.proofs.CopyHistory.{finds-so}
-use Rattle.pr_function_hides.proofs.ReplacedWalk.{writes-none-so}
-use Rattle.pr_function_hides.proofs.OwnRuns.{function-stays}
+use Rattle.pr_function_hides.proofs.LeavingCopies.CopyHistory.{finds-so}
+use Rattle.pr_function_hides.proofs.Listed.ListedLaw.{fetched-turns}
+use Rattle.pr_function_hides.proofs.PlantedFetches.FetchesLaw.{fetches_breakpoints}
+use Rattle.pr_function_hides.proofs.Replacing.ReplacedWalk.{writes-none-so}
+use Rattle.pr_function_hides.proofs.Files.OwnRuns.{function-stays}
 use Rattle.pr_function_hides.specs.SleptCopies.{NoneSleepsInCopy}
-use Rattle.pr_function_laws.proofs.KindLemmas.{event-kinds}
-use Rattle.pr_function_laws.proofs.BreakpointCallLemmas.{breakpoint-calls}
+use Rattle.pr_function_laws.proofs.NextCalls.KindLemmas.{event-kinds}
+use Rattle.pr_function_laws.proofs.NextCalls.BreakpointCallLemmas.{breakpoint-calls}
+use Rattle.pr_function_laws.proofs.NextCalls.TracedWords.{traces-its-words}
+use Rattle.pr_report_laws.proofs.Asking.AskedLaws.{reads-replies}
 
 -- A truss that shows calls of functions among the controllers of a run.
 
@@ -137,12 +148,18 @@ function-kept controllers n s h k o reached awake bytes none at some named legal
       plants = plants-what-it-read o (exchanges k h) has run.follows_none stays.0;
       events = has-one-event-each n k o s h run reached bytes;
       reads = events-read n k o s h run reached bytes;
+      lists_events = lists-its-events n k o s h run reached bytes;
+      fetches = fetches_breakpoints n k o s h run reached bytes (all-patchable o named);
+      lists_calls = fetched-turns n k o s h run reached bytes (all-steppable o named);
       lifts = lifts-alone n k o s h run reached bytes;
+      left_alone = is-left-alone n k o s h run reached bytes;
       turns = calls-are-turns n k o s h run reached bytes;
       told = tells-turns n k o s h run reached bytes (all-steppable o named);
       steps = steps-read n k o s h run reached bytes (all-steppable o named);
       kinds = event-kinds o;
       messages = breakpoint-calls o;
+      words = traces-its-words o;
+      replies = reads-replies;
       copies = λ opens. finds-so n k o s h run reached awake bytes opens;
       replaced = λ opens. writes-none-so n k o s h run reached awake bytes opens;
       treats = treats-its-events o (exchanges k h) has run.follows_none stays.0 calm;
@@ -150,13 +167,17 @@ function-kept controllers n s h k o reached awake bytes none at some named legal
       ordinary = beside;
       handled = handles-its-given o (exchanges k h) has beside;
       tells = tells-refusals-at-first n k o s h run;
-      refusals = tells-no-refusal-of-watched n k o s h run;
+      holds = watches-what-it-holds n k o s h run;
+      keeps = keeps-its-holds n k o s h run;
+      quiet = opens-quietly n k o s h run reached bytes;
+      refusals = tells-no-refusal-of-held n k o s h run;
       shows = shows-what-it-reads n k o s h run;
       new = shows-what-is-new n k o s h run;
       once = shows-stops-once n k o s h run;
       asks = reads-for-lines n k o s h run;
       texts = have-their-texts n k o s h run;
       moments = memories-stand n k o s h run reached bytes (all-steppable o named);
+      of_their_events = λ pid. are-of-their-events n k o s h pid run reached bytes (all-steppable o named);
       files = calls-its-files n k o s h run;
       controls_last = closes-controls-last n k o s h run;
       releases = closes-throughout n k o s h run;

@@ -18,34 +18,35 @@ use Rattle.pr_model.specs.declared.events.Entry.{Entry}
 use Rattle.pr_model.specs.declared.tools.ToolKind.{ToolKind}
 use Rattle.pr_model.specs.declared.tools.ToolKind.TheVariants.{Prun, Pstack, Pstop}
 use Rattle.pr_probe.specs.Probes.{first_probe}
-use Rattle.pr_function_hides.proofs.ClearingLaw.{clears-running}
-use Rattle.pr_function_hides.proofs.CleanLaw.{leaves-no-fault}
-use Rattle.pr_function_hides.proofs.ClosingLaw.{leaves-none}
-use Rattle.pr_function_hides.proofs.EventsLaw.{listed-events}
-use Rattle.pr_function_hides.proofs.ListedLaw.{fetched-turns, listed-turns}
-use Rattle.pr_function_hides.proofs.ClearedLaw.{clears-alone}
-use Rattle.pr_function_hides.proofs.PostedLaw.{posts-none}
+use Rattle.pr_function_hides.proofs.MetFaults.ClearingLaw.{clears-running}
+use Rattle.pr_function_hides.proofs.Clean.CleanLaw.{leaves-no-fault}
+use Rattle.pr_function_hides.proofs.Closing.ClosingLaw.{leaves-none}
+use Rattle.pr_function_hides.proofs.Listed.ListedLaw.{fetched-turns}
+use Rattle.pr_function_hides.proofs.PlantedFetches.FetchesLaw.{fetches_breakpoints}
+use Rattle.pr_function_hides.proofs.PlantedFetches.SparedLaw.{leaves_planted}
+use Rattle.pr_function_hides.proofs.LeavingFaults.ClearedLaw.{clears-alone}
+use Rattle.pr_function_hides.proofs.FaultStops.PostedLaw.{posts-none}
 use Rattle.pr_function_hides.proofs.HiddenTruss.{truss-hidden, truss-tidy}
-use Rattle.pr_function_hides.proofs.SleptHistories.{first-awake}
-use Rattle.pr_function_hides.proofs.StepLaw.{own-steps}
-use Rattle.pr_function_hides.proofs.WritesLaw.{writes-tidily}
+use Rattle.pr_function_hides.proofs.StoppedCopies.SleptHistories.{first-awake}
+use Rattle.pr_function_hides.proofs.StepMarks.StepLaw.{own-steps}
+use Rattle.pr_function_hides.proofs.Tidy.WritesLaw.{writes-tidily}
 use Rattle.pr_function_hides.specs.RunsOfTrusses.{IsRunOfTrusses}
 use Rattle.pr_function_hides.specs.SleptCopies.{NoneSleepsInCopy}
 use Rattle.pr_function_hides.specs.TidyWrites.{AreUndisturbed}
 use Rattle.pr_function_laws.specs.Opened.{IsFunctionRun}
-use Rattle.pr_hidden.proofs.FirstLemmas.{first-untouched}
-use Rattle.pr_hidden.proofs.HistoryFollows.{hidden-first}
+use Rattle.pr_hidden.proofs.Follows.FirstLemmas.{first-untouched}
+use Rattle.pr_hidden.proofs.Follows.HistoryFollows.{hidden-first}
 use Rattle.pr_hidden.specs.Hiders.{Hiders}
-use Rattle.pr_probe_laws.proofs.HiddenLaw.{alone-accepted, alone-gone, alone-hidden, alone-tidy}
-use Rattle.pr_probe_laws.proofs.MarkCalls.{untouched-unstepped}
-use Rattle.pr_probe_laws.proofs.TakesBack.{probe-takes-back}
+use Rattle.pr_probe_laws.proofs.Hiding.HiddenLaw.{alone-accepted, alone-gone, alone-hidden, alone-tidy}
+use Rattle.pr_probe_laws.proofs.StepMarks.MarkCalls.{untouched-unstepped}
+use Rattle.pr_probe_laws.proofs.Ending.TakesBack.{probe-takes-back}
 use Rattle.pr_probe_laws.specs.StepMarks.{IsUnstepped}
-use Rattle.pr_probe_laws.proofs.OwnCallRows.{makes-its-calls, probe-closes, probe-holds}
-use Rattle.pr_probe_laws.proofs.ProbeLaw.{puts-back}
-use Rattle.pr_probe_laws.proofs.ReasonLaw.{tells-why}
-use Rattle.pr_probe_laws.proofs.RunAgainLaw.{runs-at-last}
-use Rattle.pr_probe_laws.proofs.SetLaw.{sets-back}
-use Rattle.pr_probe_laws.proofs.TextLaw.{shows-one}
+use Rattle.pr_probe_laws.proofs.Files.OwnCallRows.{makes-its-calls, probe-closes, probe-holds}
+use Rattle.pr_probe_laws.proofs.PuttingBack.ProbeLaw.{puts-back}
+use Rattle.pr_probe_laws.proofs.Ending.ReasonLaw.{tells-why}
+use Rattle.pr_probe_laws.proofs.Ending.RunAgainLaw.{runs-at-last}
+use Rattle.pr_probe_laws.proofs.Sets.SetLaw.{sets-back}
+use Rattle.pr_probe_laws.proofs.OneState.TextLaw.{shows-one}
 use Rattle.pr_reached.proofs.ReachedLemmas.{first-reached}
 use Rattle.pr_reached.specs.ByteHistories.{HasBytes}
 use Rattle.pr_reached.specs.Reached.{IsReached}
@@ -55,17 +56,17 @@ use Rattle.pr_scen.specs.declared.plans.Plan.TheVariants as plan
 use Rattle.pr_truss.specs.Marks.{has_functions}
 use Rattle.pr_truss.specs.Trusses.{first_truss}
 use Rattle.pr_world.proofs.RunLemmas.{moves-led}
-use Rattle.pr_tool_laws.proofs.HandleLemmas.{tool-holds}
-use Rattle.pr_tool_laws.proofs.ProtocolLemmas.{follows-own}
+use Rattle.pr_tool_laws.proofs.OwnFiles.HandleLemmas.{tool-holds}
+use Rattle.pr_tool_laws.proofs.Stages.ProtocolLemmas.{follows-own}
 use Rattle.pr_tool_laws.specs.OwnCalls.{AreOwnCalls}
-use Rattle.pr_tool_laws.proofs.NothingOpenLemmas.{tool-closes}
+use Rattle.pr_tool_laws.proofs.OwnFiles.NothingOpenLemmas.{tool-closes}
 use Rattle.pr_tool_laws.proofs.ProgramLemmas.{first-same}
 use Rattle.pr_tool_laws.proofs.ReadsOnlyLemmas.{tool-leaves}
-use Rattle.pr_tool_laws.proofs.RequestLemmas.{takes-back}
-use Rattle.pr_tool_laws.proofs.RunAgainLemmas.{runs-again}
-use Rattle.pr_tool_laws.proofs.SentLaw.{prun-runs, pstop-stops}
-use Rattle.pr_tool_laws.proofs.StackLaw.{shows-one-stack}
-use Rattle.pr_tool_laws.proofs.WholeLemmas.{tool-shows}
+use Rattle.pr_tool_laws.proofs.RunningAgain.RequestLemmas.{takes-back}
+use Rattle.pr_tool_laws.proofs.RunningAgain.RunAgainLemmas.{runs-again}
+use Rattle.pr_tool_laws.proofs.Sending.SentLaw.{prun-runs, pstop-stops}
+use Rattle.pr_tool_laws.proofs.Pstack.StackLaw.{shows-one-stack}
+use Rattle.pr_tool_laws.proofs.Records.WholeLemmas.{tool-shows}
 use Rattle.pr_tools.specs.Tools.{first_tool}
 use Rattle.pr_world.specs.ControllerStates.{FnTruss, Gcore, Probe, Tool}
 use Rattle.pr_world.specs.Protocol.{Follows}
@@ -83,7 +84,7 @@ use Rattle.pr_run_laws.specs.TrussRuns.{IsTrussKept}
 use Rattle.pr_run_laws.proofs.ByteLemmas.{follows-bytes}
 use Rattle.pr_run_laws.proofs.FunctionLemmas.{all-steppable, function-kept, function-run}
 use Rattle.pr_run_laws.proofs.TracerLemmas.{tracers-passive}
-use Rattle.pr_run_laws.proofs.TrussHiders.{first-held, hide-trusses, plan-named, shown-truss}
+use Rattle.pr_run_laws.proofs.TrussHiders.{all-patchable, first-held, hide-trusses, plan-named, shown-truss}
 use Rattle.pr_run_laws.proofs.TrussOptions.{bare-truss, full-truss}
 use Rattle.pr_run_laws.proofs.TrussLemmas.{truss-kept}
 
@@ -351,15 +352,11 @@ module _ (s : Scenario) (n : ℕ) (h : List Entry) (range : IsScenarioInRange s)
         clears-alone n who (controllers_of s) (first_state_of s) h (trusses-run who hide undisturbed);
     lists = λ who hide undisturbed sparing k pid o hider starts.
         let named = shown-truss s range k o starts in
-        listed-turns n k who (controllers_of s) o (first_state_of s) h (its-run k o starts)
-        (trusses-run who hide undisturbed) (all-steppable o named.1) hider starts sparing pid;
-    lists_fetched = λ who hide undisturbed k pid o hider starts fetches.
-        let named = shown-truss s range k o starts in
-        fetched-turns n k who (controllers_of s) o (first_state_of s) h (its-run k o starts)
-        (trusses-run who hide undisturbed) (all-steppable o named.1) hider starts fetches pid;
-    events = λ who hide undisturbed k pid o hider starts.
-        listed-events n k who (controllers_of s) o (first_state_of s) h hider starts (its-run k o starts)
-        (trusses-run who hide undisturbed) pid;
+        let trusses = trusses-run who hide undisturbed in
+        let its = its-run k o starts in
+        fetched-turns n k o (first_state_of s) h its trusses.reached bytes (all-steppable o named.1)
+        (fetches_breakpoints n k o (first_state_of s) h its trusses.reached bytes (all-patchable o named.1)
+        (leaves_planted n k who (controllers_of s) o (first_state_of s) h its trusses hider starts sparing)) pid;
     own_steps = λ who hide undisturbed passive.
         own-steps n who (controllers_of s) (first_state_of s) h (trusses-run who hide undisturbed) passive
         (first-unstepped s);

@@ -6,7 +6,7 @@ use Rattle.std.specs.Prelude.{map}
 use Rattle.std.proofs.lemmas.Bool.{false≢true}
 use Rattle.std.proofs.lemmas.List.Elements.{All-weaker}
 use Rattle.std.proofs.lemmas.Option.{slice_get-map}
-use Rattle.pr_function_hides.specs.FunctionHiders.{AreTrusses, IsPatchable}
+use Rattle.pr_function_hides.specs.FunctionHiders.{ArePatchable, AreTrusses, IsPatchable}
 use Rattle.pr_hidden.specs.Hiders.{Hiders}
 use Rattle.pr_line.specs.declared.options.Options.{Options}
 use Rattle.pr_model.specs.FirstState.{first_state}
@@ -83,6 +83,14 @@ first-held s k = nothing-held k (first_state_of s) refl
 
 -- ---- who hides
 
+-- truss can plant a breakpoint at each function that it was given
+pub all-patchable : (o : Options) → AreShowable o → ArePatchable o
+all-patchable o named = record {
+  few = named.few;
+  each = All-weaker IsShowable IsPatchable (λ f at. at.patchable) o.functions named.each;
+  alike = named.alike;
+}
+
 -- each who hides breakpoints is such a truss as its laws speak of
 pub hide-trusses : (s : Scenario) → IsScenarioInRange s → (who : Hiders) → HideBreakpoints who (controllers_of s)
     → AreTrusses who (controllers_of s) (first_state_of s)
@@ -98,11 +106,7 @@ hide-trusses s range who hide = record {
         starts = it.starts;
         has = planned.has;
         follows_none = named.follows_none (has-some it.options planned.has);
-        patchable = record {
-          few = named.few;
-          each = All-weaker IsShowable IsPatchable (λ f at. at.patchable) it.options.functions named.each;
-          alike = named.alike;
-        };
+        patchable = all-patchable it.options named;
         hides_these = it.hides_these;
       };
 }

@@ -51,15 +51,15 @@ use Rattle.pr_report_laws.proofs.ToldForks.ToldReads.{child-followed, child-free
 use Rattle.pr_report_laws.proofs.Memory.MemoryReads.{read-texts}
 use Rattle.pr_report_laws.proofs.NewbornChildren.NewbornLaws.{left-forked, left-rests, left-silent, left-unstarted}
 use Rattle.pr_report_laws.proofs.Files.WatchHistories.{exchanges-both, makes-front}
-use Rattle.pr_tool_laws.proofs.WholeLemmas.{front-bytes, front-legal}
+use Rattle.pr_tool_laws.proofs.Records.WholeLemmas.{front-bytes, front-legal}
 use Rattle.pr_report_laws.specs.Attachments.{HasFollowed, IsLetGo}
 use Rattle.pr_report_laws.specs.Watching.{watches}
 use Rattle.pr_truss.specs.Feeding.{fed}
 use Rattle.pr_truss.specs.NextCalls.{next_call_of}
 use Rattle.pr_truss.specs.Trusses.{TrussState, first_truss}
-use Rattle.pr_truss_laws.proofs.GivenLemmas.{given-handled, handled-so-far}
-use Rattle.pr_truss_laws.proofs.OwnLemmas.{nothing-open}
-use Rattle.pr_truss_laws.proofs.BusinessLemmas.{does-business}
+use Rattle.pr_truss_laws.proofs.GivenProcesses.GivenLemmas.{given-handled, handled-so-far}
+use Rattle.pr_truss_laws.proofs.Files.OwnLemmas.{nothing-open}
+use Rattle.pr_truss_laws.proofs.OwnBusiness.BusinessLemmas.{does-business}
 use Rattle.pr_report_laws.proofs.Watching.NamedSoon.{looks-at-named, runs-before-polls, soon-done}
 use Rattle.pr_report_laws.proofs.Holding.HeldLaws.{cares-for-children, gripped-once, lets-go-for-reason, moments-while-held, read-while-held, shown-while-held}
 use Rattle.pr_report_laws.proofs.Holding.HoldPlaces.{gets-off, hold-watched, unwatched-hold}
@@ -80,7 +80,7 @@ use Rattle.pr_tool_laws.specs.OwnCalls.{AreOwnCalls, IsOwnCall}
 use Rattle.pr_world.specs.Protocol.{controllers_after, controllers_at}
 use Rattle.pr_run_laws.specs.TrussRuns.{HandlesChildren, HasDone, IsNewborn, IsTrussKept, Releases, WasLetGo, HasShownAll, IsLostByKill}
 use Rattle.pr_num.specs.Limits.{handle_limit}
-use Rattle.pr_tool_laws.proofs.ProtocolLemmas.{fed-other, fed-own}
+use Rattle.pr_tool_laws.proofs.Stages.ProtocolLemmas.{fed-other, fed-own}
 
 -- A truss among the controllers of a run.
 

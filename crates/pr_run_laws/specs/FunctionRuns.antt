@@ -6,6 +6,7 @@ use Rattle.pr_function_hides.specs.LiftedCopies.{CopiesFindNone, OpensOutOfCopie
 use Rattle.pr_function_hides.specs.ListedCalls.{FetchesBreakpoints, ListsItsTurns}
 use Rattle.pr_function_hides.specs.OwnSteps.{AreStepsOwn}
 use Rattle.pr_function_hides.specs.PassiveOthers.{AreOthersPassive}
+use Rattle.pr_function_hides.specs.PlantedBreakpoints.{LeavesPlanted}
 use Rattle.pr_function_hides.specs.Replacing.{WritesNoneOnceReplaced}
 use Rattle.pr_function_hides.specs.TidyCloses.{LeavesNoBreakpoint, LeavesNoFault}
 use Rattle.pr_function_hides.specs.TidyFaults.{ClearsOwnFaultsAlone, PostsNoOwnFault}
@@ -15,8 +16,11 @@ use Rattle.pr_function_laws.specs.CalledTurns.{CallsAreTurns}
 use Rattle.pr_function_laws.specs.EventKinds.{AreEventKinds}
 use Rattle.pr_function_laws.specs.EventsRead.{EventsAreRead}
 use Rattle.pr_function_laws.specs.Handled.{HandlesItsGiven}
+use Rattle.pr_function_laws.specs.Holds.{KeepsItsHolds, OpensQuietly, WatchesWhatItHolds}
 use Rattle.pr_function_laws.specs.Leaving.{LeavesItsProcesses}
+use Rattle.pr_function_laws.specs.LeftAlone.{IsLeftAlone}
 use Rattle.pr_function_laws.specs.Lifted.{MeetsBreakpoint, ReadsOnlyLast}
+use Rattle.pr_function_laws.specs.LineEvents.{AreOfTheirEventsIn}
 use Rattle.pr_function_laws.specs.LineMoments.{MemoriesStand}
 use Rattle.pr_function_laws.specs.LineTexts.{HaveTheirTextsIn, ReadsForItsLinesOf}
 use Rattle.pr_function_laws.specs.ListedEvents.{ListsItsEvents}
@@ -27,8 +31,9 @@ use Rattle.pr_function_laws.specs.Opened.{HoldsWhatItOpened, LiftsForOneAlone, R
 use Rattle.pr_function_laws.specs.Ordinary.{IsTrussBeside, ordinary_among}
 use Rattle.pr_function_laws.specs.OrdinaryRuns.{ClosesFreelyThroughout, ShowsWhatIsNewOf, ShowsWhatItReadsOf}
 use Rattle.pr_function_laws.specs.Planted.{PlantsWhatItRead}
-use Rattle.pr_function_laws.specs.Refusals.{TellsNoRefusalOfWatched, TellsRefusalsAtFirst}
+use Rattle.pr_function_laws.specs.Refusals.{TellsNoRefusalOfHeld, TellsRefusalsAtFirst}
 use Rattle.pr_function_laws.specs.Runs.{MakesFunctionCalls, functions_after, replies_in}
+use Rattle.pr_function_laws.specs.SentSets.{TracesItsWords}
 use Rattle.pr_function_laws.specs.ShownOnce.{ShowsStopsOnceOf}
 use Rattle.pr_function_laws.specs.Soon.{IsSoonDone}
 use Rattle.pr_function_laws.specs.ToldTurns.{StepsAreRead, TellsTurnsAlone}
@@ -42,6 +47,7 @@ use Rattle.pr_model.specs.Legal.{state_after}
 use Rattle.pr_model.specs.State.{TracedState}
 use Rattle.pr_model.specs.declared.events.Entry.{Entry}
 use Rattle.pr_run_laws.specs.NamedFunctions.{AreShowable}
+use Rattle.pr_report_laws.specs.Asked.{ReadsItsReplies}
 use Rattle.pr_report_laws.specs.OwnFiles.{CallsItsFiles, ClosesControlsLast}
 use Rattle.pr_truss.specs.FunctionCalls.{next_function_call_of}
 use Rattle.pr_truss.specs.Trusses.{first_truss, traced_at}
@@ -86,16 +92,29 @@ pub record IsFunctionTrussKept (controllers : List ControllerState) (first : Tra
   pub opens : HoldsWhatItOpened k o first h
   pub events : HasOneEventEach k o first h
   pub reads : EventsAreRead k o first h
-  -- A breakpoint is lifted for one lwp alone; the read after that of a breakpoint tells of the one turn that its lwp
-  -- had since; each call that it tells in its loop is such a turn; and the trap of a step is told by the next read, if
-  -- one comes.
+  -- The events of a process that it has shown are those that came while it watched the process, that its options
+  -- select, and that are no faults of its own, each once and in their order, but for the last one at most. If programs
+  -- leave the functions alone that it has marked as planted, an lwp that comes to one can fetch nothing there but the
+  -- instruction of a breakpoint. And if that is so, the calls of functions that it has shown are the turns that are
+  -- such calls, each once and in their order, but for the last one at most.
+  pub lists_events : (pid : ℕ) → ListsItsEvents k o first h pid
+  pub fetches : LeavesPlanted k o first h → FetchesBreakpoints k o first h
+  pub lists_calls : FetchesBreakpoints k o first h → (pid : ℕ) → ListsItsTurns k o first h pid
+  -- A breakpoint is lifted for one lwp alone, also behind an interrupt of the poll; the read after that of a breakpoint
+  -- tells of the one turn that its lwp had since; each call that it tells in its loop is such a turn; and the trap of a
+  -- step is told by the next read, if one comes.
   pub lifts : LiftsForOneAlone k o first h
+  pub left_alone : IsLeftAlone k o first h
   pub turns : CallsAreTurns k o first h
   pub told : TellsTurnsAlone k o first h
   pub steps : StepsAreRead k o first h
   -- The messages by which it reads the code of a function, plants its breakpoint and lifts it, byte for byte.
   pub messages : (control function : ℕ) (f : Function) → slice_get o.functions function ≡ Some f
       → AreBreakpointCalls o control function f
+  -- The calls that it has traced are words of its options, with fork, vfork and exec besides. Of each status of a
+  -- process it reads the representative lwp as it stands there, and of each record of lwps all of them.
+  pub words : TracesItsWords o
+  pub replies : ReadsItsReplies
   -- In a process that it opens it plants just the functions whose code it reads there. What each event is to the
   -- breakpoints; and what it asks truss to plant and to lift, which comes before it runs the process. Where no lwp was
   -- at a fork, a vfork or an exec when the wait of the opening was granted, such a call that is granted finds none that
@@ -114,10 +133,21 @@ pub record IsFunctionTrussKept (controllers : List ControllerState) (first : Tra
   -- process that it was given, or tells the refusal of it, in their order.
   pub ordinary : IsTrussBeside o (exchanges k h)
   pub handled : HandlesItsGiven o (exchanges k h) ordinary
+  -- It watches a process just while it has hold of it, which its calls and their replies alone tell: from the PCRUN of
+  -- a whole opening of the process, to the call to a handle of the process that is refused with ENOENT, or to its read
+  -- of the statuses of the lwps once it was interrupted. It gets hold of a process at most once, and closes no file of
+  -- it in the hold; it lets none go before it has polled, or a call of it was interrupted, and only for these reasons:
+  -- the process has ended, or truss was interrupted and has read those statuses. Once it has finished it has hold of
+  -- none. Each opening with which it gets hold of a process has its wait, and from the answered wait on no event of the
+  -- process comes until then.
+  pub holds : WatchesWhatItHolds k o first h
+  pub keeps : KeepsItsHolds k o first h
+  pub quiet : OpensQuietly k o first h
   -- That it cannot trace a process it says only while it is to open what it was given: before it has polled, and before
-  -- a wait of it was interrupted. It does not say so of what it watches, but where its call is an open.
+  -- a wait of it was interrupted. It does not say so of what it has hold of, nor with the reply by which it gets hold
+  -- of it, but where it is refused an open of that process.
   pub tells : TellsRefusalsAtFirst k o h
-  pub refusals : TellsNoRefusalOfWatched k o h
+  pub refusals : TellsNoRefusalOfHeld k o first h
   -- What it shows of a process it reads right then, and it is no fault of its own. And what it reads in the status of a
   -- process, the options select and is no fault of its own it shows, once no stop is left that stood before truss came;
   -- so too at its last look at the process, if it has not looked at the event before.
@@ -132,8 +162,13 @@ pub record IsFunctionTrussKept (controllers : List ControllerState) (first : Tra
   pub texts : HaveTheirTextsIn k o first h (ordinary_among (functions_at k o h).reports)
   -- Until it is interrupted, and where no stop of the process is left from before it came, that memory is the one right
   -- after the event, as long as the process lives, up to the read of the event, and up to that of the memory, if truss
-  -- planted and lifted nothing between; else but for the code of its functions.
+  -- planted and lifted nothing between; else but for the code of the functions whose breakpoints those were.
   pub moments : MemoriesStand k o first h
+  -- So it is report by report, also where it is interrupted and leaves its processes: what stands in the line of an
+  -- event is the memory right after the event, which came while truss watched the process, but for that code; or
+  -- SIGKILL ended the process before truss read.
+  pub of_their_events : (pid : ℕ)
+      → AreOfTheirEventsIn k o pid first h (ordinary_among (functions_at k o h).reports)
   -- It calls no file but those that it has open. Of the files of a process it closes the control file last, and nobody
   -- has the process open for writing then; and where PR_RLC is set without PR_KLC, nothing is traced in it any more,
   -- and none of its lwps stands. Once it has finished it has nothing open.
@@ -171,22 +206,11 @@ pub record WriteUnseen (controllers : List ControllerState) (first : TracedState
       → ClearByRunning who h
   pub clears_own : (who : Hiders) → HideBreakpoints who controllers → AreUndisturbed who controllers first h
       → ClearsOwnFaultsAlone who first h
-  -- If programs leave its breakpoints alone, or what can be fetched where one is planted is its instruction, then the
-  -- calls of functions that it has shown are the turns that are such calls, each once and in their order, and it lacks
-  -- the last one at most.
+  -- If programs leave its breakpoints alone, then the calls of functions that it has shown are the turns that are such
+  -- calls, each once and in their order, and it lacks the last one at most.
   pub lists : (who : Hiders) → HideBreakpoints who controllers → AreUndisturbed who controllers first h
       → IsSparing who first h → (k pid : ℕ) (o : Options) → hides who k ≡ true
       → slice_get controllers k ≡ Some (FnTruss (first_truss o)) → ListsItsTurns k o first h pid
-  pub lists_fetched : (who : Hiders) → HideBreakpoints who controllers → AreUndisturbed who controllers first h
-      → (k pid : ℕ) (o : Options) → hides who k ≡ true
-      → slice_get controllers k ≡ Some (FnTruss (first_truss o)) → FetchesBreakpoints k o first h
-      → ListsItsTurns k o first h pid
-  -- On neither of these conditions, and also where it is interrupted, the events of a process that it has shown are
-  -- those that came while it watched the process, that its options select, and that are no faults of its own, each
-  -- once and in their order, but for the last one at most.
-  pub events : (who : Hiders) → HideBreakpoints who controllers → AreUndisturbed who controllers first h → (k pid : ℕ)
-      (o : Options) → hides who k ≡ true → slice_get controllers k ≡ Some (FnTruss (first_truss o))
-      → ListsItsEvents k o first h pid
   -- Where each call of all others is passive, FLTTRACE comes only where such a truss has the control file open; no lwp
   -- stands at a fault of its own where it closes a file of a process that lives; and no such fault is posted.
   pub own_steps : (who : Hiders) → HideBreakpoints who controllers → AreUndisturbed who controllers first h

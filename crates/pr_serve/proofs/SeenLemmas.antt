@@ -3,8 +3,8 @@ use Rattle.std.proofs.Common.{◌≡◌, ◌∙◌, ℕ, true, false, List, Opti
 use Rattle.std.proofs.Math.Path.{fun_ext}
 use Rattle.std.proofs.lemmas.List.{length-map}
 use Rattle.pr_api.specs.Views.{kernel_of}
-use Rattle.pr_hidden.proofs.HistoryFollows.{hidden-traced}
-use Rattle.pr_hidden.proofs.NobodyLemmas.{nobody-steps, nobody-traced}
+use Rattle.pr_hidden.proofs.Follows.HistoryFollows.{hidden-traced}
+use Rattle.pr_hidden.proofs.NothingHidden.NobodyLemmas.{nobody-steps, nobody-traced}
 use Rattle.pr_hidden.specs.HiddenSteps.{hidden_steps, hidden_trace}
 use Rattle.pr_hidden.specs.Hiders.{Hiders, nobody}
 use Rattle.pr_hide.specs.Hidings.{hiders_of}

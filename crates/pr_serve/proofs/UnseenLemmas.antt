@@ -1,6 +1,6 @@
 -- Those who hide are unseen in each history that is kept.
 use Rattle.std.proofs.Common.{List, length}
-use Rattle.pr_hidden.proofs.HistoryFollows.{hidden-first}
+use Rattle.pr_hidden.proofs.Follows.HistoryFollows.{hidden-first}
 use Rattle.pr_model.specs.declared.events.Entry.{Entry}
 use Rattle.pr_run_laws.specs.ScenarioRanges.{IsScenarioInRange}
 use Rattle.pr_run_laws.specs.ScenarioRuns.{IsKept, controllers_of, files_of}

@@ -130,6 +130,8 @@ fn a_run_on_threads_has_its_status_and_its_history(rt: HostRuntime) -> Result<()
         assert_eq!(rt; sink.bytes(), text.as_bytes(), "{input}");
         assert_eq!(rt; outcome.history.len(), entries, "{input}");
         assert!(rt; is_legal(&rt, alloc, input, &outcome.history)?, "{input}");
+        // Of another scenario it is not, so this does not say so of each.
+        assert!(rt; !is_legal(&rt, alloc, ALONE, &outcome.history)?, "{input}");
     }
     Ok(())
 }

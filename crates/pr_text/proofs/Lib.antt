@@ -6,6 +6,7 @@ pub mod HexLemmas
 pub mod KeyLemmas
 pub mod LineLemmas
 pub mod NumberLemmas
+pub mod PieceLemmas
 pub mod PlainLemmas
 pub mod QuoteLemmas
 pub mod QuotedLemmas

@@ -1,7 +1,8 @@
 //! Bytes as hex digits.
-ghost use Rattle.std.specs.Prelude.{◌≡◌, ◌<◌, [], IfOk, IfSome};
-ghost use Rattle.pr_text.specs.HexWords.{digit_value, byte_of, bytes_of_digits};
+ghost use Rattle.std.specs.Prelude.{◌≡◌, ◌*◌, ◌<◌, ◌≤◌, [], length, take, IfOk, IfSome};
+ghost use Rattle.pr_text.specs.HexWords.{digit_value, digits_of_bytes, byte_of, bytes_of_digits};
 
+use crate::digits::hex_digit;
 use pr_num::{Bytes, NoMemory};
 use std::alloc::Global;
 
@@ -50,5 +51,16 @@ pub fn bytes_of_digits(alloc: Global, digits: &[u8]) -> Result<Option<Bytes>, No
         Ok(Some(Bytes::from_vec(bytes)))
     } else {
         Ok(None)
+    }
+}
+
+/// Puts the digits of bytes at the front of a piece, two for each byte. Takes no memory.
+pub fn put_digits(piece: &mut [u8], bytes: &[u8])
+    requires { 2 * length bytes.now ≤ length piece.old }
+    ensures { take (2 * length bytes.now) piece.new ≡ digits_of_bytes bytes.now }
+{
+    for (i, b) in bytes.iter().enumerate() {
+        piece[2 * i] = hex_digit(*b / 16);
+        piece[2 * i + 1] = hex_digit(*b % 16);
     }
 }

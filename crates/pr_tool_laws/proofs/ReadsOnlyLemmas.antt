@@ -31,11 +31,11 @@ use Rattle.pr_tools.specs.declared.steps.Step.TheVariants as step
 use Rattle.pr_world.specs.ControllerStates.{ControllerState, Tool}
 use Rattle.pr_world.specs.Protocol.{controllers_at}
 use Rattle.pr_tool_laws.specs.OwnCalls.{AreOwnCalls}
-use Rattle.pr_tool_laws.proofs.HandleLemmas.{OpensSo, call-all, none-held, others-all}
-use Rattle.pr_tool_laws.proofs.KindLemmas.{fed-kind}
-use Rattle.pr_tool_laws.proofs.LawLemmas.{tool-keeps}
-use Rattle.pr_tool_laws.proofs.StageLemmas.{state-called}
-use Rattle.pr_tool_laws.proofs.StandingLemmas.{IsOther}
+use Rattle.pr_tool_laws.proofs.OwnFiles.HandleLemmas.{OpensSo, call-all, none-held, others-all}
+use Rattle.pr_tool_laws.proofs.Stages.KindLemmas.{fed-kind}
+use Rattle.pr_tool_laws.proofs.Stages.LawLemmas.{tool-keeps}
+use Rattle.pr_tool_laws.proofs.Stages.StageLemmas.{state-called}
+use Rattle.pr_tool_laws.proofs.OwnFiles.StandingLemmas.{IsOther}
 use Rattle.pr_tool_laws.specs.ToolHandles.{AllHeld, LeavesTheSystem, only_reads}
 use Rattle.pr_truss_laws.specs.Handles.{HasNothingOpen}
 

@@ -6,9 +6,10 @@ ghost use Rattle.pr_tools.specs.Pfiles.{file_text, target_text, descriptor_line,
 
 use crate::entries::entries_in;
 use crate::names::name_in;
-use crate::texts::Text;
+use crate::texts::{end_line, push_header};
 use pr_num::{FdKind, NoMemory};
 use pr_rec::FdEntry;
+use pr_text::Text;
 use std::alloc::Global;
 
 /// A file that is open: its name, for what it is open, and where the next read or write begins.
@@ -45,7 +46,7 @@ fn push_descriptor(text: &mut Text, descriptor: &FdEntry) -> Result<(), NoMemory
     text.decimal(u64::from(descriptor.descriptor.number()))?;
     text.text(b": ")?;
     push_target(text, descriptor)?;
-    text.end_line()
+    end_line(text)
 }
 
 /// The lines of the descriptors.
@@ -63,7 +64,7 @@ fn push_descriptors(text: &mut Text, descriptors: &[FdEntry]) -> Result<(), NoMe
 pub fn push_pfiles(alloc: Global, text: &mut Text, pid: u32, bytes: &[u8]) -> Result<(), NoMemory>
     ensures { OnOk result (text.new ≡ text.old ++ pfiles_text pid bytes.now) }
 {
-    text.header(pid)?;
+    push_header(text, pid)?;
     match entries_in::<FdEntry>(alloc, bytes)? {
         None => Ok(()),
         Some(descriptors) => push_descriptors(text, &descriptors),

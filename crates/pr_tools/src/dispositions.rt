@@ -4,11 +4,12 @@ ghost use Rattle.pr_num.specs.Signals.{signals};
 ghost use Rattle.pr_tools.specs.Psig.{disposition_text, signal_line, signal_lines, psig_text};
 
 use crate::decoding::fill;
-use crate::texts::Text;
+use crate::texts::{end_line, push_header};
 use pr_codec::WORD;
 use pr_num::limits::SIGNAL_COUNT;
 use pr_num::{NoMemory, Sig};
 use pr_rec::Disposition;
+use pr_text::Text;
 
 /// What is done at a signal.
 #[tactic(auto, unfolding(crate::specs::Psig::disposition_text))]
@@ -34,7 +35,7 @@ fn push_signal(text: &mut Text, signal: Sig, word: u64) -> Result<(), NoMemory>
     text.text(signal.name().as_bytes())?;
     text.text(b" ")?;
     push_disposition(text, word, Disposition::of(word))?;
-    text.end_line()
+    end_line(text)
 }
 
 /// The lines of all signals, each with its word.
@@ -52,7 +53,7 @@ fn push_signals(text: &mut Text, words: &[u64; SIGNAL_COUNT]) -> Result<(), NoMe
 pub fn push_psig(text: &mut Text, pid: u32, bytes: &[u8]) -> Result<(), NoMemory>
     ensures { OnOk result (text.new ≡ text.old ++ psig_text pid bytes.now) }
 {
-    text.header(pid)?;
+    push_header(text, pid)?;
     if bytes.len() != WORD * SIGNAL_COUNT {
         return Ok(());
     }

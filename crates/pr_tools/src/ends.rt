@@ -2,9 +2,10 @@
 ghost use Rattle.std.specs.Prelude.{◌≡◌, ◌++◌, OnOk};
 ghost use Rattle.pr_tools.specs.Pwait.{end_line, pwait_text};
 
-use crate::texts::Text;
+use crate::texts::end_line;
 use pr_num::NoMemory;
 use pr_rec::Psinfo;
+use pr_text::Text;
 
 /// The line of a process with its wait status.
 #[tactic(auto, unfolding(crate::specs::Pwait::end_line))]
@@ -14,7 +15,7 @@ fn push_end(text: &mut Text, pid: u32, status: u64) -> Result<(), NoMemory>
     text.decimal(u64::from(pid))?;
     text.text(b": terminated, wait status ")?;
     text.hex8(status)?;
-    text.end_line()
+    end_line(text)
 }
 
 /// What pwait(1) prints of a process that has ended, of the bytes of its `psinfo` (proc(4)): a line with its id and its

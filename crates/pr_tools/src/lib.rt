@@ -31,5 +31,5 @@ pub use replies::bytes_read;
 pub use stack_lines::{program_of, push_frame};
 pub use stacks::{CallFrame, Walk, frame_in, is_frame, process_stands, walk_after, walk_in};
 pub use steps::READ_FRAMES;
-pub use texts::Text;
+pub use texts::{end_line, push_header, push_label};
 pub use tools::{Tool, instruction_in};

@@ -5,9 +5,10 @@ ghost use Rattle.pr_rec.specs.RecordWords.{lwpstatus_words_of};
 ghost use Rattle.pr_tools.specs.Pflags.{flag_text, is_begun, flags_text, matter_name, behind_blank, stop_text, why_text, lwp_line, pflags_text};
 
 use crate::entries::lwps_in;
-use crate::texts::Text;
+use crate::texts::{end_line, push_header, push_label};
 use pr_num::{Flt, NoMemory, Sig, StopReason, Sysno};
 use pr_rec::{LwpFlags, LwpStatus, What};
+use pr_text::Text;
 use std::alloc::Global;
 
 /// A flag by name, where it is set; a bar stands before each but the first. Answers whether one was written by now.
@@ -132,11 +133,11 @@ fn push_why(text: &mut Text, lwp: &LwpStatus) -> Result<(), NoMemory>
 fn push_lwp(text: &mut Text, lwp: &LwpStatus) -> Result<(), NoMemory>
     ensures { OnOk result (text.new ≡ text.old ++ lwp_line (lwpstatus_words_of lwp.now)) }
 {
-    text.lwp(u64::from(lwp.id))?;
+    push_label(text, u64::from(lwp.id))?;
     text.text(b" ")?;
     push_flags(text, lwp.flags)?;
     push_why(text, lwp)?;
-    text.end_line()
+    end_line(text)
 }
 
 /// The lines of the lwps.
@@ -154,7 +155,7 @@ fn push_lwps(text: &mut Text, lwps: &[LwpStatus]) -> Result<(), NoMemory>
 pub fn push_pflags(alloc: Global, text: &mut Text, pid: u32, bytes: &[u8]) -> Result<(), NoMemory>
     ensures { OnOk result (text.new ≡ text.old ++ pflags_text pid bytes.now) }
 {
-    text.header(pid)?;
+    push_header(text, pid)?;
     match lwps_in(alloc, bytes)? {
         None => Ok(()),
         Some(lwps) => push_lwps(text, &lwps),

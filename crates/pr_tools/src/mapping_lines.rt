@@ -7,9 +7,10 @@ ghost use Rattle.pr_tools.specs.Pmap.{access_letter, prot_text, kind_text, named
 
 use crate::entries::entries_in;
 use crate::names::name_in;
-use crate::texts::Text;
+use crate::texts::{end_line, push_header};
 use pr_num::{MappingKind, NoMemory, Prot};
 use pr_rec::MapEntry;
+use pr_text::Text;
 use std::alloc::Global;
 
 /// How many bytes the unit of sizes has.
@@ -87,7 +88,7 @@ fn push_mapping(text: &mut Text, mapping: &MapEntry) -> Result<(), NoMemory>
     text.text(b" ")?;
     push_kind(text, mapping.kind)?;
     push_named(text, name_in(&mapping.name))?;
-    text.end_line()
+    end_line(text)
 }
 
 /// The lines of the mappings. Answers the sum of their sizes.
@@ -112,7 +113,7 @@ fn push_total(text: &mut Text, total: u64) -> Result<(), NoMemory>
     text.text(b" total ")?;
     text.decimal(total)?;
     text.text(b"K")?;
-    text.end_line()
+    end_line(text)
 }
 
 /// The text of a process, of its mappings.
@@ -121,7 +122,7 @@ pub fn push_pmap(alloc: Global, text: &mut Text, pid: u32, bytes: &[u8]) -> Resu
     requires { HasTotal bytes.now }
     ensures { OnOk result (text.new ≡ text.old ++ pmap_text pid bytes.now) }
 {
-    text.header(pid)?;
+    push_header(text, pid)?;
     match entries_in::<MapEntry>(alloc, bytes)? {
         None => Ok(()),
         Some(mappings) => {

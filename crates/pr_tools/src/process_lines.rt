@@ -5,9 +5,10 @@ ghost use Rattle.pr_tools.specs.Ptree.{ids_rise, process_line, lines_below, tree
 
 use crate::entries::entries_in;
 use crate::names::name_in;
-use crate::texts::Text;
+use crate::texts::end_line;
 use pr_num::NoMemory;
 use pr_rec::ListEntry;
+use pr_text::Text;
 use std::alloc::Global;
 
 /// The greatest depth that is shown.
@@ -34,11 +35,11 @@ fn push_process(text: &mut Text, depth: usize, process: &ListEntry) -> Result<()
     requires { depth ≤ 32 }
     ensures { OnOk result (text.new ≡ text.old ++ process_line depth (list_entry_words_of process.now)) }
 {
-    text.blanks(2 * depth)?;
+    text.times(b' ', 2 * depth)?;
     text.decimal(u64::from(process.id))?;
     text.text(b" ")?;
     text.text(name_in(&process.program))?;
-    text.end_line()
+    end_line(text)
 }
 
 /// The lines of the children of a process, each with those of its own children after it, so many levels deep.

@@ -9,9 +9,9 @@ use crate::ends::push_pwait;
 use crate::lwp_lines::push_pflags;
 use crate::mapping_lines::push_pmap;
 use crate::process_lines::push_ptree;
-use crate::texts::Text;
 use pr_model::ToolKind;
 use pr_num::{Bytes, NoMemory};
+use pr_text::Text;
 use std::alloc::Global;
 
 /// Appends the text of a tool of a process, of the bytes of the record that it shows. `pstop` and `prun` show nothing,

@@ -1,8 +1,9 @@
 ghost use Rattle.std.specs.Prelude.{◌≡◌, ◌++◌, OnOk};
 ghost use Rattle.pr_tools.specs.Refusals.{cannot_examine, refusal_line};
 
-use crate::texts::Text;
+use crate::texts::end_line;
 use pr_num::{Errno, NoMemory};
+use pr_text::Text;
 
 /// The name of the tool, and the process that it cannot examine.
 #[tactic(auto, unfolding(crate::specs::Refusals::cannot_examine))]
@@ -22,5 +23,5 @@ pub fn push_refusal(text: &mut Text, tool: &[u8], pid: u32, errno: Errno) -> Res
     push_cannot(text, tool, pid)?;
     text.text(b": ")?;
     text.text(errno.name().as_bytes())?;
-    text.end_line()
+    end_line(text)
 }

@@ -8,11 +8,12 @@ ghost use Rattle.pr_tools.specs.Pstack.{begins_with, program_of, distance_text, 
 
 use crate::entries::lwps_in;
 use crate::stacks::CallFrame;
-use crate::texts::Text;
+use crate::texts::{end_line, push_header, push_label};
 use pr_asm::Program;
 use pr_model::PC;
 use pr_num::{Instruction, NoMemory};
 use pr_rec::LwpStatus;
+use pr_text::Text;
 use std::alloc::Global;
 
 /// Whether a program's text begins with these 16 bytes.
@@ -83,7 +84,7 @@ pub fn push_frame(text: &mut Text, program: Option<&Program>, pc: u64) -> Result
     text.hex8(pc)?;
     text.text(b" ")?;
     push_symbol(text, program, pc)?;
-    text.end_line()
+    end_line(text)
 }
 
 /// The lines of those frames that are an lwp's.
@@ -115,8 +116,8 @@ fn push_stack(
     ensures { OnOk result (text.new ≡ text.old ++ stack_text (option_copied program.entry) frames.now (lwpstatus_words_of lwp.now)) }
 {
     let id = u64::from(lwp.id);
-    text.lwp(id)?;
-    text.end_line()?;
+    push_label(text, id)?;
+    end_line(text)?;
     push_frame(text, program, lwp.regs[PC])?;
     push_frames(text, program, frames, id)
 }
@@ -149,7 +150,7 @@ pub fn push_pstack(
 ) -> Result<(), NoMemory>
     ensures { OnOk result (text.new ≡ text.old ++ pstack_text pid bytes.now first frames.now programs.now) }
 {
-    text.header(pid)?;
+    push_header(text, pid)?;
     match lwps_in(alloc, bytes)? {
         None => Ok(()),
         Some(lwps) => push_stacks(text, program_of(programs, first), frames, &lwps),

@@ -18,13 +18,13 @@ use crate::steps::{
     CONTROL, MEMORY, RECORD, Step, after, ctl_mode_of, file_of, first_step, frame_room,
     record_room, way_out,
 };
-use crate::texts::Text;
 use pr_asm::Program;
 use pr_model::{Call, File, Mode, Reply, ToolKind, number_of, opened_in, tool_name, until_in};
 use pr_msg::Message;
 use pr_num::layout::TEXT_BASE;
 use pr_num::limits::READ_LIMIT;
 use pr_num::{Bytes, Errno, Instruction, NoMemory};
+use pr_text::Text;
 use std::alloc::Global;
 use std::marker::Model;
 

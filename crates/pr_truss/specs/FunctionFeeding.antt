@@ -1,15 +1,17 @@
 -- What the reply to its call makes of truss(1) where it shows calls of functions (-u).
-use Rattle.std.specs.Prelude.{◌+◌, ℕ, Bool, false, Option, Some, None, List, length, nat_lt, if◌then◌else◌}
+use Rattle.std.specs.Prelude.{◌+◌, ◌==◌, ◌&&◌, ℕ, Bool, false, Option, Some, None, List, length, nat_lt, position, if◌then◌else◌}
 use Rattle.std.specs.Str.{bytes_eq}
 use Rattle.pr_model.specs.Replies.{bytes_in, until_in}
 use Rattle.pr_model.specs.declared.calls.Reply.{Reply}
+use Rattle.pr_line.specs.declared.options.Options.{Options}
 use Rattle.pr_num.specs.declared.errnos.Errno.{Errno}
 use Rattle.pr_num.specs.declared.errnos.Errno.TheVariants.{Noent}
 use Rattle.pr_truss.specs.Asides.{patching, with_aside, with_lifts, marks_at, with_marks}
 use Rattle.pr_truss.specs.Closings.{with_closing, with_interrupt}
 use Rattle.pr_truss.specs.Feeding.{fed, with_reply}
+use Rattle.pr_truss.specs.FunctionEvents.{begins_at}
 use Rattle.pr_truss.specs.FunctionStops.{with_function_status_answered, with_function_text_answered, with_function_run_answered, with_function_lwps_answered}
-use Rattle.pr_truss.specs.Marks.{code_of, first_function, has_functions, with_function, without_function}
+use Rattle.pr_truss.specs.Marks.{address_of, code_of, first_function, has_functions, with_function, without_function}
 use Rattle.pr_truss.specs.Openings.{with_refused_step, with_step_done, with_stop_seen}
 use Rattle.pr_truss.specs.Replies.{answer_of}
 use Rattle.pr_truss.specs.Reports.{all_reports}
@@ -53,10 +55,22 @@ abbrev pub is_code : List ℕ → Option (List ℕ) → Bool
 is_code code None = false
 is_code code (Some bytes) = bytes_eq bytes code
 
--- A function is planted where its first instruction was read. Else it is left alone.
+abbrev pub is_place : ℕ → Option ℕ → Bool
+is_place function None = false
+is_place function (Some first) = first == function
+
+-- whether no function before this one has its address
+unfoldable pub is_first_there : Options → ℕ → Bool
+is_first_there o function = is_place function (position (begins_at (address_of o function)) o.functions)
+
+-- A function is planted where its first instruction was read, and no function before it has its address. Else it is
+-- left alone; so of two functions at one address the second one always is.
+abbrev pub is_to_plant : Options → ℕ → Option (List ℕ) → Bool
+is_to_plant o function bytes = is_code (code_of o function) bytes && is_first_there o function
+
 unfoldable pub with_code_read : TrussState → ℕ → ℕ → Option (List ℕ) → TrussState
 with_code_read s place function bytes =
-    if is_code (code_of s.options function) bytes then with_aside s (Planting place function)
+    if is_to_plant s.options function bytes then with_aside s (Planting place function)
     else with_next_function s place (function + 1)
 
 abbrev pub with_planted : TrussState → ℕ → ℕ → TrussState

@@ -18,7 +18,7 @@ use std::alloc::Global;
 
 /// The address of a function.
 #[tactic(auto, unfolding(crate::specs::Marks::address_of))]
-fn address_of(options: &Options, function: usize) -> u64
+pub(crate) fn address_of(options: &Options, function: usize) -> u64
     ensures { result ≡ address_of options.now function }
 {
     match options.functions.as_slice().get(function) {

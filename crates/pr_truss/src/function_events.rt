@@ -28,7 +28,7 @@ pub enum FunctionEvent {
 }
 
 /// The place of the first function at this address.
-fn place_of(functions: &[Function], pc: u64) -> Option<usize>
+pub(crate) fn place_of(functions: &[Function], pc: u64) -> Option<usize>
     ensures { result ≡ position (begins_at pc) functions.now }
 {
     functions.iter().position(|function| function.at == pc)

@@ -1,13 +1,15 @@
 //! What the reply to its call makes of truss where it shows calls of functions (`-u`).
 ghost use Rattle.std.specs.Prelude.{◌≡◌, ◌<◌, ◌+◌, option_map};
-ghost use Rattle.pr_truss.specs.FunctionFeeding.{with_next_function, with_refused_opening, with_functions_begun, with_function_step_answered, is_code, with_code_read, with_code_answered, with_plant_answered, with_halt_answered, with_wait_answered, with_asking_answered, with_function_reply, with_aside_answered, fed_functions};
+ghost use Rattle.pr_truss.specs.FunctionFeeding.{with_next_function, with_refused_opening, with_functions_begun, with_function_step_answered, is_code, is_first_there, is_to_plant, with_code_read, with_code_answered, with_plant_answered, with_halt_answered, with_wait_answered, with_asking_answered, with_function_reply, with_aside_answered, fed_functions};
 ghost use Rattle.pr_truss.specs.Trusses.{IsReady};
 
 use crate::Truss;
 use crate::asides::Aside;
-use crate::function_calls::code_of;
+use crate::function_calls::{address_of, code_of};
+use crate::function_events::place_of;
 use crate::replies::{Answer, answer_of};
 use crate::stages::{OpeningStep, Stage};
+use pr_line::Options;
 use pr_model::{Reply, bytes_in, until_in};
 use pr_num::Errno;
 
@@ -19,6 +21,24 @@ fn is_code(code: &[u8], bytes: Option<&[u8]>) -> bool
         None => false,
         Some(bytes) => bytes == code,
     }
+}
+
+/// Whether no function before this one has its address.
+#[tactic(auto, unfolding(crate::specs::FunctionFeeding::is_first_there))]
+fn is_first_there(options: &Options, function: usize) -> bool
+    ensures { result ≡ is_first_there options.now function }
+{
+    match place_of(options.functions.as_slice(), address_of(options, function)) {
+        Some(first) => first == function,
+        None => false,
+    }
+}
+
+/// Whether a function is planted, where these bytes were read at its address.
+fn is_to_plant(options: &Options, function: usize, bytes: Option<&[u8]>) -> bool
+    ensures { result ≡ is_to_plant options.now function (option_map (λ b. b.now) bytes.entry) }
+{
+    is_code(&code_of(options, function), bytes) && is_first_there(options, function)
 }
 
 impl Truss {
@@ -79,12 +99,13 @@ impl Truss {
         }
     }
 
-    /// Plants the breakpoint of a function where its first instruction was read.
+    /// Plants the breakpoint of a function where its first instruction was read and no function before it has its
+    /// address.
     #[tactic(auto, unfolding(crate::specs::FunctionFeeding::with_code_read))]
     fn code_read(&mut self, place: usize, function: usize, bytes: Option<&[u8]>)
         ensures { self.new.state ≡ with_code_read self.old.state place function (option_map (λ b. b.now) bytes.entry) }
     {
-        if is_code(&code_of(&self.options, function), bytes) {
+        if is_to_plant(&self.options, function, bytes) {
             self.set_aside(Aside::Planting { place, function });
         } else {
             self.function_after(place, function);

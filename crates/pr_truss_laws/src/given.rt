@@ -9,7 +9,7 @@ ghost use Rattle.pr_truss_laws.specs.Given.{IsHandled, IsHandledSoFar};
 /// interrupted before that opening was done; or it is at work on one still, and has begun none behind it. Then no call
 /// of that opening was refused so far, or truss closes what it opened. A truss that has finished is at work on none.
 /// This is so whatever it was replied.
-#[tactic(auto, using(crate::proofs::GivenLemmas::given))]
+#[tactic(auto, using(crate::proofs::GivenProcesses::GivenLemmas::given))]
 pub fn each_given_process_is_handled()
     ensures so_far { (o : Options) (xs : List Exchange) → Makes (first_truss o) xs
         → IsHandledSoFar o (next_call_of (truss_after (first_truss o) xs)) o.program
@@ -19,7 +19,7 @@ pub fn each_given_process_is_handled()
 {}
 
 /// A truss that has finished has closed each handle that it was given, whatever it was replied.
-#[tactic(auto, using(crate::proofs::ClosesLemmas::closings))]
+#[tactic(auto, using(crate::proofs::Files::ClosesLemmas::closings))]
 pub fn each_handle_is_closed()
     ensures { (o : Options) (xs : List Exchange) → Ends (first_truss o) xs → ClosesAll xs }
 {}

@@ -6,7 +6,7 @@ ghost use Rattle.pr_truss_laws.specs.Polled.{IsNoEndOf, PollNames, calls_meanwhi
 /// Wherever truss has come to: after a poll that named a process, at most twelve of its calls come before it runs that
 /// process or closes the first of its files. Where it was interrupted meanwhile, at most ten more come for each process
 /// that it leaves before. This is so whatever it was replied.
-#[tactic(auto, using(crate::proofs::PolledLemmas::polled))]
+#[tactic(auto, using(crate::proofs::Soon::PolledLemmas::polled))]
 pub fn what_a_poll_named_is_soon_run_or_closed()
     ensures { (s : TrussState) (x : Exchange) (between : List Exchange) (place : ℕ) → Makes s (x ∷ between)
         → PollNames s x.reply place → All (IsNoEndOf (traced_at s place)) between

@@ -17,7 +17,7 @@ ghost use Rattle.pr_model.specs.declared.events.Did.TheVariants.{Stopped};
 ghost use Rattle.pr_truss_laws.specs.Stills.{HasOneEvent, HasSameSettings, IsFrozen, IsHalting, IsQuiet, IsUndisturbed, StandsOnEvent, with_lwp_stopped};
 
 /// No lwp has a turn in a process each lwp of which stands on an event of interest or is suspended.
-#[tactic(auto, using(crate::proofs::StillLemmas::stills))]
+#[tactic(auto, using(crate::proofs::Machine::StillLemmas::stills))]
 pub fn a_frozen_process_stands_still()
     ensures moves { (s : TracedSystem) (pid : ℕ) (p : TracedProcess) → live_process s pid ≡ Some p → IsFrozen p
         → (id : ℕ) → can_move s pid id ≡ false }
@@ -27,7 +27,7 @@ pub fn a_frozen_process_stands_still()
 
 /// Where each lwp of a process stands so or is directed to stop, a turn of one does nothing but that it stops as it was
 /// directed to, and so it stays.
-#[tactic(auto, using(crate::proofs::StillLemmas::stills))]
+#[tactic(auto, using(crate::proofs::Machine::StillLemmas::stills))]
 pub fn a_halting_process_only_stops()
     ensures did { (s : TracedSystem) (pid : ℕ) (p : TracedProcess) → live_process s pid ≡ Some p → IsHalting p
         → (id : ℕ) (t : LwpTurn) → turn_of s pid id ≡ Some t → t.turned ≡ record { did = Stopped; stop = false } }
@@ -56,7 +56,7 @@ pub fn other_controllers_leave_an_exclusive_process_alone()
 /// A turn in a process without PR_ASYNC, of which no lwp stands on an event of interest or is directed to stop: it
 /// meets nothing traced, and this stays so; or its lwp stops on what it met, and each other one stands still or is
 /// directed to stop. Both hold where the process lives still, and what is set on it stays, but for its watched areas.
-#[tactic(auto, using(crate::proofs::OwnTurnLemmas::quiets))]
+#[tactic(auto, using(crate::proofs::EventStops::OwnTurnLemmas::quiets))]
 pub fn a_quiet_process_halts_at_one_event()
     ensures stays { (s : TracedSystem) (pid : ℕ) (p : TracedProcess) (id : ℕ) (t : LwpTurn) → IsLawfulSystem s
         → live_process s pid ≡ Some p → IsQuiet p → has_flags p.control.modes async_mode ≡ false
@@ -78,7 +78,7 @@ pub fn a_quiet_process_halts_at_one_event()
 
 /// A process that was left alone stands as it stood: where no lwp could move none can, where each stood still or was
 /// directed to stop this is so, and where none was stopped none is. An lwp that stood on an event tells the same event.
-#[tactic(auto, using(crate::proofs::AloneLemmas::alones))]
+#[tactic(auto, using(crate::proofs::EventStops::AloneLemmas::alones))]
 pub fn a_process_left_alone_stands_as_it_stood()
     ensures frozen { (p q : TracedProcess) → IsUndisturbed p q → IsFrozen p → IsFrozen q }
     ensures halting { (p q : TracedProcess) → IsUndisturbed p q → IsHalting p → IsHalting q }

@@ -6,7 +6,7 @@ ghost use Rattle.pr_truss_laws.specs.Told.{TellsItsEvent, has_ended};
 
 /// Right after a turn in which an lwp stopped on an event of interest its status tells the event that the turn logged,
 /// where no call ended the lwp.
-#[tactic(auto, using(crate::proofs::BridgeLemmas::bridges))]
+#[tactic(auto, using(crate::proofs::EventStops::BridgeLemmas::bridges))]
 pub fn a_stop_tells_its_event()
     ensures { (s : TracedSystem) (pid : ℕ) (p : TracedProcess) (id : ℕ) (l : TracedLwp) → IsLawfulSystem s
         → live_process s pid ≡ Some p → lwp_of p id ≡ Some l → (t : LwpTurn) → turn_of s pid id ≡ Some t

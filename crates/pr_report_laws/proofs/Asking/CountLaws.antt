@@ -29,11 +29,11 @@ use Rattle.pr_truss.specs.declared.reports.Report.{Report}
 use Rattle.pr_truss.specs.declared.reports.Report.TheVariants as report
 use Rattle.pr_truss.specs.declared.stages.Stage.{Stage}
 use Rattle.pr_truss.specs.declared.stages.Stage.TheVariants.{ReadingText}
-use Rattle.pr_truss_laws.proofs.FedSteps.{fed-step}
-use Rattle.pr_truss_laws.proofs.KnownLemmas.{Knows, after-knows, first-knows}
-use Rattle.pr_truss_laws.proofs.OptionLemmas.{fed-options}
-use Rattle.pr_truss_laws.proofs.ReplySteps as step
-use Rattle.pr_truss_laws.proofs.ReplySteps.{GoesOn, ReplyStep, StopOver}
+use Rattle.pr_truss_laws.proofs.Replies.FedSteps.{fed-step}
+use Rattle.pr_truss_laws.proofs.OwnBusiness.KnownLemmas.{Knows, after-knows, first-knows}
+use Rattle.pr_truss_laws.proofs.Replies.OptionLemmas.{fed-options}
+use Rattle.pr_truss_laws.proofs.Replies.ReplySteps as step
+use Rattle.pr_truss_laws.proofs.Replies.ReplySteps.{GoesOn, ReplyStep, StopOver}
 use Rattle.pr_truss_laws.specs.Exchanges.{Exchange, Makes, truss_after}
 use Rattle.pr_report_laws.specs.Counted.{PrintsItsCounts, counts_line, event_shown, how_many, is_call, is_failure, is_failure_of, is_of_call, is_of_fault, is_of_signal, line_of_call, line_of_fault, line_of_signal, other_line, table_of}
 

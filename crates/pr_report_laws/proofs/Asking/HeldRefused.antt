@@ -1,8 +1,8 @@
-use Rattle.std.proofs.Common.{◌≡◌, ◌≢◌, ◌<◌, ◌⊎◌, ◌++◌, ℕ, Bool, true, false, cond, Option, Some, None, List, [], ◌∷◌, length, refl, sym, subst, ap, ◌∙◌, inl, inr}
+use Rattle.std.proofs.Common.{◌≡◌, ◌≢◌, ◌<◌, ◌==◌, ◌⊎◌, ◌++◌, ℕ, Bool, true, false, cond, Option, Some, List, [], ◌∷◌, length, refl, sym, subst, ap, ◌∙◌, inl, inr}
 use Rattle.std.proofs.lemmas.Bool.{eq-eqb, false≢true, ne_eqb}
 use Rattle.std.proofs.lemmas.List.{append-nil}
 use Rattle.std.proofs.lemmas.List.Elements.{filter-append}
-use Rattle.std.proofs.lemmas.Option.{none-some, same_Some}
+use Rattle.std.proofs.lemmas.Option.{same_Some}
 use Rattle.pr_line.specs.declared.options.Options.{Options}
 use Rattle.pr_model.specs.Legal.{state_after}
 use Rattle.pr_model.specs.State.{TracedState}
@@ -16,13 +16,13 @@ use Rattle.pr_truss.specs.declared.stages.AfterClosing.{AfterClosing}
 use Rattle.pr_truss.specs.declared.stages.FreeingStep.TheVariants as freeing
 use Rattle.pr_truss.specs.declared.stages.Stage.{Stage}
 use Rattle.pr_truss.specs.declared.stages.Stage.TheVariants.{OpeningControl, Opening, OpeningChildControl, OpeningChild, Closing, FreeingChild}
-use Rattle.pr_truss_laws.proofs.FedSteps.{fed-step}
-use Rattle.pr_truss_laws.proofs.FitLemmas.{last-within}
-use Rattle.pr_truss_laws.proofs.HeldLemmas.{Fits}
-use Rattle.pr_truss_laws.proofs.OwnLemmas.{Owns}
-use Rattle.pr_truss_laws.proofs.ReplySteps as step
-use Rattle.pr_truss_laws.proofs.ReplySteps.{Closes, Looks, ReplyStep, Returns, Settles, on-staged, over-staged}
-use Rattle.pr_truss_laws.specs.Exchanges.{Exchange, opened_by, truss_at}
+use Rattle.pr_truss_laws.proofs.Replies.FedSteps.{fed-step}
+use Rattle.pr_truss_laws.proofs.Replies.FitLemmas.{last-within}
+use Rattle.pr_truss_laws.proofs.Files.HeldLemmas.{Fits}
+use Rattle.pr_truss_laws.proofs.Files.OwnLemmas.{Owns}
+use Rattle.pr_truss_laws.proofs.Replies.ReplySteps as step
+use Rattle.pr_truss_laws.proofs.Replies.ReplySteps.{Closes, Looks, ReplyStep, Returns, Settles, on-staged, over-staged}
+use Rattle.pr_truss_laws.specs.Exchanges.{Exchange, truss_at}
 use Rattle.pr_truss_laws.specs.Runs.{IsTrussRun}
 use Rattle.pr_report_laws.proofs.Files.FileLaws.{HasFiles}
 use Rattle.pr_report_laws.proofs.Files.FileSteps.{MakesNext, makes-next}
@@ -31,7 +31,7 @@ use Rattle.pr_report_laws.proofs.Holding.HoldPlaces.{hold-watched, one-run}
 use Rattle.pr_report_laws.proofs.Replies.Places.{unwatched-away}
 use Rattle.pr_report_laws.proofs.Watching.HistoryParts.{front-run, rest-makes}
 use Rattle.pr_report_laws.specs.Holds.{HasHold}
-use Rattle.pr_report_laws.specs.HeldRefusals.{TellsNoRefusalOfWhatItHolds, refusals_of, tells_refusal_of}
+use Rattle.pr_report_laws.specs.HeldRefusals.{TellsNoRefusalOfWhatItHolds, opens_file_of, refusals_of, tells_refusal_of}
 use Rattle.pr_report_laws.specs.Watching.{is_away, place_of, watches, with_exchange}
 
 -- Truss does not say that it cannot trace what it has hold of.
@@ -43,7 +43,7 @@ other-more pid rs r other =
     ∙ ap (λ b. refusals_of pid rs ++ cond b (r ∷ []) []) other ∙ append-nil (refusals_of pid rs)
 
 module _ (k pid : ℕ) (t : TrussState) (s : TracedState) (g : Reaches k t s) (x : Exchange)
-    (next : next_call_of t ≡ Some x.call) (plain : opened_by x.call x.reply ≡ None) where
+    (next : next_call_of t ≡ Some x.call) (plain : opens_file_of pid x.call ≡ false) where
   abbrev Same : TrussState → Type 0
   Same u = refusals_of pid u.reports ≡ refusals_of pid t.reports
 
@@ -54,15 +54,15 @@ module _ (k pid : ℕ) (t : TrussState) (s : TracedState) (g : Reaches k t s) (x
   files : HasFiles k t s
   files = g.files
 
-  -- it opens nothing
+  -- it opens no file of the process
   calls : call_of t t.stage ≡ Some x.call
   unfolding next_call_of
   calls = next
 
-  no-open : {A : Type 0} (stage : Stage) (of : ℕ) → t.stage ≡ stage → call_of t stage ≡ Some (open_control of) → A
-  no-open stage of at is =
-      let called : open_control of ≡ x.call = same_Some _ x.call (sym is ∙ ap (call_of t) (sym at) ∙ calls) in
-      absurd (none-some _ (sym plain ∙ ap (λ c. opened_by c x.reply) (sym called)))
+  opens-other : (stage : Stage) (of : ℕ) → t.stage ≡ stage → call_of t stage ≡ Some (open_control of)
+      → (of == pid) ≡ false
+  opens-other stage of at is =
+      ap (opens_file_of pid) (same_Some (open_control of) x.call (sym is ∙ ap (call_of t) (sym at) ∙ calls)) ∙ plain
 
   -- a process that it is opening, and whose files it closes then, it watches neither before the reply nor after it
   apart : (stage : Stage) (place : ℕ) (v : TrussState) → t.stage ≡ stage → place < length t.traced
@@ -84,7 +84,8 @@ module _ (k pid : ℕ) (t : TrussState) (s : TracedState) (g : Reaches k t s) (x
       → Same u
   unfolding call_of
   settles-same stage given u at (step.refuses_start _ _) = other-more pid t.reports _ refl
-  settles-same stage given u at (step.refuses_control {pid = of} _ _) = no-open (OpeningControl of) of at refl
+  settles-same stage given u at (step.refuses_control {pid = of} _ _) =
+      other-more pid t.reports _ (opens-other (OpeningControl of) of at refl)
   settles-same stage given u at (step.interrupts_text _ _) = other-more pid t.reports _ refl
   settles-same stage given u at _ = refl
 
@@ -99,7 +100,7 @@ module _ (k pid : ℕ) (t : TrussState) (s : TracedState) (g : Reaches k t s) (x
   unfolding call_of freeing_call
   closes-same stage place after u at f on (step.text_ended _) = other-more pid t.reports _ refl
   closes-same stage place after u at f on (step.refuses_free {pid = of} _ _) =
-      no-open (FreeingChild of freeing.OpenControl) of at refl
+      other-more pid t.reports _ (opens-other (FreeingChild of freeing.OpenControl) of at refl)
   closes-same stage place after u at f on (step.refuses_opening {now = now} _ _) =
       let once = eq-eqb place place refl in
       other-more pid t.reports _
@@ -118,7 +119,7 @@ module _ (k pid : ℕ) (t : TrussState) (s : TracedState) (g : Reaches k t s) (x
       → Same u
   unfolding call_of
   returns-same stage parent u at (step.refuses_child_control {pid = of} _ _) =
-      no-open (OpeningChildControl parent of) of at refl
+      other-more pid t.reports _ (opens-other (OpeningChildControl parent of) of at refl)
   returns-same stage parent u at _ = refl
 
   step-same : (stage : Stage) (v : TrussState) → t.stage ≡ stage → Fits t.traced stage → IsOn v

@@ -30,13 +30,13 @@ use Rattle.pr_truss.specs.declared.stages.OpeningStep.{OpeningStep}
 use Rattle.pr_truss.specs.declared.stages.OpeningStep.TheVariants as opening
 use Rattle.pr_truss.specs.declared.stages.Stage.{Stage}
 use Rattle.pr_truss.specs.declared.stages.Stage.TheVariants.{Opening, Polling, ReadingStatus, ReadingText, Unfollowing, ReadingLwps}
-use Rattle.pr_truss_laws.proofs.ClosesLemmas.{first-fits}
-use Rattle.pr_truss_laws.proofs.FedSteps.{fed-step}
-use Rattle.pr_truss_laws.proofs.FitLemmas.{fed-fits}
-use Rattle.pr_truss_laws.proofs.HeldLemmas.{Fits, at_place, set-at}
-use Rattle.pr_truss_laws.proofs.ReplySteps as step
-use Rattle.pr_truss_laws.proofs.ReplySteps.{GoesOn, IsNew, Learns, Opens, Reads, ReplyStep, StopOver, Turns}
-use Rattle.pr_truss_laws.proofs.TracedChanges.{accepted-granted}
+use Rattle.pr_truss_laws.proofs.Files.ClosesLemmas.{first-fits}
+use Rattle.pr_truss_laws.proofs.Replies.FedSteps.{fed-step}
+use Rattle.pr_truss_laws.proofs.Replies.FitLemmas.{fed-fits}
+use Rattle.pr_truss_laws.proofs.Files.HeldLemmas.{Fits, at_place, set-at}
+use Rattle.pr_truss_laws.proofs.Replies.ReplySteps as step
+use Rattle.pr_truss_laws.proofs.Replies.ReplySteps.{GoesOn, IsNew, Learns, Opens, Reads, ReplyStep, StopOver, Turns}
+use Rattle.pr_truss_laws.proofs.Replies.TracedChanges.{accepted-granted}
 use Rattle.pr_truss_laws.specs.Exchanges.{Exchange, Makes, truss_after}
 use Rattle.pr_report_laws.proofs.Files.WatchHistories.{after-append}
 use Rattle.pr_report_laws.specs.Looks.{WasCalledLast, WasNamedNow}

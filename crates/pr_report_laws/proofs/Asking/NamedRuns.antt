@@ -38,13 +38,13 @@ use Rattle.pr_truss.specs.declared.stages.OpeningStep.{OpeningStep}
 use Rattle.pr_truss.specs.declared.stages.OpeningStep.TheVariants as opening
 use Rattle.pr_truss.specs.declared.stages.Stage.{Stage}
 use Rattle.pr_truss.specs.declared.stages.Stage.TheVariants.{Opening, Polling, ReadingStatus, ReadingText, OpeningChildControl, OpeningChild, Running, Closing, Unfollowing, ReadingLwps, FreeingChild, Finished}
-use Rattle.pr_truss_laws.proofs.ClosesLemmas.{first-fits}
-use Rattle.pr_truss_laws.proofs.FedSteps.{fed-step}
-use Rattle.pr_truss_laws.proofs.FitLemmas.{fed-fits, last-within, reads-within}
-use Rattle.pr_truss_laws.proofs.HeldLemmas.{Fits, IsLast, at_place, set-at}
-use Rattle.pr_truss_laws.proofs.OptionLemmas.{fed-options}
-use Rattle.pr_truss_laws.proofs.ReplySteps as step
-use Rattle.pr_truss_laws.proofs.ReplySteps.{Closes, GoesOn, Learns, Looks, Opens, Reads, ReplyStep, Returns, StopOver, Turns}
+use Rattle.pr_truss_laws.proofs.Files.ClosesLemmas.{first-fits}
+use Rattle.pr_truss_laws.proofs.Replies.FedSteps.{fed-step}
+use Rattle.pr_truss_laws.proofs.Replies.FitLemmas.{fed-fits, last-within, reads-within}
+use Rattle.pr_truss_laws.proofs.Files.HeldLemmas.{Fits, IsLast, at_place, set-at}
+use Rattle.pr_truss_laws.proofs.Replies.OptionLemmas.{fed-options}
+use Rattle.pr_truss_laws.proofs.Replies.ReplySteps as step
+use Rattle.pr_truss_laws.proofs.Replies.ReplySteps.{Closes, GoesOn, Learns, Looks, Opens, Reads, ReplyStep, Returns, StopOver, Turns}
 use Rattle.pr_truss_laws.specs.Exchanges.{Exchange, Makes}
 use Rattle.pr_truss_laws.specs.Soon.{IsNoPoll}
 use Rattle.pr_report_laws.proofs.Watching.NamedSoon.{poll-stage}

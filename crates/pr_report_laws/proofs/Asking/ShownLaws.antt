@@ -6,7 +6,7 @@ use Rattle.pr_model.specs.Legal.{state_after}
 use Rattle.pr_model.specs.State.{TracedState}
 use Rattle.pr_model.specs.declared.events.Entry.{Entry}
 use Rattle.pr_truss.specs.Trusses.{TrussState, first_truss}
-use Rattle.pr_truss_laws.proofs.KnownLemmas.{Knows, after-knows, first-knows}
+use Rattle.pr_truss_laws.proofs.OwnBusiness.KnownLemmas.{Knows, after-knows, first-knows}
 use Rattle.pr_truss_laws.specs.Exchanges.{exchange_of, exchanges, truss_at}
 use Rattle.pr_truss_laws.specs.Runs.{IsTrussRun}
 use Rattle.pr_report_laws.proofs.Files.FileSteps.{makes-next}

@@ -28,13 +28,13 @@ use Rattle.pr_truss.specs.declared.stages.OpeningStep.{OpeningStep}
 use Rattle.pr_truss.specs.declared.stages.OpeningStep.TheVariants as opening
 use Rattle.pr_truss.specs.declared.stages.Stage.{Stage}
 use Rattle.pr_truss.specs.declared.stages.Stage.TheVariants.{ReadingStatus, ReadingText, Running, Closing}
-use Rattle.pr_truss_laws.proofs.HeldLemmas.{Fits, at_place, set-at}
+use Rattle.pr_truss_laws.proofs.Files.HeldLemmas.{Fits, at_place, set-at}
 use Rattle.pr_report_laws.proofs.Invariant.StandLemmas.{Each, EachBut, HasMemoryOpen, IsAttached, IsNew, IsUnseen, Rests, Stands, StandsChild, StandsOpening, but-append, but-set, child-unseen, each-append, each-but, each-join, each-remove, each-set, old-attached, opening-unseen, rest-leaves, rest-stays}
-use Rattle.pr_truss_laws.proofs.ReplySteps as step
-use Rattle.pr_truss_laws.proofs.ReplySteps.{Closes, GoesOn, Learns, Looks, Opens, Reads, ReplyStep, Returns, Settles, StopOver, Turns, leaving_now, old_less}
-use Rattle.pr_truss_laws.proofs.FedSteps.{fed-step}
-use Rattle.pr_truss_laws.proofs.FitLemmas.{last-within}
-use Rattle.pr_report_laws.proofs.Files.KeepLemmas.{Base, FilesAre, FilesLeft, FreedIs, Grants, IsCalm, Keeps, base-leaves, can_wait, closing-keeps, lstatus-files, memory-files, new-files, new-fresh, old-files, on-keeps, over-keeps, reported-base, set-base, set-within, status-files, to, without-files}
+use Rattle.pr_truss_laws.proofs.Replies.ReplySteps as step
+use Rattle.pr_truss_laws.proofs.Replies.ReplySteps.{Closes, GoesOn, Learns, Looks, Opens, Reads, ReplyStep, Returns, Settles, StopOver, Turns, leaving_now, old_less}
+use Rattle.pr_truss_laws.proofs.Replies.FedSteps.{fed-step}
+use Rattle.pr_truss_laws.proofs.Replies.FitLemmas.{last-within, set-within}
+use Rattle.pr_report_laws.proofs.Files.KeepLemmas.{Base, FilesAre, FilesLeft, FreedIs, Grants, IsCalm, Keeps, base-leaves, can_wait, closing-keeps, lstatus-files, memory-files, new-files, new-fresh, on-keeps, over-keeps, reported-base, set-base, status-files, still-files, to, without-files}
 
 -- What each call and its reply do to the files that truss remembers, and to how its processes stand.
 
@@ -102,14 +102,6 @@ module _ (P : ℕ → File → Mode → ℕ → Type 0) (r : Reply) (s : TrussSt
   step-stands opts u opening.Follow w = w
   step-stands opts u opening.Start w = w
 
-  attached-files : (u : Traced) (attached : Bool) → FilesAre P u → FilesAre P (record u { attached = attached })
-  attached-files u attached f = record {
-    control = f.control;
-    status = f.status;
-    lstatus = f.lstatus;
-    memory = f.memory;
-  }
-
   step-files : (opts : Options) (u : Traced) (step : OpeningStep) → FilesAre P u
       → Grants P Accepted r (Some (opening_call opts u step)) → FilesAre P (learnt u r step)
   unfolding learnt opening_call
@@ -119,8 +111,8 @@ module _ (P : ℕ → File → Mode → ℕ → Type 0) (r : Reply) (s : TrussSt
   step-files opts u opening.ClearModes f g = f
   step-files opts u opening.SetRelease f g = f
   step-files opts u opening.Stop f g = f
-  step-files opts u (opening.AwaitStop until) f g = attached-files u true f
-  step-files opts u opening.ReadLwps f g = old-files P u _ f
+  step-files opts u (opening.AwaitStop until) f g = still-files P u true u.old u.seen f
+  step-files opts u opening.ReadLwps f g = still-files P u u.attached _ u.seen f
   step-files opts u _ f g = f
 
   -- only the wait for the stop is interrupted, and the process is not attached then
@@ -135,9 +127,6 @@ module _ (P : ℕ → File → Mode → ℕ → Type 0) (r : Reply) (s : TrussSt
   waiting-free opts u opening.Stop w calm = w.fresh.free
   waiting-free opts u (opening.AwaitStop until) w calm = w.fresh.free
   waiting-free opts u _ w calm = absurd (false≢true calm)
-
-  seen-files : (u : Traced) → FilesAre P u → FilesAre P (record u { seen = true })
-  seen-files u f = record { control = f.control; status = f.status; lstatus = f.lstatus; memory = f.memory }
 
   -- ---- the opening of a child
 
@@ -221,11 +210,8 @@ module _ (P : ℕ → File → Mode → ℕ → Type 0) (r : Reply) (s : TrussSt
       waiting-free s.options own now w.at (subst (λ a. IsCalm a (Some (opening_call s.options own now))) is calm) in
       let others : EachBut (Rests true) s.traced place =
       λ q there other. rest-leaves s.leaving (at_place s.traced q) (w.rests q there other) in
-      let b =
-      set-base P true s place x f.0 files others (seen-files own (files place f.0)) (inr (record {
-        leaves = refl;
-        free = free;
-      })) in
+      let seen = still-files P own own.attached own.old true (files place f.0) in
+      let b = set-base P true s place x f.0 files others seen (inr (record { leaves = refl; free = free })) in
       record { files = b.files; rests = b.rests }
   settles-base stage given u f g calm w (step.interrupts_text {place = place} {from = from} {len = len} is _) =
       no-wait (call.Read (number_of (traced_at s place).memory) from len) refl is calm
@@ -295,14 +281,14 @@ module _ (P : ℕ → File → Mode → ℕ → Type 0) (r : Reply) (s : TrussSt
       let old : ℕ = own.old - 1 in
       let b = l.base in
       let attached = old-attached own old l.attached in
+      let its = still-files P own own.attached old own.seen (b.files place l.within) in
       record {
-        within = set-within P s place (record own { old = old }) l.within;
+        within = set-within s.traced place (record own { old = old }) l.within;
         first = l.first;
         attached = subst IsAttached (sym (set-at s.traced place (record own { old = old }) l.within)) attached;
         base =
             set-base P s.leaving s place (record own { old = old }) l.within b.files
-            (each-but (Rests s.leaving) s.traced place b.rests) (old-files P own old (b.files place l.within))
-            (inl attached);
+            (each-but (Rests s.leaving) s.traced place b.rests) its (inl attached);
       }
 
   looks-looked : (stage : Stage) (place : ℕ) (pid : Option ℕ) (u : TrussState) → Fits s.traced stage → Stood stage

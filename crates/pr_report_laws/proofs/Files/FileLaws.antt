@@ -17,9 +17,9 @@ use Rattle.pr_truss.specs.Trusses.{TrussState, nobody, traced_at}
 use Rattle.pr_truss.specs.declared.processes.Traced.{Traced}
 use Rattle.pr_truss.specs.declared.stages.Stage.{Stage}
 use Rattle.pr_truss.specs.declared.stages.Stage.TheVariants.{Opening, OpeningChild, Closing}
-use Rattle.pr_truss_laws.proofs.HeldLemmas.{at_place, at-sum, handles_in, held, is_this, of_stage, of_traced, unit}
-use Rattle.pr_truss_laws.proofs.OpensLemmas.{held_by}
-use Rattle.pr_truss_laws.proofs.OwnLemmas.{Owns, owned}
+use Rattle.pr_truss_laws.proofs.Files.HeldLemmas.{at_place, at-sum, handles_in, held, is_this, of_stage, of_traced, unit}
+use Rattle.pr_truss_laws.proofs.Files.OpensLemmas.{held_by}
+use Rattle.pr_truss_laws.proofs.Files.OwnLemmas.{Owns, owned}
 use Rattle.pr_report_laws.proofs.Files.KeepLemmas.{FilesAre, FreedIs, freed-weaker}
 use Rattle.pr_report_laws.proofs.Invariant.StandLemmas.{AreOpen, Each, IsAttached, IsUnseen, Rests, Stands, but-weaker, child-opened, child-unseen, each-join, each-weaker, opening-opened, opening-unseen, rest-attached, rest-unseen}
 use Rattle.pr_report_laws.specs.Watching.{is_of, place_of}

@@ -33,8 +33,8 @@ use Rattle.pr_truss.specs.Trusses.{TrussState, first_of_program, first_truss, id
 use Rattle.pr_truss.specs.declared.processes.Traced.{Traced}
 use Rattle.pr_truss.specs.declared.replies.Answer.{Answer as Answered}
 use Rattle.pr_truss.specs.declared.replies.Answer.TheVariants.{Accepted, Interrupted, Gone, Refused}
-use Rattle.pr_truss_laws.proofs.OpensLemmas.{ClosesOne, Opens, close-closes, foreign-call, held_by, open-opens, own-free, own-mine, own-other, own-set, plain-leaves}
-use Rattle.pr_truss_laws.proofs.OwnLemmas.{Owns, call-owns, history-owns}
+use Rattle.pr_truss_laws.proofs.Files.OpensLemmas.{ClosesOne, Opens, close-closes, foreign-call, held_by, open-opens, own-free, own-mine, own-other, own-set, plain-leaves}
+use Rattle.pr_truss_laws.proofs.Files.OwnLemmas.{Owns, call-owns, history-owns}
 use Rattle.pr_truss_laws.specs.Exchanges.{Exchange, Makes, exchange_in, exchange_of, exchanges, truss_after}
 use Rattle.pr_report_laws.proofs.Files.FedFiles.{fed-keeps}
 use Rattle.pr_report_laws.proofs.Files.FileLaws.{FileOf, HasFiles, IsFileOf, control-in, each-has, has-each, lstatus-in, memory-in, remembered, remembered-freed, same-files, stands-once, status-in}

@@ -23,8 +23,8 @@ use Rattle.pr_truss.specs.declared.stages.FreeingStep.TheVariants as freeing
 use Rattle.pr_truss.specs.declared.stages.OpeningStep.TheVariants as opening
 use Rattle.pr_truss.specs.declared.stages.Stage.{Stage}
 use Rattle.pr_truss.specs.declared.stages.Stage.TheVariants.{Opening, ReadingStatus, ReadingText, OpeningChildControl, OpeningChild, Running, Closing, Unfollowing, ReadingLwps, FreeingChild}
-use Rattle.pr_truss_laws.proofs.HeldLemmas.{Fits, at_place, of_stage}
-use Rattle.pr_truss_laws.proofs.OwnLemmas.{Owns}
+use Rattle.pr_truss_laws.proofs.Files.HeldLemmas.{Fits, at_place, of_stage}
+use Rattle.pr_truss_laws.proofs.Files.OwnLemmas.{Owns}
 use Rattle.pr_report_laws.proofs.Files.FileLaws.{FileOf, HasFiles, IsFileOf, free-apart, has-each, is_closing, only-position}
 use Rattle.pr_report_laws.proofs.Files.KeepLemmas.{FilesAre, FreedIs}
 use Rattle.pr_report_laws.proofs.Invariant.StandLemmas.{AreOpen, Each, EachBut, IsAttached, IsThere, RestBut, Rests, Stands, busy, rest-stays}

@@ -1,8 +1,5 @@
-use Rattle.std.proofs.Common.{◌≡◌, ◌==◌, ◌&&◌, ◌<◌, ℕ, Bool, true, false, Option, Some, None, length, refl, subst, ap, ◌∙◌, arith}
-use Rattle.std.proofs.lemmas.Bool.{eq-eqb}
-use Rattle.std.proofs.lemmas.List.{length-set}
+use Rattle.std.proofs.Common.{◌≡◌, ◌<◌, ℕ, Bool, true, false, Option, Some, None, length, refl, subst, ap, ◌∙◌}
 use Rattle.std.proofs.lemmas.Option.{get_or_from_slice_get, none-some, same_Some, slice_get_within}
-use Rattle.std.specs.List.{slice_set}
 use Rattle.pr_model.specs.Replies.{handle_in}
 use Rattle.pr_model.specs.declared.calls.Call.{Call}
 use Rattle.pr_model.specs.declared.calls.Call.TheVariants as call
@@ -14,7 +11,6 @@ use Rattle.pr_model.specs.declared.calls.Reply.{Reply}
 use Rattle.pr_truss.specs.Closings.{with_closing}
 use Rattle.pr_truss.specs.Processes.{newly_traced, without_last}
 use Rattle.pr_truss.specs.Trusses.{TrussState, nobody, traced_at, with_report, with_stage, with_traced}
-use Rattle.pr_truss.specs.declared.marks.Marks.{Marks}
 use Rattle.pr_truss.specs.declared.processes.Traced.{Traced}
 use Rattle.pr_truss.specs.declared.replies.Answer.{Answer}
 use Rattle.pr_truss.specs.declared.replies.Answer.TheVariants.{Accepted, Interrupted}
@@ -23,9 +19,10 @@ use Rattle.pr_truss.specs.declared.stages.AfterClosing.TheVariants.{GoOn}
 use Rattle.pr_truss.specs.declared.stages.FreeingStep.TheVariants as freeing
 use Rattle.pr_truss.specs.declared.stages.Stage.{Stage}
 use Rattle.pr_truss.specs.declared.stages.Stage.TheVariants.{Polling, OpeningChildControl, Running, Closing, Unfollowing, FreeingChild, Finished}
-use Rattle.pr_truss_laws.proofs.HeldLemmas.{at_place, of_stage, unit}
-use Rattle.pr_truss_laws.proofs.ReplySteps as step
-use Rattle.pr_truss_laws.proofs.ReplySteps.{GoesOn, StopOver}
+use Rattle.pr_truss_laws.proofs.Files.HeldLemmas.{at_place, by_last, of_stage}
+use Rattle.pr_truss_laws.proofs.Replies.ReplySteps as step
+use Rattle.pr_truss_laws.proofs.Replies.ReplySteps.{GoesOn, StopOver}
+use Rattle.pr_truss_laws.proofs.Replies.FedLemmas.{freed-once}
 use Rattle.pr_report_laws.proofs.Invariant.StandLemmas.{Each, EachBut, IsAttached, IsNew, IsUnseen, Leaves, RestBut, Rests, Stands, StandsAt, busy, each-but, each-set, each-weaker, rest-attached, rest-leaves, rest-unseen}
 
 -- What holds of each file that truss remembers, and of how its processes stand, stays while truss looks for what to do
@@ -71,14 +68,13 @@ module _ (P : ℕ → File → Mode → ℕ → Type 0) where
   FreedIs (FreeingChild pid (freeing.Close control)) = P pid file.Ctl WriteExcl control
   FreedIs _ = Unit {0}
 
+  -- a file that is not open
+  no-file : (pid : ℕ) (f : File) (n : ℕ) → None ≡ Some n → P pid f Read n
+  no-file pid f n is = absurd (none-some n is)
+
   pub new-files : (pid control : ℕ) → P pid file.Ctl WriteExcl control → FilesAre (newly_traced pid control)
   unfolding newly_traced
-  new-files pid control p = record {
-    control = p;
-    status = λ n is. absurd (none-some n is);
-    lstatus = λ n is. absurd (none-some n is);
-    memory = λ n is. absurd (none-some n is);
-  }
+  new-files pid control p = record { control = p; status = no-file _ _; lstatus = no-file _ _; memory = no-file _ _ }
 
   pub status-files : (u : Traced) (h : ℕ) → FilesAre u → P u.pid file.Status Read h
       → FilesAre (record u { status = Some h })
@@ -112,49 +108,16 @@ module _ (P : ℕ → File → Mode → ℕ → Type 0) where
   FilesLeft None = Unit {0}
   FilesLeft (Some u) = FilesAre u × IsUnseen u
 
-  without-fields : (pid control : ℕ) (status lstatus memory : Option ℕ) (attached : Bool) (old : ℕ) (seen : Bool)
-      (marks : Marks)
-      → FilesAre (record {
-        pid = pid;
-        control = control;
-        status = status;
-        lstatus = lstatus;
-        memory = memory;
-        attached = attached;
-        old = old;
-        seen = seen;
-        marks = marks;
-      })
-      → (attached ≡ true → seen ≡ false)
-      → FilesLeft (without_last (record {
-        pid = pid;
-        control = control;
-        status = status;
-        lstatus = lstatus;
-        memory = memory;
-        attached = attached;
-        old = old;
-        seen = seen;
-        marks = marks;
-      }))
-  unfolding without_last
-  without-fields pid control status lstatus (Some m) attached old seen marks f unseen = (
-    record { control = f.control; status = f.status; lstatus = f.lstatus; memory = λ n is. absurd (none-some n is) },
-    unseen,
-  )
-  without-fields pid control status (Some l) None attached old seen marks f unseen = (
-    record { control = f.control; status = f.status; lstatus = λ n is. absurd (none-some n is); memory = f.memory },
-    unseen,
-  )
-  without-fields pid control (Some st) None None attached old seen marks f unseen = (
-    record { control = f.control; status = λ n is. absurd (none-some n is); lstatus = f.lstatus; memory = f.memory },
-    unseen,
-  )
-  without-fields pid control None None None attached old seen marks f unseen = tt
-
   pub without-files : (u : Traced) → FilesAre u → IsUnseen u → FilesLeft (without_last u)
-  without-files u f unseen =
-      without-fields u.pid u.control u.status u.lstatus u.memory u.attached u.old u.seen u.marks f unseen
+  unfolding without_last
+  without-files u = by_last (λ v. FilesAre v → IsUnseen v → FilesLeft (without_last v)) u
+      (λ m l s f unseen.
+      (record { control = f.control; status = f.status; lstatus = f.lstatus; memory = no-file _ _ }, unseen))
+      (λ l s f unseen.
+      (record { control = f.control; status = f.status; lstatus = no-file _ _; memory = f.memory }, unseen))
+      (λ s f unseen.
+      (record { control = f.control; status = no-file _ _; lstatus = f.lstatus; memory = f.memory }, unseen))
+      (λ f unseen. tt)
 
   -- ---- one stage after the other
 
@@ -211,10 +174,6 @@ module _ (P : ℕ → File → Mode → ℕ → Type 0) where
     rests = each-set (Rests leaving) s.traced place u within rests rest;
   }
 
-  pub set-within : (s : TrussState) (place : ℕ) (u : Traced) → place < length s.traced
-      → place < length (slice_set s.traced place u)
-  set-within s place u within = omega (arith, length-set s.traced place u)
-
   -- ---- stops
 
   -- While truss leaves, the stop that it looks at is one of the first process.
@@ -233,13 +192,11 @@ module _ (P : ℕ → File → Mode → ℕ → Type 0) where
       → Base leaving (with_report s report)
   reported-base leaving s report b = record { files = b.files; rests = b.rests }
 
-  pub old-files : (u : Traced) (old : ℕ) → FilesAre u → FilesAre (record u { old = old })
-  old-files u old f = record { control = f.control; status = f.status; lstatus = f.lstatus; memory = f.memory }
-
--- a child that is set free has one control handle
-freed-once : (pid control : ℕ) → unit ((pid == pid) && (control == control)) ≡ 1
-freed-once pid control =
-    ap unit (ap (λ b. b && (control == control)) (eq-eqb pid pid refl) ∙ eq-eqb control control refl)
+  -- the same files are open
+  pub still-files : (u : Traced) (attached : Bool) (old : ℕ) (seen : Bool) → FilesAre u
+      → FilesAre (record u { attached = attached; old = old; seen = seen })
+  still-files u attached old seen f =
+      record { control = f.control; status = f.status; lstatus = f.lstatus; memory = f.memory }
 
 -- what holds of a child that is set free follows from another fact of it
 pub freed-weaker : (P Q : ℕ → File → Mode → ℕ → Type 0) (stage : Stage)

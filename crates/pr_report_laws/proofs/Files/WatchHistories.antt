@@ -19,7 +19,7 @@ use Rattle.pr_model.specs.declared.events.Entry.{Entry}
 use Rattle.pr_truss.specs.Replies.{answer_of}
 use Rattle.pr_truss.specs.Trusses.{TrussState, first_truss}
 use Rattle.pr_truss.specs.declared.replies.Answer.TheVariants.{Interrupted}
-use Rattle.pr_truss_laws.proofs.OwnLemmas.{Owns, first-owns}
+use Rattle.pr_truss_laws.proofs.Files.OwnLemmas.{Owns, first-owns}
 use Rattle.pr_truss_laws.specs.Exchanges.{Exchange, Makes, exchange_in, exchange_of, exchanges, truss_after, truss_at}
 use Rattle.pr_truss_laws.specs.Handles.{HasNothingOpen}
 use Rattle.pr_truss_laws.specs.Runs.{IsTrussRun}
@@ -28,7 +28,7 @@ use Rattle.pr_report_laws.proofs.Files.FileSteps.{IsUninterrupted, MakesNext, en
 use Rattle.pr_report_laws.proofs.Files.KeepLemmas.{can_wait}
 use Rattle.pr_report_laws.proofs.Machine.PollLaws.{never-interrupted}
 use Rattle.pr_report_laws.specs.Watching.{fed_by_entry, with_exchange}
-pub use Rattle.pr_truss_laws.proofs.ExchangeLemmas.{after-append, makes-front, makes-rest}
+pub use Rattle.pr_truss_laws.proofs.Replies.ExchangeLemmas.{after-append, makes-front, makes-rest}
 
 -- Truss along a history: what it was asked and told so far, and that the files that it remembers are its own.
 

@@ -29,13 +29,13 @@ use Rattle.pr_truss.specs.declared.stages.ChildStep.{ChildStep}
 use Rattle.pr_truss.specs.declared.stages.ChildStep.TheVariants as child
 use Rattle.pr_truss.specs.declared.stages.Stage.{Stage}
 use Rattle.pr_truss.specs.declared.stages.Stage.TheVariants.{OpeningChild, Running, Closing}
-use Rattle.pr_truss_laws.proofs.AnswerLemmas.{IsAnswer, answer-is}
-use Rattle.pr_truss_laws.proofs.ClosesLemmas.{after-grown}
-use Rattle.pr_truss_laws.proofs.FedSteps.{fed-step}
-use Rattle.pr_truss_laws.proofs.FitLemmas.{fed-fits}
-use Rattle.pr_truss_laws.proofs.HeldLemmas.{ClosesFirst, Fits, IsFreshChild, Grown, close-fed, closes-first, closes-next, set-at}
-use Rattle.pr_truss_laws.proofs.ReplySteps as row
-use Rattle.pr_truss_laws.proofs.ReplySteps.{Closes, Looks, Reads, ReplyStep, Returns, Settles}
+use Rattle.pr_truss_laws.proofs.Replies.AnswerLemmas.{IsAnswer, answer-is}
+use Rattle.pr_truss_laws.proofs.Files.ClosesLemmas.{after-grown}
+use Rattle.pr_truss_laws.proofs.Replies.FedSteps.{fed-step}
+use Rattle.pr_truss_laws.proofs.Replies.FitLemmas.{fed-fits}
+use Rattle.pr_truss_laws.proofs.Files.HeldLemmas.{ClosesFirst, Fits, IsFreshChild, Grown, close-fed, closes-first, closes-next, set-at}
+use Rattle.pr_truss_laws.proofs.Replies.ReplySteps as row
+use Rattle.pr_truss_laws.proofs.Replies.ReplySteps.{Closes, Looks, Reads, ReplyStep, Returns, Settles}
 use Rattle.pr_truss_laws.specs.Exchanges.{Exchange, IsGranted, Makes, calls_in, opened_by, truss_after, with_opened_by}
 use Rattle.pr_truss_laws.specs.Handles.{handles_of}
 use Rattle.pr_report_laws.proofs.Invariant.OpeningRuns.{child-fed, child-pid, child-started, child_left, next-left}

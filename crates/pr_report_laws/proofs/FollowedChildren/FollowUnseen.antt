@@ -19,12 +19,12 @@ use Rattle.pr_truss.specs.declared.stages.OpeningStep.{OpeningStep}
 use Rattle.pr_truss.specs.declared.stages.OpeningStep.TheVariants as opening
 use Rattle.pr_truss.specs.declared.stages.Stage.{Stage}
 use Rattle.pr_truss.specs.declared.stages.Stage.TheVariants.{Spawning, OpeningControl, Opening, Polling, ReadingStatus, OpeningChildControl, OpeningChild, Running, Closing}
-use Rattle.pr_truss_laws.proofs.ClosesLemmas.{first-fits}
-use Rattle.pr_truss_laws.proofs.FitLemmas.{fed-fits, last-within, reads-within}
-use Rattle.pr_truss_laws.proofs.HeldLemmas.{Fits}
-use Rattle.pr_truss_laws.proofs.ReplySteps as step
-use Rattle.pr_truss_laws.proofs.ReplySteps.{Closes, GoesOn, Learns, Looks, Opens, ReplyStep, Returns, Settles, StopOver, Turns, lost-same}
-use Rattle.pr_truss_laws.proofs.FedSteps.{fed-step}
+use Rattle.pr_truss_laws.proofs.Files.ClosesLemmas.{first-fits}
+use Rattle.pr_truss_laws.proofs.Replies.FitLemmas.{fed-fits, last-within, reads-within}
+use Rattle.pr_truss_laws.proofs.Files.HeldLemmas.{Fits}
+use Rattle.pr_truss_laws.proofs.Replies.ReplySteps as step
+use Rattle.pr_truss_laws.proofs.Replies.ReplySteps.{Closes, GoesOn, Learns, Looks, Opens, ReplyStep, Returns, Settles, StopOver, Turns, lost-same}
+use Rattle.pr_truss_laws.proofs.Replies.FedSteps.{fed-step}
 use Rattle.pr_truss_laws.specs.Exchanges.{Exchange, truss_after}
 use Rattle.pr_report_laws.proofs.Invariant.StandLemmas.{Each, each-append, each-but, each-remove, each-set}
 

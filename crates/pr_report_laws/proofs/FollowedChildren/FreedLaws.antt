@@ -27,10 +27,10 @@ use Rattle.pr_truss.specs.declared.stages.AfterClosing.TheVariants.{GoOn}
 use Rattle.pr_truss.specs.declared.stages.FreeingStep.{FreeingStep}
 use Rattle.pr_truss.specs.declared.stages.FreeingStep.TheVariants as freeing
 use Rattle.pr_truss.specs.declared.stages.Stage.TheVariants.{Closing, FreeingChild}
-use Rattle.pr_truss_laws.proofs.AnswerLemmas.{IsAnswer, answer-is}
-use Rattle.pr_truss_laws.proofs.ClosesLemmas.{after-fits, after-grown, first-fits}
-use Rattle.pr_truss_laws.proofs.FitLemmas.{fed-fits}
-use Rattle.pr_truss_laws.proofs.HeldLemmas.{ClosesFirst, Fits, Grown, close-fed, closes-first, closes-next, set-at}
+use Rattle.pr_truss_laws.proofs.Replies.AnswerLemmas.{IsAnswer, answer-is}
+use Rattle.pr_truss_laws.proofs.Files.ClosesLemmas.{after-fits, after-grown, first-fits}
+use Rattle.pr_truss_laws.proofs.Replies.FitLemmas.{fed-fits}
+use Rattle.pr_truss_laws.proofs.Files.HeldLemmas.{ClosesFirst, Fits, Grown, close-fed, closes-first, closes-next, set-at}
 use Rattle.pr_truss_laws.specs.Exchanges.{Exchange, Makes, errno_in, truss_after}
 use Rattle.pr_truss_laws.specs.Handles.{handles_of}
 use Rattle.pr_report_laws.proofs.Watching.BeginLaws.{at-options}

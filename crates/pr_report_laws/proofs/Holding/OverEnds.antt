@@ -34,8 +34,8 @@ use Rattle.pr_truss.specs.declared.stages.OpeningStep.{OpeningStep}
 use Rattle.pr_truss.specs.declared.stages.OpeningStep.TheVariants as opening
 use Rattle.pr_truss.specs.declared.stages.Stage.{Stage}
 use Rattle.pr_truss.specs.declared.stages.Stage.TheVariants.{Opening, ReadingStatus, ReadingText, OpeningChild, Running, Closing, Unfollowing, ReadingLwps, FreeingChild}
-use Rattle.pr_truss_laws.proofs.HeldLemmas.{Fits, at_place}
-use Rattle.pr_truss_laws.proofs.OwnLemmas.{Owns}
+use Rattle.pr_truss_laws.proofs.Files.HeldLemmas.{Fits, at_place}
+use Rattle.pr_truss_laws.proofs.Files.OwnLemmas.{Owns}
 use Rattle.pr_truss_laws.specs.Business.{goes_to}
 use Rattle.pr_truss_laws.specs.Exchanges.{truss_at}
 use Rattle.pr_truss_laws.specs.Runs.{IsTrussRun}

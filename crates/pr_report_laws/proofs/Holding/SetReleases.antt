@@ -33,10 +33,10 @@ use Rattle.pr_truss.specs.declared.stages.OpeningStep.{OpeningStep}
 use Rattle.pr_truss.specs.declared.stages.OpeningStep.TheVariants as opening
 use Rattle.pr_truss.specs.declared.stages.Stage.{Stage}
 use Rattle.pr_truss.specs.declared.stages.Stage.TheVariants.{Opening, OpeningChild, Running, Unfollowing, FreeingChild}
-use Rattle.pr_truss_laws.proofs.HeldLemmas.{Fits}
-use Rattle.pr_truss_laws.proofs.OwnLemmas.{Owns}
-use Rattle.pr_truss_laws.proofs.TakenLemmas.{ReadsAs, stop-reads}
-use Rattle.pr_truss_laws.proofs.TracedChanges.{accepted-granted}
+use Rattle.pr_truss_laws.proofs.Files.HeldLemmas.{Fits}
+use Rattle.pr_truss_laws.proofs.Files.OwnLemmas.{Owns}
+use Rattle.pr_truss_laws.proofs.Machine.TakenLemmas.{ReadsAs, stop-reads}
+use Rattle.pr_truss_laws.proofs.Replies.TracedChanges.{accepted-granted}
 use Rattle.pr_truss_laws.specs.Exchanges.{Exchange, errno_in, exchange_of, truss_at}
 use Rattle.pr_truss_laws.specs.Runs.{IsTrussRun}
 use Rattle.pr_report_laws.proofs.Files.FileLaws.{HasFiles, IsFileOf}

@@ -21,7 +21,7 @@ use Rattle.pr_truss.specs.declared.stages.ChildStep.{ChildStep}
 use Rattle.pr_truss.specs.declared.stages.ChildStep.TheVariants as child
 use Rattle.pr_truss.specs.declared.stages.Stage.{Stage}
 use Rattle.pr_truss.specs.declared.stages.Stage.TheVariants.{OpeningChildControl, OpeningChild, Running, Closing}
-use Rattle.pr_truss_laws.proofs.HeldLemmas.{Fits, IsLast}
+use Rattle.pr_truss_laws.proofs.Files.HeldLemmas.{Fits, IsLast}
 use Rattle.pr_truss_laws.specs.Stills.{IsQuiet}
 use Rattle.pr_report_laws.proofs.Invariant.Tallies.{IsWhole, Tally}
 use Rattle.pr_report_laws.proofs.Replies.Moves.{passes-standing}

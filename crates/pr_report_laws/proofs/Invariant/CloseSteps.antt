@@ -21,8 +21,8 @@ use Rattle.pr_truss.specs.declared.stages.AfterClosing.TheVariants.{OpenNext, Go
 use Rattle.pr_truss.specs.declared.stages.FreeingStep.{FreeingStep}
 use Rattle.pr_truss.specs.declared.stages.FreeingStep.TheVariants as freeing
 use Rattle.pr_truss.specs.declared.stages.Stage.TheVariants.{Running, Closing, FreeingChild}
-use Rattle.pr_truss_laws.proofs.HeldLemmas.{Fits, IsLast}
-use Rattle.pr_truss_laws.proofs.ReplySteps.{lost-same}
+use Rattle.pr_truss_laws.proofs.Files.HeldLemmas.{Fits, IsLast}
+use Rattle.pr_truss_laws.proofs.Replies.ReplySteps.{lost-same}
 use Rattle.pr_report_laws.proofs.Invariant.Tallies.{Tally}
 use Rattle.pr_report_laws.proofs.Replies.Moves.{passes-standing}
 use Rattle.pr_report_laws.proofs.Replies.NextStages.{ComesNext, comes-same, going_on-comes, next_opening-comes, opens, prepares-none}

@@ -17,16 +17,16 @@ use Rattle.pr_num.specs.Signals.{signal_number}
 use Rattle.pr_num.specs.declared.signals.Sig.TheVariants.{Kill}
 use Rattle.pr_truss.specs.Trusses.{TrussState, traced_at}
 use Rattle.pr_truss.specs.declared.stages.Stage.{Stage}
-use Rattle.pr_truss_laws.proofs.HeldLemmas.{Fits, IsLast}
-use Rattle.pr_truss_laws.proofs.OpensLemmas.{held_by}
-use Rattle.pr_truss_laws.proofs.OwnLemmas.{Owns}
+use Rattle.pr_truss_laws.proofs.Files.HeldLemmas.{Fits, IsLast}
+use Rattle.pr_truss_laws.proofs.Files.OpensLemmas.{held_by}
+use Rattle.pr_truss_laws.proofs.Files.OwnLemmas.{Owns}
 use Rattle.pr_report_laws.proofs.Invariant.Tallies.{Tally}
 use Rattle.pr_report_laws.proofs.Files.FileLaws.{HasFiles}
 use Rattle.pr_report_laws.proofs.Files.FileUses.{place-is}
-use Rattle.pr_truss_laws.proofs.ForeignLemmas.{exclusive-sole}
-use Rattle.pr_truss_laws.proofs.OutlastLemmas.{Outlasts, others-entry}
+use Rattle.pr_truss_laws.proofs.Machine.ForeignLemmas.{exclusive-sole}
+use Rattle.pr_truss_laws.proofs.Machine.OutlastLemmas.{Outlasts, others-entry}
 use Rattle.pr_report_laws.proofs.Invariant.OtherSteps.{accounted-why, prepares-on, standing-on}
-use Rattle.pr_truss_laws.proofs.OverLemmas.{stays-made, stays-over}
+use Rattle.pr_truss_laws.proofs.Machine.OverLemmas.{stays-made, stays-over}
 use Rattle.pr_report_laws.proofs.Invariant.Standing.{Prepares, Standing, apart, lives, over}
 use Rattle.pr_report_laws.specs.Watching.{place_of, watches, watches_at}
 

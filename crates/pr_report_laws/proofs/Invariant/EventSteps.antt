@@ -35,10 +35,10 @@ use Rattle.pr_truss.specs.Trusses.{TrussState, first_truss, traced_at}
 use Rattle.pr_truss.specs.declared.reports.Report.{Report}
 use Rattle.pr_truss.specs.declared.stages.Stage.{Stage}
 use Rattle.pr_truss.specs.declared.stages.Stage.TheVariants.{ReadingStatus, ReadingText, ReadingLwps}
-use Rattle.pr_truss_laws.proofs.FrameLemmas.{was-made}
-use Rattle.pr_truss_laws.proofs.OpensLemmas.{held_by, looking-stays, only_looks}
+use Rattle.pr_truss_laws.proofs.Machine.FrameLemmas.{was-made}
+use Rattle.pr_truss_laws.proofs.Files.OpensLemmas.{held_by, looking-stays, only_looks}
 use Rattle.pr_truss_laws.specs.Stills.{IsHalting}
-use Rattle.pr_truss_laws.proofs.OwnLemmas.{Owns}
+use Rattle.pr_truss_laws.proofs.Files.OwnLemmas.{Owns}
 use Rattle.pr_truss_laws.specs.Exchanges.{Exchange, exchange_in, exchange_of, truss_at}
 use Rattle.pr_report_laws.proofs.Invariant.EntrySteps.{EndsByKill, Lost}
 use Rattle.pr_report_laws.proofs.Memory.EventComes.{HasCome, HoldsUnread, Knows, Links, ReadsIts, come-on, halts, selected-push, selected_in, unread-holds}
@@ -47,9 +47,9 @@ use Rattle.pr_report_laws.proofs.Files.FileLaws.{HasFiles, IsFileOf}
 use Rattle.pr_report_laws.proofs.Files.FileSteps.{MakesNext, entry-lawful}
 use Rattle.pr_report_laws.proofs.Files.FileUses as uses
 use Rattle.pr_report_laws.proofs.Files.FileUses.{place-is, stage_place}
-use Rattle.pr_truss_laws.proofs.ForeignLemmas.{exclusive-sole}
-use Rattle.pr_truss_laws.proofs.FrameLemmas.{memory-self}
-use Rattle.pr_truss_laws.proofs.HaltLemmas.{HaltsOn, goes_on, others-halt}
+use Rattle.pr_truss_laws.proofs.Machine.ForeignLemmas.{exclusive-sole}
+use Rattle.pr_truss_laws.proofs.Machine.FrameLemmas.{memory-self}
+use Rattle.pr_truss_laws.proofs.Machine.HaltLemmas.{HaltsOn, goes_on, others-halt}
 use Rattle.pr_report_laws.proofs.Invariant.ShownTallies.{exchange-shows, selected_of, shown_tally}
 use Rattle.pr_report_laws.proofs.Invariant.HistorySteps.{Holds, read_of}
 use Rattle.pr_report_laws.proofs.Memory.MemoryReads.{entry-is}

@@ -16,7 +16,7 @@ use Rattle.pr_truss.specs.declared.stages.ChildStep.{ChildStep}
 use Rattle.pr_truss.specs.declared.stages.OpeningStep.{OpeningStep}
 use Rattle.pr_truss.specs.declared.stages.OpeningStep.TheVariants.{AwaitStop}
 use Rattle.pr_truss.specs.declared.stages.Stage.TheVariants.{Opening, OpeningChild, OpeningChildControl}
-use Rattle.pr_truss_laws.proofs.OwnLemmas.{first-owns}
+use Rattle.pr_truss_laws.proofs.Files.OwnLemmas.{first-owns}
 use Rattle.pr_truss_laws.specs.Exchanges.{Exchange, Makes, exchange_of, exchanges, truss_after}
 use Rattle.pr_truss_laws.specs.Runs.{IsTrussRun}
 use Rattle.pr_reached.proofs.HistoryRanges.{history-range}

@@ -21,7 +21,7 @@ use Rattle.pr_model.specs.declared.events.Entry.{Entry}
 use Rattle.pr_truss.specs.Feeding.{fed}
 use Rattle.pr_truss.specs.Trusses.{TrussState}
 use Rattle.pr_truss.specs.declared.stages.Stage.TheVariants.{OpeningChildControl}
-use Rattle.pr_truss_laws.proofs.OwnLemmas.{Owns}
+use Rattle.pr_truss_laws.proofs.Files.OwnLemmas.{Owns}
 use Rattle.pr_truss_laws.specs.Exchanges.{Exchange, exchange_in, exchange_of}
 use Rattle.pr_report_laws.proofs.Invariant.Tallies.{Tally, came-nothing, told-nothing, with_came, with_told}
 use Rattle.pr_report_laws.proofs.Invariant.EntrySteps.{EndsByKill, Lost, others-prepares, others-standing, standing-why}
@@ -32,7 +32,7 @@ use Rattle.pr_report_laws.proofs.Replies.NewStops.{read_now}
 use Rattle.pr_report_laws.proofs.Replies.OptionLemmas.{told-options}
 use Rattle.pr_reached.proofs.FitHistoryLemmas.{history-fits}
 use Rattle.pr_report_laws.proofs.Machine.FrameLaws.{no-events}
-use Rattle.pr_truss_laws.proofs.OverLemmas.{stays-made, stays-over}
+use Rattle.pr_truss_laws.proofs.Machine.OverLemmas.{stays-made, stays-over}
 use Rattle.pr_report_laws.proofs.Invariant.OwnCallSteps.{call-goes}
 use Rattle.pr_report_laws.proofs.Invariant.OwnCalls.{Leaves}
 use Rattle.pr_report_laws.proofs.Replies.OwnLooks.{IsCall, ReadsBack}

@@ -27,7 +27,7 @@ use Rattle.pr_truss.specs.declared.stages.OpeningStep.{OpeningStep}
 use Rattle.pr_truss.specs.declared.stages.OpeningStep.TheVariants as opening
 use Rattle.pr_truss.specs.declared.stages.Stage.{Stage}
 use Rattle.pr_truss.specs.declared.stages.Stage.TheVariants.{Spawning, OpeningControl, Opening, Polling, ReadingStatus, ReadingText, OpeningChildControl, OpeningChild, Running, Closing, Unfollowing, ReadingLwps, FreeingChild, Finished}
-use Rattle.pr_truss_laws.proofs.HeldLemmas.{at_place, set-at}
+use Rattle.pr_truss_laws.proofs.Files.HeldLemmas.{at_place, set-at}
 use Rattle.pr_truss_laws.specs.Exchanges.{Exchange, IsGranted, errno_in, truss_after}
 use Rattle.pr_report_laws.proofs.Replies.NextStages.{next_opening-comes}
 use Rattle.pr_report_laws.proofs.Replies.OpeningParts.{learnt-pid}

@@ -22,7 +22,7 @@ use Rattle.pr_truss.specs.declared.stages.OpeningStep.{OpeningStep}
 use Rattle.pr_truss.specs.declared.stages.OpeningStep.TheVariants as opening
 use Rattle.pr_truss.specs.declared.stages.Stage.{Stage}
 use Rattle.pr_truss.specs.declared.stages.Stage.TheVariants.{Spawning, OpeningControl, Opening, Closing}
-use Rattle.pr_truss_laws.proofs.HeldLemmas.{Fits}
+use Rattle.pr_truss_laws.proofs.Files.HeldLemmas.{Fits}
 use Rattle.pr_report_laws.proofs.Invariant.Tallies.{IsWhole, Tally}
 use Rattle.pr_report_laws.proofs.Replies.NextStages.{ComesNext, comes-places, comes-same, going_on-comes, interrupt-comes, next_opening-comes, prepares-none}
 use Rattle.pr_report_laws.proofs.Replies.OpeningParts.{HasStarted, IsPlain, IsStepDone, Leaves, closing-plain, comes-plain, control-plain, last-start, learnt-pid, learnt-start, leaves-standing, opening-plain, prepares-opening, spawning-plain, until-after}

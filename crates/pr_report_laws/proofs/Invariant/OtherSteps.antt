@@ -11,9 +11,9 @@ use Rattle.pr_truss.specs.Trusses.{TrussState, traced_at}
 use Rattle.pr_truss.specs.declared.stages.OpeningStep.{OpeningStep}
 use Rattle.pr_truss.specs.declared.stages.OpeningStep.TheVariants as opening
 use Rattle.pr_truss.specs.declared.stages.Stage.{Stage}
-use Rattle.pr_truss_laws.proofs.AloneLemmas.{alone-halting, alone-quiet}
+use Rattle.pr_truss_laws.proofs.EventStops.AloneLemmas.{alone-halting, alone-quiet}
 use Rattle.pr_truss_laws.specs.Stills.{IsUndisturbed}
-use Rattle.pr_truss_laws.proofs.OutlastLemmas.{Outlasts, lives, killed}
+use Rattle.pr_truss_laws.proofs.Machine.OutlastLemmas.{Outlasts, lives, killed}
 use Rattle.pr_report_laws.proofs.Invariant.Tallies.{IsWhole, Tally, unread}
 use Rattle.pr_report_laws.proofs.Machine.FrameLaws.{alone-agent, alone-birth, alone-lwp, alone-event, alone-met, alone-traced, alone-waits}
 use Rattle.pr_report_laws.proofs.Invariant.Standing.{Accounted, HasEntries, HasExits, HasFaults, HasSignals, HasStop, IsAttached, IsCounted, IsSpared, Opened, Position, Prepares, Standing, apart, goes, has_event, old_stops, over, stop_read}

@@ -22,9 +22,9 @@ use Rattle.pr_truss.specs.declared.stages.ChildStep.{ChildStep}
 use Rattle.pr_truss.specs.declared.stages.ChildStep.TheVariants as child
 use Rattle.pr_truss.specs.declared.stages.Stage.{Stage}
 use Rattle.pr_truss.specs.declared.stages.Stage.TheVariants.{OpeningChild}
-use Rattle.pr_truss_laws.proofs.ForeignLemmas.{names}
-use Rattle.pr_truss_laws.proofs.HeldLemmas.{Fits, IsLast}
-use Rattle.pr_truss_laws.proofs.OpensLemmas.{held_by}
+use Rattle.pr_truss_laws.proofs.Machine.ForeignLemmas.{names}
+use Rattle.pr_truss_laws.proofs.Files.HeldLemmas.{Fits, IsLast}
+use Rattle.pr_truss_laws.proofs.Files.OpensLemmas.{held_by}
 use Rattle.pr_report_laws.proofs.Invariant.Tallies.{IsWhole, Tally}
 use Rattle.pr_report_laws.proofs.Invariant.ChildSteps.{IsGone, IsLetGo, Starts, child-start-stands, child-step-stands}
 use Rattle.pr_report_laws.proofs.Machine.ControlLaws.{message-gone, release-set}

@@ -14,7 +14,7 @@ use Rattle.pr_num.specs.Control.{async_mode, has_flags, klc_mode}
 use Rattle.pr_truss.specs.Trusses.{TrussState, traced_at}
 use Rattle.pr_truss.specs.declared.stages.OpeningStep.{OpeningStep}
 use Rattle.pr_truss.specs.declared.stages.OpeningStep.TheVariants as opening
-use Rattle.pr_truss_laws.proofs.StillLemmas.{frozen-turns}
+use Rattle.pr_truss_laws.proofs.Machine.StillLemmas.{frozen-turns}
 use Rattle.pr_truss_laws.specs.Stills.{HasSameSettings, IsFrozen, IsHalting}
 use Rattle.pr_report_laws.proofs.Invariant.Tallies.{IsWhole, Tally, came-nothing, unread, with_came}
 use Rattle.pr_report_laws.proofs.Invariant.OtherSteps.{accounted-all, is-watched}

@@ -14,7 +14,7 @@ use Rattle.pr_truss.specs.declared.replies.Answer.{Answer}
 use Rattle.pr_truss.specs.declared.replies.Answer.TheVariants.{Accepted, Interrupted, Gone, Refused}
 use Rattle.pr_truss.specs.declared.stages.Stage.{Stage}
 use Rattle.pr_truss.specs.declared.stages.Stage.TheVariants.{Running}
-use Rattle.pr_truss_laws.proofs.HeldLemmas.{Fits}
+use Rattle.pr_truss_laws.proofs.Files.HeldLemmas.{Fits}
 use Rattle.pr_truss_laws.specs.Stills.{IsQuiet}
 use Rattle.pr_report_laws.proofs.Invariant.Tallies.{IsWhole, Tally}
 use Rattle.pr_report_laws.proofs.Replies.Carries.{Carries, Lands, carries-standing, stays}

@@ -12,7 +12,7 @@ use Rattle.pr_truss.specs.declared.stages.OpeningStep.{OpeningStep}
 use Rattle.pr_truss.specs.declared.stages.OpeningStep.TheVariants as opening
 use Rattle.pr_truss.specs.declared.stages.Stage.{Stage}
 use Rattle.pr_truss.specs.declared.stages.Stage.TheVariants.{Spawning, OpeningControl, Opening, Polling, ReadingStatus, ReadingText, OpeningChildControl, OpeningChild, Running, Closing, Unfollowing, ReadingLwps, FreeingChild, Finished}
-use Rattle.pr_truss_laws.proofs.HeldLemmas.{at_place, set-at}
+use Rattle.pr_truss_laws.proofs.Files.HeldLemmas.{at_place, set-at}
 
 -- How the processes of truss stand beside its stage: which of them are attached, which of their files are open, and
 -- whether truss leaves.

@@ -18,7 +18,7 @@ use Rattle.pr_truss.specs.declared.replies.Answer.{Answer}
 use Rattle.pr_truss.specs.declared.replies.Answer.TheVariants.{Accepted, Interrupted, Gone, Refused}
 use Rattle.pr_truss.specs.declared.stages.Stage.{Stage}
 use Rattle.pr_truss.specs.declared.stages.Stage.TheVariants.{ReadingStatus}
-use Rattle.pr_truss_laws.proofs.HeldLemmas.{Fits}
+use Rattle.pr_truss_laws.proofs.Files.HeldLemmas.{Fits}
 use Rattle.pr_report_laws.proofs.Invariant.Tallies.{IsWhole, Tally, told-nothing, whole-still, whole-told, with_told}
 use Rattle.pr_report_laws.proofs.Replies.Carries.{Carries, Lands, carries-standing, closing-carries, left-lands, watched-cases}
 use Rattle.pr_report_laws.proofs.Replies.Elsewhere.{IsAside, IsElsewhere, comes-elsewhere, elsewhere-standing}

@@ -16,7 +16,7 @@ use Rattle.pr_truss.specs.declared.replies.Answer.TheVariants.{Accepted, Interru
 use Rattle.pr_truss.specs.declared.reports.Report.TheVariants.{Event as Reported}
 use Rattle.pr_truss.specs.declared.stages.Stage.{Stage}
 use Rattle.pr_truss.specs.declared.stages.Stage.TheVariants.{ReadingText}
-use Rattle.pr_truss_laws.proofs.HeldLemmas.{Fits}
+use Rattle.pr_truss_laws.proofs.Files.HeldLemmas.{Fits}
 use Rattle.pr_report_laws.proofs.Invariant.Tallies.{Tally}
 use Rattle.pr_report_laws.proofs.Replies.Carries.{Carries, Lands, away-accounted, carries-standing, read-lands}
 use Rattle.pr_report_laws.proofs.Replies.Elsewhere.{IsAside, IsElsewhere, comes-elsewhere, elsewhere-standing}

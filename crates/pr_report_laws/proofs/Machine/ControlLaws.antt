@@ -35,10 +35,10 @@ use Rattle.pr_truss.proofs.ForkLemmas.{with_forks-word}
 use Rattle.pr_truss.specs.Messages.{all_modes, ending_calls, message_call, traced_entries, traced_exits, traced_faults, traced_signals, with_forks}
 use Rattle.pr_truss.specs.Replies.{answer_of, refusal_of}
 use Rattle.pr_truss.specs.declared.replies.Answer.TheVariants.{Accepted, Gone}
-use Rattle.pr_truss_laws.proofs.OpensLemmas.{looking-stays}
-use Rattle.pr_truss_laws.proofs.OwnTurnLemmas.{all-directed}
-use Rattle.pr_truss_laws.proofs.StillLemmas.{live-changed}
-use Rattle.pr_truss_laws.proofs.TakenLemmas.{IsTaken, Read, ReadsAs, control-held, ctl-is, read-as, stop-directs, stop-reads, taken-unless, target-live}
+use Rattle.pr_truss_laws.proofs.Files.OpensLemmas.{looking-stays}
+use Rattle.pr_truss_laws.proofs.EventStops.OwnTurnLemmas.{all-directed}
+use Rattle.pr_truss_laws.proofs.Machine.StillLemmas.{live-changed}
+use Rattle.pr_truss_laws.proofs.Machine.TakenLemmas.{IsTaken, Read, ReadsAs, control-held, ctl-is, read-as, stop-directs, stop-reads, taken-unless, target-live}
 use Rattle.pr_truss_laws.specs.Stills.{IsHalting}
 
 -- What the control messages of truss do to the process of a control file that it holds, where they are accepted: each

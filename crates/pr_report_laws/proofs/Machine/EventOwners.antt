@@ -23,8 +23,8 @@ use Rattle.pr_num.specs.Syscalls.{is_fork_call}
 use Rattle.pr_num.specs.declared.errnos.Errno.{Errno}
 use Rattle.pr_num.specs.declared.syscalls.Sysno.{Sysno}
 use Rattle.pr_num.specs.declared.syscalls.Sysno.TheVariants.{Vfork}
-use Rattle.pr_truss_laws.proofs.OwnMemoryLemmas.{turn-owns}
-use Rattle.pr_truss_laws.proofs.StoresLemmas.{is_lending_call, may_have_lent}
+use Rattle.pr_truss_laws.proofs.Machine.OwnMemoryLemmas.{turn-owns}
+use Rattle.pr_truss_laws.proofs.Machine.StoresLemmas.{is_lending_call, may_have_lent}
 use Rattle.pr_truss_laws.specs.Told.{told}
 use Rattle.pr_report_laws.proofs.Machine.FrameLaws.{no-events}
 use Rattle.pr_report_laws.proofs.Machine.TurnEvents.{state-after}

@@ -28,7 +28,7 @@ use Rattle.pr_num.specs.declared.stop_reasons.StopReason.TheVariants as reason
 use Rattle.pr_num.specs.declared.syscalls.Sysno.{Sysno}
 use Rattle.pr_rec.specs.declared.lwps.LwpStatus.{LwpStatus}
 use Rattle.pr_truss.specs.Records.{is_on_event}
-use Rattle.pr_truss_laws.proofs.OneEventLemmas.{under-above, under-first, under-later}
+use Rattle.pr_truss_laws.proofs.EventStops.OneEventLemmas.{under-above, under-first, under-later}
 use Rattle.pr_truss_laws.specs.Stills.{IsQuiet}
 use Rattle.pr_reached.specs.Fits.{IsFitLwp, IsFitProcess}
 use Rattle.pr_report_laws.proofs.Invariant.Positions.{HasEvent, has_met, is_met_if, met_in}

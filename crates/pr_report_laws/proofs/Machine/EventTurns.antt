@@ -13,7 +13,7 @@ use Rattle.pr_model.specs.declared.events.Actor.{Actor}
 use Rattle.pr_model.specs.declared.events.Actor.TheVariants.{Controller, Lwp, Clock}
 use Rattle.pr_model.specs.declared.events.Entry.{Entry}
 use Rattle.pr_truss.specs.Trusses.{TrussState, traced_at}
-use Rattle.pr_truss_laws.proofs.StillLemmas.{frozen-turns}
+use Rattle.pr_truss_laws.proofs.Machine.StillLemmas.{frozen-turns}
 use Rattle.pr_truss_laws.specs.Stills.{IsFrozen}
 use Rattle.pr_report_laws.proofs.Invariant.EntrySteps.{Lost}
 use Rattle.pr_report_laws.proofs.Invariant.Tallies.{Tally}

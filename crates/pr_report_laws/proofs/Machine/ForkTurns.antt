@@ -37,10 +37,10 @@ use Rattle.pr_model.specs.declared.stops.Stop.TheVariants.{SysExit}
 use Rattle.pr_truss.proofs.ForkLemmas.{with_forks-has}
 use Rattle.pr_truss.specs.Messages.{ending_calls, traced_exits, with_forks}
 use Rattle.pr_truss.specs.Trusses.{TrussState}
-use Rattle.pr_truss_laws.proofs.BridgeLemmas.{turn-tells}
-use Rattle.pr_truss_laws.proofs.FrameLemmas.{was-made}
-use Rattle.pr_truss_laws.proofs.OwnTurnLemmas.{quiet-stays}
-use Rattle.pr_truss_laws.proofs.ToldLemmas.{exit-told}
+use Rattle.pr_truss_laws.proofs.EventStops.BridgeLemmas.{turn-tells}
+use Rattle.pr_truss_laws.proofs.Machine.FrameLemmas.{was-made}
+use Rattle.pr_truss_laws.proofs.EventStops.OwnTurnLemmas.{quiet-stays}
+use Rattle.pr_truss_laws.proofs.EventStops.ToldLemmas.{exit-told}
 use Rattle.pr_truss_laws.specs.Stills.{IsQuiet, IsUndisturbed, stands_still}
 use Rattle.pr_truss_laws.specs.Told.{has_ended, told}
 use Rattle.pr_report_laws.proofs.Machine.ForkRows.{MakesOne, birth-makes, row-makes, told-made}

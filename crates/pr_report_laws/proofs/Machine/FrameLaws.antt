@@ -17,8 +17,8 @@ use Rattle.pr_model.specs.declared.events.Act.TheVariants as act
 use Rattle.pr_model.specs.declared.events.Actor.{Actor}
 use Rattle.pr_model.specs.declared.events.Actor.TheVariants.{Lwp}
 use Rattle.pr_model.specs.declared.events.Entry.{Entry}
-use Rattle.pr_truss_laws.proofs.AloneLemmas.{alone-frozen, alone-tells}
-use Rattle.pr_truss_laws.proofs.FrameLemmas.{lwp-alike}
+use Rattle.pr_truss_laws.proofs.EventStops.AloneLemmas.{alone-frozen, alone-tells}
+use Rattle.pr_truss_laws.proofs.Machine.FrameLemmas.{lwp-alike}
 use Rattle.pr_truss_laws.specs.Stills.{IsUndisturbed, unsignalled, will_stop}
 use Rattle.pr_report_laws.proofs.Invariant.Positions.{HasEvent, IsAtBirth, IsTracedBy, Waits, has_met, met_in}
 use Rattle.pr_report_laws.specs.Shown.{event_picked, picked}

@@ -27,7 +27,7 @@ use Rattle.pr_truss.specs.Replies.{answer_of}
 use Rattle.pr_truss.specs.declared.replies.Answer.TheVariants.{Gone}
 use Rattle.pr_report_laws.proofs.Machine.ControlLaws.{run-reads, unfollow-reads}
 use Rattle.pr_report_laws.proofs.Machine.RecordLaws.{held-is, lives-by, read-is}
-use Rattle.pr_truss_laws.proofs.TakenLemmas.{ReadsAs, ctl-is, process-aim}
+use Rattle.pr_truss_laws.proofs.Machine.TakenLemmas.{ReadsAs, ctl-is, process-aim}
 
 -- The machine says that a process is gone only where it has ended.
 

@@ -19,8 +19,8 @@ use Rattle.pr_model.specs.declared.calls.Reply.TheVariants.{Pid}
 use Rattle.pr_model.specs.declared.events.Actor.TheVariants.{Controller, Lwp}
 use Rattle.pr_model.specs.declared.events.Entry.{Entry}
 use Rattle.pr_model.specs.declared.events.Turned.{Turned}
-use Rattle.pr_truss_laws.proofs.FrameLemmas.{was-made}
-use Rattle.pr_truss_laws.proofs.OverLemmas.{stays-made}
+use Rattle.pr_truss_laws.proofs.Machine.FrameLemmas.{was-made}
+use Rattle.pr_truss_laws.proofs.Machine.OverLemmas.{stays-made}
 use Rattle.pr_report_laws.proofs.Files.FileSteps.{entry-lawful}
 use Rattle.pr_report_laws.proofs.Machine.ForkRows.{row-makes}
 use Rattle.pr_report_laws.proofs.Machine.ForkTurns.{child-found}

@@ -30,14 +30,14 @@ use Rattle.pr_truss.specs.declared.stages.AfterClosing.TheVariants.{OpenNext}
 use Rattle.pr_truss.specs.declared.stages.OpeningStep.TheVariants as opening
 use Rattle.pr_truss.specs.declared.stages.Stage.{Stage}
 use Rattle.pr_truss.specs.declared.stages.Stage.TheVariants.{Closing, Opening, OpeningChildControl}
-use Rattle.pr_truss_laws.proofs.ForeignLemmas.{call-passes}
-use Rattle.pr_truss_laws.proofs.FrameLemmas.{undisturbed-self}
-use Rattle.pr_truss_laws.proofs.OpensLemmas.{close-closes, held_by, open-opens, plain-leaves}
+use Rattle.pr_truss_laws.proofs.Machine.ForeignLemmas.{call-passes}
+use Rattle.pr_truss_laws.proofs.Machine.FrameLemmas.{undisturbed-self}
+use Rattle.pr_truss_laws.proofs.Files.OpensLemmas.{close-closes, held_by, open-opens, plain-leaves}
 use Rattle.pr_truss_laws.specs.Stills.{IsUndisturbed}
-use Rattle.pr_truss_laws.proofs.StillLemmas.{frozen-turns}
-use Rattle.pr_truss_laws.proofs.OutlastLemmas.{Outlasts, killed, lives, others-turn, outlasts, ticked-live}
+use Rattle.pr_truss_laws.proofs.Machine.StillLemmas.{frozen-turns}
+use Rattle.pr_truss_laws.proofs.Machine.OutlastLemmas.{Outlasts, killed, lives, others-turn, outlasts, ticked-live}
 use Rattle.pr_report_laws.proofs.Machine.FrameLaws.{alone-birth, alone-control}
-use Rattle.pr_truss_laws.proofs.OverLemmas.{stays-over}
+use Rattle.pr_truss_laws.proofs.Machine.OverLemmas.{stays-over}
 use Rattle.pr_report_laws.specs.Births.{granted}
 use Rattle.pr_report_laws.specs.Lineages.{IsNamed, WasHad}
 use Rattle.pr_report_laws.proofs.Invariant.Positions.{IsAtBirth}

@@ -14,7 +14,7 @@ use Rattle.pr_num.specs.Agents.{agent_id}
 use Rattle.pr_num.specs.ById.{IsRising, under}
 use Rattle.pr_num.specs.Control.{fork_mode}
 use Rattle.pr_truss.specs.Messages.{traced_entries, traced_exits, traced_faults, traced_signals}
-use Rattle.pr_truss_laws.proofs.OneEventLemmas.{or-some, some-or}
+use Rattle.pr_truss_laws.proofs.EventStops.OneEventLemmas.{or-some, some-or}
 use Rattle.pr_truss_laws.specs.Stills.{IsFrozen}
 use Rattle.pr_report_laws.proofs.Machine.SettingLaws.{HasPlainModes, follow-plain, set-halting, set-waits}
 use Rattle.pr_report_laws.proofs.Invariant.Standing.{HasEntries, HasExits, HasFaults, HasSignals, HasStop, IsAttached, IsCounted, IsSpared}

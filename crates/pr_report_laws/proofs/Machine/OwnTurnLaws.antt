@@ -28,9 +28,9 @@ use Rattle.pr_model.specs.declared.events.Did.TheVariants as did
 use Rattle.pr_model.specs.declared.events.Turned.{Turned}
 use Rattle.pr_model.specs.declared.stops.Point.{Point}
 use Rattle.pr_model.specs.declared.stops.Stop.{Stop}
-use Rattle.pr_truss_laws.proofs.BridgeLemmas.{mapped-some}
-use Rattle.pr_truss_laws.proofs.OwnTurnLemmas.{Carries, GoesOn, new, old, quiet-halts, quiet-settings, quiet-stands, quiet-stays, row-carries}
-use Rattle.pr_truss_laws.proofs.StillLemmas.{halting-did, halting-leaves, halting-stays}
+use Rattle.pr_truss_laws.proofs.EventStops.BridgeLemmas.{mapped-some}
+use Rattle.pr_truss_laws.proofs.EventStops.OwnTurnLemmas.{Carries, GoesOn, new, old, quiet-halts, quiet-settings, quiet-stands, quiet-stays, row-carries}
+use Rattle.pr_truss_laws.proofs.Machine.StillLemmas.{halting-did, halting-leaves, halting-stays}
 use Rattle.pr_truss_laws.specs.Stills.{HasSameSettings, IsHalting, IsQuiet, stopped_lwp, will_stop, with_lwp_stopped}
 use Rattle.pr_report_laws.proofs.Machine.StayingLwps.{changed-ids, suits-row, turn-no-agent}
 use Rattle.pr_report_laws.proofs.Machine.TracedPoints.{PicksTraced, StopsAtPicked, listed, picked-is-traced, told_of, traced-picked, turn-picks}

@@ -45,9 +45,9 @@ use Rattle.pr_model.specs.declared.calls.Reply.TheVariants as reply
 use Rattle.pr_model.specs.declared.handles.Held.{Held}
 use Rattle.pr_truss.specs.Replies.{answer_of}
 use Rattle.pr_truss.specs.declared.replies.Answer.TheVariants.{Interrupted}
-use Rattle.pr_truss_laws.proofs.AnswerLemmas.{IsAnswer, answer-is}
-use Rattle.pr_truss_laws.proofs.OpensLemmas.{looking-stays}
-use Rattle.pr_truss_laws.proofs.TakenLemmas.{target-live}
+use Rattle.pr_truss_laws.proofs.Replies.AnswerLemmas.{IsAnswer, answer-is}
+use Rattle.pr_truss_laws.proofs.Files.OpensLemmas.{looking-stays}
+use Rattle.pr_truss_laws.proofs.Machine.TakenLemmas.{target-live}
 use Rattle.pr_report_laws.proofs.Files.KeepLemmas.{can_wait}
 use Rattle.pr_report_laws.proofs.Machine.ControlLaws.{target-process}
 

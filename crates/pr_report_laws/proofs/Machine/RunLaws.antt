@@ -32,10 +32,10 @@ use Rattle.pr_model.specs.declared.handles.Held.{Held}
 use Rattle.pr_truss.specs.NextCalls.{run_call}
 use Rattle.pr_truss.specs.Replies.{answer_of}
 use Rattle.pr_truss.specs.declared.replies.Answer.TheVariants.{Accepted}
-use Rattle.pr_truss_laws.proofs.BridgeLemmas.{mapped-some}
-use Rattle.pr_truss_laws.proofs.OneEventLemmas.{all-others}
-use Rattle.pr_truss_laws.proofs.StillLemmas.{live-changed}
-use Rattle.pr_truss_laws.proofs.TakenLemmas.{ctl-is, process-aim}
+use Rattle.pr_truss_laws.proofs.EventStops.BridgeLemmas.{mapped-some}
+use Rattle.pr_truss_laws.proofs.EventStops.OneEventLemmas.{all-others}
+use Rattle.pr_truss_laws.proofs.Machine.StillLemmas.{live-changed}
+use Rattle.pr_truss_laws.proofs.Machine.TakenLemmas.{ctl-is, process-aim}
 use Rattle.pr_truss_laws.specs.Stills.{IsFrozen, IsQuiet, stands_still}
 use Rattle.pr_report_laws.proofs.Invariant.Positions.{IsTracedBy, Waits, has_met, met_in}
 use Rattle.pr_report_laws.proofs.Machine.ControlLaws.{refused-not, run-reads, some-mapped, taken}

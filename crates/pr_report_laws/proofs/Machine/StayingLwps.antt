@@ -36,8 +36,8 @@ use Rattle.pr_model.specs.State.{TracedLwp, TracedProcess, TracedSystem, has_age
 use Rattle.pr_model.specs.Stops.{directed, with_all_directed}
 use Rattle.pr_model.specs.Transitions.{after_transition, ended_if}
 use Rattle.pr_model.specs.declared.stops.Point.{Point}
-use Rattle.pr_truss_laws.proofs.BridgeLemmas.{mapped-some}
-use Rattle.pr_truss_laws.proofs.StillLemmas.{if-live-none}
+use Rattle.pr_truss_laws.proofs.EventStops.BridgeLemmas.{mapped-some}
+use Rattle.pr_truss_laws.proofs.Machine.StillLemmas.{if-live-none}
 
 -- A turn leaves its process and its lwp, where it ends none of them; and no agent comes by it.
 

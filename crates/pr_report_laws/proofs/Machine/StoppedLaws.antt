@@ -20,7 +20,7 @@ use Rattle.pr_model.specs.State.{TracedLwp, TracedProcess, TracedSystem, has_age
 use Rattle.pr_model.specs.Stops.{IsBefore, IsFirstOfClasses, agent_of, class_of, class_of_shown, class_of_stop, first_in_class, found_on_event, has_event_stop, is_in_class, is_stopped, representative, shown, shown_by_job}
 use Rattle.pr_model.specs.declared.stops.Stop.{Stop}
 use Rattle.pr_model.specs.declared.stops.Stop.TheVariants as stop
-use Rattle.pr_truss_laws.proofs.OneEventLemmas.{all-others, or-some, some-or}
+use Rattle.pr_truss_laws.proofs.EventStops.OneEventLemmas.{all-others, or-some, some-or}
 use Rattle.pr_report_laws.proofs.Invariant.Positions.{HasEvent, Waits, has_met, is_met_if, met_in}
 use Rattle.pr_truss_laws.specs.Stills.{IsFrozen, IsQuiet, is_met, stands_still}
 

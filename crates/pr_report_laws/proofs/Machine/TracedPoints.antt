@@ -51,7 +51,7 @@ use Rattle.pr_model.specs.declared.events.Turned.{Turned}
 use Rattle.pr_model.specs.declared.stops.Point.{Point}
 use Rattle.pr_model.specs.declared.stops.Point.TheVariants as point
 use Rattle.pr_truss.specs.Messages.{traced_faults, traced_signals}
-use Rattle.pr_truss_laws.proofs.ToldLemmas.{is_result}
+use Rattle.pr_truss_laws.proofs.EventStops.ToldLemmas.{is_result}
 use Rattle.pr_truss_laws.specs.Told.{has_ended, told}
 use Rattle.pr_report_laws.proofs.Machine.CallResults.{IsAnswered, call-answered}
 use Rattle.pr_report_laws.proofs.Machine.SettingLaws.{wrapped-has}

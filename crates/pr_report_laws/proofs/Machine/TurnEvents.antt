@@ -23,7 +23,7 @@ use Rattle.pr_model.specs.declared.events.Did.{Did}
 use Rattle.pr_model.specs.declared.events.Did.TheVariants as did
 use Rattle.pr_model.specs.declared.events.Res.TheVariants.{Value, Error, Ended}
 use Rattle.pr_model.specs.declared.stops.Point.{Point}
-use Rattle.pr_truss_laws.proofs.BridgeLemmas.{turn-tells}
+use Rattle.pr_truss_laws.proofs.EventStops.BridgeLemmas.{turn-tells}
 use Rattle.pr_truss_laws.specs.Told.{has_ended, told}
 use Rattle.pr_report_laws.proofs.Machine.StayingLwps.{keeps-meeting, live-by, row-leaves, settled-to}
 use Rattle.pr_report_laws.proofs.Machine.TracedPoints.{StopsAtPicked, fit-row, listed, lwp-found, told_of, turn-picks}

@@ -17,8 +17,8 @@ use Rattle.pr_model.specs.State.{TracedControl, TracedLwp, TracedProcess, Traced
 use Rattle.pr_model.specs.Stops.{with_all_directed}
 use Rattle.pr_model.specs.Transitions.{after_transition}
 use Rattle.pr_model.specs.declared.stops.Point.{Point}
-use Rattle.pr_truss_laws.proofs.OwnTurnLemmas.{Carried, row-carries}
-use Rattle.pr_truss_laws.proofs.StillLemmas.{row-directed, stop-settled, stopped-live}
+use Rattle.pr_truss_laws.proofs.EventStops.OwnTurnLemmas.{Carried, row-carries}
+use Rattle.pr_truss_laws.proofs.Machine.StillLemmas.{row-directed, stop-settled, stopped-live}
 use Rattle.pr_truss_laws.specs.Stills.{HasSameSettings, with_lwp_stopped}
 
 -- A turn of one of its own lwps leaves what is set on a process, but for its watched areas and its usage.

@@ -13,13 +13,13 @@ use Rattle.pr_model.specs.declared.events.Entry.{Entry}
 use Rattle.pr_rec.specs.declared.lwps.LwpStatus.{LwpStatus}
 use Rattle.pr_truss.specs.Trusses.{TrussState, first_truss, traced_at}
 use Rattle.pr_truss.specs.declared.stages.Stage.TheVariants.{ReadingText}
-use Rattle.pr_truss_laws.proofs.OverLemmas.{stays-made, stays-over}
+use Rattle.pr_truss_laws.proofs.Machine.OverLemmas.{stays-made, stays-over}
 use Rattle.pr_truss_laws.specs.Exchanges.{exchanges, truss_after, truss_at}
 use Rattle.pr_truss_laws.specs.Stills.{IsHalting, KeepsMemory}
 use Rattle.pr_report_laws.proofs.Invariant.EntrySteps.{Lost}
-use Rattle.pr_truss_laws.proofs.FrameLemmas.{memory-next}
-use Rattle.pr_truss_laws.proofs.HaltLemmas as halt
-use Rattle.pr_truss_laws.proofs.HaltLemmas.{HaltsOn}
+use Rattle.pr_truss_laws.proofs.Machine.FrameLemmas.{memory-next}
+use Rattle.pr_truss_laws.proofs.Machine.HaltLemmas as halt
+use Rattle.pr_truss_laws.proofs.Machine.HaltLemmas.{HaltsOn}
 use Rattle.pr_report_laws.proofs.Invariant.HistoryLaw.{after-next, no-exchanges, watched-next}
 use Rattle.pr_report_laws.proofs.Invariant.ShownTallies.{selected_of, shown_tally}
 use Rattle.pr_report_laws.proofs.Machine.OwnTurnLaws.{event-halts}

@@ -41,9 +41,9 @@ use Rattle.pr_truss.specs.declared.processes.Traced.{Traced}
 use Rattle.pr_truss.specs.declared.reports.Report.{Report}
 use Rattle.pr_truss.specs.declared.reports.Report.TheVariants.{Event as Reported}
 use Rattle.pr_truss.specs.declared.stages.Stage.TheVariants.{ReadingText}
-use Rattle.pr_truss_laws.proofs.ClosesLemmas.{after-grown, first-fits}
-use Rattle.pr_truss_laws.proofs.HeldLemmas.{Fits, Grown, grown-all}
-use Rattle.pr_truss_laws.proofs.OwnLemmas.{Owns}
+use Rattle.pr_truss_laws.proofs.Files.ClosesLemmas.{after-grown, first-fits}
+use Rattle.pr_truss_laws.proofs.Files.HeldLemmas.{Fits, Grown, grown-all}
+use Rattle.pr_truss_laws.proofs.Files.OwnLemmas.{Owns}
 use Rattle.pr_truss_laws.specs.Exchanges.{Exchange, exchange_of, exchanges, truss_after, truss_at}
 use Rattle.pr_truss_laws.specs.Runs.{IsTrussRun}
 use Rattle.pr_report_laws.proofs.Invariant.AnsweredReads as answered

@@ -31,13 +31,13 @@ use Rattle.pr_truss.specs.Trusses.{TrussState, first_truss, traced_at}
 use Rattle.pr_truss.specs.declared.reports.Report.{Report}
 use Rattle.pr_truss.specs.declared.reports.Report.TheVariants as report
 use Rattle.pr_truss.specs.declared.stages.Stage.TheVariants.{ReadingText}
-use Rattle.pr_truss_laws.proofs.OpensLemmas.{held_by}
-use Rattle.pr_truss_laws.proofs.OwnLemmas.{Owns}
+use Rattle.pr_truss_laws.proofs.Files.OpensLemmas.{held_by}
+use Rattle.pr_truss_laws.proofs.Files.OwnLemmas.{Owns}
 use Rattle.pr_truss_laws.specs.Exchanges.{Exchange, Makes, exchange_in, exchange_of, exchanges, truss_after, truss_at}
 use Rattle.pr_truss_laws.specs.Runs.{IsTrussRun}
 use Rattle.pr_report_laws.proofs.Files.FileSteps.{MakesNext, makes-next}
 use Rattle.pr_report_laws.proofs.Files.FileUses.{memory-read}
-use Rattle.pr_truss_laws.proofs.OptionLemmas.{fed-options}
+use Rattle.pr_truss_laws.proofs.Replies.OptionLemmas.{fed-options}
 use Rattle.pr_report_laws.proofs.Machine.RecordLaws.{held-is, read-is}
 use Rattle.pr_report_laws.proofs.Replies.TextReports.{AsksItsRange, Grows, IsTold, IsToldEvent, as_before, asks-range, fed-goes, first-silent, one_more, silent, told}
 use Rattle.pr_report_laws.proofs.Files.WatchHistories.{IsAnswered, Reaches, after-cons, cons-exchanges, entry-reaches, exchange-answered, first-reaches, no-exchanges, truss_at-push}

@@ -27,19 +27,19 @@ use Rattle.pr_truss.specs.declared.stages.FreeingStep.{FreeingStep}
 use Rattle.pr_truss.specs.declared.stages.FreeingStep.TheVariants as freeing
 use Rattle.pr_truss.specs.declared.stages.Stage.{Stage}
 use Rattle.pr_truss.specs.declared.stages.Stage.TheVariants.{Spawning, OpeningControl, Opening, Polling, ReadingStatus, ReadingText, OpeningChildControl, OpeningChild, Running, Closing, Unfollowing, ReadingLwps, FreeingChild, Finished}
-use Rattle.pr_truss_laws.proofs.ForeignLemmas.{names}
-use Rattle.pr_truss_laws.proofs.OpensLemmas.{held_by}
-use Rattle.pr_truss_laws.proofs.OutlastLemmas.{own-call-elsewhere}
-use Rattle.pr_truss_laws.proofs.OwnLemmas.{Owns}
-use Rattle.pr_truss_laws.proofs.StillLemmas.{live-changed}
-use Rattle.pr_truss_laws.proofs.TakenLemmas.{Read, ReadsAs, ctl-is}
+use Rattle.pr_truss_laws.proofs.Machine.ForeignLemmas.{names}
+use Rattle.pr_truss_laws.proofs.Files.OpensLemmas.{held_by}
+use Rattle.pr_truss_laws.proofs.Machine.OutlastLemmas.{own-call-elsewhere}
+use Rattle.pr_truss_laws.proofs.Files.OwnLemmas.{Owns}
+use Rattle.pr_truss_laws.proofs.Machine.StillLemmas.{live-changed}
+use Rattle.pr_truss_laws.proofs.Machine.TakenLemmas.{Read, ReadsAs, ctl-is}
 use Rattle.pr_truss_laws.specs.Stills.{IsHalting}
 use Rattle.pr_report_laws.proofs.Machine.ControlLaws.{unfollow-reads}
 use Rattle.pr_report_laws.proofs.Files.FileLaws.{HasFiles, IsFileOf}
 use Rattle.pr_report_laws.proofs.Files.FileUses as uses
 use Rattle.pr_report_laws.proofs.Files.FileUses.{freed_control, stage_place}
-use Rattle.pr_truss_laws.proofs.FrameLemmas.{memory-self}
-use Rattle.pr_truss_laws.proofs.HaltLemmas.{HaltsOn, goes_on, outlasts-halts}
+use Rattle.pr_truss_laws.proofs.Machine.FrameLemmas.{memory-self}
+use Rattle.pr_truss_laws.proofs.Machine.HaltLemmas.{HaltsOn, goes_on, outlasts-halts}
 use Rattle.pr_report_laws.proofs.Invariant.OwnCalls.{Misses}
 use Rattle.pr_report_laws.proofs.Invariant.OwnChild.{child-names}
 use Rattle.pr_report_laws.proofs.Replies.OwnOpens.{step-names}

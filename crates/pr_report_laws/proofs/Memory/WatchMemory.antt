@@ -28,10 +28,10 @@ use Rattle.pr_truss.specs.declared.stages.OpeningStep.{OpeningStep}
 use Rattle.pr_truss.specs.declared.stages.OpeningStep.TheVariants as opening
 use Rattle.pr_truss.specs.declared.stages.Stage.{Stage}
 use Rattle.pr_truss.specs.declared.stages.Stage.TheVariants.{OpeningControl, Opening, OpeningChildControl, OpeningChild}
-use Rattle.pr_truss_laws.proofs.AnswerLemmas.{IsAnswer, answer-is}
-use Rattle.pr_truss_laws.proofs.HeldLemmas.{Fits, at_place, set-at}
-use Rattle.pr_truss_laws.proofs.OwnLemmas.{Owns}
-use Rattle.pr_truss_laws.proofs.SequenceLemmas.{GoesToEnd}
+use Rattle.pr_truss_laws.proofs.Replies.AnswerLemmas.{IsAnswer, answer-is}
+use Rattle.pr_truss_laws.proofs.Files.HeldLemmas.{Fits, at_place, set-at}
+use Rattle.pr_truss_laws.proofs.Files.OwnLemmas.{Owns}
+use Rattle.pr_truss_laws.proofs.GivenProcesses.SequenceLemmas.{GoesToEnd}
 use Rattle.pr_truss_laws.specs.Exchanges.{Exchange, IsGranted, Makes, calls_in, exchange_of, exchanges, truss_after, truss_at}
 use Rattle.pr_truss_laws.specs.Runs.{IsTrussRun}
 use Rattle.pr_report_laws.proofs.Files.FileLaws.{HasFiles}
@@ -39,7 +39,7 @@ use Rattle.pr_report_laws.proofs.Files.FileSteps.{MakesNext, makes-next}
 use Rattle.pr_report_laws.proofs.Replies.NextStages.{opens}
 use Rattle.pr_report_laws.proofs.Replies.OpeningParts.{learnt-pid}
 use Rattle.pr_report_laws.proofs.Invariant.OpeningRuns.{child-pid}
-use Rattle.pr_truss_laws.proofs.OptionLemmas.{fed-options}
+use Rattle.pr_truss_laws.proofs.Replies.OptionLemmas.{fed-options}
 use Rattle.pr_report_laws.proofs.Replies.StageChanges.{Comes, How, Opens, at, child_goes, child_starts, free, goes, less, no, starts}
 use Rattle.pr_report_laws.proofs.Replies.StageReplies.{fed-comes}
 use Rattle.pr_report_laws.proofs.Invariant.StandLemmas.{Stands}

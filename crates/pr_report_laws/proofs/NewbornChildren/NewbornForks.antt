@@ -11,7 +11,7 @@ use Rattle.pr_model.specs.declared.events.Actor.TheVariants.{Controller}
 use Rattle.pr_model.specs.declared.events.Entry.{Entry}
 use Rattle.pr_model.specs.declared.events.Turned.{Turned}
 use Rattle.pr_truss.specs.Trusses.{TrussState, traced_at}
-use Rattle.pr_truss_laws.proofs.StillLemmas.{halting-leaves}
+use Rattle.pr_truss_laws.proofs.Machine.StillLemmas.{halting-leaves}
 use Rattle.pr_truss_laws.specs.Stills.{with_lwp_stopped}
 use Rattle.pr_report_laws.proofs.Invariant.Tallies.{Tally}
 use Rattle.pr_report_laws.proofs.UnopenedChildren.ClaimEntries.{Left, left, stopped-forked}

@@ -39,9 +39,9 @@ use Rattle.pr_truss.specs.declared.stages.ChildStep.{ChildStep}
 use Rattle.pr_truss.specs.declared.stages.ChildStep.TheVariants as child
 use Rattle.pr_truss.specs.declared.stages.Stage.{Stage}
 use Rattle.pr_truss.specs.declared.stages.Stage.TheVariants.{OpeningChildControl, OpeningChild}
-use Rattle.pr_truss_laws.proofs.FrameLemmas.{was-made}
-use Rattle.pr_truss_laws.proofs.HeldLemmas.{Fits, set-at}
-use Rattle.pr_truss_laws.proofs.StillLemmas.{frozen-turns}
+use Rattle.pr_truss_laws.proofs.Machine.FrameLemmas.{was-made}
+use Rattle.pr_truss_laws.proofs.Files.HeldLemmas.{Fits, set-at}
+use Rattle.pr_truss_laws.proofs.Machine.StillLemmas.{frozen-turns}
 use Rattle.pr_truss_laws.specs.Exchanges.{Exchange, Makes, exchange_in, exchange_of, exchanges, truss_after}
 use Rattle.pr_truss_laws.specs.Stills.{IsFrozen}
 use Rattle.pr_report_laws.proofs.UnopenedChildren.Births.{Going, child-granted, entry-of, going-on, is-own, own-after, own-stays, stand}
@@ -58,7 +58,7 @@ use Rattle.pr_report_laws.proofs.Machine.NewBorn.{IsNeverGranted, IsNew, is_begu
 use Rattle.pr_report_laws.proofs.NewbornChildren.NewbornForks.{IsForkOf, claims-forked, forked-before, forked-last}
 use Rattle.pr_report_laws.proofs.Replies.NextStages.{opens}
 use Rattle.pr_report_laws.proofs.Invariant.OpeningRuns.{born-following, child-pid}
-use Rattle.pr_truss_laws.proofs.OverLemmas.{stays-made}
+use Rattle.pr_truss_laws.proofs.Machine.OverLemmas.{stays-made}
 use Rattle.pr_report_laws.proofs.Replies.OwnLooks.{ReadsBack}
 use Rattle.pr_report_laws.proofs.Replies.OwnOpens.{granted-handle}
 use Rattle.pr_report_laws.proofs.Replies.StageChanges.{How, Opens, at, child_goes, child_starts, free, goes, less, no, starts}

@@ -22,10 +22,10 @@ use Rattle.pr_truss.specs.declared.stages.OpeningStep.{OpeningStep}
 use Rattle.pr_truss.specs.declared.stages.OpeningStep.TheVariants as opening
 use Rattle.pr_truss.specs.declared.stages.Stage.{Stage}
 use Rattle.pr_truss.specs.declared.stages.Stage.TheVariants.{Spawning, OpeningControl, Opening, Polling, ReadingStatus, ReadingText, OpeningChildControl, OpeningChild, Running, Closing, Unfollowing, ReadingLwps, FreeingChild, Finished}
-use Rattle.pr_truss_laws.proofs.FitLemmas.{last-within}
-use Rattle.pr_truss_laws.proofs.HeldLemmas.{Fits}
-use Rattle.pr_truss_laws.proofs.OpensLemmas.{held_by}
-use Rattle.pr_truss_laws.proofs.OwnLemmas.{Owns}
+use Rattle.pr_truss_laws.proofs.Replies.FitLemmas.{last-within}
+use Rattle.pr_truss_laws.proofs.Files.HeldLemmas.{Fits}
+use Rattle.pr_truss_laws.proofs.Files.OpensLemmas.{held_by}
+use Rattle.pr_truss_laws.proofs.Files.OwnLemmas.{Owns}
 use Rattle.pr_truss_laws.specs.Business.{IsAmong}
 use Rattle.pr_truss_laws.specs.Exchanges.{truss_at}
 use Rattle.pr_truss_laws.specs.Runs.{IsTrussRun}

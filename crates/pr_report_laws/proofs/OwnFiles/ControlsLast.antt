@@ -16,8 +16,8 @@ use Rattle.pr_truss.specs.Trusses.{TrussState, traced_at}
 use Rattle.pr_truss.specs.declared.processes.Traced.{Traced}
 use Rattle.pr_truss.specs.declared.stages.FreeingStep.TheVariants as freeing
 use Rattle.pr_truss.specs.declared.stages.Stage.TheVariants.{Closing, FreeingChild}
-use Rattle.pr_truss_laws.proofs.HeldLemmas.{Fits, of_stage}
-use Rattle.pr_truss_laws.proofs.OwnLemmas.{Owns}
+use Rattle.pr_truss_laws.proofs.Files.HeldLemmas.{Fits, of_stage}
+use Rattle.pr_truss_laws.proofs.Files.OwnLemmas.{Owns}
 use Rattle.pr_truss_laws.specs.Exchanges.{truss_at}
 use Rattle.pr_truss_laws.specs.Handles.{handles_of}
 use Rattle.pr_truss_laws.specs.Runs.{IsTrussRun}

@@ -39,9 +39,9 @@ use Rattle.pr_truss.specs.declared.stages.OpeningStep.{OpeningStep}
 use Rattle.pr_truss.specs.declared.stages.OpeningStep.TheVariants as opening
 use Rattle.pr_truss.specs.declared.stages.Stage.{Stage}
 use Rattle.pr_truss.specs.declared.stages.Stage.TheVariants.{Opening, ReadingStatus, ReadingText, OpeningChild, Running, Closing, Unfollowing, ReadingLwps, FreeingChild}
-use Rattle.pr_truss_laws.proofs.FitLemmas.{last-within}
-use Rattle.pr_truss_laws.proofs.HeldLemmas.{ClosesFirst, Fits, at_place, close-fed, closes-first, closes-next, handles_in, held, is_this, of_stage, of_traced, set-at, unit}
-use Rattle.pr_truss_laws.proofs.OwnLemmas.{Owns, owned}
+use Rattle.pr_truss_laws.proofs.Replies.FitLemmas.{last-within}
+use Rattle.pr_truss_laws.proofs.Files.HeldLemmas.{ClosesFirst, Fits, at_place, close-fed, closes-first, closes-next, handles_in, held, is_this, of_stage, of_traced, set-at, unit}
+use Rattle.pr_truss_laws.proofs.Files.OwnLemmas.{Owns, owned}
 use Rattle.pr_truss_laws.specs.Business.{IsAmong, goes_to}
 use Rattle.pr_truss_laws.specs.Exchanges.{Exchange, Makes, exchanges, truss_at}
 use Rattle.pr_truss_laws.specs.Handles.{handles_of}

@@ -29,10 +29,10 @@ use Rattle.pr_truss.specs.declared.stages.AfterClosing.TheVariants.{GoOn}
 use Rattle.pr_truss.specs.declared.stages.FreeingStep.TheVariants as freeing
 use Rattle.pr_truss.specs.declared.stages.Stage.{Stage}
 use Rattle.pr_truss.specs.declared.stages.Stage.TheVariants.{ReadingText, OpeningChildControl, Running, ReadingLwps, FreeingChild}
-use Rattle.pr_truss_laws.proofs.AnswerLemmas.{IsAnswer, answer-is}
-use Rattle.pr_truss_laws.proofs.HeldLemmas.{Fits, of_stage}
-use Rattle.pr_truss_laws.proofs.LookLemmas.{Alike, SameFiles, alike-reported, alike-shown, stop-read}
-use Rattle.pr_truss_laws.proofs.OwnLemmas.{Owns}
+use Rattle.pr_truss_laws.proofs.Replies.AnswerLemmas.{IsAnswer, answer-is}
+use Rattle.pr_truss_laws.proofs.Files.HeldLemmas.{Fits, of_stage}
+use Rattle.pr_truss_laws.proofs.Soon.LookLemmas.{Alike, SameFiles, alike-reported, alike-shown, stop-read}
+use Rattle.pr_truss_laws.proofs.Files.OwnLemmas.{Owns}
 use Rattle.pr_truss_laws.specs.Exchanges.{Exchange, Makes, errno_in, exchanges, truss_at}
 use Rattle.pr_truss_laws.specs.Handles.{handles_of}
 use Rattle.pr_truss_laws.specs.Runs.{IsTrussRun}

@@ -42,16 +42,16 @@ use Rattle.pr_truss.specs.declared.stages.OpeningStep.{OpeningStep}
 use Rattle.pr_truss.specs.declared.stages.OpeningStep.TheVariants as opening
 use Rattle.pr_truss.specs.declared.stages.Stage.{Stage}
 use Rattle.pr_truss.specs.declared.stages.Stage.TheVariants.{Spawning, OpeningControl, Opening, Polling, ReadingStatus, ReadingText, OpeningChildControl, OpeningChild, Closing, Unfollowing, ReadingLwps, FreeingChild, Finished}
-use Rattle.pr_truss_laws.proofs.AnswerLemmas.{Refuses}
-use Rattle.pr_truss_laws.proofs.ClosesLemmas.{first-fits}
-use Rattle.pr_truss_laws.proofs.FedSteps.{fed-step}
-use Rattle.pr_truss_laws.proofs.FitLemmas.{fed-fits, last-within}
-use Rattle.pr_truss_laws.proofs.HeldLemmas.{Fits, at_place, set-at}
-use Rattle.pr_truss_laws.proofs.KnownLemmas.{called as called-so}
-use Rattle.pr_truss_laws.proofs.OptionLemmas.{fed-options}
-use Rattle.pr_truss_laws.proofs.ReplySteps as step
-use Rattle.pr_truss_laws.proofs.ReplySteps.{Closes, GoesOn, IsNew, Learns, Looks, Opens, Reads, ReplyStep, Settles, StopOver, Turns}
-use Rattle.pr_truss_laws.proofs.TracedChanges.{accepted-granted}
+use Rattle.pr_truss_laws.proofs.Replies.AnswerLemmas.{Refuses}
+use Rattle.pr_truss_laws.proofs.Files.ClosesLemmas.{first-fits}
+use Rattle.pr_truss_laws.proofs.Replies.FedSteps.{fed-step}
+use Rattle.pr_truss_laws.proofs.Replies.FitLemmas.{fed-fits, last-within}
+use Rattle.pr_truss_laws.proofs.Files.HeldLemmas.{Fits, at_place, set-at}
+use Rattle.pr_truss_laws.proofs.OwnBusiness.KnownLemmas.{called as called-so}
+use Rattle.pr_truss_laws.proofs.Replies.OptionLemmas.{fed-options}
+use Rattle.pr_truss_laws.proofs.Replies.ReplySteps as step
+use Rattle.pr_truss_laws.proofs.Replies.ReplySteps.{Closes, GoesOn, IsNew, Learns, Looks, Opens, Reads, ReplyStep, Settles, StopOver, Turns}
+use Rattle.pr_truss_laws.proofs.Replies.TracedChanges.{accepted-granted}
 use Rattle.pr_truss_laws.specs.Business.{is_wait}
 use Rattle.pr_truss_laws.specs.Exchanges.{Exchange, Makes, truss_after}
 use Rattle.pr_report_laws.proofs.Files.WatchHistories.{after-append}

@@ -27,8 +27,8 @@ use Rattle.pr_truss.specs.declared.stages.OpeningStep.{OpeningStep}
 use Rattle.pr_truss.specs.declared.stages.OpeningStep.TheVariants as opening
 use Rattle.pr_truss.specs.declared.stages.Stage.{Stage}
 use Rattle.pr_truss.specs.declared.stages.Stage.TheVariants.{Opening, OpeningChild, Running, Unfollowing, FreeingChild, Finished}
-use Rattle.pr_truss_laws.proofs.HeldLemmas.{Fits}
-use Rattle.pr_truss_laws.proofs.OwnLemmas.{Owns}
+use Rattle.pr_truss_laws.proofs.Files.HeldLemmas.{Fits}
+use Rattle.pr_truss_laws.proofs.Files.OwnLemmas.{Owns}
 use Rattle.pr_truss_laws.specs.Exchanges.{Exchange, exchanges, truss_at}
 use Rattle.pr_truss_laws.specs.Runs.{IsTrussRun}
 use Rattle.pr_truss_laws.specs.Sent.{sends}

@@ -32,19 +32,19 @@ use Rattle.pr_truss.specs.declared.stages.FreeingStep.TheVariants as freeing
 use Rattle.pr_truss.specs.declared.stages.OpeningStep.TheVariants as opening
 use Rattle.pr_truss.specs.declared.stages.Stage.{Stage}
 use Rattle.pr_truss.specs.declared.stages.Stage.TheVariants.{Spawning, OpeningControl, Opening, Polling, ReadingStatus, ReadingText, OpeningChildControl, OpeningChild, Running, Closing, Unfollowing, ReadingLwps, FreeingChild, Finished}
-use Rattle.pr_truss_laws.proofs.ForeignLemmas.{call-passes, names}
-use Rattle.pr_truss_laws.proofs.OpensLemmas.{Opens, close-closes, held_by, keeps_handles, open-opens, own-other, own-set, plain-leaves}
-use Rattle.pr_truss_laws.proofs.OwnLemmas.{Owns}
-use Rattle.pr_truss_laws.proofs.ReleaseLemmas.{none-left}
+use Rattle.pr_truss_laws.proofs.Machine.ForeignLemmas.{call-passes, names}
+use Rattle.pr_truss_laws.proofs.Files.OpensLemmas.{Opens, close-closes, held_by, keeps_handles, open-opens, own-other, own-set, plain-leaves}
+use Rattle.pr_truss_laws.proofs.Files.OwnLemmas.{Owns}
+use Rattle.pr_truss_laws.proofs.Files.ReleaseLemmas.{none-left}
 use Rattle.pr_report_laws.proofs.UnopenedChildren.ClaimRuns.{call_entry}
 use Rattle.pr_report_laws.proofs.Machine.ControlLaws.{refusal-not}
 use Rattle.pr_report_laws.proofs.Invariant.EntrySteps.{made-at}
 use Rattle.pr_report_laws.proofs.Files.FileLaws.{HasFiles}
 use Rattle.pr_report_laws.proofs.Files.FileUses as uses
 use Rattle.pr_report_laws.proofs.Files.FileUses.{stage_place}
-use Rattle.pr_truss_laws.proofs.OutlastLemmas.{Outlasts, killed, lives, outlasts}
+use Rattle.pr_truss_laws.proofs.Machine.OutlastLemmas.{Outlasts, killed, lives, outlasts}
 use Rattle.pr_report_laws.proofs.Replies.OwnOpens.{open-stays}
-use Rattle.pr_truss_laws.proofs.OverLemmas.{stays-over}
+use Rattle.pr_truss_laws.proofs.Machine.OverLemmas.{stays-over}
 use Rattle.pr_report_laws.proofs.Releasing.ReleaseModes.{HasSameFlags, alone-flags, clear-accepted, clear-refused, entries-keep, exits-keep, faults-keep, flags-keep, follow-keep, release-accepted, release-refused, run-keep, signals-keep, stop-keep, unfollow-keep}
 use Rattle.pr_report_laws.proofs.Releasing.ReleaseStays.{not-allowed}
 use Rattle.pr_report_laws.specs.Releases.{HasModes, Modes, released, if_accepted, modes_next, spared}

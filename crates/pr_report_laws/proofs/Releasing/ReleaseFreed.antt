@@ -36,8 +36,8 @@ use Rattle.pr_truss.specs.declared.stages.OpeningStep.{OpeningStep}
 use Rattle.pr_truss.specs.declared.stages.OpeningStep.TheVariants as opening
 use Rattle.pr_truss.specs.declared.stages.Stage.{Stage}
 use Rattle.pr_truss.specs.declared.stages.Stage.TheVariants.{OpeningControl, Opening, OpeningChildControl, OpeningChild, FreeingChild}
-use Rattle.pr_truss_laws.proofs.HeldLemmas.{at_place, of_stage, unit}
-use Rattle.pr_truss_laws.proofs.OpensLemmas.{held_by}
+use Rattle.pr_truss_laws.proofs.Files.HeldLemmas.{at_place, of_stage, unit}
+use Rattle.pr_truss_laws.proofs.Files.OpensLemmas.{held_by}
 use Rattle.pr_truss_laws.specs.Exchanges.{Exchange, exchange_of}
 use Rattle.pr_report_laws.proofs.Invariant.EntrySteps.{made-at}
 use Rattle.pr_report_laws.proofs.Files.FedFiles.{fed-keeps}
@@ -46,7 +46,7 @@ use Rattle.pr_report_laws.proofs.Files.FileSteps.{MakesNext, calm-call}
 use Rattle.pr_report_laws.proofs.Files.FileUses as uses
 use Rattle.pr_report_laws.proofs.Files.FileUses.{freed_control}
 use Rattle.pr_report_laws.proofs.Files.KeepLemmas.{FreedIs, Grants, IsCalm, Keeps}
-use Rattle.pr_truss_laws.proofs.OverLemmas.{stays-over}
+use Rattle.pr_truss_laws.proofs.Machine.OverLemmas.{stays-over}
 use Rattle.pr_report_laws.proofs.Releasing.ReleaseGrants.{release-granted}
 use Rattle.pr_report_laws.proofs.Replies.StageChanges.{Comes, How, IsFree, Opens, StaysAt, at, child_goes, child_starts, free, goes, less, no, starts}
 use Rattle.pr_report_laws.proofs.Replies.StageReplies.{fed-comes}

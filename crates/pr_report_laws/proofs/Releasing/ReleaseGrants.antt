@@ -16,7 +16,7 @@ use Rattle.pr_num.specs.declared.messages.Message.TheVariants as message
 use Rattle.pr_truss.specs.Messages.{all_modes, message_call}
 use Rattle.pr_truss.specs.Replies.{answer_of}
 use Rattle.pr_truss.specs.declared.replies.Answer.TheVariants.{Accepted}
-use Rattle.pr_truss_laws.proofs.TakenLemmas.{ctl-is}
+use Rattle.pr_truss_laws.proofs.Machine.TakenLemmas.{ctl-is}
 
 -- Truss is granted the modes of each live process but process 0.
 

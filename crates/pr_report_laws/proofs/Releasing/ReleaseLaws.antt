@@ -24,7 +24,7 @@ use Rattle.pr_truss.specs.declared.stages.OpeningStep.{OpeningStep}
 use Rattle.pr_truss.specs.declared.stages.OpeningStep.TheVariants as opening
 use Rattle.pr_truss.specs.declared.stages.Stage.{Stage}
 use Rattle.pr_truss.specs.declared.stages.Stage.TheVariants.{Opening, OpeningChild, FreeingChild}
-use Rattle.pr_truss_laws.proofs.OpensLemmas.{held_by}
+use Rattle.pr_truss_laws.proofs.Files.OpensLemmas.{held_by}
 use Rattle.pr_truss_laws.specs.Exchanges.{Exchange, Makes, exchange_of, exchanges, truss_after, truss_at}
 use Rattle.pr_truss_laws.specs.Runs.{IsTrussRun}
 use Rattle.pr_report_laws.proofs.UnopenedChildren.Births.{first-traced}

@@ -23,7 +23,7 @@ use Rattle.pr_truss.specs.declared.stages.OpeningStep.{OpeningStep}
 use Rattle.pr_truss.specs.declared.stages.OpeningStep.TheVariants as opening
 use Rattle.pr_truss.specs.declared.stages.Stage.{Stage}
 use Rattle.pr_truss.specs.declared.stages.Stage.TheVariants.{OpeningControl, Opening, OpeningChildControl, OpeningChild, Closing, FreeingChild}
-use Rattle.pr_truss_laws.proofs.HeldLemmas.{Fits, IsLast, at_place, of_stage, set-at, unit}
+use Rattle.pr_truss_laws.proofs.Files.HeldLemmas.{Fits, IsLast, at_place, of_stage, set-at, unit}
 use Rattle.pr_report_laws.proofs.Files.FileLaws.{free-apart, has-each}
 use Rattle.pr_report_laws.proofs.Files.FileUses as uses
 use Rattle.pr_report_laws.proofs.Replies.NextStages.{opens}

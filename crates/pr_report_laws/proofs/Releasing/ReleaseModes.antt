@@ -27,7 +27,7 @@ use Rattle.pr_report_laws.proofs.Machine.FrameLaws.{alone-control}
 use Rattle.pr_report_laws.proofs.Machine.RunLaws.{run-control, run-live}
 use Rattle.pr_report_laws.proofs.Machine.SettingLaws.{cleared-plain, other-added, other-taken, release-has}
 use Rattle.pr_report_laws.specs.Releases.{HasModes, Modes, released, spared}
-use Rattle.pr_truss_laws.proofs.TakenLemmas.{ReadsAs, ctl-is, process-aim, stop-reads}
+use Rattle.pr_truss_laws.proofs.Machine.TakenLemmas.{ReadsAs, ctl-is, process-aim, stop-reads}
 
 -- What is done to a process leaves its PR_RLC and its PR_KLC, but for the messages that set them.
 

@@ -21,7 +21,7 @@ use Rattle.pr_truss.specs.declared.stages.FreeingStep.TheVariants as freeing
 use Rattle.pr_truss.specs.declared.stages.OpeningStep.TheVariants as opening
 use Rattle.pr_truss.specs.declared.stages.Stage.{Stage}
 use Rattle.pr_truss.specs.declared.stages.Stage.TheVariants.{OpeningControl, Opening, OpeningChildControl, OpeningChild, FreeingChild}
-use Rattle.pr_truss_laws.proofs.OpensLemmas.{open-opens}
+use Rattle.pr_truss_laws.proofs.Files.OpensLemmas.{open-opens}
 use Rattle.pr_report_laws.proofs.Machine.ControlLaws.{refusal-not}
 use Rattle.pr_report_laws.proofs.Releasing.ReleaseMarks.{HasSet, counts-or}
 use Rattle.pr_report_laws.specs.Releases.{Modes, modes_next, released, spared}

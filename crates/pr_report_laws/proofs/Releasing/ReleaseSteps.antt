@@ -21,15 +21,15 @@ use Rattle.pr_model.specs.declared.events.Actor.TheVariants.{Controller, Lwp, Cl
 use Rattle.pr_model.specs.declared.events.Entry.{Entry}
 use Rattle.pr_model.specs.declared.handles.Held.{Held}
 use Rattle.pr_truss.specs.Trusses.{TrussState, first_truss}
-use Rattle.pr_truss_laws.proofs.OpensLemmas.{foreign-call}
-use Rattle.pr_truss_laws.proofs.ReleaseLemmas.{truss-closes}
+use Rattle.pr_truss_laws.proofs.Files.OpensLemmas.{foreign-call}
+use Rattle.pr_truss_laws.proofs.Files.ReleaseLemmas.{truss-closes}
 use Rattle.pr_truss_laws.specs.Exchanges.{Exchange, Makes, exchange_in, exchange_of, exchanges}
 use Rattle.pr_report_laws.proofs.UnopenedChildren.ClaimRuns.{call_entry}
 use Rattle.pr_report_laws.proofs.Invariant.EntrySteps.{made-at}
 use Rattle.pr_report_laws.proofs.Files.FileSteps.{MakesNext, makes-next, opens-turn}
-use Rattle.pr_truss_laws.proofs.ForeignLemmas.{exclusive-sole}
-use Rattle.pr_truss_laws.proofs.OutlastLemmas.{Outlasts, killed, lives, others-entry}
-use Rattle.pr_truss_laws.proofs.OverLemmas.{stays-over}
+use Rattle.pr_truss_laws.proofs.Machine.ForeignLemmas.{exclusive-sole}
+use Rattle.pr_truss_laws.proofs.Machine.OutlastLemmas.{Outlasts, killed, lives, others-entry}
+use Rattle.pr_truss_laws.proofs.Machine.OverLemmas.{stays-over}
 use Rattle.pr_truss_laws.specs.Runs.{IsTrussRun}
 use Rattle.pr_report_laws.proofs.Releasing.ReleaseCalls.{KeepsModes, call-modes}
 use Rattle.pr_report_laws.proofs.Releasing.ReleaseModes.{HasSameFlags, alone-flags, flags-keep, settings-flags}

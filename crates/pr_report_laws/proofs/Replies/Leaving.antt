@@ -6,9 +6,9 @@ use Rattle.pr_truss.specs.Feeding.{fed}
 use Rattle.pr_truss.specs.Trusses.{TrussState, first_of_program, first_truss, idle, opening_or, with_stage}
 use Rattle.pr_truss.specs.declared.stages.Stage.{Stage}
 use Rattle.pr_truss.specs.declared.stages.Stage.TheVariants.{Spawning, Unfollowing, ReadingLwps, FreeingChild}
-use Rattle.pr_truss_laws.proofs.ReplySteps as step
-use Rattle.pr_truss_laws.proofs.ReplySteps.{GoesOn, ReplyStep, StopOver}
-use Rattle.pr_truss_laws.proofs.FedSteps.{fed-step}
+use Rattle.pr_truss_laws.proofs.Replies.ReplySteps as step
+use Rattle.pr_truss_laws.proofs.Replies.ReplySteps.{GoesOn, ReplyStep, StopOver}
+use Rattle.pr_truss_laws.proofs.Replies.FedSteps.{fed-step}
 use Rattle.pr_truss_laws.specs.Exchanges.{Exchange, truss_after}
 
 -- Truss leaves its processes wherever its step is one of those that leave one.

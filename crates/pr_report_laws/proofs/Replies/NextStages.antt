@@ -12,10 +12,10 @@ use Rattle.pr_truss.specs.declared.processes.Traced.{Traced}
 use Rattle.pr_truss.specs.declared.reports.Report.{Report}
 use Rattle.pr_truss.specs.declared.stages.Stage.{Stage}
 use Rattle.pr_truss.specs.declared.stages.Stage.TheVariants.{Opening, OpeningChild}
-use Rattle.pr_truss_laws.proofs.HeldLemmas.{at_place}
-use Rattle.pr_truss_laws.proofs.ReplySteps as step
-use Rattle.pr_truss_laws.proofs.ReplySteps.{GoesOn, leaving_now}
-use Rattle.pr_truss_laws.proofs.FedSteps.{goes-on, interrupt-on, opens-next}
+use Rattle.pr_truss_laws.proofs.Files.HeldLemmas.{at_place}
+use Rattle.pr_truss_laws.proofs.Replies.ReplySteps as step
+use Rattle.pr_truss_laws.proofs.Replies.ReplySteps.{GoesOn, leaving_now}
+use Rattle.pr_truss_laws.proofs.Replies.FedSteps.{goes-on, interrupt-on, opens-next}
 use Rattle.pr_report_laws.proofs.Invariant.Standing.{Prepares, has_read, is_named}
 use Rattle.pr_report_laws.specs.Shown.{LwpEvent, event_reported, shown}
 use Rattle.pr_report_laws.specs.Watching.{is_away, place_of}

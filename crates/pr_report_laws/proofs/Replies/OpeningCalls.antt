@@ -22,9 +22,9 @@ use Rattle.pr_truss.specs.declared.stages.OpeningStep.{OpeningStep}
 use Rattle.pr_truss.specs.declared.stages.OpeningStep.TheVariants as opening
 use Rattle.pr_truss.specs.declared.stages.Stage.{Stage}
 use Rattle.pr_truss.specs.declared.stages.Stage.TheVariants.{Spawning, OpeningControl, Opening}
-use Rattle.pr_truss_laws.proofs.HeldLemmas.{Fits}
-use Rattle.pr_truss_laws.proofs.OpensLemmas.{held_by}
-use Rattle.pr_truss_laws.proofs.OwnLemmas.{Owns}
+use Rattle.pr_truss_laws.proofs.Files.HeldLemmas.{Fits}
+use Rattle.pr_truss_laws.proofs.Files.OpensLemmas.{held_by}
+use Rattle.pr_truss_laws.proofs.Files.OwnLemmas.{Owns}
 use Rattle.pr_report_laws.proofs.Invariant.Tallies.{IsWhole, Tally}
 use Rattle.pr_report_laws.proofs.Files.FileLaws.{HasFiles}
 use Rattle.pr_report_laws.proofs.Files.FileUses.{opening-read}

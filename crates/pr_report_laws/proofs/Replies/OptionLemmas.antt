@@ -1,7 +1,7 @@
 use Rattle.std.proofs.Common.{◌≡◌, ℕ, Option, Some, None, refl}
 use Rattle.pr_model.specs.declared.events.Entry.{Entry}
 use Rattle.pr_truss.specs.Trusses.{TrussState}
-use Rattle.pr_truss_laws.proofs.OptionLemmas.{fed-options}
+use Rattle.pr_truss_laws.proofs.Replies.OptionLemmas.{fed-options}
 use Rattle.pr_truss_laws.specs.Exchanges.{Exchange, exchange_of}
 use Rattle.pr_report_laws.specs.Watching.{fed_by_entry, with_exchange}
 

@@ -34,11 +34,11 @@ use Rattle.pr_truss.specs.declared.processes.Traced.{Traced}
 use Rattle.pr_truss.specs.declared.replies.Answer.TheVariants.{Accepted}
 use Rattle.pr_truss.specs.declared.stages.Stage.{Stage}
 use Rattle.pr_truss.specs.declared.stages.Stage.TheVariants.{Polling, ReadingStatus, ReadingText, ReadingLwps}
-use Rattle.pr_truss_laws.proofs.FitLemmas.{fed-fits}
-use Rattle.pr_truss_laws.proofs.ForeignLemmas.{names}
-use Rattle.pr_truss_laws.proofs.HeldLemmas.{Fits}
-use Rattle.pr_truss_laws.proofs.OpensLemmas.{held_by, looking-stays, only_looks}
-use Rattle.pr_truss_laws.proofs.OwnLemmas.{Owns}
+use Rattle.pr_truss_laws.proofs.Replies.FitLemmas.{fed-fits}
+use Rattle.pr_truss_laws.proofs.Machine.ForeignLemmas.{names}
+use Rattle.pr_truss_laws.proofs.Files.HeldLemmas.{Fits}
+use Rattle.pr_truss_laws.proofs.Files.OpensLemmas.{held_by, looking-stays, only_looks}
+use Rattle.pr_truss_laws.proofs.Files.OwnLemmas.{Owns}
 use Rattle.pr_report_laws.proofs.Invariant.Tallies.{Tally, with_told}
 use Rattle.pr_report_laws.proofs.Invariant.EntrySteps.{Lost, standing-why}
 use Rattle.pr_report_laws.proofs.Machine.EventStopLemmas as stops

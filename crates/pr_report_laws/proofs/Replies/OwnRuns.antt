@@ -29,11 +29,11 @@ use Rattle.pr_truss.specs.declared.stages.FreeingStep.{FreeingStep}
 use Rattle.pr_truss.specs.declared.stages.FreeingStep.TheVariants as freeing
 use Rattle.pr_truss.specs.declared.stages.Stage.{Stage}
 use Rattle.pr_truss.specs.declared.stages.Stage.TheVariants.{Running, Unfollowing, Closing, FreeingChild}
-use Rattle.pr_truss_laws.proofs.ForeignLemmas.{names}
-use Rattle.pr_truss_laws.proofs.HeldLemmas.{Fits}
-use Rattle.pr_truss_laws.proofs.OpensLemmas.{held_by}
-use Rattle.pr_truss_laws.proofs.StillLemmas.{live-changed}
-use Rattle.pr_truss_laws.proofs.TakenLemmas.{ctl-is, process-aim}
+use Rattle.pr_truss_laws.proofs.Machine.ForeignLemmas.{names}
+use Rattle.pr_truss_laws.proofs.Files.HeldLemmas.{Fits}
+use Rattle.pr_truss_laws.proofs.Files.OpensLemmas.{held_by}
+use Rattle.pr_truss_laws.proofs.Machine.StillLemmas.{live-changed}
+use Rattle.pr_truss_laws.proofs.Machine.TakenLemmas.{ctl-is, process-aim}
 use Rattle.pr_report_laws.proofs.Invariant.Tallies.{Tally}
 use Rattle.pr_report_laws.proofs.Invariant.CloseSteps.{closing-stands, freeing-stands}
 use Rattle.pr_report_laws.proofs.Machine.ControlLaws.{message-gone}

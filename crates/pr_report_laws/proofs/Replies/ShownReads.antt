@@ -26,9 +26,9 @@ use Rattle.pr_truss.specs.declared.reports.Report.TheVariants.{CannotStart, Cann
 use Rattle.pr_truss.specs.declared.stages.AfterClosing.{AfterClosing}
 use Rattle.pr_truss.specs.declared.stages.Stage.{Stage}
 use Rattle.pr_truss.specs.declared.stages.Stage.TheVariants.{Spawning, OpeningControl, Opening, Polling, ReadingStatus, ReadingText, OpeningChildControl, OpeningChild, Running, Closing, Unfollowing, ReadingLwps, FreeingChild, Finished}
-use Rattle.pr_truss_laws.proofs.FedSteps.{event-over, fed-step, stop-over}
-use Rattle.pr_truss_laws.proofs.ReplySteps as step
-use Rattle.pr_truss_laws.proofs.ReplySteps.{Closes, GoesOn, Looks, Reads, ReplyStep, Returns, Settles, StopOver, Turns, old_less, on-staged, over-staged}
+use Rattle.pr_truss_laws.proofs.Replies.FedSteps.{event-over, fed-step, stop-over}
+use Rattle.pr_truss_laws.proofs.Replies.ReplySteps as step
+use Rattle.pr_truss_laws.proofs.Replies.ReplySteps.{Closes, GoesOn, Looks, Reads, ReplyStep, Returns, Settles, StopOver, Turns, old_less, on-staged, over-staged}
 use Rattle.pr_report_laws.proofs.Invariant.Tallies.{told_in}
 use Rattle.pr_report_laws.proofs.Replies.NewStops.{if_new, new_at, read_at, read_now, refused-bytes}
 use Rattle.pr_report_laws.proofs.Replies.NextStages.{interrupt-comes, reported}

@@ -20,9 +20,9 @@ use Rattle.pr_truss.specs.declared.stages.OpeningStep.{OpeningStep}
 use Rattle.pr_truss.specs.declared.stages.OpeningStep.TheVariants as opening
 use Rattle.pr_truss.specs.declared.stages.Stage.{Stage}
 use Rattle.pr_truss.specs.declared.stages.Stage.TheVariants.{OpeningControl, Opening, ReadingStatus, ReadingText, OpeningChildControl, OpeningChild, Running, Closing, Unfollowing, ReadingLwps, FreeingChild}
-use Rattle.pr_truss_laws.proofs.HeldLemmas.{at_place, set-at}
-use Rattle.pr_truss_laws.proofs.ReplySteps as step
-use Rattle.pr_truss_laws.proofs.ReplySteps.{GoesOn, StopOver, on-staged}
+use Rattle.pr_truss_laws.proofs.Files.HeldLemmas.{at_place, set-at}
+use Rattle.pr_truss_laws.proofs.Replies.ReplySteps as step
+use Rattle.pr_truss_laws.proofs.Replies.ReplySteps.{GoesOn, StopOver, on-staged}
 use Rattle.pr_report_laws.proofs.Replies.NextStages.{on-comes, opens}
 use Rattle.pr_report_laws.specs.Watching.{is_away}
 

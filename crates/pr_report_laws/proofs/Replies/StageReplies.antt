@@ -18,11 +18,11 @@ use Rattle.pr_truss.specs.declared.stages.FreeingStep.{FreeingStep}
 use Rattle.pr_truss.specs.declared.stages.OpeningStep.TheVariants as opening
 use Rattle.pr_truss.specs.declared.stages.Stage.{Stage}
 use Rattle.pr_truss.specs.declared.stages.Stage.TheVariants.{Opening, ReadingStatus, ReadingText, Running, Closing, ReadingLwps, FreeingChild}
-use Rattle.pr_truss_laws.proofs.FitLemmas.{parent-within}
-use Rattle.pr_truss_laws.proofs.HeldLemmas.{Fits}
-use Rattle.pr_truss_laws.proofs.ReplySteps as step
-use Rattle.pr_truss_laws.proofs.ReplySteps.{Closes, GoesOn, Looks, Reads, ReplyStep, Returns, Settles, StopOver, Turns, lost-same, on-staged, seen_at}
-use Rattle.pr_truss_laws.proofs.FedSteps.{fed-step}
+use Rattle.pr_truss_laws.proofs.Replies.FitLemmas.{parent-within}
+use Rattle.pr_truss_laws.proofs.Files.HeldLemmas.{Fits}
+use Rattle.pr_truss_laws.proofs.Replies.ReplySteps as step
+use Rattle.pr_truss_laws.proofs.Replies.ReplySteps.{Closes, GoesOn, Looks, Reads, ReplyStep, Returns, Settles, StopOver, Turns, lost-same, on-staged, seen_at}
+use Rattle.pr_truss_laws.proofs.Replies.FedSteps.{fed-step}
 use Rattle.pr_report_laws.proofs.Replies.NextStages
 use Rattle.pr_report_laws.proofs.Replies.NextStages.{on-comes}
 use Rattle.pr_report_laws.proofs.Replies.OpeningParts.{last-start, learnt-pid, learnt-start}

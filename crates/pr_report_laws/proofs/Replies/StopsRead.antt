@@ -9,7 +9,7 @@ use Rattle.pr_truss.specs.Stops.{asked_range, with_event, with_event_over, with_
 use Rattle.pr_truss.specs.Trusses.{TrussState, nobody, traced_at, with_report, with_traced}
 use Rattle.pr_truss.specs.declared.processes.Traced.{Traced}
 use Rattle.pr_truss.specs.declared.reports.Report.TheVariants.{Event as Reported}
-use Rattle.pr_truss_laws.proofs.HeldLemmas.{set-at}
+use Rattle.pr_truss_laws.proofs.Files.HeldLemmas.{set-at}
 use Rattle.pr_report_laws.proofs.Replies.Places.{place-set}
 use Rattle.pr_report_laws.proofs.Replies.StopsOver.{StopOver, event_over-left, event_over-over, stop_over-left, stop_over-over, text-over}
 

@@ -17,10 +17,10 @@ use Rattle.pr_truss.specs.declared.reports.Report.TheVariants as report
 use Rattle.pr_truss.specs.declared.stages.AfterClosing.{AfterClosing}
 use Rattle.pr_truss.specs.declared.stages.Stage.{Stage}
 use Rattle.pr_truss.specs.declared.stages.Stage.TheVariants.{ReadingStatus, ReadingText, ReadingLwps}
-use Rattle.pr_truss_laws.proofs.ReplySteps as step
-use Rattle.pr_truss_laws.proofs.ReplySteps.{Closes, GoesOn, IsNew, Looks, Reads, ReplyStep, Settles, StopOver, on-staged, over-staged}
-use Rattle.pr_truss_laws.proofs.FedSteps.{by_test, event-over, fed-step, seen-on}
-use Rattle.pr_truss_laws.proofs.HeldLemmas.{Grown, grown-same}
+use Rattle.pr_truss_laws.proofs.Replies.ReplySteps as step
+use Rattle.pr_truss_laws.proofs.Replies.ReplySteps.{Closes, GoesOn, IsNew, Looks, Reads, ReplyStep, Settles, StopOver, on-staged, over-staged}
+use Rattle.pr_truss_laws.proofs.Replies.FedSteps.{by_test, event-over, fed-step, seen-on}
+use Rattle.pr_truss_laws.proofs.Files.HeldLemmas.{Grown, grown-same}
 use Rattle.pr_report_laws.specs.Memories.{range_asked}
 
 -- What one reply adds to the reports of truss, and which memory truss asks for then.

@@ -23,7 +23,7 @@ use Rattle.pr_num.specs.declared.syscalls.Sysno.{Sysno}
 use Rattle.pr_truss.proofs.ForkLemmas.{with_forks-has}
 use Rattle.pr_truss.specs.Messages.{ending_calls, traced_exits, with_forks}
 use Rattle.pr_truss.specs.Trusses.{TrussState}
-use Rattle.pr_truss_laws.proofs.FrameLemmas.{was-made}
+use Rattle.pr_truss_laws.proofs.Machine.FrameLemmas.{was-made}
 use Rattle.pr_truss_laws.specs.Told.{told}
 use Rattle.pr_report_laws.proofs.Files.FileSteps.{entry-lawful}
 use Rattle.pr_report_laws.proofs.Invariant.HistorySteps.{picked_of}

@@ -20,8 +20,8 @@ use Rattle.pr_truss.specs.NextCalls.{next_call_of}
 use Rattle.pr_truss.specs.Trusses.{TrussState, first_truss}
 use Rattle.pr_truss.specs.declared.reports.Report.{Report}
 use Rattle.pr_truss.specs.declared.reports.Report.TheVariants.{CannotTrace}
-use Rattle.pr_truss_laws.proofs.ClosesLemmas.{after-grown}
-use Rattle.pr_truss_laws.proofs.HeldLemmas.{Grown}
+use Rattle.pr_truss_laws.proofs.Files.ClosesLemmas.{after-grown}
+use Rattle.pr_truss_laws.proofs.Files.HeldLemmas.{Grown}
 use Rattle.pr_truss_laws.specs.Exchanges.{Exchange, exchange_of, exchanges, truss_after, truss_at}
 use Rattle.pr_truss_laws.specs.Runs.{IsTrussRun}
 use Rattle.pr_report_laws.proofs.Files.WatchHistories.{Reaches, after-append, cons-exchanges, exchanges-both, run-reaches}

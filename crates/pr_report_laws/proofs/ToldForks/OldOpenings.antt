@@ -22,8 +22,8 @@ use Rattle.pr_truss.specs.declared.stages.ChildStep.TheVariants as child
 use Rattle.pr_truss.specs.declared.stages.OpeningStep.{OpeningStep}
 use Rattle.pr_truss.specs.declared.stages.OpeningStep.TheVariants as opening
 use Rattle.pr_truss.specs.declared.stages.Stage.TheVariants.{Opening, OpeningChild, Running}
-use Rattle.pr_truss_laws.proofs.HeldLemmas.{set-at}
-use Rattle.pr_truss_laws.proofs.OptionLemmas.{fed-options}
+use Rattle.pr_truss_laws.proofs.Files.HeldLemmas.{set-at}
+use Rattle.pr_truss_laws.proofs.Replies.OptionLemmas.{fed-options}
 use Rattle.pr_truss_laws.specs.Exchanges.{Exchange, IsGranted, Makes, truss_after, truss_at}
 use Rattle.pr_truss_laws.specs.Given.{IsWholeOpening, reply_at}
 use Rattle.pr_truss_laws.specs.Runs.{IsTrussRun}

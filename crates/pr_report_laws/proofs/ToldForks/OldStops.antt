@@ -21,12 +21,12 @@ use Rattle.pr_truss.specs.declared.stages.ChildStep.TheVariants as child
 use Rattle.pr_truss.specs.declared.stages.OpeningStep.{OpeningStep}
 use Rattle.pr_truss.specs.declared.stages.Stage.{Stage}
 use Rattle.pr_truss.specs.declared.stages.Stage.TheVariants.{Opening, ReadingStatus, OpeningChild, ReadingLwps}
-use Rattle.pr_truss_laws.proofs.FedSteps.{fed-step}
-use Rattle.pr_truss_laws.proofs.ClosesLemmas.{first-fits}
-use Rattle.pr_truss_laws.proofs.FitLemmas.{fed-fits, last-within, parent-within, reads-within}
-use Rattle.pr_truss_laws.proofs.HeldLemmas.{Fits, at_place, set-at}
-use Rattle.pr_truss_laws.proofs.ReplySteps as step
-use Rattle.pr_truss_laws.proofs.ReplySteps.{Closes, GoesOn, Looks, Opens, Reads, ReplyStep, Returns, Settles, StopOver, Turns, lost-same, on-staged, over-staged}
+use Rattle.pr_truss_laws.proofs.Replies.FedSteps.{fed-step}
+use Rattle.pr_truss_laws.proofs.Files.ClosesLemmas.{first-fits}
+use Rattle.pr_truss_laws.proofs.Replies.FitLemmas.{fed-fits, last-within, parent-within, reads-within}
+use Rattle.pr_truss_laws.proofs.Files.HeldLemmas.{Fits, at_place, set-at}
+use Rattle.pr_truss_laws.proofs.Replies.ReplySteps as step
+use Rattle.pr_truss_laws.proofs.Replies.ReplySteps.{Closes, GoesOn, Looks, Opens, Reads, ReplyStep, Returns, Settles, StopOver, Turns, lost-same, on-staged, over-staged}
 use Rattle.pr_truss_laws.specs.Exchanges.{Exchange, truss_after}
 use Rattle.pr_report_laws.proofs.Invariant.OpeningRuns.{child-pid}
 use Rattle.pr_report_laws.proofs.Invariant.StandLemmas.{Each, each-append, each-but, each-remove, each-set}

@@ -17,7 +17,7 @@ use Rattle.pr_truss.specs.Trusses.{TrussState, first_truss, traced_at}
 use Rattle.pr_truss.specs.declared.processes.Traced.{Traced}
 use Rattle.pr_truss.specs.declared.reports.Report.{Report}
 use Rattle.pr_truss.specs.declared.stages.Stage.TheVariants.{ReadingStatus, ReadingLwps}
-use Rattle.pr_truss_laws.proofs.HeldLemmas.{Fits}
+use Rattle.pr_truss_laws.proofs.Files.HeldLemmas.{Fits}
 use Rattle.pr_truss_laws.specs.Exchanges.{Exchange, exchange_of, exchanges, truss_after, truss_at}
 use Rattle.pr_truss_laws.specs.Handles.{handles_of}
 use Rattle.pr_truss_laws.specs.Runs.{IsTrussRun}

@@ -15,9 +15,9 @@ use Rattle.pr_truss.specs.Trusses.{TrussState, first_truss, traced_at}
 use Rattle.pr_truss.specs.declared.processes.Traced.{Traced}
 use Rattle.pr_truss.specs.declared.stages.Stage.{Stage}
 use Rattle.pr_truss.specs.declared.stages.Stage.TheVariants.{OpeningChildControl, ReadingStatus}
-use Rattle.pr_truss_laws.proofs.FedSteps.{fed-step}
-use Rattle.pr_truss_laws.proofs.ReplySteps as step
-use Rattle.pr_truss_laws.proofs.ReplySteps.{GoesOn, Learns, Looks, Opens, Reads, ReplyStep, StopOver, Turns}
+use Rattle.pr_truss_laws.proofs.Replies.FedSteps.{fed-step}
+use Rattle.pr_truss_laws.proofs.Replies.ReplySteps as step
+use Rattle.pr_truss_laws.proofs.Replies.ReplySteps.{GoesOn, Learns, Looks, Opens, Reads, ReplyStep, StopOver, Turns}
 use Rattle.pr_truss_laws.specs.Exchanges.{Exchange, exchange_of, exchanges, truss_after, truss_at}
 use Rattle.pr_truss_laws.specs.Runs.{IsTrussRun}
 use Rattle.pr_report_laws.proofs.Files.WatchHistories.{after-append}

@@ -35,11 +35,11 @@ use Rattle.pr_truss.specs.declared.stages.OpeningStep.{OpeningStep}
 use Rattle.pr_truss.specs.declared.stages.OpeningStep.TheVariants as opening
 use Rattle.pr_truss.specs.declared.stages.Stage.{Stage}
 use Rattle.pr_truss.specs.declared.stages.Stage.TheVariants.{Closing, Opening, OpeningControl}
-use Rattle.pr_truss_laws.proofs.FedSteps.{interrupt-on}
-use Rattle.pr_truss_laws.proofs.HeldLemmas.{set-at}
-use Rattle.pr_truss_laws.proofs.OpensLemmas.{ClosesOne, close-closes, held_by}
-use Rattle.pr_truss_laws.proofs.ReleaseLemmas.{none-left}
-use Rattle.pr_truss_laws.proofs.ReplySteps.{lost-same, on-staged}
+use Rattle.pr_truss_laws.proofs.Replies.FedSteps.{interrupt-on}
+use Rattle.pr_truss_laws.proofs.Files.HeldLemmas.{set-at}
+use Rattle.pr_truss_laws.proofs.Files.OpensLemmas.{ClosesOne, close-closes, held_by}
+use Rattle.pr_truss_laws.proofs.Files.ReleaseLemmas.{none-left}
+use Rattle.pr_truss_laws.proofs.Replies.ReplySteps.{lost-same, on-staged}
 use Rattle.pr_truss_laws.specs.Exchanges.{Exchange}
 use Rattle.pr_report_laws.proofs.Files.FileUses as uses
 use Rattle.pr_report_laws.proofs.Files.FileUses.{IsSomeFile}

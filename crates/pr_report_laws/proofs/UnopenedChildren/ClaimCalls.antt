@@ -41,10 +41,10 @@ use Rattle.pr_truss.specs.declared.stages.OpeningStep.{OpeningStep}
 use Rattle.pr_truss.specs.declared.stages.OpeningStep.TheVariants as opening
 use Rattle.pr_truss.specs.declared.stages.Stage.{Stage}
 use Rattle.pr_truss.specs.declared.stages.Stage.TheVariants.{OpeningControl, Opening, ReadingStatus, OpeningChildControl, OpeningChild, Running, FreeingChild}
-use Rattle.pr_truss_laws.proofs.ForeignLemmas.{names}
-use Rattle.pr_truss_laws.proofs.HeldLemmas.{Fits, at_place}
-use Rattle.pr_truss_laws.proofs.OpensLemmas.{held_by}
-use Rattle.pr_truss_laws.proofs.OverLemmas.{stays-made}
+use Rattle.pr_truss_laws.proofs.Machine.ForeignLemmas.{names}
+use Rattle.pr_truss_laws.proofs.Files.HeldLemmas.{Fits, at_place}
+use Rattle.pr_truss_laws.proofs.Files.OpensLemmas.{held_by}
+use Rattle.pr_truss_laws.proofs.Machine.OverLemmas.{stays-made}
 use Rattle.pr_report_laws.proofs.Invariant.Tallies.{Tally}
 use Rattle.pr_report_laws.proofs.UnopenedChildren.Claims.{Claims, Comes, KeepsChildren, IsDone, IsFree, IsSet, IsTold, Names, WasClaimed, WasFree, WasSet, claim_of, is_child, not_followed, opened, runs, set_now, sets, stands, was_claimed, was_free, was_run, was_set, was_told, watched}
 use Rattle.pr_report_laws.proofs.UnopenedChildren.Claims as claims

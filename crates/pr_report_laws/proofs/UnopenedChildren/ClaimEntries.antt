@@ -24,9 +24,9 @@ use Rattle.pr_model.specs.declared.stops.Stop.TheVariants.{SysExit}
 use Rattle.pr_num.specs.declared.syscalls.Sysno.{Sysno}
 use Rattle.pr_model.specs.Machines.{stopped_as_directed}
 use Rattle.pr_truss.specs.Trusses.{TrussState, traced_at}
-use Rattle.pr_truss_laws.proofs.BridgeLemmas.{mapped-some}
-use Rattle.pr_truss_laws.proofs.OpensLemmas.{held_by}
-use Rattle.pr_truss_laws.proofs.StillLemmas.{frozen-turns, halting-leaves}
+use Rattle.pr_truss_laws.proofs.EventStops.BridgeLemmas.{mapped-some}
+use Rattle.pr_truss_laws.proofs.Files.OpensLemmas.{held_by}
+use Rattle.pr_truss_laws.proofs.Machine.StillLemmas.{frozen-turns, halting-leaves}
 use Rattle.pr_truss_laws.specs.Stills.{HasSameSettings, IsUndisturbed, stopped_lwp, with_lwp_stopped}
 use Rattle.pr_report_laws.proofs.Invariant.Tallies.{Tally}
 use Rattle.pr_report_laws.proofs.UnopenedChildren.Claims.{Claims, KeepsChildren, IsFree, IsSet, opened, stands, watched}
@@ -36,12 +36,12 @@ use Rattle.pr_report_laws.proofs.UnopenedChildren.LeftChildren.{LeavesTo, opens-
 use Rattle.pr_report_laws.proofs.Invariant.EntrySteps.{made-at}
 use Rattle.pr_report_laws.proofs.Files.FileLaws.{HasFiles}
 use Rattle.pr_report_laws.proofs.Machine.ForkTurns.{HasForked, alone-forked, forked-born, forked-did, forked-next}
-use Rattle.pr_truss_laws.proofs.ForeignLemmas.{exclusive-sole}
-use Rattle.pr_truss_laws.proofs.OutlastLemmas.{others-entry}
+use Rattle.pr_truss_laws.proofs.Machine.ForeignLemmas.{exclusive-sole}
+use Rattle.pr_truss_laws.proofs.Machine.OutlastLemmas.{others-entry}
 use Rattle.pr_report_laws.proofs.Machine.FrameLaws.{alone-control}
 use Rattle.pr_report_laws.proofs.Machine.NewBorn.{IsBegun, IsLeftTo, IsNeverGranted, IsNew, IsNewBorn, Stands, is_begun, is_never, left-later, never-later, new-alone, stands_new, untouched-on}
 use Rattle.pr_report_laws.proofs.Invariant.OtherSteps.{lives-later}
-use Rattle.pr_truss_laws.proofs.OverLemmas.{stays-made, stays-over}
+use Rattle.pr_truss_laws.proofs.Machine.OverLemmas.{stays-made, stays-over}
 use Rattle.pr_report_laws.proofs.Machine.OwnTurnLaws.{event-halts}
 use Rattle.pr_report_laws.proofs.Machine.TurnEvents.{state-after}
 use Rattle.pr_report_laws.proofs.Invariant.Standing as st

@@ -8,10 +8,10 @@ use Rattle.pr_truss.specs.declared.stages.AfterClosing.{AfterClosing}
 use Rattle.pr_truss.specs.declared.stages.AfterClosing.TheVariants.{OpenNext, GoOn, RunParent}
 use Rattle.pr_truss.specs.declared.stages.Stage.{Stage}
 use Rattle.pr_truss.specs.declared.stages.Stage.TheVariants.{Spawning, OpeningControl, Opening, Polling, ReadingStatus, ReadingText, OpeningChildControl, OpeningChild, Running, Closing, Unfollowing, ReadingLwps, FreeingChild, Finished}
-use Rattle.pr_truss_laws.proofs.HeldLemmas.{Fits, FitsAfter, IsLast}
-use Rattle.pr_truss_laws.proofs.ReplySteps as step
-use Rattle.pr_truss_laws.proofs.ReplySteps.{Closes, Looks, ReplyStep, Returns, Settles, over-staged}
-use Rattle.pr_truss_laws.proofs.FedSteps.{fed-step}
+use Rattle.pr_truss_laws.proofs.Files.HeldLemmas.{Fits, FitsAfter, IsLast}
+use Rattle.pr_truss_laws.proofs.Replies.ReplySteps as step
+use Rattle.pr_truss_laws.proofs.Replies.ReplySteps.{Closes, Looks, ReplyStep, Returns, Settles, over-staged}
+use Rattle.pr_truss_laws.proofs.Replies.FedSteps.{fed-step}
 use Rattle.pr_report_laws.proofs.UnopenedChildren.Claims.{Comes, Names, claim_of, sets}
 use Rattle.pr_report_laws.proofs.UnopenedChildren.ClaimOpenings.{child-control-goes, child-goes, closing-file-goes, opening-goes}
 use Rattle.pr_report_laws.proofs.UnopenedChildren.ClaimReplies.{control-goes, poll-goes, run-goes, spawn-goes, status-goes, text-answered-goes}

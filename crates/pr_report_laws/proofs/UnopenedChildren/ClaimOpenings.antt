@@ -24,7 +24,7 @@ use Rattle.pr_truss.specs.declared.stages.OpeningStep.{OpeningStep}
 use Rattle.pr_truss.specs.declared.stages.OpeningStep.TheVariants as opening
 use Rattle.pr_truss.specs.declared.stages.Stage.{Stage}
 use Rattle.pr_truss.specs.declared.stages.Stage.TheVariants.{Opening, OpeningChildControl, OpeningChild, Running, Closing}
-use Rattle.pr_truss_laws.proofs.HeldLemmas.{IsLast, at_place, set-at}
+use Rattle.pr_truss_laws.proofs.Files.HeldLemmas.{IsLast, at_place, set-at}
 use Rattle.pr_report_laws.proofs.UnopenedChildren.Claims.{Comes, IsDone, IsSet, WasSet, is_child, not_followed, opened, runs, set_now, sets, was_free, was_run, was_set, watched}
 use Rattle.pr_report_laws.proofs.UnopenedChildren.ClaimSteps.{Known, KnownAt, about-comes, closing-goes, done-here, going_on-goes, interrupt-goes, known-at, known-beside, next_opening-goes, not-itself, running-goes}
 use Rattle.pr_report_laws.proofs.Replies.OpeningParts.{last-start, learnt-pid, learnt-start}

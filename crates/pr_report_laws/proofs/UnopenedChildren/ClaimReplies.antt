@@ -23,7 +23,7 @@ use Rattle.pr_truss.specs.declared.stages.AfterClosing.TheVariants.{GoOn}
 use Rattle.pr_truss.specs.declared.stages.OpeningStep.TheVariants as opening
 use Rattle.pr_truss.specs.declared.stages.Stage.{Stage}
 use Rattle.pr_truss.specs.declared.stages.Stage.TheVariants.{Spawning, OpeningControl, Opening, Polling, ReadingStatus, ReadingText, Running}
-use Rattle.pr_truss_laws.proofs.HeldLemmas.{at_place, set-at}
+use Rattle.pr_truss_laws.proofs.Files.HeldLemmas.{at_place, set-at}
 use Rattle.pr_report_laws.proofs.UnopenedChildren.Claims.{Comes, IsSet, Names, WasClaimed, WasSet, claim_of, opened, runs, sets, was_claimed, was_run, was_set, was_told, watched}
 use Rattle.pr_report_laws.proofs.UnopenedChildren.ClaimSteps.{Known, Ready, about-comes, done-here, event_over-goes, going_on-goes, idle-comes, interrupt-goes, known-at, known-beside, next_opening-goes, not-itself, over-goes, stop_over-goes, text-goes}
 use Rattle.pr_report_laws.proofs.Invariant.StandLemmas.{Each, EachBut, but-append, but-set, each-join}

@@ -22,7 +22,7 @@ use Rattle.pr_truss.specs.declared.stages.ChildStep.TheVariants as child
 use Rattle.pr_truss.specs.declared.stages.OpeningStep.TheVariants as opening
 use Rattle.pr_truss.specs.declared.stages.Stage.{Stage}
 use Rattle.pr_truss.specs.declared.stages.Stage.TheVariants.{Opening, OpeningChild, Running}
-use Rattle.pr_truss_laws.proofs.OpensLemmas.{held_by}
+use Rattle.pr_truss_laws.proofs.Files.OpensLemmas.{held_by}
 use Rattle.pr_truss_laws.specs.Stills.{IsQuiet, IsUndisturbed}
 use Rattle.pr_report_laws.proofs.UnopenedChildren.Claims.{IsDone, runs}
 use Rattle.pr_report_laws.proofs.UnopenedChildren.ClaimStands.{IsStanding, stood-at}
@@ -30,10 +30,10 @@ use Rattle.pr_report_laws.proofs.UnopenedChildren.ClaimReach.{Reaches, reaches}
 use Rattle.pr_report_laws.proofs.Invariant.Tallies.{Tally}
 use Rattle.pr_report_laws.proofs.Invariant.EntrySteps.{made-at}
 use Rattle.pr_report_laws.proofs.Files.FileUses as uses
-use Rattle.pr_truss_laws.proofs.OutlastLemmas.{Outlasts, killed, lives, own-call-elsewhere}
+use Rattle.pr_truss_laws.proofs.Machine.OutlastLemmas.{Outlasts, killed, lives, own-call-elsewhere}
 use Rattle.pr_report_laws.proofs.Machine.OpeningFacts.{opening-done}
 use Rattle.pr_report_laws.proofs.Replies.OpeningParts.{HasStarted, IsStepDone}
-use Rattle.pr_truss_laws.proofs.OverLemmas.{stays-over}
+use Rattle.pr_truss_laws.proofs.Machine.OverLemmas.{stays-over}
 use Rattle.pr_report_laws.proofs.Invariant.OwnCalls.{Misses}
 use Rattle.pr_report_laws.proofs.Replies.OwnLooks.{IsCall}
 use Rattle.pr_report_laws.proofs.Machine.RunLaws.{HasRun, run-accepted, run-control, run-granted, run-live}

@@ -12,7 +12,7 @@ use Rattle.pr_truss.specs.declared.stages.AfterClosing.{AfterClosing}
 use Rattle.pr_truss.specs.declared.stages.FreeingStep.TheVariants.{OpenControl}
 use Rattle.pr_truss.specs.declared.stages.Stage.{Stage}
 use Rattle.pr_truss.specs.declared.stages.Stage.TheVariants.{ReadingText, OpeningChildControl, FreeingChild, Running, Closing}
-use Rattle.pr_truss_laws.proofs.HeldLemmas.{at_place}
+use Rattle.pr_truss_laws.proofs.Files.HeldLemmas.{at_place}
 use Rattle.pr_report_laws.proofs.UnopenedChildren.Claims.{Comes, IsDone, IsFree, IsSet, Names, WasClaimed, WasFree, WasSet, claim_of, opened, sets, was_free, was_set, watched}
 use Rattle.pr_report_laws.proofs.Invariant.StandLemmas.{Each, EachBut}
 use Rattle.pr_report_laws.proofs.Invariant.Standing.{has_read}

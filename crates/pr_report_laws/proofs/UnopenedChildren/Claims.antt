@@ -18,7 +18,7 @@ use Rattle.pr_truss.specs.declared.stages.ChildStep.TheVariants as child
 use Rattle.pr_truss.specs.declared.stages.OpeningStep.TheVariants as opening
 use Rattle.pr_truss.specs.declared.stages.Stage.{Stage}
 use Rattle.pr_truss.specs.declared.stages.Stage.TheVariants.{Spawning, OpeningControl, Opening, ReadingStatus, ReadingText, OpeningChildControl, OpeningChild, Running}
-use Rattle.pr_truss_laws.proofs.HeldLemmas.{at_place}
+use Rattle.pr_truss_laws.proofs.Files.HeldLemmas.{at_place}
 use Rattle.pr_report_laws.proofs.Machine.ForkTurns.{HasForked}
 use Rattle.pr_report_laws.proofs.Machine.NewBorn.{IsNewBorn}
 use Rattle.pr_report_laws.proofs.Invariant.Standing.{has_read}

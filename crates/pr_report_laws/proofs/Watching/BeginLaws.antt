@@ -26,15 +26,15 @@ use Rattle.pr_truss.specs.declared.stages.FreeingStep.TheVariants as freeing
 use Rattle.pr_truss.specs.declared.stages.OpeningStep.TheVariants as opening
 use Rattle.pr_truss.specs.declared.stages.Stage.{Stage}
 use Rattle.pr_truss.specs.declared.stages.Stage.TheVariants.{OpeningControl, OpeningChildControl, FreeingChild, Finished}
-use Rattle.pr_truss_laws.proofs.AnswerLemmas.{IsAnswer, answer-is}
-use Rattle.pr_truss_laws.proofs.ClosesLemmas.{after-fits, first-fits}
-use Rattle.pr_truss_laws.proofs.HeldLemmas.{Fits}
+use Rattle.pr_truss_laws.proofs.Replies.AnswerLemmas.{IsAnswer, answer-is}
+use Rattle.pr_truss_laws.proofs.Files.ClosesLemmas.{after-fits, first-fits}
+use Rattle.pr_truss_laws.proofs.Files.HeldLemmas.{Fits}
 use Rattle.pr_truss_laws.specs.Exchanges.{Exchange, IsGranted, Makes, calls_in, exchanges, truss_after, truss_at}
 use Rattle.pr_truss_laws.specs.Given.{IsWholeOpening, calls_with, last_calls, opening_calls, reply_at}
 use Rattle.pr_truss_laws.specs.Runs.{IsTrussRun}
 use Rattle.pr_report_laws.proofs.Files.FileLaws.{HasFiles}
 use Rattle.pr_report_laws.proofs.Invariant.OpeningRuns.{OpensControl, born, born-fed, born-following, child-over, child-runs, freed, freed-fed, given, given-fed, given-opening, granted-first, granted-rest, opening-runs, opens-control, steps_left}
-use Rattle.pr_truss_laws.proofs.OptionLemmas.{fed-options}
+use Rattle.pr_truss_laws.proofs.Replies.OptionLemmas.{fed-options}
 use Rattle.pr_report_laws.proofs.Files.WatchHistories.{after-append, makes-front, makes-rest, no-exchanges, run-reaches}
 use Rattle.pr_report_laws.proofs.Replies.WatchedPlaces.{IsWatched, not-watched, place-watched}
 use Rattle.pr_report_laws.specs.Attachments.{HasFollowed, HasOpened, child_calls}

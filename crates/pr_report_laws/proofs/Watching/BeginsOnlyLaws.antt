@@ -25,9 +25,9 @@ use Rattle.pr_truss.specs.declared.stages.ChildStep.TheVariants as child
 use Rattle.pr_truss.specs.declared.stages.OpeningStep.{OpeningStep}
 use Rattle.pr_truss.specs.declared.stages.OpeningStep.TheVariants as opening
 use Rattle.pr_truss.specs.declared.stages.Stage.TheVariants.{Opening, OpeningChild, Closing}
-use Rattle.pr_truss_laws.proofs.HeldLemmas.{Fits, at_place}
-use Rattle.pr_truss_laws.proofs.OwnLemmas.{Owns}
-use Rattle.pr_truss_laws.proofs.SequenceLemmas.{whole-calls}
+use Rattle.pr_truss_laws.proofs.Files.HeldLemmas.{Fits, at_place}
+use Rattle.pr_truss_laws.proofs.Files.OwnLemmas.{Owns}
+use Rattle.pr_truss_laws.proofs.GivenProcesses.SequenceLemmas.{whole-calls}
 use Rattle.pr_truss_laws.specs.Exchanges.{Exchange, IsGranted, calls_in, exchange_of, exchanges, truss_at}
 use Rattle.pr_truss_laws.specs.Given.{IsWholeOpening}
 use Rattle.pr_truss_laws.specs.Runs.{IsTrussRun}

@@ -15,7 +15,7 @@ use Rattle.pr_model.specs.declared.events.Entry.{Entry}
 use Rattle.pr_reached.specs.ByteHistories.{HasBytes, IsEntryOfBytes}
 use Rattle.pr_reached.specs.Reached.{IsReached}
 use Rattle.pr_truss.specs.Trusses.{TrussState, first_truss}
-use Rattle.pr_truss_laws.proofs.OverLemmas.{stays-made, stays-over}
+use Rattle.pr_truss_laws.proofs.Machine.OverLemmas.{stays-made, stays-over}
 use Rattle.pr_truss_laws.specs.Exchanges.{Exchange, exchange_of, exchanges, truss_after, truss_at}
 use Rattle.pr_truss_laws.specs.Runs.{IsTrussRun}
 use Rattle.pr_report_laws.proofs.Files.FileSteps.{entry-lawful}

@@ -22,9 +22,9 @@ use Rattle.pr_truss.specs.declared.stages.FreeingStep.TheVariants as freeing
 use Rattle.pr_truss.specs.declared.stages.OpeningStep.{OpeningStep}
 use Rattle.pr_truss.specs.declared.stages.Stage.{Stage}
 use Rattle.pr_truss.specs.declared.stages.Stage.TheVariants.{Opening, OpeningChild, Polling, FreeingChild, Finished}
-use Rattle.pr_truss_laws.proofs.FedSteps.{fed-step, interrupt-on}
-use Rattle.pr_truss_laws.proofs.ReplySteps as step
-use Rattle.pr_truss_laws.proofs.ReplySteps.{Closes, Looks, ReplyStep, Returns, Settles, leaving_now, on-staged, over-staged}
+use Rattle.pr_truss_laws.proofs.Replies.FedSteps.{fed-step, interrupt-on}
+use Rattle.pr_truss_laws.proofs.Replies.ReplySteps as step
+use Rattle.pr_truss_laws.proofs.Replies.ReplySteps.{Closes, Looks, ReplyStep, Returns, Settles, leaving_now, on-staged, over-staged}
 use Rattle.pr_truss_laws.specs.Exchanges.{Exchange, Makes, truss_after, truss_at}
 use Rattle.pr_truss_laws.specs.Runs.{IsTrussRun}
 use Rattle.pr_report_laws.proofs.Files.KeepLemmas.{can_wait}

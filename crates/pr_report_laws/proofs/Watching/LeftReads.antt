@@ -27,9 +27,9 @@ use Rattle.pr_truss.specs.declared.stages.FreeingStep.{FreeingStep}
 use Rattle.pr_truss.specs.declared.stages.FreeingStep.TheVariants as freeing
 use Rattle.pr_truss.specs.declared.stages.Stage.{Stage}
 use Rattle.pr_truss.specs.declared.stages.Stage.TheVariants.{Spawning, OpeningControl, Opening, Polling, ReadingStatus, ReadingText, OpeningChildControl, OpeningChild, Running, Closing, Unfollowing, ReadingLwps, FreeingChild, Finished}
-use Rattle.pr_truss_laws.proofs.HeldLemmas.{Fits}
-use Rattle.pr_truss_laws.proofs.LookLemmas.{Alike, stop-read}
-use Rattle.pr_truss_laws.proofs.OwnLemmas.{Owns}
+use Rattle.pr_truss_laws.proofs.Files.HeldLemmas.{Fits}
+use Rattle.pr_truss_laws.proofs.Soon.LookLemmas.{Alike, stop-read}
+use Rattle.pr_truss_laws.proofs.Files.OwnLemmas.{Owns}
 use Rattle.pr_truss_laws.specs.Exchanges.{truss_at}
 use Rattle.pr_truss_laws.specs.Runs.{IsTrussRun}
 use Rattle.pr_report_laws.proofs.Files.FileLaws.{HasFiles, IsFileOf}
@@ -59,7 +59,7 @@ freeing-reads pid freeing.OpenControl handle from len is = cc
 freeing-reads pid _ handle from len is = cc
 
 -- what a truss that leaves reads
-data ReadsLeaving (t : TrussState) (handle : ℕ) (stage : Stage) : Type 0 where
+pub data ReadsLeaving (t : TrussState) (handle : ℕ) (stage : Stage) : Type 0 where
   text : (place : ℕ) (l : LwpStatus) (at len : ℕ) → stage ≡ ReadingText place l at len
       → number_of (traced_at t place).memory ≡ handle → ReadsLeaving t handle stage
   lwps : stage ≡ ReadingLwps → number_of (traced_at t 0).lstatus ≡ handle → ReadsLeaving t handle stage
@@ -90,7 +90,7 @@ module _ (t : TrussState) (handle from len : ℕ) (on : t.leaving ≡ true) wher
       absurd (freeing-reads pid now handle from len (same_Some _ _ is))
   leaving-reads Finished w is = cc
 
-  next-reads : Leaves t.leaving t.stage → next_call_of t ≡ Some (call.Read handle from len)
+  pub next-reads : Leaves t.leaving t.stage → next_call_of t ≡ Some (call.Read handle from len)
       → ReadsLeaving t handle t.stage
   unfolding next_call_of
   next-reads w is = leaving-reads t.stage w is

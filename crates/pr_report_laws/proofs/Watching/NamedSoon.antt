@@ -31,10 +31,10 @@ use Rattle.pr_truss.specs.declared.stages.OpeningStep.{OpeningStep}
 use Rattle.pr_truss.specs.declared.stages.OpeningStep.TheVariants as opening
 use Rattle.pr_truss.specs.declared.stages.Stage.{Stage}
 use Rattle.pr_truss.specs.declared.stages.Stage.TheVariants.{Spawning, Opening, Polling, ReadingStatus, ReadingText, OpeningChildControl, OpeningChild, Running, Closing, FreeingChild}
-use Rattle.pr_truss_laws.proofs.HeldLemmas.{at_place}
-use Rattle.pr_truss_laws.proofs.OwnLemmas.{Owns}
-use Rattle.pr_truss_laws.proofs.LeavingLemmas as leaving
-use Rattle.pr_truss_laws.proofs.PolledLemmas.{Near, Nears, fed-near, leaves, named-near, named-read, nearer}
+use Rattle.pr_truss_laws.proofs.Files.HeldLemmas.{at_place}
+use Rattle.pr_truss_laws.proofs.Files.OwnLemmas.{Owns}
+use Rattle.pr_truss_laws.proofs.Soon.LeavingLemmas as leaving
+use Rattle.pr_truss_laws.proofs.Soon.PolledLemmas.{Near, Nears, fed-near, leaves, named-near, named-read, nearer}
 use Rattle.pr_truss_laws.specs.Exchanges.{Exchange, Makes, exchange_of, exchanges, truss_after, truss_at}
 use Rattle.pr_truss_laws.specs.Polled.{IsNoEndOf, PollNames}
 use Rattle.pr_truss_laws.specs.Runs.{IsTrussRun}

@@ -23,7 +23,7 @@ use Rattle.pr_truss.specs.Feeding.{fed}
 use Rattle.pr_truss.specs.Trusses.{TrussState, traced_at}
 use Rattle.pr_truss.specs.declared.stages.OpeningStep.{OpeningStep}
 use Rattle.pr_truss.specs.declared.stages.OpeningStep.TheVariants as opening
-use Rattle.pr_truss_laws.proofs.StillLemmas.{halting-did}
+use Rattle.pr_truss_laws.proofs.Machine.StillLemmas.{halting-did}
 use Rattle.pr_truss_laws.specs.Exchanges.{Exchange, IsGranted, Makes, exchange_in, exchange_of, exchanges, truss_after}
 use Rattle.pr_truss_laws.specs.Stills.{IsHalting}
 use Rattle.pr_report_laws.proofs.Files.FileSteps.{MakesNext, makes-next}

@@ -17,12 +17,12 @@ use Rattle.pr_truss.specs.Trusses.{TrussState, first_of_program, first_truss, id
 use Rattle.pr_truss.specs.declared.processes.Traced.{Traced}
 use Rattle.pr_truss.specs.declared.stages.Stage.{Stage}
 use Rattle.pr_truss.specs.declared.stages.Stage.TheVariants.{Unfollowing, ReadingLwps}
-use Rattle.pr_truss_laws.proofs.FedSteps.{fed-step}
-use Rattle.pr_truss_laws.proofs.HeldLemmas.{Fits, at_place}
-use Rattle.pr_truss_laws.proofs.OpensLemmas.{held_by}
-use Rattle.pr_truss_laws.proofs.OwnLemmas.{Owns}
-use Rattle.pr_truss_laws.proofs.ReplySteps as step
-use Rattle.pr_truss_laws.proofs.ReplySteps.{GoesOn, ReplyStep, StopOver, Turns}
+use Rattle.pr_truss_laws.proofs.Replies.FedSteps.{fed-step}
+use Rattle.pr_truss_laws.proofs.Files.HeldLemmas.{Fits, at_place}
+use Rattle.pr_truss_laws.proofs.Files.OpensLemmas.{held_by}
+use Rattle.pr_truss_laws.proofs.Files.OwnLemmas.{Owns}
+use Rattle.pr_truss_laws.proofs.Replies.ReplySteps as step
+use Rattle.pr_truss_laws.proofs.Replies.ReplySteps.{GoesOn, ReplyStep, StopOver, Turns}
 use Rattle.pr_truss_laws.specs.Exchanges.{Exchange, Makes, exchanges, truss_after, truss_at}
 use Rattle.pr_truss_laws.specs.Runs.{IsTrussRun}
 use Rattle.pr_report_laws.proofs.Files.FileLaws.{HasFiles, IsFileOf}

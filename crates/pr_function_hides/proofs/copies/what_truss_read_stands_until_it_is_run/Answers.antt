@@ -1,4 +1,4 @@
-use Rattle.pr_function_hides.proofs.CopyRows.{read-stands, still-stands, unmet-stands}
+use Rattle.pr_function_hides.proofs.Copying.CopyRows.{read-stands, still-stands, unmet-stands}
 use Rattle.pr_function_hides.proofs.copies.what_truss_read_stands_until_it_is_run.Goals as goal
 
 pub returns-clause-event : goal.returns-clause-event

@@ -1,4 +1,4 @@
-use Rattle.pr_function_hides.proofs.SleptHistories.{first-awake}
+use Rattle.pr_function_hides.proofs.StoppedCopies.SleptHistories.{first-awake}
 use Rattle.pr_function_hides.proofs.slept.no_lwp_sleeps_in_a_copy.Goals as goal
 
 pub returns-clause-first : goal.returns-clause-first

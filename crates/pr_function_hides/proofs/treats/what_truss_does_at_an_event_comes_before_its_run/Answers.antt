@@ -1,4 +1,4 @@
-use Rattle.pr_function_hides.proofs.TreatedEvents.{read-treats, treated-now, treats-on}
+use Rattle.pr_function_hides.proofs.Replies.TreatedEvents.{read-treats, treated-now, treats-on}
 use Rattle.pr_function_hides.proofs.treats.what_truss_does_at_an_event_comes_before_its_run.Goals as goal
 
 pub returns-clause-begins : goal.returns-clause-begins

@@ -1,4 +1,4 @@
-use Rattle.pr_function_laws.proofs.KindLemmas.{event-kinds}
+use Rattle.pr_function_laws.proofs.NextCalls.KindLemmas.{event-kinds}
 use Rattle.pr_function_laws.proofs.kinds.what_each_event_is_to_breakpoints.Goals as goal
 
 pub returns : goal.returns

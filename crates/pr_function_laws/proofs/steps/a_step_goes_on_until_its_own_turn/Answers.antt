@@ -1,4 +1,4 @@
-use Rattle.pr_function_laws.proofs.OtherSteps.{others-step}
+use Rattle.pr_function_laws.proofs.Stepping.OtherSteps.{others-step}
 use Rattle.pr_function_laws.proofs.steps.a_step_goes_on_until_its_own_turn.Goals as goal
 
 pub returns : goal.returns

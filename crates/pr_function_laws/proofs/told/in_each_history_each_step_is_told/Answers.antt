@@ -1,4 +1,4 @@
-use Rattle.pr_function_laws.proofs.OwnSteps.{steps-read}
+use Rattle.pr_function_laws.proofs.CallTurns.OwnSteps.{steps-read}
 use Rattle.pr_function_laws.proofs.told.in_each_history_each_step_is_told.Goals as goal
 
 pub returns : goal.returns

@@ -3,7 +3,7 @@ use Rattle.std.proofs.lemmas.List.{length-take-le}
 use Rattle.pr_num.specs.Control.{prot_read}
 use Rattle.pr_num.specs.Spaces.{Space, bytes_for}
 use Rattle.pr_num.specs.declared.mappings.BadByte.{BadByte}
-use Rattle.pr_mem.specs.Answers.{checked}
+use Rattle.pr_parts.specs.Accesses.{checked}
 use Rattle.pr_mem.proofs.TextLemmas.{IsText, IsText-read, with_text-read}
 use Rattle.pr_mem.proofs.texts.read_text.Goals as goal
 

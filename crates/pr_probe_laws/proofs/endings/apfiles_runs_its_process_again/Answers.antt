@@ -1,6 +1,6 @@
 use Rattle.pr_lawful.proofs.StartLemmas.{first-lawful}
 use Rattle.pr_model.specs.FirstState.{first_state}
-use Rattle.pr_probe_laws.proofs.RunAgainLaw.{runs-at-last}
+use Rattle.pr_probe_laws.proofs.Ending.RunAgainLaw.{runs-at-last}
 use Rattle.pr_probe_laws.proofs.endings.apfiles_runs_its_process_again.Goals as goal
 use Rattle.pr_reached.proofs.HistoryRanges.{first-state-range}
 

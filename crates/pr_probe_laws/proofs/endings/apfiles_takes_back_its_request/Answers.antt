@@ -1,6 +1,6 @@
 use Rattle.pr_lawful.proofs.StartLemmas.{first-lawful}
 use Rattle.pr_model.specs.FirstState.{first_state}
-use Rattle.pr_probe_laws.proofs.TakesBack.{probe-takes-back}
+use Rattle.pr_probe_laws.proofs.Ending.TakesBack.{probe-takes-back}
 use Rattle.pr_probe_laws.proofs.endings.apfiles_takes_back_its_request.Goals as goal
 use Rattle.pr_reached.proofs.HistoryRanges.{first-state-range}
 

@@ -1,6 +1,6 @@
-use Rattle.pr_hidden.proofs.FirstLemmas.{first-untouched}
+use Rattle.pr_hidden.proofs.Follows.FirstLemmas.{first-untouched}
 use Rattle.pr_model.specs.FirstState.{first_state}
-use Rattle.pr_probe_laws.proofs.HiddenLaw.{alone-hidden, alone-spares, alone-tidy}
+use Rattle.pr_probe_laws.proofs.Hiding.HiddenLaw.{alone-hidden, alone-spares, alone-tidy}
 use Rattle.pr_probe_laws.proofs.hidden.apfiles_is_hidden.Goals as goal
 use Rattle.pr_reached.proofs.ReachedLemmas.{first-reached}
 

@@ -1,4 +1,4 @@
-use Rattle.pr_probe_laws.proofs.HiddenLaw.{alone-accepted}
+use Rattle.pr_probe_laws.proofs.Hiding.HiddenLaw.{alone-accepted}
 use Rattle.pr_probe_laws.proofs.hidden.apfiles_is_refused_nothing_while_it_hides_something.Goals as goal
 
 pub returns : goal.returns

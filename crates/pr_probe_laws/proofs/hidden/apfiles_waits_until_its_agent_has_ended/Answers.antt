@@ -1,4 +1,4 @@
-use Rattle.pr_probe_laws.proofs.HiddenLaw.{alone-gone}
+use Rattle.pr_probe_laws.proofs.Hiding.HiddenLaw.{alone-gone}
 use Rattle.pr_probe_laws.proofs.hidden.apfiles_waits_until_its_agent_has_ended.Goals as goal
 
 pub returns : goal.returns

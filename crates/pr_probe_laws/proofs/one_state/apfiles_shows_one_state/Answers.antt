@@ -1,5 +1,5 @@
 use Rattle.pr_model.specs.FirstState.{first_state}
-use Rattle.pr_probe_laws.proofs.TextLaw.{shows-one}
+use Rattle.pr_probe_laws.proofs.OneState.TextLaw.{shows-one}
 use Rattle.pr_probe_laws.proofs.one_state.apfiles_shows_one_state.Goals as goal
 use Rattle.pr_reached.proofs.ReachedLemmas.{first-reached}
 

@@ -1,4 +1,4 @@
-use Rattle.pr_probe_laws.proofs.OwnCallRows.{probe-holds}
+use Rattle.pr_probe_laws.proofs.Files.OwnCallRows.{probe-holds}
 use Rattle.pr_probe_laws.proofs.own_calls.apfiles_opens_its_own_process_alone.Goals as goal
 
 pub returns : goal.returns

@@ -1,6 +1,6 @@
 use Rattle.pr_lawful.proofs.StartLemmas.{first-lawful}
 use Rattle.pr_model.specs.FirstState.{first_state}
-use Rattle.pr_probe_laws.proofs.SetLaw.{sets-back}
+use Rattle.pr_probe_laws.proofs.Sets.SetLaw.{sets-back}
 use Rattle.pr_probe_laws.proofs.sets_back.apfiles_sets_the_traced_sets_back.Goals as goal
 use Rattle.pr_reached.proofs.HistoryRanges.{first-state-range}
 

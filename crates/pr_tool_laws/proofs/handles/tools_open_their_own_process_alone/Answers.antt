@@ -1,4 +1,4 @@
-use Rattle.pr_tool_laws.proofs.HandleLemmas.{tool-holds}
+use Rattle.pr_tool_laws.proofs.OwnFiles.HandleLemmas.{tool-holds}
 use Rattle.pr_tool_laws.proofs.handles.tools_open_their_own_process_alone.Goals as goal
 
 pub returns : goal.returns

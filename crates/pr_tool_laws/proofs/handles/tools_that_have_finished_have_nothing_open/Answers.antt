@@ -1,4 +1,4 @@
-use Rattle.pr_tool_laws.proofs.NothingOpenLemmas.{tool-closes}
+use Rattle.pr_tool_laws.proofs.OwnFiles.NothingOpenLemmas.{tool-closes}
 use Rattle.pr_tool_laws.proofs.handles.tools_that_have_finished_have_nothing_open.Goals as goal
 
 pub returns : goal.returns

@@ -1,4 +1,4 @@
-use Rattle.pr_tool_laws.proofs.WholeLemmas.{all-read}
+use Rattle.pr_tool_laws.proofs.Records.WholeLemmas.{all-read}
 use Rattle.pr_tool_laws.proofs.shown.one_read_has_what_stands_there.Goals as goal
 
 pub returns : goal.returns

@@ -1,7 +1,7 @@
 use Rattle.pr_lawful.proofs.StartLemmas.{first-lawful}
 use Rattle.pr_model.specs.FirstState.{first_state}
 use Rattle.pr_reached.proofs.HistoryRanges.{first-state-range}
-use Rattle.pr_tool_laws.proofs.WholeLemmas.{tool-shows}
+use Rattle.pr_tool_laws.proofs.Records.WholeLemmas.{tool-shows}
 use Rattle.pr_tool_laws.proofs.shown.tools_show_what_stands_there.Goals as goal
 
 pub returns : goal.returns

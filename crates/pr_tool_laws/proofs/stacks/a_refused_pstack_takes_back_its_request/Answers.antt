@@ -1,4 +1,4 @@
-use Rattle.pr_tool_laws.proofs.RequestLemmas.{takes-back}
+use Rattle.pr_tool_laws.proofs.RunningAgain.RequestLemmas.{takes-back}
 use Rattle.pr_tool_laws.proofs.stacks.a_refused_pstack_takes_back_its_request.Goals as goal
 
 pub returns : goal.returns

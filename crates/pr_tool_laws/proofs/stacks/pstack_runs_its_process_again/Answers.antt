@@ -1,7 +1,7 @@
 use Rattle.pr_lawful.proofs.StartLemmas.{first-lawful}
 use Rattle.pr_model.specs.FirstState.{first_state}
 use Rattle.pr_reached.proofs.HistoryRanges.{first-state-range}
-use Rattle.pr_tool_laws.proofs.RunAgainLemmas.{runs-again}
+use Rattle.pr_tool_laws.proofs.RunningAgain.RunAgainLemmas.{runs-again}
 use Rattle.pr_tool_laws.proofs.stacks.pstack_runs_its_process_again.Goals as goal
 
 pub returns : goal.returns

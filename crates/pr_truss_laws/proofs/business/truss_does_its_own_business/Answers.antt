@@ -1,4 +1,4 @@
-use Rattle.pr_truss_laws.proofs.BusinessLemmas.{does-business}
+use Rattle.pr_truss_laws.proofs.OwnBusiness.BusinessLemmas.{does-business}
 use Rattle.pr_truss_laws.proofs.business.truss_does_its_own_business.Goals as goal
 
 pub returns : goal.returns

@@ -1,4 +1,4 @@
-use Rattle.pr_truss_laws.proofs.AloneLemmas.{alone-tells}
+use Rattle.pr_truss_laws.proofs.EventStops.AloneLemmas.{alone-tells}
 use Rattle.pr_truss_laws.proofs.stills.a_process_left_alone_stands_as_it_stood.Goals as goal
 
 pub returns-clause-tells : goal.returns-clause-tells

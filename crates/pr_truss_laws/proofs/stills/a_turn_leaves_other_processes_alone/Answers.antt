@@ -1,4 +1,4 @@
-use Rattle.pr_truss_laws.proofs.FrameLemmas.{turn-leaves}
+use Rattle.pr_truss_laws.proofs.Machine.FrameLemmas.{turn-leaves}
 use Rattle.pr_truss_laws.proofs.stills.a_turn_leaves_other_processes_alone.Goals as goal
 
 pub returns : goal.returns

@@ -1,4 +1,4 @@
-use Rattle.pr_truss_laws.proofs.ForeignLemmas.{call-leaves}
+use Rattle.pr_truss_laws.proofs.Machine.ForeignLemmas.{call-leaves}
 use Rattle.pr_truss_laws.proofs.stills.other_controllers_leave_an_exclusive_process_alone.Goals as goal
 
 pub returns : goal.returns

@@ -1,4 +1,4 @@
-use Rattle.pr_truss_laws.proofs.OneEventLemmas.{one-granted, one-runs}
+use Rattle.pr_truss_laws.proofs.EventStops.OneEventLemmas.{one-granted, one-runs}
 use Rattle.pr_truss_laws.proofs.stills.running_from_one_event_leaves_a_quiet_process.Goals as goal
 
 pub returns-clause-granted : goal.returns-clause-granted

@@ -1,0 +1,3 @@
+-- That of the functions at one address truss plants the first alone.
+pub mod FirstFunctions
+pub mod FirstLaw

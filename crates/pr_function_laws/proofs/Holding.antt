@@ -1,0 +1,12 @@
+-- When truss with calls of functions has hold of a process, by its calls and their replies: that this is when it
+-- watches the process, that it gets hold of it once, that no event comes before from the wait on, and why it lets it
+-- go.
+pub mod GoneCalls
+pub mod HoldBegins
+pub mod HoldCalls
+pub mod HoldEnds
+pub mod HoldLaws
+pub mod HoldOnce
+pub mod HoldOpens
+pub mod HoldQuiet
+pub mod HoldReasons

@@ -1,8 +1,0 @@
-use Rattle.std.proofs.Common.{◌≡◌, ◌++◌, take}
-use Rattle.std.specs.List.{flat_map}
-use Rattle.pr_hist.specs.Pictures.{escaped_byte}
-use Rattle.pr_hist.proofs.texts.Text.escaped.Given as goal
-
--- the bytes so far
-abbrev pub invariant-loop-byte : goal.invariant-loop-byte
-invariant-loop-byte l = l.self ≡ l.fn.self ++ flat_map escaped_byte (take l.byte-index l.bytes)

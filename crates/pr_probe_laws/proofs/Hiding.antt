@@ -1,0 +1,21 @@
+-- That apfiles is hidden: what it hides at each stage, and that turns and calls are tidy and leave that so.
+pub mod HiddenCallSteps
+pub mod HiddenCallers
+pub mod HiddenCalls
+pub mod HiddenCovers
+pub mod HiddenEntries
+pub mod HiddenFacts
+pub mod HiddenKept
+pub mod HiddenLaw
+pub mod HiddenMessages
+pub mod HiddenOnes
+pub mod HiddenOwnCalls
+pub mod HiddenPassive
+pub mod HiddenPlain
+pub mod HiddenStages
+pub mod HiddenTidy
+pub mod HiddenTurnSteps
+pub mod HiddenTurns
+pub mod HiddenWork
+pub mod TidyEffects
+pub mod TidyTurns
