@@ -8,13 +8,17 @@ the real function sees its clauses, as with `rt plant`. The bodies, the verdicts
 Words name crates; the crates below them have to be built here. For each crate the bodies that met their contract are
 printed: `proves` is one to look at, `same` one that its contract shows to answer the same. --all prints the others too,
 with what was not proved. The last line of a crate counts its functions and bodies. A body under a contract that gives
-an equation for all that it answers and changes can only be the same, so --loose leaves such functions out.
+an equation for all that it answers and changes can only be the same, so --loose leaves such functions out. Of those
+that --loose takes, --other-forms takes the ones of which an equation tells all that, but in another form: of a field,
+say, or of a state with what is answered. Of the others a relation tells it, or an equation on a condition.
 
 --only WORD takes the functions whose file, line and path contain it; --private also those that are not public; methods
 of traits are left out. --by-hand tries the bodies of tests/plants/CRATE in place of those of `rt plant`: below a line
-`fn: PATH` a line `body: TEXT` for each. --batch N is how many bodies are tried at once, and --in FOLDER keeps the copy
-with what was checked, and in its file `verdicts` all that was judged so far. A batch takes a processor from 20 seconds
-to some minutes, and 1 to 2 GB. Several calls can try several crates at once. It needs rt.
+`fn: PATH` a line `body: TEXT` for each. --most N tries no more than N bodies of a function that call the real one, of
+different kinds. --batch N is how many bodies are tried at once, and --in FOLDER keeps the copy with what was checked,
+and in its file `verdicts` all that was judged so far. A batch takes a processor from 20 seconds to some minutes, and 1
+to 2 GB; before the first one each crate takes two or three checks of its sources, to see which bodies compile. Several
+calls can try several crates at once. It needs rt.
 """
 import argparse
 import collections
@@ -32,6 +36,9 @@ from checks import TOP
 
 BY_HAND = os.path.join(TOP, "tests/plants")
 MEMORY = re.compile(r"\b(NoMemory|OutOfMemory|AllocError|AllocFailed)\b")
+# An equation in some form, and what a clause is said for all of.
+EQUATION = re.compile(r"≡|\b(Gives|Answers|Says)\b")
+BOUND = re.compile(r"^(\([\w ]+ : [^()]*(\([^()]*\)[^()]*)*\) )+→ ")
 STUB = b"{ unreachable!() }"
 # A clause that says what is given, unless memory ran out or there is nothing.
 GIVEN = r"IfOk result \(λ (\w+)\. \1(\.items)? ≡ |(Gives|Answers) \(λ (\w+)\. \4\) result|option_copied result ≡ "
@@ -57,13 +64,18 @@ rt, bodies = planting.rt, planting.bodies
 
 
 class Bodies(bodies.Bodies):
-    """The bodies that rt plant makes up, but for those that answer that memory ran out."""
+    """The bodies that rt plant makes up, but for those that answer that memory ran out, and of those that call the real
+    function no more than so many, of different kinds."""
+
+    most = 1 << 30
 
     def giving_up(self):
         return [it for it in super().giving_up() if not MEMORY.search(it.text)]
 
     def over_the_real_one(self, fails):
-        return [it for it in super().over_the_real_one(fails) if not MEMORY.search(it.text)]
+        found = [it for it in super().over_the_real_one(fails) if not MEMORY.search(it.text)]
+        kept = min(len(found), self.most)
+        return [found[at * len(found) // kept] for at in range(kept)]
 
 
 def behind_comment(words, behind=bodies.without_attributes):
@@ -109,13 +121,23 @@ def lent(f):
     return [name for name, ty in f.params if ty[:1] == ["&"] and "mut" in ty] + ["self"] * f.changes_self
 
 
+def clauses_of(source, f):
+    """The clauses that a function ensures, each in one line and without the name of its own."""
+    text = source.data[f.file][f.start : f.opens].decode()
+    clauses = re.findall(r"ensures\s*\w*\s*\{(.*?)\}\s*(?=\n\s*(?://|ensures|requires)|\Z)", text, re.S)
+    return [" ".join(it.split()) for it in clauses]
+
+
+def to_tell(f):
+    """What the clauses of a function have to tell: what it gives, and each thing that it is lent, by name."""
+    return {*lent(f), *["result"] * (f.ret not in ([], ["(", ")"]))}
+
+
 def gives_equations(source, f):
     """Whether there is an equation, by its form, for what a function gives and for each thing that it is lent, unless
     memory ran out."""
-    text = source.data[f.file][f.start : f.opens].decode()
-    clauses = re.findall(r"ensures\s*\w*\s*\{(.*?)\}\s*(?=\n\s*(?://|ensures|requires)|\Z)", text, re.S)
     told = set()
-    for clause in (" ".join(it.split()) for it in clauses):
+    for clause in clauses_of(source, f):
         whole = re.match(r"(result(?:\.now)?|(\w+)\.new(?:\.items|\.entries)?) ≡ ", clause)
         if whole and "→" not in clause:
             told.add(whole[2] or "result")
@@ -123,7 +145,19 @@ def gives_equations(source, f):
         if changed:
             told.update({changed[1]}, ["result"] * (f.ret[:4] == ["Result", "<", "(", ")"]))
         told.update(["result"] * bool(re.match(GIVEN, clause) and "→" not in clause))
-    return told >= {*lent(f), *["result"] * (f.ret not in ([], ["(", ")"]))}
+    return told >= to_tell(f)
+
+
+def stands_in_equations(source, f):
+    """Whether what a function gives, and each thing that it is lent, stands in a clause that is an equation in some
+    form, on no condition but that the function succeeds."""
+    told = set()
+    for clause in (re.sub(BOUND, "", it) for it in clauses_of(source, f)):
+        if "→" not in clause and EQUATION.search(clause) and not clause.startswith("OnErr"):
+            gives = not clause.startswith("OnOk") or f.ret[:4] == ["Result", "<", "(", ")"]
+            told.update(["result"] * bool(gives and re.search(r"\bresult\b", clause)))
+            told.update(it for it in lent(f) if re.search(r"\b%s\.new\b" % it, clause))
+    return told >= to_tell(f)
 
 
 def row_of(plant):
@@ -226,7 +260,9 @@ def chosen(crate, source, asked):
         gives = f.ret not in ([], ["(", ")"]) or lent(f)
         if is_wanted and can_be_a_hole(f) and f.has_ensures and gives and f.ret != ["!"]:
             found.append(f)
-    return [f for f in found if not (asked.loose and gives_equations(source, f))]
+    if asked.loose or asked.other_forms:
+        found = [f for f in found if not gives_equations(source, f)]
+    return [f for f in found if not asked.other_forms or stands_in_equations(source, f)]
 
 
 def by_hand(name, source):
@@ -271,14 +307,16 @@ def main():
     words.add_argument("--only", action="append", default=[])
     words.add_argument("--private", action="store_true")
     words.add_argument("--loose", action="store_true")
+    words.add_argument("--other-forms", action="store_true")
     words.add_argument("--by-hand", action="store_true")
     words.add_argument("--all", action="store_true")
+    words.add_argument("--most", type=int, default=Bodies.most)
     words.add_argument("--batch", type=int, default=24)
     words.add_argument("--in", dest="room")
     words.add_argument("crates", nargs="+")
     asked = words.parse_args()
     asked.room = asked.room and os.path.abspath(asked.room)
-    planting.BATCH = asked.batch
+    planting.BATCH, Bodies.most = asked.batch, asked.most
     for name in asked.crates:
         plant_in(name, asked)
 

@@ -2,15 +2,17 @@
 """Wrong trusses, each of which the laws refuse. A patch of tests/wrong-trusses turns a definition of pr_truss and its
 code alike: its line 'does:' says what such a truss does, 'law:' names the law that is false of it, and 'why:' tells of
 a run that shows this. In a copy of the crates pr_truss has to be proved with the patch, since its code does what its
-definitions say, and pr_truss_laws or pr_report_laws must not be. A line is printed for each truss, with the functions
-of the first of the two that are not proved: where a patch changes what replies do, the proofs of most laws break, also
-of those that are true of such a truss. It is no part of the gate: a truss takes some minutes.
+definitions say, and pr_truss_laws or pr_report_laws must not be; of a truss with -u the crate of the law that the patch
+names first must not be. A line is printed for each truss, with the functions of that crate that are not proved: where a
+patch changes what replies do, the proofs of most laws break, also of those that are true of such a truss. It is no part
+of the gate: a truss takes some minutes, and one with -u more, since pr_function_laws stands on most crates of laws.
 
 Words name patches, or the fronts of their names; without words all are tried. --in FOLDER keeps the copy, with what was
 proved and what rt said, and a later call begins there. --laws leaves the functions of pr_truss out of the copy: then it
 is only tried whether the laws refuse the definitions, in some two minutes a truss, and not whether a truss can be so.
 The last line is 'N passed, M failed'. It needs rt and patch; what this checkout has built of the crates below is
-copied.
+copied. With --laws a truss with -u keeps its functions, since crates below its laws call them. With --only just the law
+that the patch names first is tried of its crate.
 """
 import argparse
 import os
@@ -25,12 +27,13 @@ PATCHES = os.path.join(TOP, "tests/wrong-trusses")
 TRUSS = "crates/pr_truss"
 PARTS = ("src", "specs", "proofs")
 LAWS = ["pr_truss_laws", "pr_report_laws"]
+FUNCTION_LAWS = ["pr_function_laws", "pr_function_hides"]
 
 
 def fill(room):
     """Fills the copy, where it has no crates yet."""
     if not os.path.exists(os.path.join(room, "crates")):
-        copy_crates(room, LAWS)
+        copy_crates(room, LAWS + FUNCTION_LAWS)
 
 
 def read(path):
@@ -117,9 +120,9 @@ def renew(room, patch, laws):
     shutil.rmtree(work)
 
 
-def prove(room, crate, word, log):
+def prove(room, crate, words, log):
     """Whether a crate is proved by `rt check` or `rt lib`, and what rt said."""
-    said = subprocess.run(["rt", word], cwd=os.path.join(room, "crates", crate), capture_output=True, text=True)
+    said = subprocess.run(["rt"] + words, cwd=os.path.join(room, "crates", crate), capture_output=True, text=True)
     with open(os.path.join(room, "%s.%s.log" % (log, crate)), "w") as file:
         file.write(said.stdout + said.stderr)
     return said.returncode == 0, said.stdout + said.stderr
@@ -136,14 +139,16 @@ def refused_in(said):
     return sorted(set(re.findall(r"^fn \w+::([\w:]+): (?:not proved|no proof)", said, re.MULTILINE)))
 
 
-def try_truss(room, name, laws):
+def try_truss(room, name, law, laws, only):
     """What is wrong with a patch, and what refused it."""
-    renew(room, os.path.join(PATCHES, name + ".patch"), laws)
-    proved, _ = prove(room, "pr_truss", "lib", name)
+    named = re.match(r"(\w+)::(\w+)", law)
+    crates = LAWS if named.group(1) in LAWS else [named.group(1)]
+    renew(room, os.path.join(PATCHES, name + ".patch"), laws and crates == LAWS)
+    proved, _ = prove(room, "pr_truss", ["lib"], name)
     if not proved:
         return "pr_truss does not meet its own definitions", ""
-    for crate in LAWS:
-        proved, said = prove(room, crate, "check", name)
+    for crate in [named.group(1)] if only else crates:
+        proved, said = prove(room, crate, ["check", "--only", named.group(2)] if only else ["check"], name)
         if not proved:
             return "", "%s refuses %s" % (crate, ", ".join(refused_in(said)) or "it: see its log")
     return "no law refuses it", ""
@@ -153,6 +158,7 @@ def main():
     words = argparse.ArgumentParser()
     words.add_argument("--in", dest="room")
     words.add_argument("--laws", action="store_true")
+    words.add_argument("--only", action="store_true")
     words.add_argument("names", nargs="*")
     asked = words.parse_args()
     room = os.path.abspath(asked.room or tempfile.mkdtemp())
@@ -162,7 +168,7 @@ def main():
     for name in sorted(file[: -len(".patch")] for file in os.listdir(PATCHES)):
         if not asked.names or any(name.startswith(front) for front in asked.names):
             head = head_of(os.path.join(PATCHES, name + ".patch"))
-            wrong, refused = try_truss(room, name, asked.laws)
+            wrong, refused = try_truss(room, name, head["law"], asked.laws, asked.only)
             checks.check("%s, as %s" % (name, head["does"]), wrong, refused)
     renew(room, None, asked.laws)
     if not asked.room:

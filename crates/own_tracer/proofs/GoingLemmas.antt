@@ -1,4 +1,4 @@
-use Rattle.std.proofs.Common.{◌≡◌, ◌<◌, ◌+◌, ◌-◌, ◌&&◌, ℕ, Bool, true, false, find, Option, Some, None, IfSome, Result, Ok, Err, OnOk, is_some, List, [], ◌∷◌, ◌++◌, length, slice_get, refl, sym, ◌∙◌, ap, subst, arith, append_assoc, length-append}
+use Rattle.std.proofs.Common.{◌≡◌, ◌<◌, ◌+◌, ◌-◌, ℕ, Bool, true, false, Option, Some, None, IfSome, Result, Ok, Err, OnOk, is_some, List, [], ◌∷◌, ◌++◌, length, slice_get, refl, sym, ◌∙◌, ap, subst, arith, append_assoc, length-append}
 use Rattle.std.proofs.lemmas.Bool.{and_parts}
 use Rattle.std.proofs.lemmas.List.{append-nil}
 use Rattle.std.proofs.lemmas.Option.{same_Some}
@@ -6,16 +6,14 @@ use Rattle.std.specs.Option.{option_and_then}
 use Rattle.pr_api.specs.Entries.{call_entry, last_reply_of, reply_of, tick_entry, turn_entry}
 use Rattle.pr_api.specs.Steps.{IsAnswer, IsCalled, IsTicked, IsTurned, IsTurnOf}
 use Rattle.pr_api.specs.Views.{IsLawful as IsLawfulView, KernelView, kernel_of, next_of, turns_after}
-use Rattle.pr_lawful.proofs.CallLemmas.{tick-state}
-use Rattle.pr_lawful.proofs.StateLemmas.{turn-state}
+use Rattle.pr_lawful.proofs.LawfulStates.CallLemmas.{tick-state}
+use Rattle.pr_lawful.proofs.LawfulStates.StateLemmas.{turn-state}
 use Rattle.pr_model.specs.Calls.{Answer, answer_to}
 use Rattle.pr_model.specs.Lawful.{IsLawful}
 use Rattle.pr_model.specs.Legal.{IsLegal, IsLegalEntry, after, after_call, after_turn, state_after, ticked}
-use Rattle.pr_model.specs.LwpTurns.{LwpTurn, turn_of}
 use Rattle.pr_model.specs.State.{TracedState, with_system}
 use Rattle.pr_model.specs.declared.calls.Call.{Call}
 use Rattle.pr_model.specs.declared.calls.Call.TheVariants as call
-use Rattle.pr_model.specs.declared.calls.Reply.{Reply}
 use Rattle.pr_model.specs.declared.events.Entry.{Entry}
 use Rattle.pr_model.specs.declared.events.Turned.{Turned}
 use Rattle.pr_num.proofs.SearchLemmas.{find-passes}

@@ -1,7 +1,5 @@
-use Rattle.std.proofs.Common.{◌≡◌, ◌≢◌, ◌==◌, ℕ, true, false, Option, Some, None, refl, sym, ap, subst, ◌∙◌, inl, inr}
-use Rattle.std.proofs.lemmas.Bool.{cases_Bool, eqb-true, eqb-false}
-use Rattle.std.proofs.lemmas.Option.{none-some, same_Some}
-use Rattle.pr_lawful.proofs.CallLemmas.{call-state}
+use Rattle.std.proofs.Common.{◌≡◌, ◌≢◌, ℕ, true, Option, Some, None, refl, sym, ap, subst, ◌∙◌, inl, inr}
+use Rattle.pr_lawful.proofs.LawfulStates.CallLemmas.{call-state}
 use Rattle.pr_model.specs.Calls.{Answer, answer_to}
 use Rattle.pr_model.specs.Handles.{handle_of, own}
 use Rattle.pr_model.specs.Lawful.{IsLawful}
@@ -11,8 +9,7 @@ use Rattle.pr_model.specs.declared.calls.Call.{Call}
 use Rattle.pr_model.specs.declared.calls.File.TheVariants.{Ctl}
 use Rattle.pr_model.specs.declared.calls.Mode.TheVariants.{WriteExcl}
 use Rattle.pr_model.specs.declared.calls.Reply.{Reply}
-use Rattle.pr_truss_laws.proofs.Files.OpensLemmas.{Opens, Refuses, held_by, keeps_handles, open-opens, own-other, own-set, plain-leaves}
-use Rattle.pr_truss_laws.specs.Handles.{HasNothingOpen}
+use Rattle.pr_truss_laws.proofs.Files.OpensLemmas.{Opens, Refuses, keeps_handles, open-opens, own-other, own-set, plain-leaves}
 use Rattle.own_tracer.specs.Calls.{open_call}
 use Rattle.own_tracer.specs.Stances.{Holds, HoldsNothing, gripped}
 use Rattle.own_tracer.specs.declared.attaching.Grip.{Grip}

@@ -1,4 +1,4 @@
-use Rattle.std.proofs.Common.{◌≡◌, ◌≢◌, ◌==◌, ℕ, Bool, true, false, cond, Option, Some, None, List, [], Ok, refl, sym, ap, subst, ◌∙◌, inl, inr}
+use Rattle.std.proofs.Common.{◌≡◌, ◌==◌, ℕ, Bool, true, false, cond, Option, Some, None, List, [], refl, sym, ap, subst, ◌∙◌, inl, inr}
 use Rattle.std.proofs.lemmas.Bool.{cases_Bool, eqb-true, eqb-false, ne_eqb}
 use Rattle.std.proofs.lemmas.Option.{none-some, same_Some}
 use Rattle.std.specs.List.{slice_set}
@@ -6,8 +6,8 @@ use Rattle.pr_api.specs.Steps.{IsCalled}
 use Rattle.pr_api.specs.Views.{IsLawful as IsLawfulView, KernelView}
 use Rattle.pr_laws.proofs.CloseLemmas.{released-after}
 use Rattle.pr_laws.specs.LastCloses.{IsReleased}
-use Rattle.pr_lawful.proofs.CallLemmas.{call-state}
-use Rattle.pr_lawful.proofs.HandleLemmas.{handle-at}
+use Rattle.pr_lawful.proofs.LawfulStates.CallLemmas.{call-state}
+use Rattle.pr_lawful.proofs.ProcessParts.HandleLemmas.{handle-at}
 use Rattle.pr_model.specs.Calls.{Answer, answer_to, controlled}
 use Rattle.pr_model.specs.ControlMessages.{aim_of, decoded_answer, system_refusal, tail_of, targeted_answer}
 use Rattle.pr_model.specs.Handles.{after_last_close, handle_of, was_last_writer, with_closed}
@@ -21,12 +21,12 @@ use Rattle.pr_truss_laws.proofs.Files.OpensLemmas.{ClosesOne, close-closes, own-
 use Rattle.pr_truss_laws.proofs.Files.ReleaseLemmas.{was-last}
 use Rattle.pr_truss_laws.proofs.Machine.StillLemmas.{live-changed}
 use Rattle.pr_truss_laws.proofs.Machine.TakenLemmas.{ctl-is}
-use Rattle.own_tracer.proofs.GoingLemmas.{call-goes, call-told, goes-on, made, made-is}
+use Rattle.own_tracer.proofs.GoingLemmas.{call-goes, goes-on, made-is}
 use Rattle.own_tracer.proofs.HoldingLemmas.{plain-holds}
 use Rattle.own_tracer.proofs.OrderLemmas.{closes-control, order-reads, orders-control, releases, spared, still-spared}
-use Rattle.own_tracer.specs.Going.{Goes, Stands, TellsState}
+use Rattle.own_tracer.specs.Going.{Goes, Stands}
 use Rattle.own_tracer.specs.Orders.{message_of, order_call}
-use Rattle.own_tracer.specs.Stances.{HasLeft, Holds, HoldsNothing, gripped}
+use Rattle.own_tracer.specs.Stances.{HasLeft, Holds, gripped}
 use Rattle.own_tracer.specs.declared.attaching.Grip.{Grip}
 use Rattle.own_tracer.specs.declared.orders.Order.{Order}
 use Rattle.own_tracer.specs.declared.orders.Order.TheVariants.{Spare, Release}

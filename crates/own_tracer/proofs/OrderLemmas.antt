@@ -1,6 +1,6 @@
 use Rattle.std.proofs.Common.{◌≡◌, ◌||◌, ◌&&◌, ◌<◌, ◌≤◌, ◌-◌, ◌^◌, ℕ, Bool, true, false, not, List, [], Ok, refl, sym, ap, ◌∙◌, arith}
 use Rattle.pr_model.specs.Messages.{with_control, with_modes, without_modes}
-use Rattle.pr_model.specs.State.{TracedControl, TracedProcess}
+use Rattle.pr_model.specs.State.{TracedProcess}
 use Rattle.pr_num.proofs.SetLemmas.{has_flags-one, has_number-minus, has_number-union}
 use Rattle.pr_num.specs.Control.{has_flags, klc_mode, rlc_mode}
 use Rattle.pr_num.specs.Messages.{bad_operand, encoded_length, first_message, in_columns, message_code, message_read, nth_word, one_word, operand_count, operands, spelling, tail_length, unpadded_length, with_tail}

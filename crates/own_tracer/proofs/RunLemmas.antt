@@ -1,4 +1,4 @@
-use Rattle.std.proofs.Common.{◌≡◌, ◌≢◌, ◌<◌, ◌≤◌, ◌+◌, ℕ, Bool, true, false, Option, Some, None, IfSome, List, [], ◌∷◌, ◌++◌, length, nat_lt, replicate, refl, sym, ap, subst, ◌∙◌, arith, append_assoc, inl, inr}
+use Rattle.std.proofs.Common.{◌≡◌, ◌≢◌, ◌<◌, ◌≤◌, ◌+◌, ℕ, Bool, true, false, Option, Some, None, IfSome, Result, Ok, Err, OnOk, List, [], ◌∷◌, ◌++◌, length, replicate, refl, sym, ap, subst, ◌∙◌, arith, append_assoc, inl, inr}
 use Rattle.std.proofs.lemmas.Bool.{cases_lt}
 use Rattle.std.proofs.lemmas.List.{get_or-replicate, length-replicate}
 use Rattle.std.proofs.lemmas.Option.{slice_get-get_or, slice_get_past}
@@ -15,7 +15,6 @@ use Rattle.pr_model.specs.Replies.{opened_in}
 use Rattle.pr_model.specs.State.{TracedState, nothing_open}
 use Rattle.pr_model.specs.declared.calls.Call.{Call}
 use Rattle.pr_model.specs.declared.calls.Call.TheVariants.{Poll}
-use Rattle.pr_model.specs.declared.calls.Reply.{Reply}
 use Rattle.pr_model.specs.declared.events.Entry.{Entry}
 use Rattle.pr_model.specs.declared.handles.Held.{Held}
 use Rattle.pr_num.specs.Limits.{handle_limit}
@@ -25,11 +24,14 @@ use Rattle.pr_truss_laws.proofs.Files.OpensLemmas.{keeps_handles}
 use Rattle.own_tracer.proofs.GoingLemmas.{IsLegal-append, call-goes, goes-keeping, goes-nowhere, goes-on, last-reply, made, made-is, memory-append, stands-so, state_after-append, told-state}
 use Rattle.own_tracer.proofs.HoldingLemmas.{Opened, holds-kept, holds-lawful, nothing-kept, nothing-lawful, open-holds, plain-holds}
 use Rattle.own_tracer.proofs.OrderLemmas.{opens-control, orders-control, polls-control}
+use Rattle.own_tracer.proofs.RoundLemmas.{no-rounds, rounds-longer, rounds-on}
+use Rattle.own_tracer.specs.Attaching.{Attaches, GetsHold, IsKeptOut}
 use Rattle.own_tracer.specs.Calls.{open_call, was_taken}
 use Rattle.own_tracer.specs.Faults.{Injected, after_order, order_of}
-use Rattle.own_tracer.specs.Going.{AllLeaveMemory, Goes, Stands, TellsState, only_controls}
+use Rattle.own_tracer.specs.Going.{AllLeaveMemory, Goes, Stands, only_controls}
 use Rattle.own_tracer.specs.Orders.{order_call}
-use Rattle.own_tracer.specs.Running.{GotNoHold, InHand, IsInjected, IsInjectedRun}
+use Rattle.own_tracer.specs.Rounds.{IsRound, Leaves, Moment, RoundsFor, RunsBeside}
+use Rattle.own_tracer.specs.Running.{InHand, IsInjected, IsInjectedRun}
 use Rattle.own_tracer.specs.Stances.{HasAttached, HasLeft, Holds, HoldsNothing, Keeps, LeftIf}
 use Rattle.own_tracer.specs.declared.attaching.Grip.{Grip}
 use Rattle.own_tracer.specs.declared.faults.Faults.{Faults}
@@ -122,20 +124,57 @@ nothing-stands k stands = stands-so HoldsNothing IsLawful k (λ s h. nothing-law
 
 -- ---- rounds
 
-pub in-hand : (g : Grip) (k : KernelView) → Stands (Holds g) k → length k.history + 3 ≤ k.places → InHand g k k
-in-hand g k stands room = record { goes = goes-nowhere (Holds g) k stands; room = room }
+pub in-hand : (g : Grip) (faults : Faults) (m : Moment) → Stands (Holds g) m.kernel
+    → length m.kernel.history + 3 ≤ m.kernel.places → InHand g 0 faults faults m m
+in-hand g faults m stands room = record {
+  goes = goes-nowhere (Holds g) m.kernel stands;
+  room = room;
+  made = no-rounds g faults m;
+}
 
-pub in-hand-on : (g : Grip) (a b c : KernelView) → InHand g a b → Goes (Holds g) b c → length c.history + 3 ≤ c.places
-    → InHand g a c
-in-hand-on g a b c hand on room = record { goes = goes-on (Holds g) (Holds g) a b c hand.goes on; room = room }
+pub in-hand-on : (g : Grip) (n : ℕ) (f0 f1 f2 : Faults) (a b c : Moment) (again : Bool) → again ≡ true
+    → InHand g n f0 f1 a b → Goes (Holds g) b.kernel c.kernel → length c.kernel.history + 3 ≤ c.kernel.places
+    → IsRound g again f1 f2 b c → InHand g (n + 1) f0 f2 a c
+in-hand-on g n f0 f1 f2 a b c again is hand on room round = record {
+  goes = goes-on (Holds g) (Holds g) a.kernel b.kernel c.kernel hand.goes on;
+  room = room;
+  made = rounds-on n g f0 f1 f2 a b c again is hand.made round;
+}
 
-pub left-goes : (g : Grip) (a b c : KernelView) → InHand g a b → Goes (HasLeft g.pid) b c → Goes (HasLeft g.pid) a c
-left-goes g a b c hand left = goes-on (Holds g) (HasLeft g.pid) a b c hand.goes left
+-- there are no more rounds than places
+pub in-hand-ends : (g : Grip) (n : ℕ) (f0 f1 : Faults) (a b : Moment) → InHand g n f0 f1 a b → n < a.kernel.places
+in-hand-ends g n f0 f1 a b hand =
+    omega (arith, rounds-longer n g f0 f1 a b hand.made, hand.room, hand.goes.places)
+
+pub left-goes : (g : Grip) (a b c d : KernelView) → Goes (Holds g) a b → Goes (Holds g) b c → Goes (HasLeft g.pid) c d
+    → Goes (HasLeft g.pid) a d
+left-goes g a b c d first on left =
+    goes-on (Holds g) (HasLeft g.pid) a b d first (goes-on (Holds g) (HasLeft g.pid) b c d on left)
+
+pub left-runs : (g : Grip) (n : ℕ) (f0 f1 f2 : Faults) (a b c d : Moment) (again : Bool) → again ≡ false
+    → RoundsFor n g f0 f1 a b → IsRound g again f1 f2 b c → Leaves g.control c.kernel.history d.kernel.history
+    → d.last ≡ c.last → RunsBeside g f0 a d
+left-runs g n f0 f1 f2 a b c d again is so round leaves last = record {
+  rounds = n;
+  left = f1;
+  before = b;
+  made = so;
+  at_end = f2;
+  end = c;
+  ends = subst (λ (x : Bool). IsRound g x f1 f2 b c) is round;
+  leaves = leaves;
+  last = last;
+}
 
 pub alone-on : (a b c : KernelView) → Goes HoldsNothing a b → Goes (Keeps b) b c → Goes HoldsNothing a c
 alone-on a b c so moved = goes-on HoldsNothing HoldsNothing a b c so (alone-goes b c so.stands moved)
 
 -- ---- all of it
+
+-- what holds where a call ended well, by two clauses
+pub on-both : {X E : Type 0} (r : Result X E) (A B C : Type 0) → (A → B → C) → OnOk r A → OnOk r B → OnOk r C
+on-both (Ok x) A B C so one two = so one two
+on-both (Err e) A B C so one two = tt
 
 pub attached-held : (o : Option Grip) (g : Grip) (a b : KernelView) → o ≡ Some g → Goes (HasAttached o) a b
     → Goes (Holds g) a b
@@ -156,16 +195,13 @@ pub left-nothing : (attached : Bool) (pid : ℕ) (k : KernelView) → Stands (Le
 left-nothing true pid k stands = record { is = stands.is; holds = stands.holds.nothing }
 left-nothing false pid k stands = stands
 
-pub injected : (attached : Bool) (pid : ℕ) (a b c : KernelView)
-    → (attached ≡ false → GotNoHold a.places a.history b.history) → Goes (LeftIf attached pid) a b
-    → Goes HoldsNothing b c → IsInjected pid a c
-injected attached pid a b c out before after = record {
-  middle = b;
-  attached = attached;
-  out = out;
-  before = before;
-  after = after;
-}
+pub attached-calls : (o : Option Grip) (pid : ℕ) (before after : List Entry) (g : Grip) → o ≡ Some g
+    → Attaches o pid before after → GetsHold pid g before after
+attached-calls o pid before after g is = subst (λ (x : Option Grip). Attaches x pid before after) is
+
+pub kept-calls : (o : Option Grip) (pid : ℕ) (before after : List Entry) → o ≡ None → Attaches o pid before after
+    → IsKeptOut pid before after
+kept-calls o pid before after is = subst (λ (x : Option Grip). Attaches x pid before after) is
 
 -- ---- from the first state
 
@@ -198,13 +234,13 @@ pub first-stands : (s : TracedState) (h : List Entry) (places : ℕ) → HoldsNo
 unfolding kernel_of
 first-stands s h places nothing = record { is = record { state = s; told = refl }; holds = nothing }
 
-pub run-is : (pid : ℕ) (first : TracedState) (places : ℕ) (new : KernelView)
-    → IsInjected pid (kernel_of first [] places) new → IsInjectedRun pid places first new.history
+pub run-is : (pid : ℕ) (faults : Faults) (first : TracedState) (places : ℕ) (new : KernelView)
+    → IsInjected pid faults (kernel_of first [] places) new → IsInjectedRun pid places faults first new.history
 unfolding kernel_of
-run-is pid first places new i =
+run-is pid faults first places new i =
     let beside = i.before.entries in
     let alone = i.after.entries in
-    let left : i.middle.machine ≡ Some (state_after first beside) = i.before.leads first refl in
+    let left : i.middle.kernel.machine ≡ Some (state_after first beside) = i.before.leads first refl in
     let parts : new.history ≡ beside ++ alone =
     i.after.history ∙ ap (λ (h : List Entry). h ++ alone) i.before.history in
     let end : state_after (state_after first beside) alone ≡ state_after first new.history =
@@ -219,12 +255,16 @@ run-is pid first places new i =
           (i.after.legal (state_after first beside) left));
       memory = subst AllLeaveMemory (sym parts) (memory-append beside alone i.before.memory i.after.memory);
       attached = i.attached;
-      out = λ is. subst (λ (h : List Entry). GotNoHold places [] h) i.before.history (i.out is);
       left =
           subst (LeftIf i.attached pid)
-          (told-state i.middle i.before.stands.is (state_after first beside) left) i.before.stands.holds;
+          (told-state i.middle.kernel i.before.stands.is (state_after first beside) left) i.before.stands.holds;
       nothing =
           subst HoldsNothing
           (told-state new i.after.stands.is _ (i.after.leads (state_after first beside) left) ∙ end)
           i.after.stands.holds;
+      end = new;
+      history = refl;
+      run = i;
+      attached_is = refl;
+      beside_is = sym i.before.history;
     }

@@ -1,7 +1,10 @@
+pub mod Attaching
 pub mod Calls
 pub mod Faults
 pub mod Going
 pub mod Orders
+pub mod Rounds
 pub mod Running
 pub mod Stances
+pub mod Statuses
 pub mod Telling

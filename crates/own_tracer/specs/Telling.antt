@@ -1,27 +1,103 @@
-use Rattle.std.specs.Prelude.{◌≡◌, ℕ, false, List, [], Option, Ok}
+use Rattle.std.specs.Prelude.{◌≡◌, ◌≤◌, ◌⊎◌, ℕ, false, List, [], Option, Ok, Err, length}
+use Rattle.pr_io.specs.Faults.{Rose}
 use Rattle.pr_io.specs.Known.{with_end}
-use Rattle.pr_io.specs.Reading.{ReadsAll}
+use Rattle.pr_io.specs.Reading.{Came, CameAbove, CameWithin, ReadsAll}
+use Rattle.pr_io.specs.Writing.{AppendsFront}
 use Rattle.pr_model.specs.declared.events.Entry.{Entry}
-use Rattle.pr_output.specs.Output.{run_text}
+use Rattle.pr_num.specs.Limits.{scenario_limit}
+use Rattle.pr_output.specs.Output.{AppendsSome, run_text}
 use Rattle.pr_scen.specs.Reading.{scenario_of}
+use Rattle.pr_scen.specs.Refusals.{ScenFault}
 use Rattle.pr_scen.specs.Scenarios.{Scenario}
 use Rattle.own_tracer.specs.Running.{IsHistoryOf}
+use Rattle.own_tracer.specs.declared.statuses.Status.{Status}
+use Rattle.own_tracer.specs.declared.statuses.Status.TheVariants.{Done, Refused, ReadFailed, WriteFailed, OutOfMemory}
 
--- What the program reads and writes where it ends with status 0.
+-- What the program reads and writes, by the status with which it ends. The bytes that are left, those that were written
+-- and the counts of faults are known before and after.
 
--- all that the source had is the text of this scenario
+-- ---- what is read
+
+-- all that the source had is the text of this scenario, and no longer than one may be
 pub record WasRead (s : Scenario) (left now : Option (List ℕ)) : Type 0 where
   pub text : List ℕ
   pub all : ReadsAll left now text
+  pub within : length text ≤ scenario_limit
   pub scenario : scenario_of text ≡ Ok s
 
--- the text of a history of it was written, and the line of the status
-pub record Tells (s : Scenario) (old new : Option (List ℕ)) : Type 0 where
+-- all that the source had is no longer than a scenario may be
+pub record WasTaken (left now : Option (List ℕ)) : Type 0 where
+  pub text : List ℕ
+  pub all : ReadsAll left now text
+  pub within : length text ≤ scenario_limit
+
+-- and it is none
+pub record SpellsNone (left now : Option (List ℕ)) : Type 0 where
+  pub text : List ℕ
+  pub all : ReadsAll left now text
+  pub within : length text ≤ scenario_limit
+  pub fault : ScenFault
+  pub refused : scenario_of text ≡ Err fault
+
+-- Why no scenario was read, a row for each status: more bytes came than a scenario may have, or they spell none; no
+-- more than that came, and then a read failed; or memory ran out, after some or all came. Only a read that failed raises
+-- the count. No other status comes of reading.
+abbrev pub IsUnread : Status → Option (List ℕ) → Option (List ℕ) → ℕ → ℕ → Type 0
+IsUnread Done left now before after = ⊥
+IsUnread Refused left now before after = (CameAbove scenario_limit left now ⊎ SpellsNone left now) × (after ≡ before)
+IsUnread ReadFailed left now before after = CameWithin scenario_limit left now × Rose before after
+IsUnread WriteFailed left now before after = ⊥
+IsUnread OutOfMemory left now before after = (Came left now ⊎ WasTaken left now) × (after ≡ before)
+
+-- ---- what is written
+
+-- This came of writing the text of a history of the scenario, and the line of the status.
+pub record TellsSo (s : Scenario) (Came : List ℕ → Type 0) : Type 0 where
   pub history : List Entry
   pub is : IsHistoryOf s history
-  pub written : new ≡ with_end old (run_text false history [] 0)
+  pub came : Came (run_text false history [] 0)
 
-pub record Serves (left now old new : Option (List ℕ)) : Type 0 where
+-- What came of a scenario, a row for each status: the text of a history of it was written; a write failed, and a prefix
+-- of such a text was written that lacks some bytes; or memory ran out, before anything was written or after a prefix.
+-- Only a write that failed raises the count. No other status comes of writing.
+abbrev pub IsTold : Status → Scenario → Option (List ℕ) → Option (List ℕ) → ℕ → ℕ → Type 0
+IsTold Done s old new before after = TellsSo s (λ text. new ≡ with_end old text) × (after ≡ before)
+IsTold Refused s old new before after = ⊥
+IsTold ReadFailed s old new before after = ⊥
+IsTold WriteFailed s old new before after = TellsSo s (AppendsFront old new) × Rose before after
+IsTold OutOfMemory s old new before after = ((new ≡ old) ⊎ TellsSo s (AppendsSome old new)) × (after ≡ before)
+
+-- ---- the program
+
+-- What the source and the sink tell at one moment.
+pub record Ends : Type 0 where
+  pub left : Option (List ℕ)
+  pub read_faults : ℕ
+  pub written : Option (List ℕ)
+  pub write_faults : ℕ
+
+-- what a source and a sink tell, by what each of them tells
+abbrev pub ends_of : {S K : Type 0} → (S → Option (List ℕ)) → (S → ℕ) → (K → Option (List ℕ)) → (K → ℕ) → S → K → Ends
+ends_of left read_faults written write_faults source sink = record {
+  left = left source;
+  read_faults = read_faults source;
+  written = written sink;
+  write_faults = write_faults sink;
+}
+
+-- No scenario was read, and nothing was written.
+pub record IsRefusal (status : Status) (old new : Ends) : Type 0 where
+  pub unread : IsUnread status old.left new.left old.read_faults new.read_faults
+  pub unwritten : new.written ≡ old.written
+  pub no_write_fault : new.write_faults ≡ old.write_faults
+
+-- A scenario was read, and told.
+pub record Serves (status : Status) (old new : Ends) : Type 0 where
   pub scenario : Scenario
-  pub read : WasRead scenario left now
-  pub tells : Tells scenario old new
+  pub read : WasRead scenario old.left new.left
+  pub no_read_fault : new.read_faults ≡ old.read_faults
+  pub tells : IsTold status scenario old.written new.written old.write_faults new.write_faults
+
+-- how the program ends
+abbrev pub EndsAs : Status → Ends → Ends → Type 0
+EndsAs status old new = IsRefusal status old new ⊎ Serves status old new

@@ -1,8 +1,6 @@
 //! How the injector gets hold of a process.
-ghost use Rattle.std.specs.Prelude.{◌≡◌, ◌≢◌, ◌≤◌, ◌+◌, None, length, IfOk, IfSome, OnOk};
-ghost use Rattle.std.specs.Option.{option_and_then};
-ghost use Rattle.pr_api.specs.Entries.{last_reply_of};
-ghost use Rattle.pr_model.specs.Replies.{opened_in};
+ghost use Rattle.std.specs.Prelude.{◌≡◌, ◌≢◌, ◌≤◌, ◌+◌, length, IfOk, IfSome, OnOk};
+ghost use Rattle.own_tracer.specs.Attaching.{Attaches};
 ghost use Rattle.own_tracer.specs.Going.{Goes, Stands};
 ghost use Rattle.own_tracer.specs.Stances.{HasAttached, HoldsNothing};
 
@@ -19,14 +17,14 @@ pub struct Grip {
     pub control: u32,
 }
 
-/// Opens the control file of a process for the injector alone, and traces its writes. `None` where the open is refused.
+/// Opens the control file of a process for the injector alone, and lets the process stop at each entry of a write.
+/// `None`, and nothing else was done: the open was refused.
 pub fn attach<Q: Kernel>(kern: &mut Q, alloc: Global, pid: u32) -> Result<Option<Grip>, NoMemory>
     requires stands { Stands HoldsNothing (Q.view kern.old) }
     requires pid { pid ≢ 0 }
     requires room { length (Q.view kern.old).history + 2 ≤ (Q.view kern.old).places }
     ensures goes { IfOk result (λ grip. Goes (HasAttached grip) (Q.view kern.old) (Q.view kern.new)) }
-    ensures refused { IfOk result (λ grip. grip ≡ None
-        → option_and_then opened_in (last_reply_of (Q.view kern.new).history) ≡ None) }
+    ensures calls { IfOk result (λ grip. Attaches grip pid (Q.view kern.old).history (Q.view kern.new).history) }
     ensures pid { IfOk result (λ grip. IfSome grip (λ g. g.pid ≡ pid)) }
     ensures few { OnOk result (length (Q.view kern.new).history ≤ length (Q.view kern.old).history + 2) }
     ensures places { OnOk result ((Q.view kern.new).places ≡ (Q.view kern.old).places) }

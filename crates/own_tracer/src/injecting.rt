@@ -22,7 +22,7 @@ fn poll_call(alloc: Global, control: u32) -> Result<Call, NoMemory>
 }
 
 /// Runs the process from the entry of a write, at which it stands, or aborts that write where its turn has come. Says
-/// whether it stood there, or had ended; else nothing is done.
+/// whether it stood there, or had ended: whether a poll of its control file was ready. Else nothing is done.
 pub fn inject<Q: Kernel>(
     kern: &mut Q,
     alloc: Global,
@@ -34,6 +34,9 @@ pub fn inject<Q: Kernel>(
     ensures goes { OnOk result (Goes (Holds grip) (Q.view kern.old) (Q.view kern.new)) }
     ensures injects { IfOk result (λ acted. Injects acted grip.control faults.old faults.new
         (Q.view kern.old).history (Q.view kern.new).history) }
+    // it says so exactly where the poll was ready
+    ensures ready { IfOk result (λ acted. acted
+        ≡ (Q.view kern.old).is_ready 0 (Call.Poll (grip.control ∷ []))) }
     ensures few { OnOk result (length (Q.view kern.new).history ≤ length (Q.view kern.old).history + 2) }
     ensures places { OnOk result ((Q.view kern.new).places ≡ (Q.view kern.old).places) }
 {

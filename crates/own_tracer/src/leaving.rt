@@ -1,6 +1,7 @@
 //! How the injector leaves a process.
 ghost use Rattle.std.specs.Prelude.{◌≤◌, ◌+◌, length, OnOk};
 ghost use Rattle.own_tracer.specs.Going.{Goes, Stands};
+ghost use Rattle.own_tracer.specs.Rounds.{Leaves};
 ghost use Rattle.own_tracer.specs.Stances.{HasLeft, Holds};
 
 use crate::attaching::Grip;
@@ -17,7 +18,9 @@ use std::alloc::Global;
 pub fn leave<Q: Kernel>(kern: &mut Q, alloc: Global, grip: Grip) -> Result<(), NoMemory>
     requires stands { Stands (Holds grip) (Q.view kern.old) }
     requires room { length (Q.view kern.old).history + 3 ≤ (Q.view kern.old).places }
-    ensures { OnOk result (Goes (HasLeft grip.pid) (Q.view kern.old) (Q.view kern.new)) }
+    ensures goes { OnOk result (Goes (HasLeft grip.pid) (Q.view kern.old) (Q.view kern.new)) }
+    // by three calls, and nothing else is done
+    ensures leaves { OnOk result (Leaves grip.control (Q.view kern.old).history (Q.view kern.new).history) }
 {
     send(kern, alloc, grip.control, Order::Spare)?;
     send(kern, alloc, grip.control, Order::Release)?;

@@ -11,8 +11,10 @@ mod leaving;
 mod orders;
 mod programs;
 mod running;
+mod statuses;
 mod telling;
 
+use crate::statuses::number;
 use crate::telling::serve;
 use pr_io::{StdSink, StdSource};
 use std::process::ExitCode;
@@ -20,5 +22,5 @@ use std::process::ExitCode;
 fn main(rt: HostRuntime) -> ExitCode {
     let mut source = StdSource::new(rt.stdin());
     let mut sink = StdSink::new(rt.stdout());
-    ExitCode::from(serve(rt.alloc(), &mut source, &mut sink))
+    ExitCode::from(number(serve(rt.alloc(), &mut source, &mut sink)))
 }

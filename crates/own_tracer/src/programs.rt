@@ -1,7 +1,8 @@
 //! The programs, which move beside the injector.
-ghost use Rattle.std.specs.Prelude.{◌≡◌, ◌<◌, ◌≤◌, ◌+◌, true, length, IfSome, OnOk};
+ghost use Rattle.std.specs.Prelude.{◌≡◌, ◌<◌, ◌≤◌, ◌+◌, true, length, IfOk, IfSome, OnOk};
 ghost use Rattle.pr_model.specs.Lawful.{IsLawful};
 ghost use Rattle.own_tracer.specs.Going.{Goes, Stands};
+ghost use Rattle.own_tracer.specs.Rounds.{Moves, TicksIf, can_tick, next_in_turn};
 ghost use Rattle.own_tracer.specs.Stances.{Keeps};
 
 use pr_api::Kernel;
@@ -17,7 +18,8 @@ pub struct Programs {
 impl Programs {
     /// The lwp that moves next: the first after the last one, or the first of all, that can have a turn.
     fn next<Q: Kernel>(&self, kern: &Q) -> Option<(u32, u32)>
-        ensures { IfSome result (λ lwp. (Q.view kern.now).can_turn lwp.0 lwp.1 ≡ true) }
+        ensures next { result ≡ next_in_turn (record { kernel = Q.view kern.now; last = self.now.last }) }
+        ensures can { IfSome result (λ lwp. (Q.view kern.now).can_turn lwp.0 lwp.1 ≡ true) }
     {
         match kern.next_lwp(self.last, true) {
             Some(lwp) => Some(lwp),
@@ -25,11 +27,14 @@ impl Programs {
         }
     }
 
-    /// Gives an lwp a turn; or the clock a tick, where no lwp can move and one sleeps. Says whether there was either.
+    /// Gives the next lwp a turn; or the clock a tick, where no lwp can move and one sleeps. Says whether there was
+    /// either.
     pub fn advance<Q: Kernel>(&mut self, kern: &mut Q) -> Result<bool, NoMemory>
         requires stands { Stands IsLawful (Q.view kern.old) }
         requires place { length (Q.view kern.old).history < (Q.view kern.old).places }
         ensures goes { OnOk result (Goes (Keeps (Q.view kern.old)) (Q.view kern.old) (Q.view kern.new)) }
+        ensures moves { IfOk result (λ moved. Moves moved (record { kernel = Q.view kern.old; last = self.old.last })
+            (record { kernel = Q.view kern.new; last = self.new.last })) }
         ensures few { OnOk result (length (Q.view kern.new).history ≤ length (Q.view kern.old).history + 1) }
         ensures places { OnOk result ((Q.view kern.new).places ≡ (Q.view kern.old).places) }
     {
@@ -44,11 +49,13 @@ impl Programs {
     }
 }
 
-/// A tick of the clock, where an lwp sleeps.
+/// A tick of the clock, where an lwp sleeps. Says whether there was one: not where the clock stands at its limit.
 fn tick<Q: Kernel>(kern: &mut Q) -> bool
     requires stands { Stands IsLawful (Q.view kern.old) }
     requires place { length (Q.view kern.old).history < (Q.view kern.old).places }
     ensures goes { Goes (Keeps (Q.view kern.old)) (Q.view kern.old) (Q.view kern.new) }
+    ensures can { result ≡ can_tick (Q.view kern.old) }
+    ensures ticks { TicksIf result (Q.view kern.old) (Q.view kern.new) }
     ensures few { length (Q.view kern.new).history ≤ length (Q.view kern.old).history + 1 }
     ensures places { (Q.view kern.new).places ≡ (Q.view kern.old).places }
 {

@@ -9,7 +9,7 @@ use Rattle.pr_model.specs.Changes as changes
 use Rattle.pr_model.specs.Changes.{all_changed, changed, files_are, space_is, with_fds, with_space}
 use Rattle.pr_model.specs.Machines.{traced}
 use Rattle.pr_model.specs.State.{TracedLwp, TracedProcess, TracedSystem, live_process, with_process}
-use Rattle.pr_lawful.proofs.UseLemmas.{files-room-one}
+use Rattle.pr_lawful.proofs.Following.UseLemmas.{files-room-one}
 use Rattle.pr_proc.proofs.LifeLemmas.{live_process-made}
 use Rattle.pr_call.specs.Effects.{after_effect, outcome_of}
 use Rattle.pr_call.specs.FileAnswers.{answer_meant, lacks_memory, refusal_meant, settled}

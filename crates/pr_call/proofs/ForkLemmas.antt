@@ -5,8 +5,8 @@ use Rattle.pr_num.specs.Agents.{agent_id}
 use Rattle.pr_num.specs.Limits.{process_limit}
 use Rattle.pr_num.specs.declared.errnos.Errno.{Errno}
 use Rattle.pr_num.specs.declared.errnos.Errno.TheVariants.{Notsup}
-use Rattle.pr_lawful.proofs.SystemLemmas.{next-free}
-use Rattle.pr_lawful.proofs.UseLemmas.{files-room}
+use Rattle.pr_lawful.proofs.ProcessParts.SystemLemmas.{next-free}
+use Rattle.pr_lawful.proofs.Following.UseLemmas.{files-room}
 use Rattle.pr_model.specs.Changes.{Effect, all_changed, changed, fails, forks, gives}
 use Rattle.pr_model.specs.Lawful.{IsLawfulSystem}
 use Rattle.pr_model.specs.Lives.{Birth, by_fork, by_vfork, with_child}

@@ -4,15 +4,12 @@ ghost use Rattle.pr_core.specs.Gcores.{GcoreState, first_gcore, has_ended};
 ghost use Rattle.pr_core_laws.specs.GcoreCalls.{MakesGcoreCalls};
 ghost use Rattle.pr_core_laws.specs.Refused.{TellsWhy};
 ghost use Rattle.pr_model.specs.Lawful.{IsLawful};
-ghost use Rattle.pr_model.specs.Legal.{IsLegal};
 ghost use Rattle.pr_model.specs.State.{TracedState};
 ghost use Rattle.pr_model.specs.declared.events.Entry.{Entry};
 ghost use Rattle.pr_num.specs.declared.errnos.Errno.{Errno};
-ghost use Rattle.pr_reached.specs.ByteHistories.{HasBytes};
-ghost use Rattle.pr_reached.specs.InRange.{IsInRange};
 ghost use Rattle.pr_tool_laws.specs.Leaving.{RunsAtLast};
-ghost use Rattle.pr_tool_laws.specs.OwnCalls.{AreOwnCalls};
 ghost use Rattle.pr_tool_laws.specs.Requests.{asks_still};
+ghost use Rattle.pr_tool_laws.specs.Runs.{IsRunOf, StaysInRange};
 ghost use Rattle.pr_truss_laws.specs.Exchanges.{exchanges};
 ghost use Rattle.pr_world.specs.ControllerStates as cores;
 ghost use Rattle.pr_world.specs.ControllerStates.{ControllerState};
@@ -23,9 +20,7 @@ ghost use Rattle.pr_world.specs.Protocol.{controllers_at};
 /// done nothing but close since then, unless every lwp of it stood when gcore came.
 pub fn gcore_runs_its_process_again()
     ensures { (controllers : List ControllerState) (n k pid : ℕ) (s : TracedState) (h : List Entry) (g : GcoreState)
-        → IsLawful s → IsInRange s.system → HasBytes h
-        → slice_get controllers k ≡ Some (cores.Gcore (first_gcore pid)) → IsLegal n s h
-        → AreOwnCalls controllers h
+        → StaysInRange s h → IsRunOf n k (cores.Gcore (first_gcore pid)) controllers s h
         → slice_get (controllers_at controllers h) k ≡ Some (cores.Gcore g) → has_ended g ≡ true → g.refusal ≡ None
         → RunsAtLast k pid s h }
 {}
@@ -34,8 +29,7 @@ pub fn gcore_runs_its_process_again()
 /// was refused has no request to stop left that was not refused: after PCSTOP it has sent PCRUN.
 pub fn a_refused_gcore_takes_back_its_request()
     ensures { (controllers : List ControllerState) (n k pid : ℕ) (s : TracedState) (h : List Entry) (g : GcoreState)
-        → IsLawful s → slice_get controllers k ≡ Some (cores.Gcore (first_gcore pid)) → IsLegal n s h
-        → AreOwnCalls controllers h
+        → IsLawful s → IsRunOf n k (cores.Gcore (first_gcore pid)) controllers s h
         → slice_get (controllers_at controllers h) k ≡ Some (cores.Gcore g) → has_ended g ≡ true → IsSome g.refusal
         → asks_still false (exchanges k h) ≡ false }
 {}
@@ -47,9 +41,7 @@ pub fn a_refused_gcore_takes_back_its_request()
 pub fn gcore_tells_why_it_was_refused()
     ensures { (controllers : List ControllerState) (n k pid : ℕ) (s : TracedState) (h : List Entry) (g : GcoreState)
         (e : Errno)
-        → IsLawful s → IsInRange s.system → HasBytes h
-        → slice_get controllers k ≡ Some (cores.Gcore (first_gcore pid)) → IsLegal n s h
-        → AreOwnCalls controllers h
+        → StaysInRange s h → IsRunOf n k (cores.Gcore (first_gcore pid)) controllers s h
         → slice_get (controllers_at controllers h) k ≡ Some (cores.Gcore g) → has_ended g ≡ true
         → g.refusal ≡ Some e → TellsWhy k pid e s h (printed g) }
 {}
@@ -58,7 +50,7 @@ pub fn gcore_tells_why_it_was_refused()
 /// its table, in the state that it finds, or a close: it opens a file of its process, or goes to one that it has open.
 pub fn gcore_makes_its_own_calls()
     ensures { (controllers : List ControllerState) (n k pid : ℕ) (s : TracedState) (h : List Entry) (g : GcoreState)
-        → IsLawful s → slice_get controllers k ≡ Some (cores.Gcore (first_gcore pid)) → IsLegal n s h
-        → AreOwnCalls controllers h → slice_get (controllers_at controllers h) k ≡ Some (cores.Gcore g)
+        → IsLawful s → IsRunOf n k (cores.Gcore (first_gcore pid)) controllers s h
+        → slice_get (controllers_at controllers h) k ≡ Some (cores.Gcore g)
         → MakesGcoreCalls k pid s h }
 {}

@@ -39,8 +39,8 @@ use Rattle.pr_plain.specs.WordReading.{Words, behind_word, bytes_at, file_at, id
 use Rattle.pr_plain.specs.WordReading.{program_at}
 use Rattle.pr_plain.specs.WordReading.{word_at}
 use Rattle.pr_reached.specs.ByteHistories.{HasBytes, IsActOfBytes, IsEntryOfBytes, IsOfBytes}
-use Rattle.pr_run_laws.proofs.ByteLemmas.{fed-lines}
-use Rattle.pr_run_laws.proofs.ScenarioRangeLemmas.{scenario-range}
+use Rattle.pr_run_laws.proofs.BytesWritten.ByteLemmas.{fed-lines}
+use Rattle.pr_run_laws.proofs.ScenariosInRange.ScenarioRangeLemmas.{scenario-range}
 use Rattle.pr_run_laws.specs.ScenarioRanges.{IsCoreOfBytes, IsLineOfBytes}
 use Rattle.pr_run_laws.specs.ScenarioRuns.{controller_of}
 use Rattle.pr_scen.proofs.StepLemmas.{if_ok, of_some}

@@ -1,14 +1,14 @@
 use Rattle.std.proofs.Common.{◌+◌, ℕ, List, length, refl}
 use Rattle.std.specs.List.{All}
-use Rattle.pr_erasure.proofs.HistoryLemmas.{transparent-first}
+use Rattle.pr_erasure.proofs.SeenHistories.HistoryLemmas.{transparent-first}
 use Rattle.pr_model.specs.Legal.{IsLegal}
 use Rattle.pr_model.specs.declared.events.Entry.{Entry}
-use Rattle.pr_reached.proofs.ReachedLemmas.{first-reached}
+use Rattle.pr_reached.proofs.Together.ReachedLemmas.{first-reached}
 use Rattle.pr_reached.specs.ByteHistories.{HasBytes}
-use Rattle.pr_run_laws.proofs.ByteLemmas.{IsOtherOfBytes, own-bytes}
-use Rattle.pr_run_laws.proofs.KeptLemmas.{functions-kept, gcores-kept, hidden-kept, probes-kept, tools-kept}
-use Rattle.pr_run_laws.proofs.KeptLemmas.{trusses-kept, writes-kept}
-use Rattle.pr_run_laws.proofs.OwnPassive.{own-passive}
+use Rattle.pr_run_laws.proofs.BytesWritten.ByteLemmas.{IsOtherOfBytes, own-bytes}
+use Rattle.pr_run_laws.proofs.KeptRuns.KeptLemmas.{functions-kept, gcores-kept, hidden-kept, probes-kept, tools-kept}
+use Rattle.pr_run_laws.proofs.KeptRuns.KeptLemmas.{trusses-kept, writes-kept}
+use Rattle.pr_run_laws.proofs.PassiveControllers.OwnPassive.{own-passive}
 use Rattle.pr_run_laws.specs.ScenarioRanges.{IsScenarioInRange}
 use Rattle.pr_run_laws.specs.ScenarioRuns.{controllers_of, files_of, first_state_of}
 use Rattle.pr_scen.specs.Scenarios.{Scenario}

@@ -17,7 +17,7 @@ use Rattle.pr_model.specs.declared.events.Actor.{Actor}
 use Rattle.pr_model.specs.declared.events.Actor.TheVariants.{Controller as ByNumber, Lwp, Clock}
 use Rattle.pr_model.specs.declared.events.Entry.{Entry}
 use Rattle.pr_reached.specs.ByteHistories.{IsOfBytes}
-use Rattle.pr_run_laws.proofs.ByteLemmas.{IsOtherOfBytes, fed-lines, script-bytes}
+use Rattle.pr_run_laws.proofs.BytesWritten.ByteLemmas.{IsOtherOfBytes, fed-lines, script-bytes}
 use Rattle.pr_run_laws.specs.ScenarioRanges.{IsLineOfBytes}
 use Rattle.pr_run_laws.specs.ScenarioRuns.{controllers_of, first_state_of}
 use Rattle.pr_scen.specs.Scenarios.{Scenario}

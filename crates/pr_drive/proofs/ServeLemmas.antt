@@ -4,7 +4,7 @@ use Rattle.std.specs.Result.{IsErrOf}
 use Rattle.pr_input.specs.Kinds.{kind_name}
 use Rattle.pr_io.specs.Faults.{Rose}
 use Rattle.pr_output.specs.Output.{AppendsSome, refusal_text}
-use Rattle.pr_run_laws.proofs.ScenarioRangeLemmas.{scenario-range}
+use Rattle.pr_run_laws.proofs.ScenariosInRange.ScenarioRangeLemmas.{scenario-range}
 use Rattle.pr_scen.specs.Refusals.{ScenFault}
 use Rattle.pr_drive.specs.Going.{SeatsState}
 use Rattle.pr_drive.specs.Inputs.{Input, from_start}

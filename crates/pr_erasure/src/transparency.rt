@@ -12,7 +12,7 @@ ghost use Rattle.pr_erasure.specs.Untouched.{IsUntouched};
 /// Tracing is transparent: what a legal and passive history makes of a first state, the machine without controllers can
 /// make of what programs can see of it, by the history's untraced steps and with its trace. From any state that
 /// controllers left untouched the same holds, and the history leaves it untouched.
-#[tactic(auto, using(crate::proofs::HistoryLemmas::transparency))]
+#[tactic(auto, using(crate::proofs::SeenHistories::HistoryLemmas::transparency))]
 pub fn tracing_is_transparent()
     ensures first { (n : ℕ) (programs : List Program) (files : List StoredFile) (spawns : List ℕ) (h : List Entry)
         → IsLegal n (first_state programs files spawns) h → IsPassive h → IsTransparent (first_state programs files spawns) h }

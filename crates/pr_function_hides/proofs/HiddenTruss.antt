@@ -26,8 +26,8 @@ use Rattle.pr_function_hides.proofs.StepMarks.StepLaw.{own-steps}
 use Rattle.pr_function_hides.specs.RunsOfTrusses.{IsRunOfTrusses}
 use Rattle.pr_function_hides.proofs.Tidy.WritesLaw.{writes-tidily}
 use Rattle.pr_function_hides.specs.SleptCopies.{NoneSleepsInCopy}
-use Rattle.pr_lawful.proofs.HistoryLemmas.{history-state}
-use Rattle.pr_lawful.proofs.UseLemmas.{live-lawful}
+use Rattle.pr_lawful.proofs.LawfulStates.HistoryLemmas.{history-state}
+use Rattle.pr_lawful.proofs.Following.UseLemmas.{live-lawful}
 use Rattle.pr_num.proofs.ByIdLemmas.{under-at}
 use Rattle.pr_num.specs.ById.{IsRising}
 use Rattle.pr_tool_laws.proofs.Records.WholeLemmas.{front-legal}

@@ -9,6 +9,7 @@ pub mod GoingOn
 pub mod HiddenTruss
 pub mod LeavingCopies
 pub mod LeavingFaults
+pub mod LiftedSteps
 pub mod Listed
 pub mod Memory
 pub mod MetFaults

@@ -24,3 +24,4 @@ pub mod ToldReplaced
 pub mod TreatedEvents
 pub mod UnopenedClean
 pub mod UnplantedReplies
+pub mod WaitingWalk

@@ -10,7 +10,10 @@ pub mod PlantedBreakpoints
 pub mod Replacing
 pub mod RunsOfTrusses
 pub mod SleptCopies
+pub mod SteppedByCalls
 pub mod TidyCloses
 pub mod TidyFaults
 pub mod TidyWrites
+pub mod ToldCalls
 pub mod Treating
+pub mod Waiting

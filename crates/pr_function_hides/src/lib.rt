@@ -1,7 +1,8 @@
 //! Laws of what truss with calls of functions (`-u`) hides from programs: the breakpoints that stand are those that it
 //! has marked, its writes are tidy, none is left in a process that lives, nor a fault of its own, it alone steps lwps,
 //! it clears faults as it runs a process, its own alone, and posts none of its own, and so programs see nothing of it.
-//! Each public function carries one law in its contract, and does nothing.
+//! Beside these stand laws of its marks: which function it steps, and which turns are calls, its calls and their replies
+//! tell. Each public function carries one law in its contract, and does nothing.
 //!
 //! Most of them are of a run of trusses that are undisturbed (`IsRunOfTrusses`): a legal history from a state that the
 //! machine reaches, with no lwp asleep in a fork, a vfork or an exec, in which controllers write bytes and these make
@@ -19,8 +20,10 @@ mod lists;
 mod planted;
 mod replaced;
 mod slept;
+mod stepped;
 mod steps;
 mod treats;
+mod waits;
 mod writes;
 
 pub use clears::truss_clears_by_running;
@@ -39,6 +42,8 @@ pub use planted::{
 };
 pub use replaced::after_a_replacement_truss_writes_nothing;
 pub use slept::no_lwp_sleeps_in_a_copy;
+pub use stepped::{its_calls_tell_which_turns_are_calls, what_truss_steps_it_has_lifted};
 pub use steps::truss_alone_steps;
 pub use treats::what_truss_does_at_an_event_comes_before_its_run;
+pub use waits::what_waits_to_be_planted_again_waits;
 pub use writes::truss_writes_tidily;

@@ -8,5 +8,6 @@ pub mod NextCalls
 pub mod OpenedProcesses
 pub mod OrdinaryTruss
 pub mod Pending
+pub mod PlantedCalls
 pub mod ShownOnce
 pub mod Stepping

@@ -4,5 +4,5 @@ pub mod LineMoments
 pub mod LineReads
 pub mod LineTexts
 pub mod MemoryFile
-pub mod PatchMoments
-pub mod PatchWrites
+pub mod QuietMoments
+pub mod TextsAtOnce

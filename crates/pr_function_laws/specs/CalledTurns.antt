@@ -56,8 +56,9 @@ module _ (k : ℕ) (o : Options) (first : TracedState) (h before : List Entry) (
 
 -- ---- all of them
 
--- Between the reads the lwp had one turn alone, and the second read tells of that lwp. A call that it tells is the one
--- at whose breakpoint the lwp stood, and that turn; and it tells that call where the turn ended with a trace trap.
+-- Between the reads the lwp had one turn alone, and the second read tells of that lwp, at a signal or a fault. A call
+-- that it tells is the one at whose breakpoint the lwp stood, and that turn; and it tells that call where the turn
+-- ended with a trace trap.
 pub record CallsAreTurns (k : ℕ) (o : Options) (first : TracedState) (h : List Entry) : Type 0 where
   pub once : (before between later : List Entry) (e again : Entry) (place id : ℕ)
       → (r : ReadsTwice k o first h before e between again later place id)

@@ -21,6 +21,7 @@ pub mod Opened
 pub mod Ordinary
 pub mod OrdinaryRuns
 pub mod Planted
+pub mod PlantedByCalls
 pub mod Refusals
 pub mod Returns
 pub mod Runs

@@ -61,6 +61,14 @@ pub record ReadsForItsLinesOf (k : ℕ) (o : Options) (first : TracedState) (h :
       → exchange_of k e ≡ Some (record { call = call.Read handle from len; reply = reply })
       → HasFile k pid Mem handle (state_after first before) → AwaitsText k o pid from len first before
 
+-- And then truss has made no call since it read that event; so it has planted and lifted no breakpoint.
+pub record ReadsAtOnceOf (k : ℕ) (o : Options) (first : TracedState) (h : List Entry) : Type 0 where
+  pub each : (before later : List Entry) (e : Entry) (pid handle from len : ℕ) (reply : Reply)
+      → h ≡ before ++ e ∷ later
+      → exchange_of k e ≡ Some (record { call = call.Read handle from len; reply = reply })
+      → HasFile k pid Mem handle (state_after first before) → (w : AwaitsText k o pid from len first before)
+      → exchanges k w.read.since ≡ []
+
 -- ---- what stands in its lines
 
 -- Truss read a range of the memory of a process in a history, when it had made just these reports beside those of

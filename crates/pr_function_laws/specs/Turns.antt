@@ -1,7 +1,8 @@
 -- The turns of the machine that are calls of functions, and the reads between which they come.
-use Rattle.std.specs.Prelude.{◌≡◌, ◌≢◌, ◌++◌, ℕ, All, List, [], ◌∷◌, Option, Some, option_and_then, slice_index}
+use Rattle.std.specs.Prelude.{◌≡◌, ◌≢◌, ◌++◌, ℕ, Bool, true, false, All, List, [], ◌∷◌, Option, Some, option_and_then, slice_index}
 use Rattle.pr_line.specs.Events.{event_of}
 use Rattle.pr_line.specs.declared.events.Event.{Event}
+use Rattle.pr_line.specs.declared.events.Event.TheVariants.{Incurred, Received}
 use Rattle.pr_model.specs.InstructionEffects.{Store, instruction_effect, runs}
 use Rattle.pr_model.specs.Legal.{after, state_after}
 use Rattle.pr_model.specs.Registers.{pc_of}
@@ -128,13 +129,20 @@ pub record TellsItsTurn (n k : ℕ) (t : TrussState) (place status pid id : ℕ)
   pub turn : CompletesOnce pid id (after s e) between (address_of_stop n k t place status pid id s e between again w)
       (arguments_of w.stop.meets.l)
 
--- A reply tells that the lwp of this id stands on an event.
+-- an event by which the step over an instruction ends that is no system call: a signal or a fault
+abbrev pub ends_step : Event → Bool
+ends_step (Received signal disposition info) = true
+ends_step (Incurred fault pc) = true
+ends_step _ = false
+
+-- A reply tells that the lwp of this id stands at a signal or a fault.
 pub record TellsOfLwp (r : Reply) (id : ℕ) : Type 0 where
   pub l : LwpStatus
   pub told : option_and_then status_lwp (bytes_in r) ≡ Some l
   pub its : l.id ≡ id
   pub event : Event
   pub stands : event_of l ≡ Some event
+  pub ends : ends_step event ≡ true
 
 -- Among these entries is a turn of this lwp that ends with a trace trap.
 pub record HasTrap (pid id : ℕ) (h : List Entry) : Type 0 where

@@ -30,13 +30,15 @@ mod turns;
 
 pub use called::in_each_history_calls_are_turns;
 pub use events::{at_most_one_event_is_unread, each_event_is_told_by_the_next_read};
-pub use handled::beside_its_breakpoints_it_handles_what_it_was_given;
+pub use handled::{
+    beside_its_breakpoints_it_handles_what_it_was_given, each_given_process_is_held_or_refused,
+};
 pub use holds::{
     from_the_wait_of_an_opening_no_event_comes,
     it_gets_hold_of_a_process_once_and_closes_nothing_meanwhile,
     it_watches_a_process_while_it_has_hold_of_it,
 };
-pub use kinds::what_each_event_is_to_breakpoints;
+pub use kinds::{truss_looks_at_each_new_event, what_each_event_is_to_breakpoints};
 pub use leaving::an_interrupted_truss_lifts_clears_and_closes;
 pub use lifted::a_breakpoint_is_lifted_for_one_lwp_alone;
 pub use lines::{each_reply_tells_at_most_one_call, the_calls_reported_are_those_told};
@@ -57,7 +59,7 @@ pub use ordinary::{
     beside_its_breakpoints_it_is_a_truss, it_calls_closes_and_leaves_its_files_as_truss_does,
     it_shows_what_is_new, it_shows_what_it_reads_right_then,
 };
-pub use planted::what_truss_plants_it_has_read;
+pub use planted::{it_has_marked_what_its_calls_planted, what_truss_plants_it_has_read};
 pub use refusals::{
     it_tells_no_refusal_of_what_it_has_hold_of, it_tells_refusals_before_its_first_poll_alone,
 };
@@ -72,8 +74,9 @@ pub use stretches::{
     a_process_that_is_stopped_on_an_event_is_frozen, no_other_lwp_begins_an_instruction,
 };
 pub use texts::{
-    it_reads_memory_for_its_lines_alone, the_memory_of_a_line_is_that_of_its_event,
-    the_memory_of_a_line_is_that_of_its_moment, what_stands_in_its_lines_is_what_it_read,
+    it_reads_memory_for_its_lines_alone, it_reads_memory_right_behind_its_event,
+    the_memory_of_a_line_is_that_of_its_event, the_memory_of_a_line_is_that_of_its_moment,
+    what_stands_in_its_lines_is_what_it_read,
 };
 pub use told::{in_each_history_each_step_is_told, in_each_history_only_turns_are_told};
 pub use treated::what_an_event_asks_for_comes_before_the_run;

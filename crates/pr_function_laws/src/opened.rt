@@ -28,9 +28,9 @@ pub fn each_breakpoint_is_lifted_for_one_lwp_alone()
         → HasBytes h → LiftsForOneAlone k o s h }
 {}
 
-/// In each such history: where truss is interrupted in its poll, before it reads the status of that process again, no
-/// other lwp of the process begins an instruction behind the interrupt either, until truss closes the control file of
-/// the process.
+/// In each such history: where truss is interrupted before it reads the status of that process again, it is in a poll,
+/// and no other lwp of the process begins an instruction behind the interrupt either, until truss closes the control
+/// file of the process.
 #[tactic(auto, using(crate::proofs::LeavingProcesses::LeavingAlone::left_alone))]
 pub fn an_interrupt_leaves_one_lwp_alone()
     ensures { (n k : ℕ) (o : Options) (s : TracedState) (h : List Entry) → IsFunctionRun n k o s h → IsReached s

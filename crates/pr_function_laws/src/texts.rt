@@ -6,7 +6,7 @@ ghost use Rattle.pr_reached.specs.ByteHistories.{HasBytes};
 ghost use Rattle.pr_reached.specs.Reached.{IsReached};
 ghost use Rattle.pr_function_laws.specs.LineEvents.{AreOfTheirEventsIn};
 ghost use Rattle.pr_function_laws.specs.LineMoments.{MemoriesStand};
-ghost use Rattle.pr_function_laws.specs.LineTexts.{HaveTheirTextsIn, ReadsForItsLinesOf};
+ghost use Rattle.pr_function_laws.specs.LineTexts.{HaveTheirTextsIn, ReadsAtOnceOf, ReadsForItsLinesOf};
 ghost use Rattle.pr_function_laws.specs.Opened.{IsFunctionRun, functions_at};
 ghost use Rattle.pr_function_laws.specs.Ordinary.{ordinary_among};
 ghost use Rattle.pr_function_laws.specs.ToldTurns.{AreSteppable};
@@ -31,24 +31,33 @@ pub fn it_reads_memory_for_its_lines_alone()
 {}
 
 /// In each legal history of truss with functions, from a state that the machine reaches, in which controllers write
+/// bytes, also where it is interrupted and leaves its processes: where truss reads the memory file of a process, it has
+/// made no call since it read the event for whose line it reads; so it has planted and lifted no breakpoint there. This
+/// is said where its functions begin with an instruction that it can step.
+#[tactic(auto, using(crate::proofs::LineMemory::TextsAtOnce::at_once))]
+pub fn it_reads_memory_right_behind_its_event()
+    ensures { (n k : ℕ) (o : Options) (s : TracedState) (h : List Entry) → IsFunctionRun n k o s h → IsReached s
+        → HasBytes h → AreSteppable o → ReadsAtOnceOf k o s h }
+{}
+
+/// In each legal history of truss with functions, from a state that the machine reaches, in which controllers write
 /// bytes: where an event comes whose line asks for memory, the process has in the state in which truss reads that event
 /// the memory that it had right after the event, if it lives; and so it has in the state in which truss reads the
-/// memory, if it called nothing between. If it planted and lifted breakpoints between, so it is of each byte but those
-/// of the first instructions of their functions. This is said where its functions begin with an instruction that it can
-/// step, of events that come while truss has opened the process whole and no stop of it is left from before truss came,
-/// and that the options select; and of what comes until truss is interrupted.
+/// memory behind that, having called nothing between. This is said of events that come while truss has opened the
+/// process whole and no stop of it is left from before truss came, and that the options select; and of what comes until
+/// truss is interrupted.
 #[tactic(auto, using(crate::proofs::LineMemory::LineMoments::moments))]
 pub fn the_memory_of_a_line_is_that_of_its_moment()
     ensures { (n k : ℕ) (o : Options) (s : TracedState) (h : List Entry) → IsFunctionRun n k o s h → IsReached s
-        → HasBytes h → AreSteppable o → MemoriesStand k o s h }
+        → HasBytes h → MemoriesStand k o s h }
 {}
 
 /// In each legal history of truss with functions, from a state that the machine reaches, in which controllers write
 /// bytes, also where it is interrupted and leaves its processes: the memory that stands in the line of an event is that
-/// of the process in the state right after the event, which came while truss watched the process. So it is of each byte
-/// but those of the first instructions of functions whose breakpoints truss planted or lifted between its read of the
-/// event and that of the memory, which it did in the process alone; or SIGKILL ended the process between the event and
-/// the read of the memory. This is said where the functions begin with an instruction that truss can step.
+/// of the process in the state right after the event, which came while truss watched the process; or SIGKILL ended the
+/// process between the event and the read of the memory, and then the line shows none. Truss calls nothing between the
+/// read of the event and that of the memory. This is said where the functions begin with an instruction that truss can
+/// step.
 #[tactic(auto, using(crate::proofs::LineMemory::LineEvents::of_their_events))]
 pub fn the_memory_of_a_line_is_that_of_its_event()
     ensures { (n k : ℕ) (o : Options) (s : TracedState) (h : List Entry) (pid : ℕ) → IsFunctionRun n k o s h

@@ -10,7 +10,7 @@ use Rattle.pr_model.specs.State.{TracedProcess, TracedState, TracedSystem, live_
 use Rattle.pr_model.specs.declared.calls.Call.{Call}
 use Rattle.pr_model.specs.declared.events.Did.{Did}
 use Rattle.pr_model.specs.declared.events.Did.TheVariants.{Ran, Entered, Faulted}
-use Rattle.pr_lawful.proofs.EndLemmas.{found-live}
+use Rattle.pr_lawful.proofs.LawfulTurns.EndLemmas.{found-live}
 use Rattle.pr_pids.specs.Members.{has_pid}
 use Rattle.pr_ready.proofs.AroundLemmas.{call-ready, turn-ready}
 use Rattle.pr_ready.specs.Around.{is_around}

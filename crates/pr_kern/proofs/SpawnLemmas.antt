@@ -8,7 +8,7 @@ use Rattle.pr_num.specs.Programs.{Program}
 use Rattle.pr_num.specs.declared.errnos.Errno.{Errno}
 use Rattle.pr_num.specs.declared.errnos.Errno.TheVariants.{Noent, Nomem}
 use Rattle.pr_kern.specs.Memory.{may_lack_for_process}
-use Rattle.pr_lawful.proofs.SystemLemmas.{next-free}
+use Rattle.pr_lawful.proofs.ProcessParts.SystemLemmas.{next-free}
 use Rattle.pr_model.specs.Calls.{Answer, spawn_answer, spawn_found, spawn_unless}
 use Rattle.pr_model.specs.Lives.{with_spawned}
 use Rattle.pr_model.specs.Machines.{traced}

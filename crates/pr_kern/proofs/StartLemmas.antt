@@ -14,7 +14,7 @@ use Rattle.pr_model.specs.State.{TracedState, TracedSystem}
 use Rattle.pr_proc.specs.Counts.{HasUsedAtMost}
 use Rattle.pr_proc.proofs.UsageLemmas.{unused}
 use Rattle.pr_kern.proofs.SoundLemmas.{sound-with_made}
-use Rattle.pr_lawful.proofs.StartLemmas.{first-lawful}
+use Rattle.pr_lawful.proofs.LawfulStates.StartLemmas.{first-lawful}
 use Rattle.pr_kern.specs.Soundness.{IsSound}
 use Rattle.pr_kern.specs.Starts.{stored}
 

@@ -1,11 +1,12 @@
 ghost use Rattle.std.specs.Prelude.{◌≡◌, ◌≤◌, ◌<◌, ◌+◌, [], false, true, length, slice_get, sum_by, All, Some, IsOk, OnOk, IfOk, OnErr, is_some};
-ghost use Rattle.std.specs.Option.{option_copied};
+ghost use Rattle.std.specs.Option.{ForSome, option_copied};
 ghost use Rattle.pr_model.specs.Calls.{answer_to};
 ghost use Rattle.pr_model.specs.FirstState.{first_state, size_at_start};
 ghost use Rattle.pr_model.specs.Lawful.{IsLawful};
 ghost use Rattle.pr_kern.specs.Faults.{fault_pc};
 ghost use Rattle.pr_kern.specs.Kernels.{after_call, after_tick, after_turn, last_reply_of, some_sleeper, takes_no_memory};
 ghost use Rattle.pr_model.specs.LwpTurns.{can_move};
+ghost use Rattle.pr_kern.specs.Memory.{may_lack_memory};
 ghost use Rattle.pr_kern.specs.Orders.{next_of};
 ghost use Rattle.pr_kern.specs.Starts.{stored};
 ghost use Rattle.pr_num.specs.Limits.{all_mappings_limit, process_limit, program_limit, clock_limit, file_limit, file_size_limit, controller_limit};
@@ -95,8 +96,8 @@ impl Kern {
     }
 
     /// Makes a call of a controller: the machine answers it, and its entry is added. Reads, lists, the making of
-    /// processes, PCREAD, PCWRITE and PCAGENT alone take memory; where it runs out, the kernel is as it was. The state
-    /// that it finds is lawful.
+    /// processes, PCREAD, PCWRITE and PCAGENT alone take memory, and a spawn that is refused takes none, but where too
+    /// much would be mapped; where memory runs out, the kernel is as it was. The state that it finds is lawful.
     #[tactic(auto, unfolding(crate::specs::Kernels::after_call))]
     pub fn call(&mut self, by: u32, call: Call) -> Result<(), NoMemory>
         requires by { by < controller_limit }
@@ -105,6 +106,7 @@ impl Kern {
         ensures ok { OnOk result (after_call by call self.old ≡ Some self.new) }
         ensures err { OnErr result (self.new ≡ self.old) }
         ensures sure { takes_no_memory call ≡ true → IsOk result }
+        ensures memory { OnErr result (ForSome (answer_to self.old.state by call) (λ a. may_lack_memory call a.reply ≡ true)) }
         ensures lawful { IsLawful self.old.state }
     {
         let around = around_call(&self.state, by, &call);

@@ -11,7 +11,7 @@ ghost use Rattle.pr_model.specs.State.{TracedLwp, TracedProcess, TracedState, Tr
 /// What follows of a lawful system: the descriptors of a process stand for open files; an open file has room for all
 /// descriptors of one process more, and so for one more; the next id of a process and that of an lwp are free; and no
 /// more processes stand than were made.
-#[tactic(auto, using(crate::proofs::UseLemmas::uses))]
+#[tactic(auto, using(crate::proofs::Following::UseLemmas::uses))]
 pub fn lawful_systems_have_room()
     ensures descriptors { (s : TracedSystem) (pid : ℕ) (p : TracedProcess) → IsLawfulSystem s → process_of s pid ≡ Some p → AreOpenIn p.fds s.files }
     ensures files { (s : TracedSystem) → IsLawfulSystem s → HasRoom s.files descriptor_limit }
@@ -22,7 +22,7 @@ pub fn lawful_systems_have_room()
 {}
 
 /// No controller has a process open for writing that was just made: its first handle for writing is not refused.
-#[tactic(auto, using(crate::proofs::UseLemmas::uses))]
+#[tactic(auto, using(crate::proofs::Following::UseLemmas::uses))]
 pub fn new_processes_are_unopened()
     ensures { (s : TracedState) → IsLawful s → has_writer s.system.made s.opens ≡ false }
 {}

@@ -26,7 +26,7 @@ use Rattle.pr_model.specs.Messages.{with_agent}
 use Rattle.pr_model.specs.State.{TracedProcess, TracedState, TracedSystem, process_of, with_process}
 use Rattle.pr_model.specs.declared.calls.Call.{Call}
 use Rattle.pr_model.proofs.StateLemmas.{live_process-found}
-use Rattle.pr_lawful.proofs.SystemLemmas.{next-free}
+use Rattle.pr_lawful.proofs.ProcessParts.SystemLemmas.{next-free}
 use Rattle.pr_lending.proofs.ChangeLemmas.{lwp-same, unlent}
 use Rattle.pr_lending.proofs.LifeLemmas.{found-stands, lending-ended, lending-generated}
 use Rattle.pr_lending.proofs.LoanLemmas.{alike-loans, KeepsLoans, SameLoans, lending-kept, made-kept, next-loans, process-kept, processes-same, same-loans}

@@ -36,8 +36,8 @@ use Rattle.pr_model.specs.SignalCalls.{Sending, can_be_caught, refuses, send_eff
 use Rattle.pr_model.specs.Signals.{is_kill}
 use Rattle.pr_model.specs.State.{TracedLwp, TracedProcess, TracedSystem}
 use Rattle.pr_model.specs.declared.frames.Frame.{Frame}
-use Rattle.pr_lawful.proofs.EffectLemmas.{IsActing, Suits as Suitable, call-suits}
-use Rattle.pr_lawful.proofs.SuitingLemmas.{SuitsReaped}
+use Rattle.pr_lawful.proofs.LawfulTurns.EffectLemmas.{IsActing, Suits as Suitable, call-suits}
+use Rattle.pr_lawful.proofs.LawfulTurns.SuitingLemmas.{SuitsReaped}
 use Rattle.pr_lending.proofs.BirthLemmas.{IsNextFree}
 use Rattle.pr_lending.proofs.ChangeLemmas.{SuitChanges}
 use Rattle.pr_lending.proofs.LoanLemmas.{IsZombie}

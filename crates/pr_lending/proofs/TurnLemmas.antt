@@ -30,9 +30,9 @@ use Rattle.pr_model.specs.Transitions.{Transition, after_transition, moving, cha
 use Rattle.pr_model.specs.declared.events.Res.TheVariants.{Error}
 use Rattle.pr_model.specs.declared.lwps.Current.{Current}
 use Rattle.pr_model.proofs.TurnLemmas.{turn-taken}
-use Rattle.pr_lawful.proofs.EffectLemmas.{IsActing}
-use Rattle.pr_lawful.proofs.SystemLemmas.{next-free}
-use Rattle.pr_lawful.proofs.TurnLemmas.{acting}
+use Rattle.pr_lawful.proofs.LawfulTurns.EffectLemmas.{IsActing}
+use Rattle.pr_lawful.proofs.ProcessParts.SystemLemmas.{next-free}
+use Rattle.pr_lawful.proofs.LawfulTurns.TurnLemmas.{acting}
 use Rattle.pr_lending.proofs.BirthLemmas.{IsNextFree}
 use Rattle.pr_lending.proofs.ChangeLemmas.{SuitChanges, SuitsTransition, moved-kept, settled-lends, transition-lends}
 use Rattle.pr_lending.proofs.EffectLemmas.{Suits, call-suits-loans}

@@ -1,7 +1,7 @@
 use Rattle.std.specs.Prelude.{◌≡◌, ◌≢◌, ◌⊎◌, ℕ, Bool, true, false, List, [], ◌∷◌, ◌++◌, All, IsTrue, Some, Ok, slice_get}
 use Rattle.pr_api.specs.Entries.{call_entry}
 use Rattle.pr_hidden.specs.Hiders.{Hiders}
-use Rattle.pr_model.specs.Legal.{state_after}
+use Rattle.pr_model.specs.Legal.{IsLegal, state_after}
 use Rattle.pr_model.specs.Passive.{is_passive_call}
 use Rattle.pr_model.specs.State.{TracedProcess, TracedState, live_process}
 use Rattle.pr_model.specs.declared.calls.Call.{Call}
@@ -28,6 +28,8 @@ use Rattle.pr_probe.specs.declared.probe_stages.ProbeStage.{ProbeStage}
 use Rattle.pr_probe.specs.declared.probe_stages.ProbeStage.TheVariants.{Open, PlantCode, Asking, UntraceExits, SetExit, RunExit, AwaitExit, WriteCode, WriteStack}
 use Rattle.pr_probe_laws.specs.SetsBack.{IsSoleIn, opening_entry}
 use Rattle.pr_probe_laws.specs.ShownDescriptors.{HasRoom, WasUnlent}
+use Rattle.pr_reached.specs.ByteHistories.{HasBytes}
+use Rattle.pr_tool_laws.specs.OwnCalls.{AreOwnCalls}
 use Rattle.pr_world.specs.ControllerStates.{ControllerState, Probe}
 use Rattle.pr_world.specs.Protocol.{controllers_at}
 use Rattle.pr_tool_laws.specs.Leaving.{SendsTo}
@@ -139,3 +141,12 @@ pub record AreLeftAlone (who : Hiders) (controllers : List ControllerState) (fir
   pub passive : All (IsPassiveOf who) h
   pub alone : (k pid : ℕ) → who.probes k ≡ true → slice_get controllers k ≡ Some (Probe (first_probe pid))
       → IsLeftAlone k pid controllers first h
+
+-- A legal history in which these controllers make their own calls and what controllers write is bytes; those who hide
+-- are apfiles that are left alone, and every call of another one is passive.
+pub record IsRunOfProbes (n : ℕ) (who : Hiders) (controllers : List ControllerState) (first : TracedState)
+    (h : List Entry) : Type 0 where
+  pub legal : IsLegal n first h
+  pub own_calls : AreOwnCalls controllers h
+  pub bytes : HasBytes h
+  pub left_alone : AreLeftAlone who controllers first h

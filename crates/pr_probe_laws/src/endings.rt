@@ -2,7 +2,6 @@ ghost use Rattle.std.specs.Prelude.{◌≡◌, ℕ, List, None, Some, slice_get,
 ghost use Rattle.pr_lawful.specs.Starts.{IsStart};
 ghost use Rattle.pr_model.specs.FirstState.{first_state};
 ghost use Rattle.pr_model.specs.Lawful.{IsLawful};
-ghost use Rattle.pr_model.specs.Legal.{IsLegal};
 ghost use Rattle.pr_model.specs.State.{TracedState};
 ghost use Rattle.pr_model.specs.declared.events.Entry.{Entry};
 ghost use Rattle.pr_num.specs.Programs.{Program};
@@ -13,10 +12,10 @@ ghost use Rattle.pr_probe.specs.Probes.{ProbeState, first_probe, has_ended};
 ghost use Rattle.pr_probe_laws.specs.Reasons.{TellsWhy};
 ghost use Rattle.pr_probe_laws.specs.RunAgain.{LeavesItsProcess, TakesBack};
 ghost use Rattle.pr_reached.specs.ByteHistories.{HasBytes};
-ghost use Rattle.pr_reached.specs.InRange.{IsInRange, IsStartInRange};
+ghost use Rattle.pr_reached.specs.InRange.{IsStartInRange};
 ghost use Rattle.pr_world.specs.ControllerStates as cores;
 ghost use Rattle.pr_world.specs.ControllerStates.{ControllerState};
-ghost use Rattle.pr_tool_laws.specs.OwnCalls.{AreOwnCalls};
+ghost use Rattle.pr_tool_laws.specs.Runs.{IsRunOf, StaysInRange};
 ghost use Rattle.pr_world.specs.Protocol.{controllers_at};
 
 /// In a legal history where these controllers make their own calls, from a lawful state in range or from a first
@@ -26,16 +25,13 @@ ghost use Rattle.pr_world.specs.Protocol.{controllers_at};
 pub fn apfiles_runs_its_process_again()
     ensures later { (controllers : List ControllerState) (n k pid : ℕ) (s : TracedState) (h : List Entry)
         (p : ProbeState)
-        → IsLawful s → IsInRange s.system → HasBytes h
-        → slice_get controllers k ≡ Some (cores.Probe (first_probe pid)) → IsLegal n s h
-        → AreOwnCalls controllers h
+        → StaysInRange s h → IsRunOf n k (cores.Probe (first_probe pid)) controllers s h
         → slice_get (controllers_at controllers h) k ≡ Some (cores.Probe p) → has_ended p ≡ true → p.refusal ≡ None
         → LeavesItsProcess k pid s h }
     ensures first { (programs : List Program) (files : List StoredFile) (spawns : List ℕ)
-        → (controllers : List ControllerState) (n k pid : ℕ) (h : List Entry) (p : ProbeState)
+        (controllers : List ControllerState) (n k pid : ℕ) (h : List Entry) (p : ProbeState)
         → IsStart programs files spawns → IsStartInRange programs files → HasBytes h
-        → slice_get controllers k ≡ Some (cores.Probe (first_probe pid))
-        → IsLegal n (first_state programs files spawns) h → AreOwnCalls controllers h
+        → IsRunOf n k (cores.Probe (first_probe pid)) controllers (first_state programs files spawns) h
         → slice_get (controllers_at controllers h) k ≡ Some (cores.Probe p) → has_ended p ≡ true → p.refusal ≡ None
         → LeavesItsProcess k pid (first_state programs files spawns) h }
 {}
@@ -45,16 +41,13 @@ pub fn apfiles_runs_its_process_again()
 pub fn apfiles_takes_back_its_request()
     ensures later { (controllers : List ControllerState) (n k pid : ℕ) (s : TracedState) (h : List Entry)
         (p : ProbeState)
-        → IsLawful s → IsInRange s.system → HasBytes h
-        → slice_get controllers k ≡ Some (cores.Probe (first_probe pid)) → IsLegal n s h
-        → AreOwnCalls controllers h
+        → StaysInRange s h → IsRunOf n k (cores.Probe (first_probe pid)) controllers s h
         → slice_get (controllers_at controllers h) k ≡ Some (cores.Probe p) → has_ended p ≡ true
         → TakesBack k pid s h }
     ensures first { (programs : List Program) (files : List StoredFile) (spawns : List ℕ)
-        → (controllers : List ControllerState) (n k pid : ℕ) (h : List Entry) (p : ProbeState)
+        (controllers : List ControllerState) (n k pid : ℕ) (h : List Entry) (p : ProbeState)
         → IsStart programs files spawns → IsStartInRange programs files → HasBytes h
-        → slice_get controllers k ≡ Some (cores.Probe (first_probe pid))
-        → IsLegal n (first_state programs files spawns) h → AreOwnCalls controllers h
+        → IsRunOf n k (cores.Probe (first_probe pid)) controllers (first_state programs files spawns) h
         → slice_get (controllers_at controllers h) k ≡ Some (cores.Probe p) → has_ended p ≡ true
         → TakesBack k pid (first_state programs files spawns) h }
 {}
@@ -66,8 +59,7 @@ pub fn apfiles_takes_back_its_request()
 pub fn apfiles_tells_why_it_was_refused()
     ensures { (controllers : List ControllerState) (n k pid : ℕ) (s : TracedState) (h : List Entry) (p : ProbeState)
         (e : Errno)
-        → IsLawful s → slice_get controllers k ≡ Some (cores.Probe (first_probe pid)) → IsLegal n s h
-        → AreOwnCalls controllers h
+        → IsLawful s → IsRunOf n k (cores.Probe (first_probe pid)) controllers s h
         → slice_get (controllers_at controllers h) k ≡ Some (cores.Probe p) → has_ended p ≡ true
         → p.refusal ≡ Some e → TellsWhy k pid e s h (printed p) }
 {}

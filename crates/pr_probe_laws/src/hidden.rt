@@ -6,7 +6,7 @@ ghost use Rattle.pr_hidden.specs.Hiders.{Hiders};
 ghost use Rattle.pr_hidden.specs.Tidiness.{IsSparing, IsTidy};
 ghost use Rattle.pr_lawful.specs.Starts.{IsStart};
 ghost use Rattle.pr_model.specs.FirstState.{first_state};
-ghost use Rattle.pr_model.specs.Legal.{IsLegal, state_after};
+ghost use Rattle.pr_model.specs.Legal.{state_after};
 ghost use Rattle.pr_model.specs.State.{TracedProcess, TracedState, has_agent, live_process};
 ghost use Rattle.pr_model.specs.declared.calls.Call.{Call};
 ghost use Rattle.pr_model.specs.declared.calls.Reply.{Reply};
@@ -19,15 +19,13 @@ ghost use Rattle.pr_num.specs.declared.files.StoredFile.{StoredFile};
 ghost use Rattle.pr_num.specs.declared.messages.Message.TheVariants as message;
 ghost use Rattle.pr_probe.specs.AgentCode.{stack_size};
 ghost use Rattle.pr_probe.specs.Probes.{ProbeState, first_probe};
-ghost use Rattle.pr_probe_laws.specs.HiddenProbes.{AreLeftAlone, IsHidingAfter};
+ghost use Rattle.pr_probe_laws.specs.HiddenProbes.{IsHidingAfter, IsRunOfProbes};
 ghost use Rattle.pr_tool_laws.specs.Leaving.{SendsTo};
 ghost use Rattle.pr_probe_laws.specs.Reasons.{IsInterruptedPoll};
 ghost use Rattle.pr_probe_laws.specs.StepMarks.{IsUnstepped};
-ghost use Rattle.pr_reached.specs.ByteHistories.{HasBytes};
 ghost use Rattle.pr_reached.specs.InRange.{IsStartInRange};
 ghost use Rattle.pr_reached.specs.Reached.{IsReached};
 ghost use Rattle.pr_world.specs.ControllerStates.{ControllerState, Probe};
-ghost use Rattle.pr_tool_laws.specs.OwnCalls.{AreOwnCalls};
 
 /// In a legal history where these controllers make their own calls, from a state that is reached or from a first one,
 /// and in which controllers write bytes, each apfiles is tidy, and programs leave alone what it wrote over. So programs
@@ -36,21 +34,15 @@ ghost use Rattle.pr_tool_laws.specs.OwnCalls.{AreOwnCalls};
 /// something. Of a later state than a first one it is asked that no lwp has a step mark.
 pub fn apfiles_is_hidden()
     ensures tidy { (n : ℕ) (who : Hiders) (controllers : List ControllerState) (s : TracedState) (h : List Entry)
-        → IsReached s → IsUnstepped s.system → HasBytes h → IsLegal n s h → AreOwnCalls controllers h
-        → AreLeftAlone who controllers s h
-        → IsTidy who s h }
+        → IsReached s → IsUnstepped s.system → IsRunOfProbes n who controllers s h → IsTidy who s h }
     ensures spares { (n : ℕ) (who : Hiders) (controllers : List ControllerState) (s : TracedState) (h : List Entry)
-        → IsReached s → IsUnstepped s.system → HasBytes h → IsLegal n s h → AreOwnCalls controllers h
-        → AreLeftAlone who controllers s h
-        → IsSparing who s h }
+        → IsReached s → IsUnstepped s.system → IsRunOfProbes n who controllers s h → IsSparing who s h }
     ensures later { (n : ℕ) (who : Hiders) (controllers : List ControllerState) (s : TracedState) (h : List Entry)
-        → IsReached s → IsUntouched s.system → HasBytes h → IsLegal n s h → AreOwnCalls controllers h
-        → AreLeftAlone who controllers s h → IsHidden who s h }
+        → IsReached s → IsUntouched s.system → IsRunOfProbes n who controllers s h → IsHidden who s h }
     ensures first { (programs : List Program) (files : List StoredFile) (spawns : List ℕ) (n : ℕ) (who : Hiders)
         (controllers : List ControllerState) (h : List Entry)
-        → IsStart programs files spawns → IsStartInRange programs files → HasBytes h
-        → IsLegal n (first_state programs files spawns) h → AreOwnCalls controllers h
-        → AreLeftAlone who controllers (first_state programs files spawns) h
+        → IsStart programs files spawns → IsStartInRange programs files
+        → IsRunOfProbes n who controllers (first_state programs files spawns) h
         → IsHidden who (first_state programs files spawns) h }
 {}
 
@@ -58,8 +50,7 @@ pub fn apfiles_is_hidden()
 /// is written back; but a wait for its agent may be interrupted, and is made again.
 pub fn apfiles_is_refused_nothing_while_it_hides_something()
     ensures { (n : ℕ) (who : Hiders) (controllers : List ControllerState) (s : TracedState) (h : List Entry)
-        → IsReached s → HasBytes h → IsLegal n s h → AreOwnCalls controllers h → AreLeftAlone who controllers s h
-        → IsUnstepped s.system → (k pid : ℕ) → who.probes k ≡ true
+        → IsReached s → IsUnstepped s.system → IsRunOfProbes n who controllers s h → (k pid : ℕ) → who.probes k ≡ true
         → slice_get controllers k ≡ Some (Probe (first_probe pid)) → (front back : List Entry) (c : Call) (e : Errno)
         → (p : ProbeState) → h ≡ front ++ call_entry k c (reply.Fail e) ∷ back
         → IsHidingAfter k pid controllers s front p → IsInterruptedPoll c e }
@@ -69,8 +60,7 @@ pub fn apfiles_is_refused_nothing_while_it_hides_something()
 /// was answered.
 pub fn apfiles_waits_until_its_agent_has_ended()
     ensures { (n : ℕ) (who : Hiders) (controllers : List ControllerState) (s : TracedState) (h : List Entry)
-        → IsReached s → HasBytes h → IsLegal n s h → AreOwnCalls controllers h → AreLeftAlone who controllers s h
-        → IsUnstepped s.system → (k pid : ℕ) → who.probes k ≡ true
+        → IsReached s → IsUnstepped s.system → IsRunOfProbes n who controllers s h → (k pid : ℕ) → who.probes k ≡ true
         → slice_get controllers k ≡ Some (Probe (first_probe pid)) → (front back : List Entry) (c : Call) (r : Reply)
         → (tail : List ℕ) → h ≡ front ++ call_entry k c r ∷ back
         → SendsTo k pid (message.Write stack_base stack_size) tail (state_after s front) c → (q : TracedProcess)

@@ -1,7 +1,6 @@
 ghost use Rattle.std.specs.Prelude.{◌≡◌, ℕ, List, None, Some, slice_get, true};
 ghost use Rattle.pr_lawful.specs.Starts.{IsStart};
 ghost use Rattle.pr_model.specs.FirstState.{first_state};
-ghost use Rattle.pr_model.specs.Legal.{IsLegal};
 ghost use Rattle.pr_model.specs.State.{TracedState};
 ghost use Rattle.pr_model.specs.declared.events.Entry.{Entry};
 ghost use Rattle.pr_num.specs.Programs.{Program};
@@ -15,7 +14,7 @@ ghost use Rattle.pr_reached.specs.Reached.{IsReached};
 ghost use Rattle.pr_world.specs.ControllerStates as cores;
 ghost use Rattle.pr_world.specs.ControllerStates.{ControllerState};
 ghost use Rattle.pr_world.specs.Protocol.{controllers_at};
-ghost use Rattle.pr_tool_laws.specs.OwnCalls.{AreOwnCalls};
+ghost use Rattle.pr_tool_laws.specs.Runs.{IsRunOf};
 
 /// In a legal history where these controllers make their own calls, from a state that is reached or from a first state,
 /// and in which controllers write bytes, an apfiles that has finished, and was not refused, prints the text of the
@@ -25,16 +24,13 @@ ghost use Rattle.pr_tool_laws.specs.OwnCalls.{AreOwnCalls};
 pub fn apfiles_shows_one_state()
     ensures later { (controllers : List ControllerState) (n k : ℕ) (pid : ℕ) (s : TracedState) (h : List Entry)
         (p : ProbeState)
-        → IsReached s → HasBytes h
-        → slice_get controllers k ≡ Some (cores.Probe (first_probe pid))
-        → IsLegal n s h → AreOwnCalls controllers h
+        → IsReached s → HasBytes h → IsRunOf n k (cores.Probe (first_probe pid)) controllers s h
         → slice_get (controllers_at controllers h) k ≡ Some (cores.Probe p) → has_ended p ≡ true → p.refusal ≡ None
         → ShowsOneState k pid s h (printed p) }
     ensures first { (programs : List Program) (files : List StoredFile) (spawns : List ℕ)
-        → (controllers : List ControllerState) (n k : ℕ) (pid : ℕ) (h : List Entry) (p : ProbeState)
+        (controllers : List ControllerState) (n k : ℕ) (pid : ℕ) (h : List Entry) (p : ProbeState)
         → IsStart programs files spawns → IsStartInRange programs files → HasBytes h
-        → slice_get controllers k ≡ Some (cores.Probe (first_probe pid))
-        → IsLegal n (first_state programs files spawns) h → AreOwnCalls controllers h
+        → IsRunOf n k (cores.Probe (first_probe pid)) controllers (first_state programs files spawns) h
         → slice_get (controllers_at controllers h) k ≡ Some (cores.Probe p) → has_ended p ≡ true → p.refusal ≡ None
         → ShowsOneState k pid (first_state programs files spawns) h (printed p) }
 {}

@@ -10,8 +10,8 @@ use Rattle.pr_model.specs.LwpTurns.{LwpTurn, turn_of}
 use Rattle.pr_model.specs.State.{TracedLwp, TracedProcess, TracedState, TracedSystem, live_process, lwp_of, process_of}
 use Rattle.pr_model.specs.declared.calls.Call.{Call}
 use Rattle.pr_model.specs.declared.calls.Call.TheVariants as calls
-use Rattle.pr_lawful.proofs.CallLemmas.{call-state}
-use Rattle.pr_lawful.proofs.TurnLemmas.{turn-lawful}
+use Rattle.pr_lawful.proofs.LawfulStates.CallLemmas.{call-state}
+use Rattle.pr_lawful.proofs.LawfulTurns.TurnLemmas.{turn-lawful}
 use Rattle.pr_ready.specs.Around.{around_of, is_around, is_in_kin_of, kin, target_kin}
 use Rattle.pr_ready.specs.Following.{around_call, around_lwp, made_by, target_in_process}
 use Rattle.pr_ready.specs.Queues.{AreReady, is_movable}

@@ -12,7 +12,7 @@ use Rattle.pr_model.specs.Lawful.{IsLawfulProcess, IsLawfulSystem, IsNumberedBel
 use Rattle.pr_model.specs.LwpTurns.{can_move}
 use Rattle.pr_model.specs.Order.{is_after, live_lwps, lwps_among, lwps_in, pairs_of}
 use Rattle.pr_model.specs.State.{TracedLwp, TracedProcess, TracedSystem, live_process, lwp_of, process_of}
-use Rattle.pr_lawful.proofs.EndLemmas.{found-live}
+use Rattle.pr_lawful.proofs.LawfulTurns.EndLemmas.{found-live}
 use Rattle.pr_pids.specs.Members.{has_pid}
 use Rattle.pr_ready.specs.Queues.{AreReady, IsLiveLwp, IsQueue, is_lwp, is_member, is_movable, queue_of, rises}
 use Rattle.pr_ready.specs.Ready.{ReadySets, is_asked}

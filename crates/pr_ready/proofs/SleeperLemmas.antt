@@ -12,7 +12,7 @@ use Rattle.pr_model.specs.Lawful.{IsLawfulProcess, IsLawfulSystem}
 use Rattle.pr_model.specs.State.{TracedLwp, TracedProcess, TracedSystem, live_process, process_of}
 use Rattle.pr_model.specs.declared.lwps.Phase.{Phase}
 use Rattle.pr_model.specs.declared.lwps.Phase.TheVariants.{Asleep}
-use Rattle.pr_lawful.proofs.EndLemmas.{found-live}
+use Rattle.pr_lawful.proofs.LawfulTurns.EndLemmas.{found-live}
 use Rattle.pr_pids.specs.Members.{HasNoneFrom, IsNextFrom, has_pid}
 use Rattle.pr_ready.specs.Ready.{CoversDozing, is_dozing, some_dozing}
 use Rattle.pr_ready.specs.Walks.{has_sleeper_of}

@@ -13,7 +13,7 @@ use Rattle.pr_model.specs.LwpTurns.{can_move}
 use Rattle.pr_model.specs.State.{TracedLwp, TracedProcess, TracedSystem, live_process, lwp_of, process_of}
 use Rattle.pr_model.specs.declared.lwps.Phase.{Phase}
 use Rattle.pr_model.specs.declared.lwps.Phase.TheVariants.{Asleep}
-use Rattle.pr_lawful.proofs.EndLemmas.{found-live}
+use Rattle.pr_lawful.proofs.LawfulTurns.EndLemmas.{found-live}
 use Rattle.pr_pids.specs.Members.{has_pid}
 use Rattle.pr_ready.specs.Queues.{AreReady, is_movable}
 use Rattle.pr_ready.specs.Ready.{Covers, CoversEach, IsDue, ReadySets, every, is_asked, is_at_pipe, is_dozing, is_woken, some_answer, some_answer_of}

@@ -23,7 +23,7 @@ use Rattle.pr_model.specs.State.{TracedLwp, TracedProcess, TracedSystem, lwp_of,
 use Rattle.pr_model.specs.Stops.{with_all_directed}
 use Rattle.pr_model.specs.Transitions.{Transition, after_transition, ended_if}
 use Rattle.pr_model.specs.declared.stops.Point.{Point}
-use Rattle.pr_lawful.proofs.SuitingLemmas.{SuitChanges, SuitsChange, SuitsTransition}
+use Rattle.pr_lawful.proofs.LawfulTurns.SuitingLemmas.{SuitChanges, SuitsChange, SuitsTransition}
 use Rattle.pr_ready_laws.specs.Reach.{Reach, around, changes_files, itself, reach_of, reaches_around, to_pipes}
 use Rattle.pr_ready_laws.specs.Touched.{is_kin, is_near, is_with_kin, is_with_kin_of, target_in}
 use Rattle.pr_ready_laws.proofs.ChildLemmas.{KeepsFamily}

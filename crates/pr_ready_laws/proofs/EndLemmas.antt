@@ -17,7 +17,7 @@ use Rattle.pr_model.specs.Machines.{traced}
 use Rattle.pr_model.specs.Readers.{children_of}
 use Rattle.pr_model.specs.Signals.{generated, is_kill}
 use Rattle.pr_model.specs.State.{TracedProcess, TracedSystem, live_process, process_of, with_process_if}
-use Rattle.pr_lawful.proofs.EndLemmas.{buried, found-live}
+use Rattle.pr_lawful.proofs.LawfulTurns.EndLemmas.{buried, found-live}
 use Rattle.pr_ready_laws.specs.Touched.{is_kin, is_kin_of, is_with_kin}
 use Rattle.pr_ready_laws.proofs.ChildLemmas.{KeepsFamily, children-apart, children-orphaned}
 use Rattle.pr_ready_laws.proofs.LeftLemmas.{Leaves, leaves-either, leaves-next, leaves-other, leaves-other_if, leaves-self}

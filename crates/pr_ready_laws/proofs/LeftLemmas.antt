@@ -7,7 +7,7 @@ use Rattle.pr_num.proofs.ByIdLaws.{under-change_under_other, under-inserted_othe
 use Rattle.pr_model.specs.Lives.{is_id, with_made, with_reaped}
 use Rattle.pr_model.specs.Readers.{children_of}
 use Rattle.pr_model.specs.State.{TracedProcess, TracedSystem, process_of, with_process, with_process_if}
-use Rattle.pr_lawful.proofs.SuitingLemmas.{SuitsReaped}
+use Rattle.pr_lawful.proofs.LawfulTurns.SuitingLemmas.{SuitsReaped}
 use Rattle.pr_ready_laws.specs.Left.{IsLeft}
 use Rattle.pr_ready_laws.proofs.ChildLemmas.{KeepsFamily, children-apart, children-changed, children-inserted, children-reaped}
 

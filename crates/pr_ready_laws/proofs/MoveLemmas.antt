@@ -17,7 +17,7 @@ use Rattle.pr_model.specs.Signals.{has_takeable, takeable}
 use Rattle.pr_model.specs.State.{TracedLwp, TracedProcess, TracedSystem, live_process, lwp_of, process_of}
 use Rattle.pr_model.specs.declared.lwps.Phase.{Phase}
 use Rattle.pr_model.specs.declared.lwps.Phase.TheVariants.{User, Entered, Asleep, Exiting, Faulted}
-use Rattle.pr_lawful.proofs.EndLemmas.{found-live}
+use Rattle.pr_lawful.proofs.LawfulTurns.EndLemmas.{found-live}
 use Rattle.pr_ready_laws.specs.Left.{HasLwp, IsLeft, comes_between, waits}
 
 -- An lwp of a process that a step left alone can move later only if it could before, unless it waits for what may

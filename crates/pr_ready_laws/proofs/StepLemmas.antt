@@ -7,8 +7,8 @@ use Rattle.pr_model.specs.Legal.{ticked}
 use Rattle.pr_model.specs.LwpTurns.{LwpTurn, can_move, may_turn_in, may_turn_of, turn_of}
 use Rattle.pr_model.specs.State.{TracedLwp, TracedProcess, TracedState, TracedSystem, live_process, lwp_of}
 use Rattle.pr_model.specs.declared.calls.Call.{Call}
-use Rattle.pr_lawful.proofs.CallLemmas.{call-state}
-use Rattle.pr_lawful.proofs.TurnLemmas.{acting as acting_in, turn-lawful}
+use Rattle.pr_lawful.proofs.LawfulStates.CallLemmas.{call-state}
+use Rattle.pr_lawful.proofs.LawfulTurns.TurnLemmas.{acting as acting_in, turn-lawful}
 use Rattle.pr_ready_laws.specs.Left.{HasLwp, IsLeft, waits}
 use Rattle.pr_ready_laws.specs.Reach.{changes_files, itself, reach_of, to_pipes}
 use Rattle.pr_ready_laws.specs.Touched.{call_changes_files, call_touches, turn_touches}

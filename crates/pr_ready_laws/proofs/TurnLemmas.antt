@@ -6,7 +6,7 @@ use Rattle.pr_model.specs.Lawful.{IsLawfulSystem}
 use Rattle.pr_model.specs.LwpTurns.{LwpTurn, settled, turn_of}
 use Rattle.pr_model.specs.Rows.{row_for}
 use Rattle.pr_model.specs.State.{TracedLwp, TracedProcess, TracedSystem, live_process, lwp_of}
-use Rattle.pr_lawful.proofs.TurnLemmas.{acting as acting_in, row-suits}
+use Rattle.pr_lawful.proofs.LawfulTurns.TurnLemmas.{acting as acting_in, row-suits}
 use Rattle.pr_ready_laws.specs.Left.{IsLeft}
 use Rattle.pr_ready_laws.specs.Reach.{changes_files, reach_of, reaches_around}
 use Rattle.pr_ready_laws.specs.Touched.{is_near, turn_touches}

@@ -8,21 +8,24 @@ use Rattle.pr_function_hides.specs.OwnSteps.{AreStepsOwn}
 use Rattle.pr_function_hides.specs.PassiveOthers.{AreOthersPassive}
 use Rattle.pr_function_hides.specs.PlantedBreakpoints.{LeavesPlanted}
 use Rattle.pr_function_hides.specs.Replacing.{WritesNoneOnceReplaced}
+use Rattle.pr_function_hides.specs.SteppedByCalls.{StepsWhatItLifted}
 use Rattle.pr_function_hides.specs.TidyCloses.{LeavesNoBreakpoint, LeavesNoFault}
 use Rattle.pr_function_hides.specs.TidyFaults.{ClearsOwnFaultsAlone, PostsNoOwnFault}
 use Rattle.pr_function_hides.specs.TidyWrites.{AreUndisturbed, WritesTidily}
+use Rattle.pr_function_hides.specs.ToldCalls.{TellsItsCallsByCalls}
+use Rattle.pr_function_hides.specs.Waiting.{KeepsWhatWaits}
 use Rattle.pr_function_laws.specs.BreakpointCalls.{AreBreakpointCalls}
 use Rattle.pr_function_laws.specs.CalledTurns.{CallsAreTurns}
-use Rattle.pr_function_laws.specs.EventKinds.{AreEventKinds}
+use Rattle.pr_function_laws.specs.EventKinds.{AreEventKinds, LooksAtEachEvent}
 use Rattle.pr_function_laws.specs.EventsRead.{EventsAreRead}
-use Rattle.pr_function_laws.specs.Handled.{HandlesItsGiven}
+use Rattle.pr_function_laws.specs.Handled.{HandlesItsGiven, HoldsOrRefusesItsGiven}
 use Rattle.pr_function_laws.specs.Holds.{KeepsItsHolds, OpensQuietly, WatchesWhatItHolds}
 use Rattle.pr_function_laws.specs.Leaving.{LeavesItsProcesses}
 use Rattle.pr_function_laws.specs.LeftAlone.{IsLeftAlone}
 use Rattle.pr_function_laws.specs.Lifted.{MeetsBreakpoint, ReadsOnlyLast}
 use Rattle.pr_function_laws.specs.LineEvents.{AreOfTheirEventsIn}
 use Rattle.pr_function_laws.specs.LineMoments.{MemoriesStand}
-use Rattle.pr_function_laws.specs.LineTexts.{HaveTheirTextsIn, ReadsForItsLinesOf}
+use Rattle.pr_function_laws.specs.LineTexts.{HaveTheirTextsIn, ReadsAtOnceOf, ReadsForItsLinesOf}
 use Rattle.pr_function_laws.specs.ListedEvents.{ListsItsEvents}
 use Rattle.pr_function_laws.specs.Met.{TellsItsCalls}
 use Rattle.pr_function_laws.specs.OneEvent.{HasOneEventEach}
@@ -31,6 +34,7 @@ use Rattle.pr_function_laws.specs.Opened.{HoldsWhatItOpened, LiftsForOneAlone, R
 use Rattle.pr_function_laws.specs.Ordinary.{IsTrussBeside, ordinary_among}
 use Rattle.pr_function_laws.specs.OrdinaryRuns.{ClosesFreelyThroughout, ShowsWhatIsNewOf, ShowsWhatItReadsOf}
 use Rattle.pr_function_laws.specs.Planted.{PlantsWhatItRead}
+use Rattle.pr_function_laws.specs.PlantedByCalls.{MarksWhatItPlanted}
 use Rattle.pr_function_laws.specs.Refusals.{TellsNoRefusalOfHeld, TellsRefusalsAtFirst}
 use Rattle.pr_function_laws.specs.Runs.{MakesFunctionCalls, functions_after, replies_in}
 use Rattle.pr_function_laws.specs.SentSets.{TracesItsWords}
@@ -52,6 +56,7 @@ use Rattle.pr_report_laws.specs.OwnFiles.{CallsItsFiles, ClosesControlsLast}
 use Rattle.pr_truss.specs.FunctionCalls.{next_function_call_of}
 use Rattle.pr_truss.specs.Trusses.{first_truss, traced_at}
 use Rattle.pr_truss.specs.declared.marks.Marks.{Marks}
+use Rattle.pr_truss.specs.declared.processes.Traced.{Traced}
 use Rattle.pr_truss_laws.specs.Exchanges.{Exchange, exchange_of, exchanges}
 use Rattle.pr_truss_laws.specs.Handles.{HasNothingOpen}
 use Rattle.pr_world.specs.ControllerStates.{ControllerState, FnTruss}
@@ -96,13 +101,19 @@ pub record IsFunctionTrussKept (controllers : List ControllerState) (first : Tra
   -- select, and that are no faults of its own, each once and in their order, but for the last one at most. If programs
   -- leave the functions alone that it has marked as planted, an lwp that comes to one can fetch nothing there but the
   -- instruction of a breakpoint. And if that is so, the calls of functions that it has shown are the turns that are
-  -- such calls, each once and in their order, but for the last one at most.
+  -- such calls, each once and in their order, but for the last one at most. Wherever an lwp of a process that it traces
+  -- has a turn, and until it is interrupted, the function that it has as the one that is being stepped there its calls
+  -- and their replies tell: it is the one whose code it wrote back there right before it ran the process with PRCFAULT
+  -- and PRSTEP, and where it has written nothing since. And so its calls tell which turns are calls of functions,
+  -- unless it was told of an lwp of the process at the exit of a vfork or an exec that was granted.
   pub lists_events : (pid : ℕ) → ListsItsEvents k o first h pid
   pub fetches : LeavesPlanted k o first h → FetchesBreakpoints k o first h
   pub lists_calls : FetchesBreakpoints k o first h → (pid : ℕ) → ListsItsTurns k o first h pid
-  -- A breakpoint is lifted for one lwp alone, also behind an interrupt of the poll; the read after that of a breakpoint
-  -- tells of the one turn that its lwp had since; each call that it tells in its loop is such a turn; and the trap of a
-  -- step is told by the next read, if one comes.
+  pub under_way : StepsWhatItLifted k o first h
+  pub calls_told : TellsItsCallsByCalls k o first h
+  -- A breakpoint is lifted for one lwp alone, also behind an interrupt, which comes in a poll alone; the read after that
+  -- of a breakpoint tells of the one turn that its lwp had since; each call that it tells in its loop is such a turn;
+  -- and the trap of a step is told by the next read, if one comes.
   pub lifts : LiftsForOneAlone k o first h
   pub left_alone : IsLeftAlone k o first h
   pub turns : CallsAreTurns k o first h
@@ -115,14 +126,22 @@ pub record IsFunctionTrussKept (controllers : List ControllerState) (first : Tra
   -- process it reads the representative lwp as it stands there, and of each record of lwps all of them.
   pub words : TracesItsWords o
   pub replies : ReadsItsReplies
-  -- In a process that it opens it plants just the functions whose code it reads there. What each event is to the
-  -- breakpoints; and what it asks truss to plant and to lift, which comes before it runs the process. Where no lwp was
-  -- at a fork, a vfork or an exec when the wait of the opening was granted, such a call that is granted finds none that
-  -- it has marked as planted, also once truss was interrupted; and behind a vfork or an exec that was granted it sends
-  -- no PCWRITE to the process, until it is interrupted.
+  -- In a process that it opens it plants just the functions whose code it reads there. Those that it has marked as
+  -- planted in a process its calls and their replies tell: each PCWRITE that plants one was granted, since it opened
+  -- the control file of the process, and it has not lifted it since; and it has marked each such one, unless it was
+  -- told of an lwp of the process at the exit of a vfork or an exec that was granted. What each event is to the
+  -- breakpoints, and that it looks at each that is new; and what it asks truss to plant and to lift, which comes before
+  -- it runs the process. What waits to be planted again in a process, as all that stand do from the entry of a fork on,
+  -- waits until truss reads an event that is before or behind such a call. Where no lwp was at a fork, a vfork or an
+  -- exec when the wait of the opening was granted, such a call that is granted finds none that it has marked as
+  -- planted, also once truss was interrupted; and behind a vfork or an exec that was granted it sends no PCWRITE to the
+  -- process, until it is interrupted.
   pub plants : PlantsWhatItRead o (exchanges k h)
+  pub marks : MarksWhatItPlanted k o first h
   pub kinds : (m : Marks) (id : ℕ) → AreEventKinds o m id
+  pub looks_new : (t : Traced) → LooksAtEachEvent t
   pub treats : TreatsItsEvents o (exchanges k h)
+  pub waits : KeepsWhatWaits o (exchanges k h)
   pub copies : OpensOutOfCopies k o first h → CopiesFindNone k o first h
   pub replaced : OpensOutOfCopies k o first h → WritesNoneOnceReplaced k o first h
   -- once it is interrupted it leaves its processes one after another, and lifts all that it has marked as planted
@@ -130,9 +149,13 @@ pub record IsFunctionTrussKept (controllers : List ControllerState) (first : Tra
   -- Beside its breakpoints it is a truss: without the messages and waits by which it sees to them, with those of its
   -- own in place of some, which the definition lists, and with its reads of faults of its own counted as reads that
   -- gave no bytes, its exchanges are like those of a truss, which does its own business in them. In these it opens each
-  -- process that it was given, or tells the refusal of it, in their order.
+  -- process that it was given, or tells the refusal of it, in their order. By its own calls: of the processes that it
+  -- was given, and of no others, it gets hold in an entry, or says in one that it cannot trace them, one after another.
+  -- Once it has polled or has finished it has done so with each, unless a call of it was interrupted before; and of one
+  -- that it was given once it does not do both.
   pub ordinary : IsTrussBeside o (exchanges k h)
   pub handled : HandlesItsGiven o (exchanges k h) ordinary
+  pub given : HoldsOrRefusesItsGiven k o h
   -- It watches a process just while it has hold of it, which its calls and their replies alone tell: from the PCRUN of
   -- a whole opening of the process, to the call to a handle of the process that is refused with ENOENT, or to its read
   -- of the statuses of the lwps once it was interrupted. It gets hold of a process at most once, and closes no file of
@@ -155,18 +178,19 @@ pub record IsFunctionTrussKept (controllers : List ControllerState) (first : Tra
   pub new : ShowsWhatIsNewOf k o first h
   -- It sends PCRUN to a process before it shows more of it; so it shows no stop twice, unless that is refused.
   pub once : ShowsStopsOnceOf k o first h
-  -- It reads the memory file of a process for the line of the event that it has just reported, and since it read that
-  -- event it has only planted or lifted breakpoints there. What stands in a line is what stood in the memory of the
-  -- state in which it read, breakpoints too; nothing, where the line asks for none, or the process had ended.
+  -- It reads the memory file of a process for the line of the event that it has just reported, and it has made no
+  -- call since it read that event; so it has planted and lifted nothing. What stands in a line is what stood in the
+  -- memory of the state in which it read, breakpoints too; nothing, where the line asks for none, or the process had
+  -- ended.
   pub asks : ReadsForItsLinesOf k o first h
+  pub at_once : ReadsAtOnceOf k o first h
   pub texts : HaveTheirTextsIn k o first h (ordinary_among (functions_at k o h).reports)
   -- Until it is interrupted, and where no stop of the process is left from before it came, that memory is the one right
-  -- after the event, as long as the process lives, up to the read of the event, and up to that of the memory, if truss
-  -- planted and lifted nothing between; else but for the code of the functions whose breakpoints those were.
+  -- after the event, as long as the process lives, up to the read of the event, and up to that of the memory behind it.
   pub moments : MemoriesStand k o first h
   -- So it is report by report, also where it is interrupted and leaves its processes: what stands in the line of an
-  -- event is the memory right after the event, which came while truss watched the process, but for that code; or
-  -- SIGKILL ended the process before truss read.
+  -- event is the memory right after the event, which came while truss watched the process; or SIGKILL ended the process
+  -- before truss read.
   pub of_their_events : (pid : ℕ)
       → AreOfTheirEventsIn k o pid first h (ordinary_among (functions_at k o h).reports)
   -- It calls no file but those that it has open. Of the files of a process it closes the control file last, and nobody

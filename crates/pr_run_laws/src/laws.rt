@@ -27,7 +27,7 @@ pub fn scenarios_that_were_read_are_in_range()
 {}
 
 /// On one thread a run grows at its end: its history after some moves is a prefix of the one after more of them.
-#[tactic(auto, using(crate::proofs::GrowthLemmas::growth))]
+#[tactic(auto, using(crate::proofs::KeptRuns::GrowthLemmas::growth))]
 pub fn runs_grow()
     ensures { (s : Scenario) (m n : ℕ) → m ≤ n → IsPrefix (history_after m s) (history_after n s) }
 {}

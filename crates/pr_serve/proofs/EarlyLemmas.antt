@@ -2,7 +2,7 @@ use Rattle.std.proofs.Common.{◌≡◌, ◌≤◌, ◌⊎◌, inl, inr, ℕ, Li
 use Rattle.pr_model.specs.declared.events.Entry.{Entry}
 use Rattle.pr_run_laws.specs.Prefixes.{IsPrefix}
 use Rattle.pr_run_laws.specs.ScenarioRuns.{history_after}
-use Rattle.pr_run_laws.proofs.GrowthLemmas.{run-grows}
+use Rattle.pr_run_laws.proofs.KeptRuns.GrowthLemmas.{run-grows}
 use Rattle.pr_scen.specs.Scenarios.{Scenario}
 use Rattle.pr_serve.specs.Histories.{IsAfterMoves, RanOutEarly, in_rounds}
 use Rattle.pr_serve.specs.Inputs.{scenario_of_input}

@@ -1,7 +1,7 @@
 -- The scenario of an input.
 use Rattle.std.proofs.Common.{◌≡◌, ℕ, List, Option, Some, None, Ok}
 use Rattle.pr_run_laws.specs.ScenarioRanges.{IsScenarioInRange}
-use Rattle.pr_run_laws.proofs.ScenarioRangeLemmas.{scenario-range}
+use Rattle.pr_run_laws.proofs.ScenariosInRange.ScenarioRangeLemmas.{scenario-range}
 use Rattle.pr_scen.specs.Scenarios.{Scenario}
 use Rattle.pr_serve.specs.Inputs.{scenario_of_input}
 

@@ -4,8 +4,8 @@ use Rattle.std.proofs.lemmas.List.{append-nil}
 use Rattle.std.proofs.lemmas.Option.{none-some, same_Some}
 use Rattle.pr_api.proofs.ShapeLemmas.{machine-shaped}
 use Rattle.pr_api.specs.Views.{IsLawful, KernelView, kernel_of}
-use Rattle.pr_lawful.proofs.HistoryLemmas.{history-state}
-use Rattle.pr_lawful.proofs.StartLemmas.{first-lawful}
+use Rattle.pr_lawful.proofs.LawfulStates.HistoryLemmas.{history-state}
+use Rattle.pr_lawful.proofs.LawfulStates.StartLemmas.{first-lawful}
 use Rattle.pr_model.specs.Lawful.{IsLawful as IsLawfulState, IsLawfulSystem}
 use Rattle.pr_model.specs.Legal.{IsLegalEntry, after, state_after}
 use Rattle.pr_model.specs.State.{TracedState}
@@ -15,7 +15,7 @@ use Rattle.pr_model.specs.declared.events.Actor.{Actor}
 use Rattle.pr_model.specs.declared.events.Actor.TheVariants.{Controller, Lwp, Clock}
 use Rattle.pr_model.specs.declared.events.Entry.{Entry}
 use Rattle.pr_run.proofs.OneLemmas.{full-ends, stuck-ends}
-use Rattle.pr_run_laws.proofs.KeptLemmas.{first-told}
+use Rattle.pr_run_laws.proofs.KeptRuns.KeptLemmas.{first-told}
 use Rattle.pr_run_laws.specs.Prefixes.{IsPrefix}
 use Rattle.pr_run_laws.specs.ScenarioRanges.{IsScenarioInRange}
 use Rattle.pr_run_laws.specs.ScenarioRuns.{controllers_of, files_of, first_state_of, first_world}

@@ -6,7 +6,7 @@ use Rattle.pr_model.specs.declared.events.Entry.{Entry}
 use Rattle.pr_num.specs.Limits.{scenario_limit}
 use Rattle.pr_run_laws.specs.Prefixes.{IsPrefix}
 use Rattle.pr_run_laws.specs.ScenarioRuns.{IsKept, first_world, run_of}
-use Rattle.pr_run_laws.proofs.KeptLemmas.{first-fresh, first-told, run-kept}
+use Rattle.pr_run_laws.proofs.KeptRuns.KeptLemmas.{first-fresh, first-told, run-kept}
 use Rattle.pr_scen.specs.Refusals.{ScenFault}
 use Rattle.pr_scen.specs.Scenarios.{Scenario}
 use Rattle.pr_world.specs.Runs.{IsFresh, TellsMachine, after_moves}

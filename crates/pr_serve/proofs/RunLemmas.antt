@@ -14,7 +14,7 @@ use Rattle.pr_num.specs.declared.memory.NoMemory.{NoMemory}
 use Rattle.pr_parts.specs.FileTables.{names_differ}
 use Rattle.pr_run.specs.OneRuns.{end_of_run}
 use Rattle.pr_run_laws.specs.ScenarioRuns.{controller_of, controllers_of, first_state_of, first_world, run_of}
-use Rattle.pr_run_laws.proofs.KeptLemmas.{first-fresh, first-told}
+use Rattle.pr_run_laws.proofs.KeptRuns.KeptLemmas.{first-fresh, first-told}
 use Rattle.pr_scen.specs.Scenarios.{IsWithinLimits, Scenario}
 use Rattle.pr_scen.specs.declared.plans.Plan.{Plan}
 use Rattle.pr_world.proofs.RunLemmas.{run-function, run-longer, run-places}

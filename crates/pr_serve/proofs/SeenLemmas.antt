@@ -17,7 +17,7 @@ use Rattle.pr_model.specs.declared.events.Entry.{Entry}
 use Rattle.pr_model.specs.declared.steps.Step.{Step}
 use Rattle.pr_output.specs.Output.{plain_run_text}
 use Rattle.pr_output.specs.declared.reports.Report.{Report}
-use Rattle.pr_run_laws.proofs.KeptLemmas.{first-told}
+use Rattle.pr_run_laws.proofs.KeptRuns.KeptLemmas.{first-told}
 use Rattle.pr_run_laws.specs.ScenarioRuns.{controller_of, controllers_of, first_state_of, first_world, run_of}
 use Rattle.pr_scen.specs.Scenarios.{IsWithinLimits, Scenario}
 use Rattle.pr_text.specs.Reads.{Stops}

@@ -9,7 +9,7 @@ use Rattle.pr_num.specs.declared.memory.NoMemory.{NoMemory}
 use Rattle.pr_run_laws.specs.Prefixes.{IsPrefix}
 use Rattle.pr_run_laws.specs.ScenarioRanges.{IsScenarioInRange}
 use Rattle.pr_run_laws.specs.ScenarioRuns.{IsKept, first_world}
-use Rattle.pr_run_laws.proofs.KeptLemmas.{came-kept}
+use Rattle.pr_run_laws.proofs.KeptRuns.KeptLemmas.{came-kept}
 use Rattle.pr_scen.specs.Scenarios.{Scenario}
 use Rattle.pr_scen.specs.Refusals.{ScenFault}
 use Rattle.pr_world.specs.Runs.{CameFrom, TellsMachine}

@@ -7,7 +7,7 @@ use Rattle.pr_keeps.specs.CallEdits.{CallEdit}
 use Rattle.pr_model.proofs.HistoryLemmas.{state_after-push}
 use Rattle.pr_model.specs.Calls.{Answer, answer_to}
 use Rattle.pr_model.specs.Handles.{after_last_close, has_writer, is_writable, with_closed, with_opened}
-use Rattle.pr_model.specs.Legal.{IsLegal, IsLegalEntry, after, state_after}
+use Rattle.pr_model.specs.Legal.{IsLegalEntry, after, state_after}
 use Rattle.pr_model.specs.State.{TracedState, live_process}
 use Rattle.pr_model.specs.declared.calls.Call.{Call}
 use Rattle.pr_model.specs.declared.calls.Call.TheVariants as call
@@ -30,7 +30,7 @@ use Rattle.pr_tools.specs.declared.steps.Step.{Step}
 use Rattle.pr_tools.specs.declared.steps.Step.TheVariants as step
 use Rattle.pr_world.specs.ControllerStates.{ControllerState, Tool}
 use Rattle.pr_world.specs.Protocol.{controllers_at}
-use Rattle.pr_tool_laws.specs.OwnCalls.{AreOwnCalls}
+use Rattle.pr_tool_laws.specs.Runs.{IsRunOf}
 use Rattle.pr_tool_laws.proofs.OwnFiles.HandleLemmas.{OpensSo, call-all, none-held, others-all}
 use Rattle.pr_tool_laws.proofs.Stages.KindLemmas.{fed-kind}
 use Rattle.pr_tool_laws.proofs.Stages.LawLemmas.{tool-keeps}
@@ -228,15 +228,15 @@ module _ (n k : ℕ) (kind : ToolKind) (pid : ℕ) (once : only_reads kind ≡ t
       }
 
   pub tool-leaves : (controllers : List ControllerState) (h : List Entry) (t : ToolState) → HasNothingOpen k first
-      → slice_get controllers k ≡ Some (Tool (first_tool kind pid)) → IsLegal n first h → AreOwnCalls controllers h
+      → IsRunOf n k (Tool (first_tool kind pid)) controllers first h
       → slice_get (controllers_at controllers h) k ≡ Some (Tool t) → LeavesTheSystem k first h
   unfolding first_tool
-  tool-leaves controllers h t nothing begins legal follows ends =
+  tool-leaves controllers h t nothing run ends =
       let begun : IsReadKept [] (first_tool kind pid) = record {
         kind_is = refl;
         reading = first-reads kind once;
         held = none-held k IsReader first nothing;
         leaves = tt;
       } in
-      (tool-keeps n k first IsReadKept others-kept calls-kept controllers h (first_tool kind pid) t legal follows
-      begins ends begun).leaves
+      (tool-keeps n k first IsReadKept others-kept calls-kept controllers h (first_tool kind pid) t run ends
+      begun).leaves

@@ -5,6 +5,7 @@ pub mod OwnCalls
 pub mod PassiveCalls
 pub mod Reads
 pub mod Requests
+pub mod Runs
 pub mod SentMessages
 pub mod ShownStates
 pub mod Stacks

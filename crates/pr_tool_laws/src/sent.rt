@@ -1,6 +1,5 @@
 ghost use Rattle.std.specs.Prelude.{◌≡◌, ℕ, List, None, Some, slice_get, true};
 ghost use Rattle.pr_model.specs.Lawful.{IsLawful};
-ghost use Rattle.pr_model.specs.Legal.{IsLegal};
 ghost use Rattle.pr_model.specs.State.{TracedState};
 ghost use Rattle.pr_model.specs.declared.events.Entry.{Entry};
 ghost use Rattle.pr_model.specs.declared.tools.ToolKind.TheVariants.{Prun, Pstop};
@@ -9,7 +8,7 @@ ghost use Rattle.pr_tools.specs.Tools.{ToolState, first_tool, has_ended};
 ghost use Rattle.pr_world.specs.ControllerStates.{ControllerState};
 ghost use Rattle.pr_world.specs.ControllerStates as cores;
 ghost use Rattle.pr_world.specs.Protocol.{controllers_at};
-ghost use Rattle.pr_tool_laws.specs.OwnCalls.{AreOwnCalls};
+ghost use Rattle.pr_tool_laws.specs.Runs.{IsRunOf};
 
 /// In a legal history where these controllers make their own calls, from a lawful state, a pstop that has finished, and
 /// was not refused, has made just three calls: it has opened the control file of its process, sent PCDSTOP and closed
@@ -17,8 +16,7 @@ ghost use Rattle.pr_tool_laws.specs.OwnCalls.{AreOwnCalls};
 /// close changed nothing of the system, unless the process lived and had PR_KLC or PR_RLC.
 pub fn pstop_directs_its_process_to_stop()
     ensures { (controllers : List ControllerState) (n k pid : ℕ) (s : TracedState) (h : List Entry) (t : ToolState)
-        → IsLawful s → slice_get controllers k ≡ Some (cores.Tool (first_tool Pstop pid))
-        → IsLegal n s h → AreOwnCalls controllers h
+        → IsLawful s → IsRunOf n k (cores.Tool (first_tool Pstop pid)) controllers s h
         → slice_get (controllers_at controllers h) k ≡ Some (cores.Tool t) → has_ended t ≡ true → t.refusal ≡ None
         → StopsItsProcess k pid s h }
 {}
@@ -28,8 +26,7 @@ pub fn pstop_directs_its_process_to_stop()
 /// suspended, none stood on an event any more.
 pub fn prun_runs_its_process()
     ensures { (controllers : List ControllerState) (n k pid : ℕ) (s : TracedState) (h : List Entry) (t : ToolState)
-        → IsLawful s → slice_get controllers k ≡ Some (cores.Tool (first_tool Prun pid))
-        → IsLegal n s h → AreOwnCalls controllers h
+        → IsLawful s → IsRunOf n k (cores.Tool (first_tool Prun pid)) controllers s h
         → slice_get (controllers_at controllers h) k ≡ Some (cores.Tool t) → has_ended t ≡ true → t.refusal ≡ None
         → RunsItsProcess k pid s h }
 {}

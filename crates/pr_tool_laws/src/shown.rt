@@ -3,8 +3,7 @@ ghost use Rattle.pr_num.specs.Programs.{Program};
 ghost use Rattle.pr_num.specs.declared.files.StoredFile.{StoredFile};
 ghost use Rattle.pr_lawful.specs.Starts.{IsStart};
 ghost use Rattle.pr_model.specs.FirstState.{first_state};
-ghost use Rattle.pr_model.specs.Lawful.{IsLawful, IsLawfulSystem};
-ghost use Rattle.pr_model.specs.Legal.{IsLegal};
+ghost use Rattle.pr_model.specs.Lawful.{IsLawfulSystem};
 ghost use Rattle.pr_model.specs.State.{TracedState, TracedSystem};
 ghost use Rattle.pr_model.specs.declared.events.Entry.{Entry};
 ghost use Rattle.pr_model.specs.declared.tools.ToolKind.{ToolKind};
@@ -17,7 +16,7 @@ ghost use Rattle.pr_tools.specs.Tools.{ToolState, first_tool, has_ended, printed
 ghost use Rattle.pr_world.specs.ControllerStates.{ControllerState};
 ghost use Rattle.pr_world.specs.ControllerStates as cores;
 ghost use Rattle.pr_world.specs.Protocol.{controllers_at};
-ghost use Rattle.pr_tool_laws.specs.OwnCalls.{AreOwnCalls};
+ghost use Rattle.pr_tool_laws.specs.Runs.{IsRunOf, StaysInRange};
 
 /// In a lawful system in range what a tool other than pstack reads has its fields in their ranges, and one read has all
 /// of it.
@@ -32,17 +31,15 @@ pub fn one_read_has_what_stands_there()
 /// has ended, and was not reaped yet.
 pub fn tools_show_what_stands_there()
     ensures later { (controllers : List ControllerState) (n k : ℕ) (kind : ToolKind) (pid : ℕ) (s : TracedState)
-        (h : List Entry) → (t : ToolState) (programs : List Program)
-        → IsLawful s → IsInRange s.system → HasBytes h
-        → reads_once kind ≡ true → slice_get controllers k ≡ Some (cores.Tool (first_tool kind pid))
-        → IsLegal n s h → AreOwnCalls controllers h
+        (h : List Entry) (t : ToolState) (programs : List Program) → StaysInRange s h
+        → reads_once kind ≡ true → IsRunOf n k (cores.Tool (first_tool kind pid)) controllers s h
         → slice_get (controllers_at controllers h) k ≡ Some (cores.Tool t) → has_ended t ≡ true → t.refusal ≡ None
         → ShowsOneState k kind pid s h (printed t programs) }
     ensures first { (programs : List Program) (files : List StoredFile) (spawns : List ℕ)
-        → (controllers : List ControllerState) (n k : ℕ) (kind : ToolKind) (pid : ℕ) (h : List Entry) (t : ToolState)
-        → (labels : List Program) → IsStart programs files spawns → IsStartInRange programs files → HasBytes h
-        → reads_once kind ≡ true → slice_get controllers k ≡ Some (cores.Tool (first_tool kind pid))
-        → IsLegal n (first_state programs files spawns) h → AreOwnCalls controllers h
+        (controllers : List ControllerState) (n k : ℕ) (kind : ToolKind) (pid : ℕ) (h : List Entry) (t : ToolState)
+        (labels : List Program) → IsStart programs files spawns → IsStartInRange programs files → HasBytes h
+        → reads_once kind ≡ true
+        → IsRunOf n k (cores.Tool (first_tool kind pid)) controllers (first_state programs files spawns) h
         → slice_get (controllers_at controllers h) k ≡ Some (cores.Tool t) → has_ended t ≡ true → t.refusal ≡ None
         → ShowsOneState k kind pid (first_state programs files spawns) h (printed t labels) }
 {}

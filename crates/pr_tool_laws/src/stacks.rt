@@ -1,15 +1,13 @@
 ghost use Rattle.std.specs.Prelude.{◌≡◌, ℕ, IsSome, List, None, Some, false, slice_get, true};
 ghost use Rattle.pr_lawful.specs.Starts.{IsStart};
 ghost use Rattle.pr_model.specs.FirstState.{first_state};
-ghost use Rattle.pr_model.specs.Lawful.{IsLawful};
-ghost use Rattle.pr_model.specs.Legal.{IsLegal};
 ghost use Rattle.pr_model.specs.State.{TracedState};
 ghost use Rattle.pr_model.specs.declared.events.Entry.{Entry};
 ghost use Rattle.pr_model.specs.declared.tools.ToolKind.TheVariants.{Pstack};
 ghost use Rattle.pr_num.specs.Programs.{Program};
 ghost use Rattle.pr_num.specs.declared.files.StoredFile.{StoredFile};
 ghost use Rattle.pr_reached.specs.ByteHistories.{HasBytes};
-ghost use Rattle.pr_reached.specs.InRange.{IsInRange, IsStartInRange};
+ghost use Rattle.pr_reached.specs.InRange.{IsStartInRange};
 ghost use Rattle.pr_tool_laws.specs.Requests.{asks_still};
 ghost use Rattle.pr_tool_laws.specs.Stacks.{RunsAgain, ShowsOneStack};
 ghost use Rattle.pr_tools.specs.Tools.{ToolState, first_tool, has_ended, printed};
@@ -17,7 +15,7 @@ ghost use Rattle.pr_truss_laws.specs.Exchanges.{exchanges};
 ghost use Rattle.pr_world.specs.ControllerStates.{ControllerState};
 ghost use Rattle.pr_world.specs.ControllerStates as cores;
 ghost use Rattle.pr_world.specs.Protocol.{controllers_at};
-ghost use Rattle.pr_tool_laws.specs.OwnCalls.{AreOwnCalls};
+ghost use Rattle.pr_tool_laws.specs.Runs.{IsRunOf, StaysInRange};
 
 /// In a legal history where these controllers make their own calls, from a lawful state in range or from a first state,
 /// and in which controllers write bytes, a pstack that has finished, and was not refused, prints the stacks of one
@@ -26,17 +24,14 @@ ghost use Rattle.pr_tool_laws.specs.OwnCalls.{AreOwnCalls};
 /// that has lent its memory in that state nothing is said (vfork(2)).
 pub fn pstack_shows_one_state()
     ensures later { (controllers : List ControllerState) (n k : ℕ) (pid : ℕ) (s : TracedState) (h : List Entry)
-        (t : ToolState) → (programs : List Program)
-        → IsLawful s → IsInRange s.system → HasBytes h
-        → slice_get controllers k ≡ Some (cores.Tool (first_tool Pstack pid))
-        → IsLegal n s h → AreOwnCalls controllers h
+        (t : ToolState) (programs : List Program)
+        → StaysInRange s h → IsRunOf n k (cores.Tool (first_tool Pstack pid)) controllers s h
         → slice_get (controllers_at controllers h) k ≡ Some (cores.Tool t) → has_ended t ≡ true → t.refusal ≡ None
         → ShowsOneStack k pid programs s h (printed t programs) }
     ensures first { (programs : List Program) (files : List StoredFile) (spawns : List ℕ)
-        → (controllers : List ControllerState) (n k : ℕ) (pid : ℕ) (h : List Entry) (t : ToolState)
+        (controllers : List ControllerState) (n k : ℕ) (pid : ℕ) (h : List Entry) (t : ToolState)
         (labels : List Program) → IsStart programs files spawns → IsStartInRange programs files → HasBytes h
-        → slice_get controllers k ≡ Some (cores.Tool (first_tool Pstack pid))
-        → IsLegal n (first_state programs files spawns) h → AreOwnCalls controllers h
+        → IsRunOf n k (cores.Tool (first_tool Pstack pid)) controllers (first_state programs files spawns) h
         → slice_get (controllers_at controllers h) k ≡ Some (cores.Tool t) → has_ended t ≡ true → t.refusal ≡ None
         → ShowsOneStack k pid labels (first_state programs files spawns) h (printed t labels) }
 {}
@@ -46,16 +41,13 @@ pub fn pstack_shows_one_state()
 /// PCRUN, unless every lwp of it stood when pstack came.
 pub fn pstack_runs_its_process_again()
     ensures later { (controllers : List ControllerState) (n k pid : ℕ) (s : TracedState) (h : List Entry)
-        (t : ToolState) → IsLawful s → IsInRange s.system → HasBytes h
-        → slice_get controllers k ≡ Some (cores.Tool (first_tool Pstack pid)) → IsLegal n s h
-        → AreOwnCalls controllers h
+        (t : ToolState) → StaysInRange s h → IsRunOf n k (cores.Tool (first_tool Pstack pid)) controllers s h
         → slice_get (controllers_at controllers h) k ≡ Some (cores.Tool t) → has_ended t ≡ true → t.refusal ≡ None
         → RunsAgain k pid s h }
     ensures first { (programs : List Program) (files : List StoredFile) (spawns : List ℕ)
-        → (controllers : List ControllerState) (n k pid : ℕ) (h : List Entry) (t : ToolState)
+        (controllers : List ControllerState) (n k pid : ℕ) (h : List Entry) (t : ToolState)
         → IsStart programs files spawns → IsStartInRange programs files → HasBytes h
-        → slice_get controllers k ≡ Some (cores.Tool (first_tool Pstack pid))
-        → IsLegal n (first_state programs files spawns) h → AreOwnCalls controllers h
+        → IsRunOf n k (cores.Tool (first_tool Pstack pid)) controllers (first_state programs files spawns) h
         → slice_get (controllers_at controllers h) k ≡ Some (cores.Tool t) → has_ended t ≡ true → t.refusal ≡ None
         → RunsAgain k pid (first_state programs files spawns) h }
 {}
@@ -64,8 +56,7 @@ pub fn pstack_runs_its_process_again()
 /// request to stop left that was not refused: after PCSTOP it has sent PCRUN.
 pub fn a_refused_pstack_takes_back_its_request()
     ensures { (controllers : List ControllerState) (n k pid : ℕ) (s : TracedState) (h : List Entry) (t : ToolState)
-        → slice_get controllers k ≡ Some (cores.Tool (first_tool Pstack pid)) → IsLegal n s h
-        → AreOwnCalls controllers h
+        → IsRunOf n k (cores.Tool (first_tool Pstack pid)) controllers s h
         → slice_get (controllers_at controllers h) k ≡ Some (cores.Tool t) → has_ended t ≡ true → IsSome t.refusal
         → asks_still false (exchanges k h) ≡ false }
 {}

@@ -80,6 +80,8 @@ fn run_in(process: &mut Proc, id: u32) -> Result<Option<Effect>, NoMemory>
     ensures runs { IfOk result (λ ran. IfSome ran (λ effect. ForSome (lwp_of process.old id) (λ l. runs_on (pending_set process.old.pending) l ≡ true))) }
     ensures process { IfOk result (λ ran. IfSome ran (λ effect. ForSome (lwp_of process.old id) (λ l. process.new ≡ process_after id (row_of process.old l Next.Executed).transition process.old))) }
     ensures made { IfOk result (λ ran. IfSome ran (λ effect. ForSome (lwp_of process.old id) (λ l. made_by effect ≡ of_row (row_of process.old l Next.Executed)))) }
+    // with the address of a fault, of which no row tells
+    ensures effect { IfOk result (λ ran. IfSome ran (λ effect. ForSome (lwp_of process.old id) (λ l. effect ≡ effect_of l (instruction_effect process.old.space process.old.control.areas l.regs)))) }
     ensures other { IfOk result (λ ran. IfNone ran (process.new ≡ process.old)) }
     ensures rests { IfOk result (λ ran. IfNone ran (ForSome (lwp_of process.old id) (λ l. runs_on (pending_set process.old.pending) l ≡ false))) }
     ensures ran { OnErr result (ForSome (lwp_of process.old id) (λ l. runs_on (pending_set process.old.pending) l ≡ true)) }

@@ -6,7 +6,7 @@ use Rattle.pr_function_laws.proofs.OpenedProcesses.StoodCalls.{BeginLeavingLwps,
 use Rattle.pr_function_laws.proofs.Stepping.StretchLemmas as stretch
 use Rattle.pr_function_laws.proofs.Stepping.StretchLemmas.{Does}
 use Rattle.pr_function_laws.specs.Lifted.{HasControl}
-use Rattle.pr_lawful.proofs.EndLemmas.{found-live}
+use Rattle.pr_lawful.proofs.LawfulTurns.EndLemmas.{found-live}
 use Rattle.pr_line.specs.declared.options.Options.{Options}
 use Rattle.pr_model.specs.Calls.{Answer, answer_to, controlled}
 use Rattle.pr_model.specs.ControlMessages.{tail_of}

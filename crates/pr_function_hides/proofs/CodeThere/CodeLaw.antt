@@ -20,7 +20,7 @@ use Rattle.pr_model.specs.declared.events.Act.TheVariants as act
 use Rattle.pr_model.specs.declared.events.Actor.{Actor}
 use Rattle.pr_model.specs.declared.events.Actor.TheVariants.{Controller, Lwp, Clock}
 use Rattle.pr_model.specs.declared.events.Entry.{Entry}
-use Rattle.pr_reached.proofs.MappedLemmas.{history-spaces}
+use Rattle.pr_reached.proofs.Together.MappedLemmas.{history-spaces}
 use Rattle.pr_reached.specs.ByteHistories.{HasBytes}
 use Rattle.pr_reached.specs.Mapped.{HaveAddressSpaces}
 use Rattle.pr_tool_laws.proofs.Records.WholeLemmas.{front-legal}

@@ -28,7 +28,7 @@ use Rattle.pr_function_hides.specs.TidyWrites.{IsTrussAfter}
 use Rattle.pr_hidden.specs.Covers.{Covers, Patch}
 use Rattle.pr_hidden.specs.Hiders.{Hiders, covers_at, hides, patch_at}
 use Rattle.pr_hidden.specs.Sparing.{AreWithin}
-use Rattle.pr_lawful.proofs.HandleLemmas.{control-writes, handle-at}
+use Rattle.pr_lawful.proofs.ProcessParts.HandleLemmas.{control-writes, handle-at}
 use Rattle.pr_function_laws.specs.Opened.{functions_at, is_opened}
 use Rattle.pr_line.specs.declared.functions.Function.{Function}
 use Rattle.pr_line.specs.declared.options.Options.{Options}

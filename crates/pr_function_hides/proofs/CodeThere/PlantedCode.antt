@@ -33,7 +33,7 @@ use Rattle.pr_num.proofs.SearchLemmas.{All-at}
 use Rattle.pr_num.specs.Messages.{first_message, spelling}
 use Rattle.pr_num.specs.declared.instructions.Instruction.TheVariants.{Bpt}
 use Rattle.pr_num.specs.declared.messages.Message.TheVariants as message
-use Rattle.pr_reached.proofs.MemoryRanges.{instruction-bytes}
+use Rattle.pr_reached.proofs.StatesInRange.MemoryRanges.{instruction-bytes}
 use Rattle.pr_truss.specs.FunctionCalls.{call_beside}
 use Rattle.pr_truss.specs.Marks.{breakpoint}
 use Rattle.pr_truss.specs.Replies.{answer_of}

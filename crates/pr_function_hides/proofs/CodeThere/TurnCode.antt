@@ -7,7 +7,7 @@ use Rattle.pr_function_hides.specs.CountedFunctions.{LeavesAlone, takes_memory}
 use Rattle.pr_hidden.specs.Covers.{Patch}
 use Rattle.pr_hidden.specs.Sparing.{AreWithin}
 use Rattle.pr_keeps.proofs.KeepsLemmas.{choice}
-use Rattle.pr_lawful.proofs.EndLemmas.{found-live}
+use Rattle.pr_lawful.proofs.LawfulTurns.EndLemmas.{found-live}
 use Rattle.pr_model.proofs.TurnLemmas.{turn-taken}
 use Rattle.pr_model.specs.Changes.{Change, Ending, all_changed, becomes, changed, disposition_is, ended, ends_lwp, ends_process, files_are, forks, held_is, job_stops, makes_lwp, reaps, resumed, resumes, signals, signals_itself, space_is, suspends, takes_shared, with_disposition_of, with_fds, with_held, with_job_stop, with_shared_taken, with_space, with_suspended}
 use Rattle.pr_model.specs.Lives.{by_fork, by_vfork, forked, with_child, with_lwp_ended, with_made, with_new_lwp, with_reaped, without_lwp}

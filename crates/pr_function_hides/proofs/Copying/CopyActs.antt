@@ -3,9 +3,9 @@ use Rattle.std.proofs.Common.{List, [], length, refl, sym, subst, ap, ◌∙◌,
 use Rattle.std.proofs.lemmas.Bool.{eqb-true}
 use Rattle.std.proofs.lemmas.Option.{none-some, same_Some}
 use Rattle.std.specs.List.{slice_set}
-use Rattle.pr_lawful.proofs.EndLemmas.{found-live}
-use Rattle.pr_lawful.proofs.FileLemmas.{choice}
-use Rattle.pr_lawful.proofs.UseLemmas.{live-lawful}
+use Rattle.pr_lawful.proofs.LawfulTurns.EndLemmas.{found-live}
+use Rattle.pr_lawful.proofs.ProcessParts.FileLemmas.{choice}
+use Rattle.pr_lawful.proofs.Following.UseLemmas.{live-lawful}
 use Rattle.pr_laws.proofs.RefusalLemmas.{refused-leaves}
 use Rattle.pr_laws.specs.Refusals.{LeavesIfRefused}
 use Rattle.pr_line.specs.declared.options.Options.{Options}
@@ -31,7 +31,7 @@ use Rattle.pr_num.specs.Messages.{with_tail}
 use Rattle.pr_num.specs.Words.{word_bytes, word_of}
 use Rattle.pr_num.specs.declared.errnos.Errno.TheVariants.{Busy}
 use Rattle.pr_num.specs.declared.messages.Message.TheVariants as message
-use Rattle.pr_reached.proofs.EntryRanges.{records-range}
+use Rattle.pr_reached.proofs.RecordsInRange.EntryRanges.{records-range}
 use Rattle.pr_reached.specs.Fits.{IsFitProcess}
 use Rattle.pr_reached.specs.Reached.{IsReached}
 use Rattle.pr_report_laws.proofs.Invariant.OtherSteps.{lives-later}

@@ -2,7 +2,7 @@ use Rattle.std.proofs.Common.{◌≡◌, ◌<◌, ◌++◌, ℕ, true, None, Som
 use Rattle.std.proofs.lemmas.Bool.{false≢true}
 use Rattle.std.proofs.lemmas.Option.{none-some, same_Some}
 use Rattle.std.specs.List.{All, cons_option}
-use Rattle.pr_lawful.proofs.HistoryLemmas.{history-state}
+use Rattle.pr_lawful.proofs.LawfulStates.HistoryLemmas.{history-state}
 use Rattle.pr_line.specs.declared.options.Options.{Options}
 use Rattle.pr_model.proofs.HistoryLemmas.{state_after-push}
 use Rattle.pr_model.specs.Lawful.{IsLawful}

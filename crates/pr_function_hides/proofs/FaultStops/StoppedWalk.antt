@@ -33,7 +33,7 @@ use Rattle.pr_function_laws.proofs.OpenedProcesses.StopTurns.{free-stopless}
 use Rattle.pr_function_laws.specs.Opened.{is_opened}
 use Rattle.pr_hidden.specs.Covers.{Cover, Covers}
 use Rattle.pr_hidden.specs.Hiders.{Hiders, covers_after, covers_at, hides}
-use Rattle.pr_lawful.proofs.HandleLemmas.{handle-at, handle-writer}
+use Rattle.pr_lawful.proofs.ProcessParts.HandleLemmas.{handle-at, handle-writer}
 use Rattle.pr_hidden.specs.Tidiness.{IsPassiveBut}
 use Rattle.pr_model.proofs.TurnLemmas.{turn-taken}
 use Rattle.pr_model.specs.Calls.{answer_to}

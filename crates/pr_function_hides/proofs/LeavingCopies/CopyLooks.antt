@@ -8,8 +8,8 @@ use Rattle.pr_function_hides.proofs.Copying.CopyRows.{tells-of}
 use Rattle.pr_function_hides.specs.Copying.{IsEmpty, Tells, bare, ends_copy, none_goes, one_goes}
 use Rattle.pr_function_laws.proofs.Marks.MetLemmas.{fresh-stands}
 use Rattle.pr_function_laws.proofs.CallTurns.TurnReads.{fresh-new}
-use Rattle.pr_lawful.proofs.EndLemmas.{found-live}
-use Rattle.pr_lawful.proofs.UseLemmas.{live-lawful}
+use Rattle.pr_lawful.proofs.LawfulTurns.EndLemmas.{found-live}
+use Rattle.pr_lawful.proofs.Following.UseLemmas.{live-lawful}
 use Rattle.pr_line.specs.Events.{event_of}
 use Rattle.pr_line.specs.declared.events.Event.{Event}
 use Rattle.pr_line.specs.declared.options.Options.{Options}
@@ -26,7 +26,7 @@ use Rattle.pr_model.specs.declared.calls.Mode.TheVariants.{Read}
 use Rattle.pr_num.proofs.ByIdLaws.{All-under}
 use Rattle.pr_num.proofs.ByIdLemmas.{rises_from-tail}
 use Rattle.pr_num.specs.ById.{rises_from, under}
-use Rattle.pr_reached.proofs.EntryRanges.{records-range}
+use Rattle.pr_reached.proofs.RecordsInRange.EntryRanges.{records-range}
 use Rattle.pr_reached.specs.Fits.{IsFitLwp, IsFitProcess}
 use Rattle.pr_reached.specs.Reached.{IsReached}
 use Rattle.pr_rec.specs.declared.lwps.LwpStatus.{LwpStatus}

@@ -23,8 +23,8 @@ use Rattle.pr_function_laws.proofs.CallTurns.TurnReads.{fault-told}
 use Rattle.pr_function_laws.specs.Stretches.{acts_by}
 use Rattle.pr_hidden.specs.Covers.{Covers, Cover}
 use Rattle.pr_hidden.specs.Hiders.{Hiders, covers_at, hides}
-use Rattle.pr_lawful.proofs.EndLemmas.{found-live}
-use Rattle.pr_lawful.proofs.UseLemmas.{live-lawful}
+use Rattle.pr_lawful.proofs.LawfulTurns.EndLemmas.{found-live}
+use Rattle.pr_lawful.proofs.Following.UseLemmas.{live-lawful}
 use Rattle.pr_line.specs.Events.{event_of}
 use Rattle.pr_line.specs.declared.events.Event.TheVariants as event
 use Rattle.pr_line.specs.declared.events.Event.{Event}
@@ -58,8 +58,8 @@ use Rattle.pr_num.specs.Words.{word_bytes, word_of}
 use Rattle.pr_num.specs.declared.errnos.Errno.TheVariants.{Busy}
 use Rattle.pr_num.specs.declared.faults.Flt.{Flt}
 use Rattle.pr_num.specs.declared.messages.Message.TheVariants as message
-use Rattle.pr_reached.proofs.EntryRanges.{records-range}
-use Rattle.pr_reached.proofs.ReachedLemmas.{later-reached}
+use Rattle.pr_reached.proofs.RecordsInRange.EntryRanges.{records-range}
+use Rattle.pr_reached.proofs.Together.ReachedLemmas.{later-reached}
 use Rattle.pr_reached.specs.ByteHistories.{HasBytes}
 use Rattle.pr_reached.specs.Reached.{IsReached}
 use Rattle.pr_rec.specs.declared.lwps.LwpStatus.{LwpStatus}

@@ -11,8 +11,8 @@ use Rattle.pr_function_laws.proofs.OpenedProcesses.OpenedLemmas.{control-sole}
 use Rattle.pr_function_laws.specs.Lifted.{HasControl}
 use Rattle.pr_hidden.specs.Covers.{Patch}
 use Rattle.pr_hidden.specs.Sparing.{AreWithin, are_spared}
-use Rattle.pr_lawful.proofs.HandleLemmas.{control-writes, handle-at}
-use Rattle.pr_lawful.proofs.HistoryLemmas.{history-state}
+use Rattle.pr_lawful.proofs.ProcessParts.HandleLemmas.{control-writes, handle-at}
+use Rattle.pr_lawful.proofs.LawfulStates.HistoryLemmas.{history-state}
 use Rattle.pr_lending.proofs.HistoryLemmas.{history-lends}
 use Rattle.pr_lending.specs.Lending.{AreLending}
 use Rattle.pr_line.specs.declared.options.Options.{Options}

@@ -18,8 +18,8 @@ use Rattle.pr_keeps.specs.MessageEdits as message
 use Rattle.pr_keeps.specs.MessageEdits.{MessageEdit}
 use Rattle.pr_keeps.specs.ProcessEdits as process
 use Rattle.pr_keeps.specs.ProcessEdits.{ProcessEdit}
-use Rattle.pr_lawful.proofs.SystemLemmas.{next-free}
-use Rattle.pr_lawful.proofs.TurnLemmas.{acting as acting_in}
+use Rattle.pr_lawful.proofs.ProcessParts.SystemLemmas.{next-free}
+use Rattle.pr_lawful.proofs.LawfulTurns.TurnLemmas.{acting as acting_in}
 use Rattle.pr_laws.proofs.RefusalLemmas.{refused-leaves}
 use Rattle.pr_laws.specs.Refusals.{LeavesIfRefused}
 use Rattle.pr_lending.proofs.LoanLemmas.{borrower-found, space-found}

@@ -5,10 +5,10 @@ use Rattle.std.specs.Option.{option_map}
 use Rattle.pr_function_hides.proofs.Memory.PassedMemory.{Passes, either-passes, edit-passes, ended-passes, generated-passes, left-passes, next-passes, plain-passes, processes-pass, reaped-passes, same-pass, same-passes}
 use Rattle.pr_function_hides.proofs.Memory.SharedMemory.{HasMemoryOf, Shows, borrower-stands, its_own, itself, lent_on, of_borrower}
 use Rattle.pr_keeps.proofs.KeepsLemmas.{choice}
-use Rattle.pr_lawful.proofs.EffectLemmas.{IsActing}
-use Rattle.pr_lawful.proofs.SuitingLemmas.{SuitChanges, SuitsChange, SuitsTransition}
-use Rattle.pr_lawful.proofs.SystemLemmas.{next-free}
-use Rattle.pr_lawful.proofs.TurnLemmas.{row-suits}
+use Rattle.pr_lawful.proofs.LawfulTurns.EffectLemmas.{IsActing}
+use Rattle.pr_lawful.proofs.LawfulTurns.SuitingLemmas.{SuitChanges, SuitsChange, SuitsTransition}
+use Rattle.pr_lawful.proofs.ProcessParts.SystemLemmas.{next-free}
+use Rattle.pr_lawful.proofs.LawfulTurns.TurnLemmas.{row-suits}
 use Rattle.pr_lending.proofs.ChangeLemmas.{moved-kept}
 use Rattle.pr_lending.proofs.LifeLemmas.{found-stands, stands-kept}
 use Rattle.pr_lending.proofs.LoanLemmas.{borrower-found, borrower_in, is_live_in, lender_in, lending-kept, seen-kept, space-found, space_in, zombie-dead}

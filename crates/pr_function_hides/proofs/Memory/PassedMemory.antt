@@ -8,7 +8,7 @@ use Rattle.pr_lending.proofs.LifeLemmas.{found-stands, signalled-same}
 use Rattle.pr_lending.proofs.LoanLemmas.{borrower-found, borrower_in, is_live_in, lender_in, live-alike, same-of, seen-kept, space-found, space_in}
 use Rattle.pr_lending.proofs.PassLemmas.{IsFree, PassesLoans, Stands, loans-passed, passed}
 use Rattle.pr_lending.specs.Lending.{AreLending}
-use Rattle.pr_lawful.proofs.EndLemmas.{buried}
+use Rattle.pr_lawful.proofs.LawfulTurns.EndLemmas.{buried}
 use Rattle.pr_model.proofs.StateLemmas.{live_process-found}
 use Rattle.pr_model.specs.Generation.{signalled}
 use Rattle.pr_model.specs.Lives.{bare_process, ended_if_live, is_id, with_ended, with_lender_of, with_loan_back, with_loans_passed, with_made, with_parent_signalled, with_reaped, with_this_ended, orphaned, zombie}

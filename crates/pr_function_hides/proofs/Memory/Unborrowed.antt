@@ -15,7 +15,7 @@ use Rattle.pr_num.specs.declared.signals.Sig.{Sig}
 use Rattle.pr_num.specs.declared.signals.Sig.TheVariants.{Cld, Kill}
 use Rattle.pr_parts.specs.FileCalls.{with_all_shared}
 use Rattle.pr_laws.proofs.RepresentativeLemmas.{ids-above}
-use Rattle.pr_lawful.proofs.EndLemmas.{buried, found-live}
+use Rattle.pr_lawful.proofs.LawfulTurns.EndLemmas.{buried, found-live}
 use Rattle.pr_keeps.specs.CallEdits as edit
 use Rattle.pr_keeps.specs.CallEdits.{CallEdit, CloseEdit}
 use Rattle.pr_keeps.specs.MessageEdits as message

@@ -11,8 +11,8 @@ use Rattle.pr_function_hides.specs.RunsOfTrusses.{IsRunOfTrusses}
 use Rattle.pr_function_laws.proofs.Stepping.BreakpointLemmas.{IsOwnEntry, foreign-entry, own-entry}
 use Rattle.pr_function_laws.specs.Opened.{functions_at}
 use Rattle.pr_hidden.specs.Hiders.{Hiders, hides}
-use Rattle.pr_lawful.proofs.HandleLemmas.{handle-at}
-use Rattle.pr_lawful.proofs.HistoryLemmas.{history-state}
+use Rattle.pr_lawful.proofs.ProcessParts.HandleLemmas.{handle-at}
+use Rattle.pr_lawful.proofs.LawfulStates.HistoryLemmas.{history-state}
 use Rattle.pr_lending.proofs.HistoryLemmas.{history-lends}
 use Rattle.pr_lending.proofs.LoanLemmas.{lender-found}
 use Rattle.pr_lending.specs.Lending.{AreLending}

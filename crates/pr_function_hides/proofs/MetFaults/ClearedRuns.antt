@@ -23,7 +23,7 @@ use Rattle.pr_function_laws.specs.Opened.{is_opened}
 use Rattle.pr_hidden.specs.Covers.{Cover, Covers}
 use Rattle.pr_hidden.specs.Hiders.{Hiders, covers_at, hides}
 use Rattle.pr_hidden.specs.Tidiness.{ClearsOwn, is_step_flags}
-use Rattle.pr_lawful.proofs.UseLemmas.{live-lawful}
+use Rattle.pr_lawful.proofs.Following.UseLemmas.{live-lawful}
 use Rattle.pr_model.specs.ControlMessages.{aim_of, target_of}
 use Rattle.pr_model.specs.Handles.{handle_of}
 use Rattle.pr_model.specs.Lawful.{IsLawful}

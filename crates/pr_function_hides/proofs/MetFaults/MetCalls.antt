@@ -41,8 +41,8 @@ use Rattle.pr_function_laws.specs.Opened.{is_opened}
 use Rattle.pr_function_laws.specs.Stretches.{acts_by}
 use Rattle.pr_hidden.specs.Covers.{Cover, Covers}
 use Rattle.pr_hidden.specs.Hiders.{Hiders, covers_at, hides, is_ctl}
-use Rattle.pr_lawful.proofs.HandleLemmas.{control-writes, handle-at}
-use Rattle.pr_lawful.proofs.UseLemmas.{live-lawful}
+use Rattle.pr_lawful.proofs.ProcessParts.HandleLemmas.{control-writes, handle-at}
+use Rattle.pr_lawful.proofs.Following.UseLemmas.{live-lawful}
 use Rattle.pr_line.specs.declared.options.Options.{Options}
 use Rattle.pr_model.specs.Handles.{handle_of}
 use Rattle.pr_model.specs.Lawful.{IsFitting, IsLawful}

@@ -12,7 +12,7 @@ use Rattle.pr_function_laws.proofs.OpenedProcesses.OpenedLemmas.{control-sole}
 use Rattle.pr_hidden.proofs.PatchedSpaces.PatchLemmas.{apart-spares, hidden-store, patched-store, same-range}
 use Rattle.pr_hidden.specs.Covers.{Patch}
 use Rattle.pr_hidden.specs.Sparing.{AreWithin, is_apart}
-use Rattle.pr_lawful.proofs.HandleLemmas.{control-writes, handle-at}
+use Rattle.pr_lawful.proofs.ProcessParts.HandleLemmas.{control-writes, handle-at}
 use Rattle.pr_line.specs.declared.functions.Function.{Function}
 use Rattle.pr_model.specs.Changes.{with_space}
 use Rattle.pr_model.specs.Handles.{handle_of, is_control}

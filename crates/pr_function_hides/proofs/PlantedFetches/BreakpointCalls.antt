@@ -38,7 +38,7 @@ use Rattle.pr_num.specs.declared.messages.Message.{Message}
 use Rattle.pr_num.specs.declared.messages.Message.TheVariants as message
 use Rattle.pr_num.specs.declared.messages.MsgFault.{MsgFault}
 use Rattle.pr_parts.specs.AddressSpaces.{with_bytes}
-use Rattle.pr_reached.proofs.MemoryRanges.{instruction-bytes}
+use Rattle.pr_reached.proofs.StatesInRange.MemoryRanges.{instruction-bytes}
 use Rattle.pr_truss.specs.Marks.{breakpoint}
 use Rattle.pr_truss.specs.Replies.{answer_of}
 use Rattle.pr_truss.specs.Trusses.{TrussState}

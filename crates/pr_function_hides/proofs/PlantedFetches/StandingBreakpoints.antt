@@ -65,7 +65,7 @@ use Rattle.pr_num.specs.Messages.{spelling}
 use Rattle.pr_num.specs.Words.{IsByte}
 use Rattle.pr_num.specs.declared.instructions.Instruction.TheVariants.{Bpt}
 use Rattle.pr_num.specs.declared.messages.Message.TheVariants as message
-use Rattle.pr_reached.proofs.MemoryRanges.{instruction-bytes}
+use Rattle.pr_reached.proofs.StatesInRange.MemoryRanges.{instruction-bytes}
 use Rattle.pr_reached.specs.ByteHistories.{HasBytes}
 use Rattle.pr_reached.specs.Reached.{IsReached}
 use Rattle.pr_rec.specs.declared.lwps.LwpStatus.{LwpStatus}

@@ -38,17 +38,11 @@ use Rattle.std.proofs.lemmas.List.{get_or_push}
 use Rattle.std.proofs.lemmas.Option.{none-some, same_Some}
 use Rattle.std.specs.List.{slice_get}
 use Rattle.std.specs.Option.{option_and_then}
+pub use Rattle.pr_function_laws.proofs.Marks.MarkWalk.{planted_after}
 use Rattle.pr_function_hides.proofs.Replies.OwnFiles.{IsBeside, IsWithin}
 use Rattle.pr_function_hides.proofs.Replies.PlantedWalk.{IsAlike, alike-join, event-kept, event-over-alike, going-alike, marks_then, opening-alike, over-alike, same_alike, set-alike, stop-alike}
 
 -- What a reply makes of the breakpoints that are planted.
-
--- the breakpoints that the reply leaves planted, where these functions are the next to be planted and lifted
-abbrev pub planted_after : List Bool → Answer → Option ℕ → Option ℕ → List Bool
-planted_after planted Accepted (Some function) lift = with_function planted function
-planted_after planted _ (Some function) lift = planted
-planted_after planted answer None (Some function) = without_function planted function
-planted_after planted answer None None = planted
 
 -- ---- a process keeps its id and its marks
 

@@ -6,10 +6,7 @@ use Rattle.pr_truss.specs.Asides.{marks_at, with_aside, with_marks, with_patches
 use Rattle.pr_truss.specs.Records.{child_of}
 use Rattle.pr_truss.specs.Closings.{polls_or_finished, with_going_on, with_next_left, with_next_opening}
 use Rattle.pr_truss.specs.FunctionStops.{with_call_shown, with_copy_begun, with_copy_ended, with_function_event, with_memory_replaced, with_other_event, with_step_begun, with_step_completed, with_trap_over}
-use Rattle.pr_num.specs.Control.{clear_fault, single_step}
-use Rattle.pr_num.specs.Sets.{union_word}
-use Rattle.pr_truss.specs.FunctionEvents.{step_of}
-use Rattle.pr_truss.specs.Marks.{no_functions, no_marks, standing}
+use Rattle.pr_truss.specs.Marks.{no_marks}
 use Rattle.pr_truss.specs.Stops.{asked_range, followed_child, with_child_or, with_event, with_event_over, with_event_shown, with_old_stop_over, with_stop, with_stop_over, with_text_or_shown}
 use Rattle.pr_truss.specs.Trusses.{TrussState, nobody, opening_or, traced_at, with_traced}
 use Rattle.pr_truss.specs.declared.asides.Aside.{Aside}
@@ -22,6 +19,7 @@ use Rattle.std.proofs.Common.{◌≡◌, ◌<◌, ◌-◌, ℕ, Bool, true, fals
 use Rattle.std.proofs.lemmas.Bool.{cases_eq}
 use Rattle.std.proofs.lemmas.List.{get_or-set_other, length-set}
 use Rattle.std.specs.List.{slice_get, slice_set}
+pub use Rattle.pr_function_laws.proofs.Marks.MarkWalk.{marks_then}
 
 -- One walk over the replies of a truss with functions that follows no children and was not interrupted: what is so of
 -- the marks of each process stays so, but where a breakpoint is planted or lifted, an event is read, or it is run.
@@ -130,17 +128,6 @@ module _ (u : TrussState) (off : u.leaving ≡ false) (follow : u.options.follow
       (either u _ _ _ old-alike (either u _ _ _ (over-alike u off follow q) (event-alike (event_of l))))
 
 -- ---- with other marks of the process
-
--- the marks of a process with an event of an lwp, before anything is planted or lifted
-abbrev pub marks_then : Marks → LwpStatus → FunctionEvent → Marks
-marks_then m l (AtBreakpoint function) =
-    record m { stepped = Some (step_of l function); flags = union_word clear_fault single_step }
-marks_then m l (Completed step) = record m { stepped = None; flags = clear_fault }
-marks_then m l TraceTrap = record m { flags = clear_fault }
-marks_then m l BeforeCopy = record m { lifted = standing m; stepped = None; flags = single_step }
-marks_then m l AfterCopy = record m { lifted = no_functions; stepped = None }
-marks_then m l Replaced = no_marks
-marks_then m l Other = record m { stepped = None }
 
 module _ (u : TrussState) (off : u.leaving ≡ false) (follow : u.options.follow ≡ false) (q : ℕ) (l : LwpStatus)
     (within : q < length u.traced) where

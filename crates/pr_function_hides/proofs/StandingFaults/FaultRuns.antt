@@ -9,8 +9,8 @@ use Rattle.pr_function_laws.specs.Lifted.{HasControl}
 use Rattle.pr_function_laws.specs.OneEvent.{HasOneEventAtMost}
 use Rattle.pr_hidden.specs.Covers.{Cover}
 use Rattle.pr_laws.proofs.RunLemmas.{run-granted as not-refused}
-use Rattle.pr_lawful.proofs.UseLemmas.{live-lawful}
-use Rattle.pr_lawful.proofs.EndLemmas.{found-live}
+use Rattle.pr_lawful.proofs.Following.UseLemmas.{live-lawful}
+use Rattle.pr_lawful.proofs.LawfulTurns.EndLemmas.{found-live}
 use Rattle.pr_model.specs.FirstState.{system_process}
 use Rattle.pr_model.specs.Lives.{bare_process}
 use Rattle.pr_line.specs.declared.options.Options.{Options}

@@ -9,11 +9,11 @@ use Rattle.pr_function_laws.proofs.OpenedProcesses.StopTurns.{FaultsSo, counted-
 use Rattle.pr_function_laws.proofs.OpenedProcesses.StopTurns.{free-stopless, kind-so, no_fault}
 use Rattle.pr_hidden.proofs.Follows.FaultRows.{HowFaulted, bpt-effect, by_instruction, by_return, how-faulted}
 use Rattle.pr_keeps.proofs.RowLemmas.{row-kind}
-use Rattle.pr_lawful.proofs.EffectLemmas.{IsActing}
-use Rattle.pr_lawful.proofs.EndLemmas.{found-live}
-use Rattle.pr_lawful.proofs.FileLemmas.{choice}
-use Rattle.pr_lawful.proofs.SuitingLemmas.{SuitsTransition}
-use Rattle.pr_lawful.proofs.TurnLemmas.{acting, row-suits}
+use Rattle.pr_lawful.proofs.LawfulTurns.EffectLemmas.{IsActing}
+use Rattle.pr_lawful.proofs.LawfulTurns.EndLemmas.{found-live}
+use Rattle.pr_lawful.proofs.ProcessParts.FileLemmas.{choice}
+use Rattle.pr_lawful.proofs.LawfulTurns.SuitingLemmas.{SuitsTransition}
+use Rattle.pr_lawful.proofs.LawfulTurns.TurnLemmas.{acting, row-suits}
 use Rattle.pr_model.proofs.TurnLemmas.{turn-taken}
 use Rattle.pr_model.specs.Changes.{Ending, all_changed, ended, ends_lwp, ends_process}
 use Rattle.pr_model.specs.InstructionEffects as instruction

@@ -6,7 +6,7 @@ use Rattle.std.specs.List.{list_all}
 use Rattle.pr_function_laws.specs.OneEvent.{HasOneEventAtMost, met, unmet}
 use Rattle.pr_hidden.specs.Covers.{Cover, Patch}
 use Rattle.pr_hidden.specs.Hiders.{patch_at}
-use Rattle.pr_lawful.proofs.FileLemmas.{choice}
+use Rattle.pr_lawful.proofs.ProcessParts.FileLemmas.{choice}
 use Rattle.pr_laws.proofs.RunLemmas.{representative-stands}
 use Rattle.pr_model.specs.Registers.{pc_of}
 use Rattle.pr_model.specs.Running.{if_all_requested, if_flag, let_go, run_lwp, runs_one, shows_run, was_requested}

@@ -8,10 +8,10 @@ use Rattle.pr_function_laws.specs.OneEvent.{HasMetNothing, HasOneEventAtMost, me
 use Rattle.pr_keeps.proofs.RowLemmas.{row-kind}
 use Rattle.pr_keeps.specs.RowKinds as kind
 use Rattle.pr_keeps.specs.RowKinds.{RowKind}
-use Rattle.pr_lawful.proofs.EndLemmas.{found-live}
-use Rattle.pr_lawful.proofs.FileLemmas.{choice}
-use Rattle.pr_lawful.proofs.SuitingLemmas.{SuitsTransition, is_stop}
-use Rattle.pr_lawful.proofs.TurnLemmas.{acting, row-suits}
+use Rattle.pr_lawful.proofs.LawfulTurns.EndLemmas.{found-live}
+use Rattle.pr_lawful.proofs.ProcessParts.FileLemmas.{choice}
+use Rattle.pr_lawful.proofs.LawfulTurns.SuitingLemmas.{SuitsTransition, is_stop}
+use Rattle.pr_lawful.proofs.LawfulTurns.TurnLemmas.{acting, row-suits}
 use Rattle.pr_model.proofs.TurnLemmas.{turn-taken}
 use Rattle.pr_model.specs.CallEffects.{call_effect}
 use Rattle.pr_model.specs.Changes.{Effect, does, ends, sleeps as effect_sleeps}

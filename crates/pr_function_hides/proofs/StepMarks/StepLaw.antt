@@ -14,7 +14,7 @@ use Rattle.pr_function_laws.proofs.CallTurns.TrapLemmas.{IsTrapless, trapless}
 use Rattle.pr_hidden.proofs.Follows.FaultRows.{HowFaulted, by_instruction, by_return, how-faulted, return-marked, trace-effect}
 use Rattle.pr_hidden.specs.Hiders.{Hiders, has_hold, is_hold}
 use Rattle.pr_hidden.specs.Tidiness.{IsPassiveBut}
-use Rattle.pr_lawful.proofs.HandleLemmas.{any-at, handle-at}
+use Rattle.pr_lawful.proofs.ProcessParts.HandleLemmas.{any-at, handle-at}
 use Rattle.pr_model.proofs.TurnLemmas.{turn-taken}
 use Rattle.pr_model.specs.InstructionEffects as instruction
 use Rattle.pr_model.specs.InstructionEffects.{InstructionEffect, instruction_effect}

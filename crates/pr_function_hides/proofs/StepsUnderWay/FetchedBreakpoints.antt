@@ -1,4 +1,4 @@
-use Rattle.std.proofs.Common.{◌≡◌, ◌≢◌, ℕ, Bool, true, false, Option, Some, None, List, Result, Ok, Err, refl, sym, subst, ap, ◌∙◌, arith, inl, inr}
+use Rattle.std.proofs.Common.{◌≡◌, ◌≢◌, ℕ, Bool, true, false, Option, Some, None, List, Result, Ok, Err, refl, sym, subst, ap, ◌∙◌, inl, inr}
 use Rattle.std.proofs.lemmas.Bool.{cases_Bool}
 use Rattle.pr_hidden.proofs.Follows.FaultRows.{HowFaulted, by_instruction, by_return, how-faulted, trace-effect}
 use Rattle.pr_model.specs.InstructionEffects as instruction
@@ -11,9 +11,8 @@ use Rattle.pr_model.specs.declared.events.Did.TheVariants.{Faulted, Stopped}
 use Rattle.pr_model.specs.declared.events.Entry.{Entry}
 use Rattle.pr_model.specs.declared.events.Turned.{Turned}
 use Rattle.pr_model.specs.declared.lwps.Phase.TheVariants.{User, Exiting}
-use Rattle.pr_num.proofs.InstructionLemmas.{spelled-read}
 use Rattle.pr_num.specs.Control.{prot_exec, watch_exec}
-use Rattle.pr_num.specs.Instructions.{HasImmediate, fields_of, instruction_in}
+use Rattle.pr_num.specs.Instructions.{instruction_in}
 use Rattle.pr_num.specs.Spaces.{Space, bytes_for}
 use Rattle.pr_num.specs.declared.faults.Flt.TheVariants.{Trace, Watch}
 use Rattle.pr_num.specs.declared.instructions.Instruction.{Instruction}
@@ -27,6 +26,7 @@ use Rattle.pr_probe_laws.proofs.Hiding.HiddenTurns.{did-is}
 use Rattle.pr_truss.specs.Marks.{breakpoint}
 use Rattle.pr_truss_laws.proofs.Machine.StillLemmas.{row-directed}
 use Rattle.pr_function_laws.proofs.CallTurns.TrapLemmas.{IsTrapless, trapless}
+use Rattle.pr_function_laws.proofs.PlantedCalls.BreakpointCode.{breakpoint-read}
 use Rattle.pr_function_laws.specs.Turns.{EndsInTrap}
 use Rattle.pr_function_hides.proofs.StepsUnderWay.TrapTurns.{turn_entry}
 
@@ -36,10 +36,6 @@ use Rattle.pr_function_hides.proofs.StepsUnderWay.TrapTurns.{turn_entry}
 
 abbrev IsNoRun : InstructionEffect → Type 0
 IsNoRun e = (regs : List ℕ) (store : Option Store) → e ≢ instruction.runs regs store
-
-breakpoint-read : instruction_in breakpoint ≡ Some Bpt
-unfolding HasImmediate fields_of
-breakpoint-read = spelled-read Bpt (omega arith)
 
 access-none : (bad : BadByte) → IsNoRun (access_fault false bad)
 access-none (Hole address) regs store is = cc

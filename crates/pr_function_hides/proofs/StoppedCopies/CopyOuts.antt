@@ -2,7 +2,7 @@ use Rattle.std.proofs.Common.{◌≡◌, ℕ, false, is_some, Option, Some, None
 use Rattle.std.proofs.lemmas.Bool.{cases_eq, false≢true}
 use Rattle.std.proofs.lemmas.Option.{same_Some}
 use Rattle.std.specs.List.{list_all}
-use Rattle.pr_lawful.proofs.FileLemmas.{choice}
+use Rattle.pr_lawful.proofs.ProcessParts.FileLemmas.{choice}
 use Rattle.pr_model.specs.Lawful.{IsLawfulSystem}
 use Rattle.pr_model.specs.LwpTurns.{LwpTurn, turn_of, with_counted}
 use Rattle.pr_model.specs.Running.{if_all_requested, let_go, run_lwp, runs_one, shows_run, was_requested, with_all_run, with_flags_on, with_one_run, with_representative_run, with_request, with_run, without_directive, without_request}

@@ -3,7 +3,7 @@ use Rattle.std.proofs.lemmas.Bool.{cases_eq, false≢true}
 use Rattle.std.proofs.lemmas.Option.{same_Some}
 use Rattle.std.specs.List.{list_all}
 use Rattle.pr_laws.proofs.RunLemmas.{representative-stands}
-use Rattle.pr_lawful.proofs.FileLemmas.{choice}
+use Rattle.pr_lawful.proofs.ProcessParts.FileLemmas.{choice}
 use Rattle.pr_model.specs.Running.{if_all_requested, if_flag, let_go, run_lwp, runs_one, shows_run, was_requested, with_abort, with_abort_from, with_aborted, with_all_run, with_cleared, with_directive, with_flags_on, with_one_run, with_representative_run, with_request, with_run, with_step, without_current, without_directive, without_fault, without_request}
 use Rattle.pr_model.specs.State.{TracedLwp, TracedProcess, lwp_of, with_lwp}
 use Rattle.pr_model.specs.Stops.{representative}

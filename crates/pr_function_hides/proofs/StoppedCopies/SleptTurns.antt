@@ -2,7 +2,7 @@ use Rattle.std.proofs.Common.{◌≡◌, ◌==◌, ◌+◌, ℕ, Bool, true, fal
 use Rattle.std.proofs.lemmas.Bool.{false≢true}
 use Rattle.std.proofs.lemmas.List.Elements.{All-cons, All-nil}
 use Rattle.std.specs.List.{All}
-use Rattle.pr_erasure.proofs.EffectLemmas.{call-known}
+use Rattle.pr_erasure.proofs.SeenTurns.EffectLemmas.{call-known}
 use Rattle.pr_keeps.proofs.KeepsLemmas.{choice}
 use Rattle.pr_keeps.proofs.LoanLemmas.{lent-keeps, loans_passed-keep, process_if-keeps}
 use Rattle.pr_keeps.proofs.RowLemmas.{row-kind}

@@ -23,7 +23,7 @@ use Rattle.pr_num.specs.Messages.{first_message, spelling}
 use Rattle.pr_num.specs.Words.{IsByte}
 use Rattle.pr_num.specs.declared.messages.Message.TheVariants as message
 use Rattle.pr_num.proofs.SearchLemmas.{All-at}
-use Rattle.pr_reached.proofs.MemoryRanges.{instruction-bytes}
+use Rattle.pr_reached.proofs.StatesInRange.MemoryRanges.{instruction-bytes}
 use Rattle.pr_report_laws.proofs.Invariant.StandLemmas.{Each, EachBut, each-but}
 use Rattle.pr_truss.specs.Asides.{marks_at}
 use Rattle.pr_truss.specs.FunctionCalls.{call_beside, function_call_of, lift_call, next_function_call_of, patch_call, plant_call}

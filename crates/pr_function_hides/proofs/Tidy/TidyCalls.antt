@@ -8,7 +8,7 @@ use Rattle.std.specs.Prelude.{map}
 use Rattle.pr_api.specs.Entries.{call_entry}
 use Rattle.pr_hidden.specs.Covers.{Covers, Patch}
 use Rattle.pr_hidden.specs.Hiders.{Hiders, are_some, covers_after, covers_at, covers_called, hides, is_ctl, patch_at}
-use Rattle.pr_lawful.proofs.HandleLemmas.{handle-at, handle-writer}
+use Rattle.pr_lawful.proofs.ProcessParts.HandleLemmas.{handle-at, handle-writer}
 use Rattle.pr_line.specs.declared.options.Options.{Options}
 use Rattle.pr_model.specs.Calls.{answer_to}
 use Rattle.pr_model.specs.ControlMessages.{tail_of}

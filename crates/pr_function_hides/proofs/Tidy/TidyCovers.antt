@@ -8,7 +8,7 @@ use Rattle.std.specs.Str.{bytes_eq}
 use Rattle.pr_api.specs.Entries.{call_entry}
 use Rattle.pr_hidden.specs.Covers.{Cover, Covers, Patch}
 use Rattle.pr_hidden.specs.Hiders.{Hiders, covers_at, covers_called, hides, is_ctl, with_patch, without_patch}
-use Rattle.pr_lawful.proofs.HandleLemmas.{control-writes, handle-at}
+use Rattle.pr_lawful.proofs.ProcessParts.HandleLemmas.{control-writes, handle-at}
 use Rattle.pr_line.specs.declared.functions.Function.{Function}
 use Rattle.pr_model.specs.Calls.{answer_to}
 use Rattle.pr_model.specs.Handles.{handle_of, is_writable}

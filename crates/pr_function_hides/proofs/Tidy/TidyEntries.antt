@@ -5,8 +5,8 @@ use Rattle.std.proofs.lemmas.Option.{none-some, same_Some}
 use Rattle.std.specs.List.{slice_get}
 use Rattle.pr_hidden.specs.Covers.{Covers, Patch}
 use Rattle.pr_hidden.specs.Hiders.{Hiders, covers_after, covers_at, hides, no_covers, replaces_memory}
-use Rattle.pr_lawful.proofs.HandleLemmas.{handle-at}
-use Rattle.pr_lawful.proofs.HistoryLemmas.{history-state}
+use Rattle.pr_lawful.proofs.ProcessParts.HandleLemmas.{handle-at}
+use Rattle.pr_lawful.proofs.LawfulStates.HistoryLemmas.{history-state}
 use Rattle.pr_lending.proofs.HistoryLemmas.{history-lends}
 use Rattle.pr_lending.specs.Lending.{AreLending}
 use Rattle.pr_model.proofs.HistoryLemmas.{state_after-push}

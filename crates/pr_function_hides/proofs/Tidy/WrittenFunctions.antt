@@ -32,7 +32,7 @@ use Rattle.pr_num.specs.declared.instructions.Instruction.TheVariants.{Bpt}
 use Rattle.pr_num.specs.declared.messages.Message.{Message}
 use Rattle.pr_num.specs.declared.messages.Message.TheVariants as message
 use Rattle.pr_num.specs.declared.messages.MsgFault.{MsgFault}
-use Rattle.pr_reached.proofs.MemoryRanges.{instruction-bytes}
+use Rattle.pr_reached.proofs.StatesInRange.MemoryRanges.{instruction-bytes}
 use Rattle.pr_truss.specs.Asides.{marks_at}
 use Rattle.pr_truss.specs.FunctionCalls.{call_beside, function_call_of, lift_call, next_function_call_of, patch_call}
 use Rattle.pr_truss.specs.FunctionCalls.{plant_call}

@@ -1,4 +1,5 @@
 use Rattle.std.proofs.Common.{◌≡◌, ◌≢◌, ◌==◌, ◌<◌, ◌++◌, ℕ, true, false, cond, Option, Some, None, List, [], ◌∷◌, length, append_assoc, append-nil, refl, sym, subst, ap, ◌∙◌, arith}
+use Rattle.std.proofs.lemmas.Bool.{false≢true}
 use Rattle.std.proofs.lemmas.List.Elements.{All-head}
 use Rattle.std.proofs.lemmas.Option.{none-some, same_Some, slice_get_within}
 use Rattle.std.specs.List.{All, cons_option, slice_get}
@@ -63,6 +64,7 @@ use Rattle.pr_function_laws.specs.Opened.{IsFunctionRun, OwnsAndTraces, ReadsBre
 use Rattle.pr_function_laws.specs.Runs.{functions_after, functions_on}
 use Rattle.pr_function_laws.specs.Steppable.{IsSteppable}
 use Rattle.pr_function_laws.specs.ToldTurns.{AreSteppable, TellsATurn, TellsTurnsAlone}
+use Rattle.pr_function_laws.specs.Turns.{ends_step}
 use Rattle.pr_function_laws.proofs.Pending.FrontLemmas as fronts
 use Rattle.pr_function_laws.proofs.Pending.FrontLemmas.{calm-answer}
 
@@ -87,7 +89,7 @@ record ReadsIt (t : TrussState) (pid : ℕ) : Type 0 where
   is : reading_now t ≡ Some at
   own : (traced_at t at).pid ≡ pid
 
-new-event : (u : Traced) (l : LwpStatus) (e : Event) → (u.old == 0) ≡ true → u.seen ≡ false → event_of l ≡ Some e
+pub new-event : (u : Traced) (l : LwpStatus) (e : Event) → (u.old == 0) ≡ true → u.seen ≡ false → event_of l ≡ Some e
     → fresh_event u l ≡ Some e
 unfolding fresh_event
 new-event u l e new unseen on =
@@ -498,6 +500,96 @@ module _ (n k : ℕ) (o : Options) (s : TracedState) (h : List Entry) (run : IsF
       → KeptAt front
   kept-front front later is calm = walk front [] later is calm first
 
+  -- ---- a status that is read
+
+  module _ (front later : List Entry) (again : Entry) (y : Exchange) (is : h ≡ front ++ again ∷ later)
+      (own : exchange_of k again ≡ Some y) (calm : All WasNotInterrupted (exchanges k front)) (q : ℕ)
+      (idle : (functions_at k o front).aside ≡ Nothing) (at : (functions_at k o front).stage ≡ ReadingStatus q)
+      (l : LwpStatus) (told : option_and_then status_lwp (bytes_in y.reply) ≡ Some l) where
+    abbrev reader : TrussState
+    reader = functions_at k o front
+
+    placed-now : AtStage (StepsAt k o s front) reader.traced (ReadingStatus q)
+    placed-now =
+        let w = kept-front front (again ∷ later) is calm in
+        subst (AtStage (StepsAt k o s front) reader.traced) at w.stage
+
+    inside : q < length reader.traced
+    inside = let p = placed-now in p.0
+
+    its-step : (step : Stepped) → (marks_at reader q).stepped ≡ Some step
+        → IsUnderWay k o s front (traced_at reader q).pid (traced_at reader q).status step
+    its-step = let p = placed-now in let all : Each (Steps k o s front) reader.traced = p.1.0 in all q inside
+
+    has-now : has_functions reader.options ≡ true
+    has-now = has front again later is calm
+
+    accepted : answer_of y.reply ≡ Accepted
+    unfolding answer_of bytes_in
+    accepted = by y.reply told
+      where
+        by : (r : Reply) → option_and_then status_lwp (bytes_in r) ≡ Some l → answer_of r ≡ Accepted
+        by (reply.Bytes bs) some = refl
+        by _ some = absurd (none-some l some)
+
+    gone-not : Gone ≡ Accepted → ⊥
+    gone-not same = cc
+
+    abbrev number : ℕ
+    number = (traced_at reader q).pid
+
+    lives : (p : TracedProcess) × (live_process (state_after s front).system number ≡ Some p)
+    lives = by (live_process (state_after s front).system number) refl
+      where
+        by : (p : Option TracedProcess) → live_process (state_after s front).system number ≡ p
+            → (p : TracedProcess) × (live_process (state_after s front).system number ≡ Some p)
+        by (Some p) live = (p, live)
+        by None over =
+            let mine = owns front again later is calm q inside at in
+            let f = mine.files in
+            let it = own-entry n k (state_after s front) again y (legal front again later is calm) own in
+            let call : y.call ≡ read_record (Some mine.status) =
+            same_Some _ _ (sym (makes-next front again later is calm y own) ∙ read-is reader q has-now at idle)
+            ∙ ap read_record f.own_status in
+            let sees =
+            status-ended (state_after s front) k mine.status (held_by k number 0 Status Read) f.reads it.answer refl
+            over (ap (answer_to (state_after s front) k) (sym call) ∙ it.is) in
+            absurd (gone-not (sym sees.gone ∙ ap answer_of it.replied ∙ accepted))
+
+    -- where a step is under way, it is the second read of the stop with which that was begun
+    second-read : (step : Stepped) (b : WasBegun k o front number (traced_at reader q).status step)
+        → ReadsTwice k o s h b.before b.e b.between again later b.place (let m = b.meets in m.l.id)
+    second-read step b =
+        let it = lives in
+        let mine = owns front again later is calm q inside at in
+        let f = mine.files in
+        twice front again later is calm number (traced_at reader q).status step b y own it.0 it.1
+        (same_Some _ _ (sym (makes-next front again later is calm y own) ∙ read-is reader q has-now at idle)
+        ∙ ap read_record (f.own_status ∙ sym (b.its_status mine.status f.own_status)))
+
+    -- no step is under way where it tells of another event than a signal or a fault
+    pub none-under-way : (event : Event) → event_of l ≡ Some event → ends_step event ≡ false
+        → (marks_at reader q).stepped ≡ None
+    none-under-way event on other = by (marks_at reader q).stepped refl
+      where
+        under : (step : Stepped) → IsUnderWay k o s front number (traced_at reader q).status step → ⊥
+        under step (ended over) = let it = lives in none-some it.0 (sym over ∙ it.1)
+        under step (begun b) =
+            let r = second-read step b in
+            let tells = tells-there n k o s h run reached bytes b.before b.between later b.e again b.place _ r in
+            let same : l ≡ tells.l =
+            same_Some l tells.l
+            (sym told
+            ∙ ap (λ (x : Exchange). option_and_then status_lwp (bytes_in x.reply)) (same_Some y r.y (sym own ∙ r.own))
+            ∙ tells.told) in
+            false≢true
+            (sym other ∙ ap ends_step (same_Some event tells.event (sym on ∙ ap event_of same ∙ tells.stands))
+            ∙ tells.ends)
+
+        by : (so : Option Stepped) → (marks_at reader q).stepped ≡ so → so ≡ None
+        by None is_none = refl
+        by (Some step) is_some = absurd (under step (its-step step is_some))
+
   -- ---- a call that is told
 
   module _ (front later : List Entry) (again : Entry) (y : Exchange) (report : Report)
@@ -518,63 +610,15 @@ module _ (n k : ℕ) (o : Options) (s : TracedState) (h : List Entry) (run : IsF
     module _ (q : ℕ) (idle : tr.aside ≡ Nothing) (at : tr.stage ≡ ReadingStatus q) (l : LwpStatus)
         (told : option_and_then status_lwp (bytes_in y.reply) ≡ Some l) (calls : call_told tr y.reply ≡ report ∷ [])
       where
-        placed-now : AtStage (StepsAt k o s front) tr.traced (ReadingStatus q)
-        placed-now = let it = w in subst (AtStage (StepsAt k o s front) tr.traced) at it.stage
-
-        inside : q < length tr.traced
-        inside = let p = placed-now in p.0
-
-        has-now : has_functions tr.options ≡ true
-        has-now = has front again later is calm
-
-        accepted : answer_of y.reply ≡ Accepted
-        unfolding answer_of bytes_in
-        accepted = by y.reply told
-          where
-            by : (r : Reply) → option_and_then status_lwp (bytes_in r) ≡ Some l → answer_of r ≡ Accepted
-            by (reply.Bytes bs) some = refl
-            by _ some = absurd (none-some l some)
-
-        gone-not : Gone ≡ Accepted → ⊥
-        gone-not same = cc
-
-        abbrev number : ℕ
-        number = (traced_at tr q).pid
-
-        lives : (p : TracedProcess) × (live_process (state_after s front).system number ≡ Some p)
-        lives = by (live_process (state_after s front).system number) refl
-          where
-            by : (p : Option TracedProcess) → live_process (state_after s front).system number ≡ p
-                → (p : TracedProcess) × (live_process (state_after s front).system number ≡ Some p)
-            by (Some p) live = (p, live)
-            by None over =
-                let mine = owns front again later is calm q inside at in
-                let f = mine.files in
-                let it = own-entry n k (state_after s front) again y (legal front again later is calm) own in
-                let call : y.call ≡ read_record (Some mine.status) =
-                same_Some _ _ (sym (makes-next front again later is calm y own) ∙ read-is tr q has-now at idle)
-                ∙ ap read_record f.own_status in
-                let sees =
-                status-ended (state_after s front) k mine.status (held_by k number 0 Status Read) f.reads it.answer refl
-                over (ap (answer_to (state_after s front) k) (sym call) ∙ it.is) in
-                absurd (gone-not (sym sees.gone ∙ ap answer_of it.replied ∙ accepted))
-
-        turns : (step : Stepped) → IsUnderWay k o s front number (traced_at tr q).status step
+        turns : (step : Stepped) → IsUnderWay k o s front (traced_at tr q).pid (traced_at tr q).status step
             → TellsATurn k o s h front again later report
-        turns step (ended over) = let it = lives in absurd (none-some it.0 (sym over ∙ it.1))
+        turns step (ended over) =
+            let it = lives front later again y is own calm q idle at l told in absurd (none-some it.0 (sym over ∙ it.1))
         turns step (begun b) =
-            let it = lives in
-            let mine = owns front again later is calm q inside at in
-            let f = mine.files in
-            let reads : y.call ≡ read_record (traced_at (functions_at k o b.before) b.place).status =
-            same_Some _ _ (sym (makes-next front again later is calm y own) ∙ read-is tr q has-now at idle)
-            ∙ ap read_record (f.own_status ∙ sym (b.its_status mine.status f.own_status)) in
-            let r =
-            twice front again later is calm number (traced_at tr q).status step b y own it.0 it.1 reads in
-            second step b r
+            second step b (second-read front later again y is own calm q idle at l told step b)
             (ap (λ es. call_told (functions_at k o es) y.reply) (sym b.is) ∙ calls)
           where
-            second : (step : Stepped) (b : WasBegun k o front number (traced_at tr q).status step)
+            second : (step : Stepped) (b : WasBegun k o front (traced_at tr q).pid (traced_at tr q).status step)
                 → (r : ReadsTwice k o s h b.before b.e b.between again later b.place
                 (let m = b.meets in m.l.id))
                 → call_told (functions_at k o (b.before ++ b.e ∷ b.between)) y.reply ≡ report ∷ []
@@ -598,10 +642,8 @@ module _ (n k : ℕ) (o : Options) (s : TracedState) (h : List Entry) (run : IsF
 
         tells-turn : TellsATurn k o s h front again later report
         tells-turn =
-            let p = placed-now in
-            let all : Each (Steps k o s front) tr.traced = p.1.0 in
             let c = shows-call tr y.reply q idle at l told report calls in
-            turns c.step (all q inside c.step c.under_way)
+            turns c.step (its-step front later again y is own calm q idle at l told c.step c.under_way)
 
     lwp-tells : (q : ℕ) → tr.aside ≡ Nothing → tr.stage ≡ ReadingStatus q
         → call_told tr y.reply ≡ report ∷ [] → (l : Option LwpStatus)

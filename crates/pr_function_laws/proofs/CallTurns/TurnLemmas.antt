@@ -3,9 +3,9 @@ use Rattle.std.proofs.lemmas.Bool.{false≢true}
 use Rattle.std.proofs.lemmas.Option.{none-some, same_Some, slice_get_within}
 use Rattle.std.specs.List.{All, cons_option}
 use Rattle.std.specs.Option.{option_and_then}
-use Rattle.pr_lawful.proofs.HandleLemmas.{handle-at}
-use Rattle.pr_lawful.proofs.HistoryLemmas.{history-state}
-use Rattle.pr_lawful.proofs.UseLemmas.{live-lawful}
+use Rattle.pr_lawful.proofs.ProcessParts.HandleLemmas.{handle-at}
+use Rattle.pr_lawful.proofs.LawfulStates.HistoryLemmas.{history-state}
+use Rattle.pr_lawful.proofs.Following.UseLemmas.{live-lawful}
 use Rattle.pr_line.specs.Events.{event_of}
 use Rattle.pr_line.specs.declared.events.Event.TheVariants as event
 use Rattle.pr_model.specs.Calls.{answer_to}
@@ -582,7 +582,8 @@ module _ (n k : ℕ) (t : TrussState) (place ns pid id : ℕ) (s : TracedState) 
             told = told-then f;
             its = ap (λ (x : LwpStatus). x.id) last-of ∙ status-id w.process id o.0;
             event = told.0;
-            stands = ap event_of last-of ∙ told.1;
+            stands = ap event_of last-of ∙ told.1.0;
+            ends = told.1.1;
           }
 
     pub tells-of-lwp : TellsOfLwp w.y.reply id

@@ -44,6 +44,7 @@ use Rattle.pr_function_laws.proofs.Marks.MetLemmas.{completes, event-completes, 
 use Rattle.pr_function_laws.proofs.Stepping.ToldLemmas.{no-event, none-on}
 use Rattle.pr_function_laws.proofs.CallTurns.TurnPoints.{IsOfStep}
 use Rattle.pr_function_laws.specs.Calls.{call_beside, call_of_event, call_of_fresh, call_of_lwp, call_read, call_told}
+use Rattle.pr_function_laws.specs.Turns.{ends_step}
 
 -- What truss makes of the status of an lwp that stands at a trace trap, and how that lwp stands.
 
@@ -70,9 +71,9 @@ received-none disposition info None = refl
 received-none disposition info (Some signal) = refl
 
 signalled-some : (disposition : Disposition) (info : Info) (o : Option Sig) (g : Sig) → o ≡ Some g
-    → (e : Event) × (option_map (λ signal. event.Received signal disposition info) o ≡ Some e)
+    → (e : Event) × ((option_map (λ signal. event.Received signal disposition info) o ≡ Some e) × (ends_step e ≡ true))
 signalled-some disposition info o g is =
-    (event.Received g disposition info, ap (option_map (λ signal. event.Received signal disposition info)) is)
+    (event.Received g disposition info, (ap (option_map (λ signal. event.Received signal disposition info)) is, refl))
 
 module _ (p : TracedProcess) (id : ℕ) (l : TracedLwp) where
   -- the lwp with this stop
@@ -89,15 +90,15 @@ module _ (p : TracedProcess) (id : ℕ) (l : TracedLwp) where
       → event_of (lwpstatus_of p id l) ≡ Some (event.Incurred f (pc_of l.regs))
   fault-told f is = ap told_with is ∙ told-faulted f
 
-  told-signalled : (g : Sig) → (e : Event) × (told_with (Some (stop.Signalled g)) ≡ Some e)
+  told-signalled : (g : Sig) → (e : Event) × ((told_with (Some (stop.Signalled g)) ≡ Some e) × (ends_step e ≡ true))
   unfolding event_of lwpstatus_of shown reason_shown what_shown
   told-signalled g = signalled-some _ _ (signal_of_number (signal_number g)) g (signal_of_number-number g)
 
-  -- an lwp that stands on what a step met tells an event
+  -- an lwp that stands on what a step met tells a signal or a fault
   pub step-told : (point : Point) → IsOfStep point → l.control.stop ≡ Some (stop_at point)
-      → (e : Event) × (event_of (lwpstatus_of p id l) ≡ Some e)
-  step-told (Signal g) kind is = let it = told-signalled g in (it.0, ap told_with is ∙ it.1)
-  step-told (Fault f) kind is = (event.Incurred f (pc_of l.regs), fault-told f is)
+      → (e : Event) × ((event_of (lwpstatus_of p id l) ≡ Some e) × (ends_step e ≡ true))
+  step-told (Signal g) kind is = let it = told-signalled g in (it.0, (ap told_with is ∙ it.1.0, it.1.1))
+  step-told (Fault f) kind is = (event.Incurred f (pc_of l.regs), (fault-told f is, refl))
   step-told _ kind is = absurd kind
 
   told-incurs : (o : Option Stop) (f : Flt) → incurs (told_with o) ≡ Some f → o ≡ Some (stop.Faulted f)

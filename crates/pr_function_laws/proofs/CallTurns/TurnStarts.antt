@@ -10,8 +10,8 @@ use Rattle.pr_function_laws.proofs.CallTurns.TurnWalks.{AreNoReads, Before, Come
 use Rattle.pr_function_laws.specs.Lifted.{IsAtStopAtBreakpoint, StepsNoCall}
 use Rattle.pr_function_laws.specs.Runs.{MakesFunctionCalls}
 use Rattle.pr_function_laws.specs.Turns.{IsNoTurnOf}
-use Rattle.pr_lawful.proofs.EndLemmas.{found-live}
-use Rattle.pr_lawful.proofs.UseLemmas.{live-lawful}
+use Rattle.pr_lawful.proofs.LawfulTurns.EndLemmas.{found-live}
+use Rattle.pr_lawful.proofs.Following.UseLemmas.{live-lawful}
 use Rattle.pr_line.specs.Events.{event_of}
 use Rattle.pr_line.specs.declared.events.Event.TheVariants as event
 use Rattle.pr_model.proofs.TurnLemmas.{turn-taken}
@@ -27,7 +27,7 @@ use Rattle.pr_model.specs.declared.events.Turned.{Turned}
 use Rattle.pr_model.specs.declared.stops.Stop.TheVariants as stop
 use Rattle.pr_num.specs.declared.faults.Flt.TheVariants.{Bpt}
 use Rattle.pr_num.specs.declared.faults.Flt.{Flt}
-use Rattle.pr_reached.proofs.FitHistoryLemmas.{history-fits}
+use Rattle.pr_reached.proofs.FitStates.FitHistoryLemmas.{history-fits}
 use Rattle.pr_rec.specs.declared.lwps.LwpStatus.{LwpStatus}
 use Rattle.pr_report_laws.proofs.Files.WatchHistories.{exchanges-both}
 use Rattle.pr_report_laws.proofs.Watching.HistoryParts.{all-rest, legal-front, legal-rest}

@@ -101,7 +101,7 @@ child-remembers : (o : Options) (u : TrussState) (look : Option Look) (xs : List
     (parent place : ℕ) (now : _) → stage ≡ OpeningChild parent place now → Remembers o u look xs stage
 child-remembers o u look xs stage parent place now is = subst (Remembers o u look xs) (sym is) tt
 
-new-pid : (pid control : ℕ) → (newly_traced pid control).pid ≡ pid
+pub new-pid : (pid control : ℕ) → (newly_traced pid control).pid ≡ pid
 unfolding newly_traced
 new-pid pid control = refl
 
@@ -429,8 +429,7 @@ waits-step o v _ waits_so = absurd (false≢true waits_so)
 -- ---- the hold begins
 
 module _ (n k : ℕ) (o : Options) (pid : ℕ) (s : TracedState) (before later : List Entry) (e : Entry)
-    (run : IsFunctionRun n k o s (before ++ e ∷ later)) (off : watches (functions_at k o before) pid ≡ false)
-    (on : watches (functions_at k o (before ++ e ∷ [])) pid ≡ true) where
+    (run : IsFunctionRun n k o s (before ++ e ∷ later)) where
   abbrev truss : TrussState
   truss = functions_at k o before
 
@@ -443,46 +442,9 @@ module _ (n k : ℕ) (o : Options) (pid : ℕ) (s : TracedState) (before later :
   follows_truss : Follows k o truss now
   follows_truss = entries.follows n k o s before later e run
 
-  reached : Reaches k plain now
-  reached = follows_truss.reaches
-
-  off-before : watches plain pid ≡ false
-  off-before = watches-ordinary truss pid ∙ off
-
   module _ (x : Exchange) (own : exchange_of k e ≡ Some x) where
-    abbrev later_truss : TrussState
-    later_truss = fed_functions truss x.reply
-
     made : next_function_call_of truss ≡ Some x.call
     made = entries.made n k o s before later e run x own
-
-    calm : IsCalm x
-    calm = entries.calm n k o s before later e run x own
-
-    on-behind : watches (ordinary later_truss) pid ≡ true
-    on-behind =
-        watches-ordinary later_truss pid
-        ∙ ap (λ z. watches z pid) (sym (entries.pushed n k o s before later e run x own)) ∙ on
-
-    -- the opening is over with this reply
-    begun-with : (r : Reply) → ordinary later_truss ≡ fed plain r
-        → (place : ℕ)
-        × (((traced_at plain place).pid ≡ pid) × (((traced_at plain place).attached ≡ true) × Begins plain r place))
-    begun-with r comes =
-        let g = reached in
-        let files : HasFiles k plain now = g.files in
-        let owns : Owns k plain now = g.owns in
-        let w = watched-place (fed plain r) pid (ap (λ z. watches z pid) (sym comes) ∙ on-behind) in
-        let c = reached-comes k plain now r g in
-        elim (watched-before plain r (fed plain r) pid w.0 w.1 owns.fits c.how) [
-          | inl was ↦ absurd (false≢true (sym off-before ∙ place-watched plain pid was.0 files.one was.1))
-          | inr b ↦ (w.0, (b.of, (b.attached, b.begins)))
-        ]
-
-    -- truss follows no children
-    childless : (parent place : ℕ) (step : _) → truss.stage ≡ OpeningChild parent place step → ⊥
-    childless parent place step is =
-        subst (Going (exchanges k before)) is (entries.going n k o s before later e run)
 
     staged-here : (stage : Stage) → truss.stage ≡ stage → truss.aside ≡ Nothing
         → function_call_of truss stage ≡ Some x.call
@@ -496,25 +458,8 @@ module _ (n k : ℕ) (o : Options) (pid : ℕ) (s : TracedState) (before later :
         let fit : IsFit o truss = follows_truss.fit in
         step-called o truss x.call place step fit.options (staged-here (Opening place step) here idle)
 
-    not-interrupted : (place : ℕ) (step : OpeningStep) → truss.stage ≡ Opening place step → truss.aside ≡ Nothing
-        → (traced_at plain place).attached ≡ true → answer_of x.reply ≡ Interrupted → ⊥
-    unfolding IsAnswer
-    not-interrupted place step here idle attached answer =
-        let g = reached in
-        let files : HasFiles k plain now = g.files in
-        let refused_so : x.reply ≡ reply.Fail Intr = subst (IsAnswer x.reply) answer (answer-is x.reply) in
-        let c : IsCalm x = calm in
-        let waited =
-        waits-step o (traced_at plain place) step
-        (ap may_wait (sym (called-here place step here idle)) ∙ c.waits refused_so) in
-        let stands =
-        standing k plain now (Opening place (opening.AwaitStop waited.0)) files (here ∙ ap (Opening place) waited.1) in
-        let memory = stands.at in
-        let fresh = memory.fresh in
-        false≢true (sym fresh.free ∙ attached)
-
     -- by the last call of a whole opening
-    complete : (place : ℕ) → (traced_at plain place).pid ≡ pid → truss.stage ≡ Opening place Start
+    pub complete : (place : ℕ) → (traced_at plain place).pid ≡ pid → truss.stage ≡ Opening place Start
         → truss.aside ≡ Nothing → answer_of x.reply ≡ Accepted → GetsHoldWithFunctions k o pid before e
     unfolding opening_call
     complete place of here idle accepted =
@@ -542,57 +487,115 @@ module _ (n k : ℕ) (o : Options) (pid : ℕ) (s : TracedState) (before later :
           whole = subst (λ p. IsWholeFunctionOpening o p (w.first ∷ (w.begun ++ x ∷ []))) (sym w.of ∙ of) done;
         }
 
-    begins-by : (place : ℕ) → (traced_at plain place).pid ≡ pid → (traced_at plain place).attached ≡ true
-        → truss.aside ≡ Nothing → Begins plain x.reply place → GetsHoldWithFunctions k o pid before e
-    begins-by place of attached idle (opened is accepted) = complete place of is idle accepted
-    begins-by place of attached idle (followed parent is lives) = absurd (childless parent place _ is)
-    begins-by place of attached idle (interrupted step is answer) =
-        absurd (not-interrupted place step is idle attached answer)
-    begins-by place of attached idle (child_interrupted parent step is answer) =
-        absurd (childless parent place step is)
+  module _ (off : watches (functions_at k o before) pid ≡ false)
+      (on : watches (functions_at k o (before ++ e ∷ [])) pid ≡ true) where
+    reached : Reaches k plain now
+    reached = follows_truss.reaches
 
-    -- a refusal ends no opening, and a read of a stop is none
-    refused-not : (place : ℕ) (errno : Errno) → Refuses x.reply errno → Begins plain x.reply place → ⊥
-    unfolding IsAnswer
-    refused-not place errno was (opened is accepted) =
-        false≢true (sym (refused-other x.reply errno was) ∙ ap accepts accepted)
-    refused-not place errno was (followed parent is lives) = childless parent place _ is
-    refused-not place errno was (interrupted step is answer) =
-        let broken : x.reply ≡ reply.Fail Intr = subst (IsAnswer x.reply) answer (answer-is x.reply) in
-        was.not_interrupted (same-errno errno Intr (sym was.is ∙ broken))
+    off-before : watches plain pid ≡ false
+    off-before = watches-ordinary truss pid ∙ off
+
+    module _ (x : Exchange) (own : exchange_of k e ≡ Some x) where
+      abbrev later_truss : TrussState
+      later_truss = fed_functions truss x.reply
+
+      calm : IsCalm x
+      calm = entries.calm n k o s before later e run x own
+
+      on-behind : watches (ordinary later_truss) pid ≡ true
+      on-behind =
+          watches-ordinary later_truss pid
+          ∙ ap (λ z. watches z pid) (sym (entries.pushed n k o s before later e run x own)) ∙ on
+
+      -- the opening is over with this reply
+      begun-with : (r : Reply) → ordinary later_truss ≡ fed plain r
+          → (place : ℕ)
+          × (((traced_at plain place).pid ≡ pid) × (((traced_at plain place).attached ≡ true) × Begins plain r place))
+      begun-with r comes =
+          let g = reached in
+          let files : HasFiles k plain now = g.files in
+          let owns : Owns k plain now = g.owns in
+          let w = watched-place (fed plain r) pid (ap (λ z. watches z pid) (sym comes) ∙ on-behind) in
+          let c = reached-comes k plain now r g in
+          elim (watched-before plain r (fed plain r) pid w.0 w.1 owns.fits c.how) [
+            | inl was ↦ absurd (false≢true (sym off-before ∙ place-watched plain pid was.0 files.one was.1))
+            | inr b ↦ (w.0, (b.of, (b.attached, b.begins)))
+          ]
+
+      -- truss follows no children
+      childless : (parent place : ℕ) (step : _) → truss.stage ≡ OpeningChild parent place step → ⊥
+      childless parent place step is =
+          subst (Going (exchanges k before)) is (entries.going n k o s before later e run)
+
+      not-interrupted : (place : ℕ) (step : OpeningStep) → truss.stage ≡ Opening place step → truss.aside ≡ Nothing
+          → (traced_at plain place).attached ≡ true → answer_of x.reply ≡ Interrupted → ⊥
+      unfolding IsAnswer
+      not-interrupted place step here idle attached answer =
+          let g = reached in
+          let files : HasFiles k plain now = g.files in
+          let refused_so : x.reply ≡ reply.Fail Intr = subst (IsAnswer x.reply) answer (answer-is x.reply) in
+          let c : IsCalm x = calm in
+          let waited =
+          waits-step o (traced_at plain place) step
+          (ap may_wait (sym (called-here x own place step here idle)) ∙ c.waits refused_so) in
+          let stands =
+          standing k plain now (Opening place (opening.AwaitStop waited.0)) files
+          (here ∙ ap (Opening place) waited.1) in
+          let memory = stands.at in
+          let fresh = memory.fresh in
+          false≢true (sym fresh.free ∙ attached)
+
+      begins-by : (place : ℕ) → (traced_at plain place).pid ≡ pid → (traced_at plain place).attached ≡ true
+          → truss.aside ≡ Nothing → Begins plain x.reply place → GetsHoldWithFunctions k o pid before e
+      begins-by place of attached idle (opened is accepted) = complete x own place of is idle accepted
+      begins-by place of attached idle (followed parent is lives) = absurd (childless parent place _ is)
+      begins-by place of attached idle (interrupted step is answer) =
+          absurd (not-interrupted place step is idle attached answer)
+      begins-by place of attached idle (child_interrupted parent step is answer) =
+          absurd (childless parent place step is)
+
+      -- a refusal ends no opening, and a read of a stop is none
+      refused-not : (place : ℕ) (errno : Errno) → Refuses x.reply errno → Begins plain x.reply place → ⊥
+      unfolding IsAnswer
+      refused-not place errno was (opened is accepted) =
+          false≢true (sym (refused-other x.reply errno was) ∙ ap accepts accepted)
+      refused-not place errno was (followed parent is lives) = childless parent place _ is
+      refused-not place errno was (interrupted step is answer) =
+          let broken : x.reply ≡ reply.Fail Intr = subst (IsAnswer x.reply) answer (answer-is x.reply) in
+          was.not_interrupted (same-errno errno Intr (sym was.is ∙ broken))
+        where
+          same-errno : (a b : Errno) → reply.Fail a ≡ reply.Fail b → a ≡ b
+          same-errno a b is_so = cc
+      refused-not place errno was (child_interrupted parent step is answer) = childless parent place step is
+
+      read-not : (r : Reply) (place : ℕ) → reads_stop truss.stage ≡ true → Begins plain r place → ⊥
+      read-not r place reads (opened is accepted) = reads-apart truss.stage reads (ap opening_stage is)
+      read-not r place reads (followed parent is lives) = childless parent place _ is
+      read-not r place reads (interrupted step is answer) = reads-apart truss.stage reads (ap opening_stage is)
+      read-not r place reads (child_interrupted parent step is answer) = childless parent place step is
+
+      gets-by : Step truss x.reply later_truss → GetsHoldWithFunctions k o pid before e
+      gets-by (stays beside over stay) =
+          absurd (false≢true (sym off-before ∙ ap (λ z. watches z pid) (sym stay) ∙ on-behind))
+      gets-by (feeds idle none_own comes) =
+          let b = begun-with x.reply comes in begins-by b.0 b.1.0 b.1.1.0 idle b.1.1.1
+      gets-by (refuses errno beside was may comes) =
+          let b = begun-with x.reply comes in absurd (refused-not b.0 errno was b.1.1.1)
+      gets-by (passes idle reads own_fault_read comes) =
+          let b = begun-with (reply.Bytes []) comes in absurd (read-not (reply.Bytes []) b.0 reads b.1.1.1)
+
+      gets : GetsHoldWithFunctions k o pid before e
+      gets =
+          let row : Row truss x.reply later_truss =
+          own-row o run.has run.follows_none truss x follows_truss.fit (made x own) calm in
+          gets-by row.step
+
+    -- Where truss begins to watch a process it gets hold of it.
+    pub begins-gets : GetsHoldWithFunctions k o pid before e
+    begins-gets = by (exchange_of k e) refl
       where
-        same-errno : (a b : Errno) → reply.Fail a ≡ reply.Fail b → a ≡ b
-        same-errno a b is_so = cc
-    refused-not place errno was (child_interrupted parent step is answer) = childless parent place step is
-
-    read-not : (r : Reply) (place : ℕ) → reads_stop truss.stage ≡ true → Begins plain r place → ⊥
-    read-not r place reads (opened is accepted) = reads-apart truss.stage reads (ap opening_stage is)
-    read-not r place reads (followed parent is lives) = childless parent place _ is
-    read-not r place reads (interrupted step is answer) = reads-apart truss.stage reads (ap opening_stage is)
-    read-not r place reads (child_interrupted parent step is answer) = childless parent place step is
-
-    gets-by : Step truss x.reply later_truss → GetsHoldWithFunctions k o pid before e
-    gets-by (stays beside over stay) =
-        absurd (false≢true (sym off-before ∙ ap (λ z. watches z pid) (sym stay) ∙ on-behind))
-    gets-by (feeds idle none_own comes) =
-        let b = begun-with x.reply comes in begins-by b.0 b.1.0 b.1.1.0 idle b.1.1.1
-    gets-by (refuses errno beside was may comes) =
-        let b = begun-with x.reply comes in absurd (refused-not b.0 errno was b.1.1.1)
-    gets-by (passes idle reads own_fault_read comes) =
-        let b = begun-with (reply.Bytes []) comes in absurd (read-not (reply.Bytes []) b.0 reads b.1.1.1)
-
-    gets : GetsHoldWithFunctions k o pid before e
-    gets =
-        let row : Row truss x.reply later_truss =
-        own-row o run.has run.follows_none truss x follows_truss.fit made calm in
-        gets-by row.step
-
-  -- Where truss begins to watch a process it gets hold of it.
-  pub begins-gets : GetsHoldWithFunctions k o pid before e
-  begins-gets = by (exchange_of k e) refl
-    where
-      by : (x : Option Exchange) → exchange_of k e ≡ x → GetsHoldWithFunctions k o pid before e
-      by None own =
-          absurd
-          (false≢true (sym off ∙ ap (λ z. watches z pid) (sym (entries.unmoved n k o s before later e run own)) ∙ on))
-      by (Some x) own = gets x own
+        by : (x : Option Exchange) → exchange_of k e ≡ x → GetsHoldWithFunctions k o pid before e
+        by None own =
+            absurd
+            (false≢true (sym off ∙ ap (λ z. watches z pid) (sym (entries.unmoved n k o s before later e run own)) ∙ on))
+        by (Some x) own = gets x own

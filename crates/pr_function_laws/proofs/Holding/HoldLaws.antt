@@ -33,11 +33,11 @@ use Rattle.pr_function_laws.specs.Runs.{functions_after}
 -- ---- the last entry of a history
 
 -- where an entry stands in a list with one more at its end
-data StandsIn (hold first rest : List Entry) (e f : Entry) : Type 0 where
+pub data StandsIn (hold first rest : List Entry) (e f : Entry) : Type 0 where
   last : first ≡ hold → f ≡ e → StandsIn hold first rest e f
   earlier : (between : List Entry) → hold ≡ first ++ f ∷ between → StandsIn hold first rest e f
 
-nowhere : (first rest : List Entry) (f : Entry) → [] ≡ first ++ f ∷ rest → ⊥
+pub nowhere : (first rest : List Entry) (f : Entry) → [] ≡ first ++ f ∷ rest → ⊥
 nowhere [] rest f is = cc
 nowhere (x ∷ first) rest f is = cc
 
@@ -49,7 +49,7 @@ further x y hold first rest e f same (earlier between is) =
     earlier between
     (ap (λ (es : List Entry). x ∷ es) is ∙ ap (λ z. z ∷ (first ++ f ∷ between)) same)
 
-stands-in : (hold first rest : List Entry) (e f : Entry) → hold ++ e ∷ [] ≡ first ++ f ∷ rest
+pub stands-in : (hold first rest : List Entry) (e f : Entry) → hold ++ e ∷ [] ≡ first ++ f ∷ rest
     → StandsIn hold first rest e f
 stands-in [] [] rest e f is = let same : f ≡ e = cc in last refl same
 stands-in [] (y ∷ first) rest e f is = let none : [] ≡ first ++ f ∷ rest = cc in absurd (nowhere first rest f none)

@@ -431,9 +431,9 @@ module _ (o : Options) (has : has_functions o ≡ true) (off : o.follow ≡ fals
   beside-none _ none = absurd (false≢true (sym none))
 
   -- truss opens the control file of a process that it was given
-  record OpensGiven (pid : ℕ) (t : TrussState) : Type 0 where
-    stage : t.stage ≡ OpeningControl pid
-    idle : t.aside ≡ Nothing
+  pub record OpensGiven (pid : ℕ) (t : TrussState) : Type 0 where
+    pub stage : t.stage ≡ OpeningControl pid
+    pub idle : t.aside ≡ Nothing
 
   like-open : (t : TrussState) (x y : Exchange) (pid : ℕ) → IsLike t x y → x.call ≡ open_control pid → x.call ≡ y.call
   like-open t x y pid (same unsent none_own) is = refl
@@ -443,7 +443,7 @@ module _ (o : Options) (has : has_functions o ≡ true) (off : o.follow ≡ fals
       absurd (false≢true (ap sends (sym is) ∙ sees-sends t t.stage c seen))
   like-open t x y pid (own_fault own) is = refl
 
-  opens-given : (done : List Exchange) (t : TrussState) (x : Exchange) (pid : ℕ) → IsFit o t
+  pub opens-given : (done : List Exchange) (t : TrussState) (x : Exchange) (pid : ℕ) → IsFit o t
       → next_function_call_of t ≡ Some x.call → IsCalm x → Going done t.stage → x.call ≡ open_control pid
       → OpensGiven pid t
   opens-given done t x pid fit next calm going called = record { stage = at_stage; idle = idle_now }

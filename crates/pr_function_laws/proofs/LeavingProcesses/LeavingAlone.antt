@@ -1,13 +1,15 @@
 use Rattle.std.proofs.Common.{◌≡◌, ◌≢◌, ◌<◌, ◌+◌, ◌++◌, ℕ, true, false, Option, Some, None, List, [], ◌∷◌}
-use Rattle.std.proofs.Common.{length, refl, sym, subst, ap, ◌∙◌, arith, inl, inr}
+use Rattle.std.proofs.Common.{length, map, refl, sym, subst, ap, ◌∙◌, arith, inl, inr}
 use Rattle.std.proofs.lemmas.Bool.{cases_eq, false≢true}
 use Rattle.std.proofs.lemmas.List.{append-nil, append_assoc}
-use Rattle.std.proofs.lemmas.Option.{none-some}
-use Rattle.std.specs.List.{All}
+use Rattle.std.proofs.lemmas.List.Elements.{All-append, All-cons, All-head, All-nil, All-tail}
+use Rattle.std.proofs.lemmas.Option.{none-some, same_Some}
+use Rattle.std.specs.List.{All, cons_option}
 use Rattle.pr_line.specs.declared.options.Options.{Options}
 use Rattle.pr_model.specs.Handles.{handle_of}
 use Rattle.pr_model.specs.Legal.{IsLegalEntry, after, state_after}
 use Rattle.pr_model.specs.State.{TracedProcess, TracedState, live_process}
+use Rattle.pr_model.specs.declared.calls.Call.TheVariants as call
 use Rattle.pr_model.specs.declared.calls.Reply.{Reply}
 use Rattle.pr_model.specs.declared.events.Act.TheVariants as act
 use Rattle.pr_model.specs.declared.events.Actor.TheVariants.{Lwp}
@@ -18,10 +20,14 @@ use Rattle.pr_model.specs.declared.handles.Held.{Held}
 use Rattle.pr_reached.specs.ByteHistories.{HasBytes, IsEntryOfBytes}
 use Rattle.pr_reached.specs.Reached.{IsReached}
 use Rattle.pr_report_laws.proofs.Files.FileLaws.{HasFiles}
+use Rattle.pr_report_laws.proofs.Files.WatchHistories.{cons-exchanges, exchanges-both}
 use Rattle.pr_report_laws.proofs.Invariant.StandLemmas.{IsAttached}
+use Rattle.pr_report_laws.proofs.Watching.HistoryParts.{all-front, legal-front}
+use Rattle.pr_report_laws.specs.OwnOpens.{IsGoingOn}
 use Rattle.pr_truss.specs.FunctionCalls.{next_function_call_of}
 use Rattle.pr_truss.specs.FunctionFeeding.{fed_functions}
 use Rattle.pr_truss.specs.Marks.{has_functions}
+use Rattle.pr_truss.specs.NextCalls.{call_of, next_call_of}
 use Rattle.pr_truss.specs.Replies.{answer_of}
 use Rattle.pr_truss.specs.Trusses.{TrussState, traced_at}
 use Rattle.pr_truss.specs.declared.asides.Aside.{Aside}
@@ -30,9 +36,10 @@ use Rattle.pr_truss.specs.declared.processes.Traced.{Traced}
 use Rattle.pr_truss.specs.declared.replies.Answer.{Answer as Told}
 use Rattle.pr_truss.specs.declared.replies.Answer.TheVariants.{Accepted, Gone, Interrupted, Refused}
 use Rattle.pr_truss.specs.declared.stages.Stage.{Stage}
-use Rattle.pr_truss.specs.declared.stages.Stage.TheVariants.{ReadingLwps, Unfollowing}
+use Rattle.pr_truss.specs.declared.stages.Stage.TheVariants.{Polling, ReadingLwps, Unfollowing}
 use Rattle.pr_truss_laws.proofs.Files.HeldLemmas.{at_place}
 use Rattle.pr_truss_laws.specs.Exchanges.{Exchange, exchange_of, exchanges}
+use Rattle.pr_truss_laws.specs.Sent.{sends}
 use Rattle.pr_truss_laws.specs.Stills.{IsHalting}
 use Rattle.pr_function_laws.proofs.LeavingProcesses.LeavingCourse.{files-at, leaving-next, begins-next}
 use Rattle.pr_function_laws.proofs.LeavingProcesses.LeavingFacts.{still-halts}
@@ -50,25 +57,32 @@ use Rattle.pr_function_laws.proofs.Stepping.StretchLemmas.{Goes}
 use Rattle.pr_reached.specs.Fits.{IsFitSystem}
 use Rattle.pr_report_laws.proofs.SeenChildren.Splits.{state_after-both}
 use Rattle.pr_truss_laws.proofs.Files.HeldLemmas.{of_stage}
-use Rattle.pr_function_laws.proofs.LeavingProcesses.LeavingCourse.{calm-polling, entry-bytes, entry-legal, follow-there}
-use Rattle.pr_function_laws.proofs.LeavingProcesses.LeavingCourse.{goes-there, has-there, makes-there, state-next, truss-next}
+use Rattle.pr_function_laws.proofs.LeavingProcesses.LeavingCourse.{broken-answer, entry-bytes, entry-legal, follow-there}
+use Rattle.pr_function_laws.proofs.LeavingProcesses.LeavingCourse.{goes-there, has-there, legal-at, makes-there, state-next, truss-next}
+use Rattle.pr_function_laws.proofs.LeavingProcesses.LeavingLaws.{calm-exchanges}
 use Rattle.pr_function_laws.proofs.LeavingProcesses.LeavingStages.{IsLeft, asks, awaits, closes_files, halts, has_ended}
 use Rattle.pr_function_laws.proofs.LeavingProcesses.LeavingStages.{lifts_all, looks, reads_text, waits_again}
-use Rattle.pr_function_laws.proofs.LeavingProcesses.LeavingSteps.{BeginsToLeave}
+use Rattle.pr_function_laws.proofs.LeavingProcesses.LeavingSteps.{BeginsToLeave, WaitsAt, awaits_opening, polls}
 use Rattle.pr_function_laws.proofs.Listing.LeavingEvents.{b as begins, system-is, v-is}
 use Rattle.pr_function_laws.proofs.Listing.ListedSteps.{opened-attached}
 use Rattle.pr_function_laws.proofs.Listing.TracedPlaces.{traced-owned}
 use Rattle.pr_function_laws.proofs.OpenedProcesses.OpenedCalls.{IsSo}
-use Rattle.pr_function_laws.proofs.OpenedProcesses.OpenedLaws.{Goes as Runs, alone-goes}
+use Rattle.pr_function_laws.proofs.OpenedProcesses.OpenedLaws.{Goes as Runs, alone-goes, handle-is, status-handle}
+use Rattle.pr_function_laws.proofs.OrdinaryTruss.OrdinaryCalls.{stands-sends}
+use Rattle.pr_function_laws.proofs.OrdinaryTruss.OrdinaryEntries as entries
+use Rattle.pr_function_laws.proofs.OrdinaryTruss.OrdinaryExchanges.{Turn, goes_on, goes_out}
 use Rattle.pr_function_laws.proofs.OrdinaryTruss.OrdinaryReplies.{at-ordinary}
+use Rattle.pr_function_laws.proofs.ShownOnce.GoingOn.{Going}
 use Rattle.pr_function_laws.specs.LeftAlone.{IsLeftAlone, IsLeftAtStep}
 use Rattle.pr_function_laws.specs.Opened.{WasNotInterrupted, is_opened}
 use Rattle.pr_function_laws.specs.Runs.{functions_on}
 use Rattle.pr_function_laws.specs.Leaving.{AsksAgain, Directs, HaltStep, Waits}
 use Rattle.pr_function_laws.specs.Leaving.{WaitsAgain, halt_next}
-use Rattle.pr_function_laws.specs.Lifted.{HasControl}
+use Rattle.pr_function_laws.specs.Lifted.{HasControl, IsNoRead, ReadsOnlyLast}
 use Rattle.pr_function_laws.specs.Opened.{IsFunctionRun, TracesAll, functions_at}
-use Rattle.pr_function_laws.specs.Ordinary.{ordinary}
+use Rattle.pr_function_laws.specs.Ordinary as beside
+use Rattle.pr_function_laws.specs.Ordinary.{IsLike, IsTakenUp, SeesTo, ordinary}
+use Rattle.pr_function_laws.specs.Soon.{IsCalm, may_wait}
 use Rattle.pr_function_laws.specs.Stretches.{OthersOnlyStop, acts_by, elsewhere}
 
 -- Where truss is interrupted while it steps an lwp, no other lwp of the process moves until truss closes its control
@@ -359,6 +373,44 @@ module _ (n k : ℕ) (o : Options) (s : TracedState) (h : List Entry) (run : IsF
       by its attached goes others (c ∷ before) rest other t there differs =
           others.each before rest other t (stretch.tail-same d c behind _ there) differs
 
+-- ---- the call that is interrupted
+
+-- A read is not interrupted; so none of these calls was.
+quiet-until : (status : ℕ) (xs : List Exchange) → ReadsOnlyLast status xs → All IsCalm xs → All WasNotInterrupted xs
+quiet-until status [] reads calm = All-nil WasNotInterrupted
+quiet-until status (x ∷ xs) (inl w) calm =
+    All-cons WasNotInterrupted x xs (let none : IsNoRead status x = w.0 in record { unbroken = none.no_interrupt })
+    (quiet-until status xs w.1 (All-tail IsCalm x xs calm))
+quiet-until status (x ∷ xs) (inr w) calm =
+    subst (λ ys. All WasNotInterrupted (x ∷ ys)) (sym w.1)
+    (All-cons WasNotInterrupted x []
+    (record {
+      unbroken = λ broken.
+          let still : IsCalm x = All-head IsCalm x xs calm in
+          false≢true (sym (ap may_wait w.0) ∙ still.waits broken);
+    }) (All-nil WasNotInterrupted))
+
+-- where truss polls its exchange is a poll
+poll-like : (t : TrussState) (handles : List ℕ) (x y : Exchange) → t.stage ≡ Polling → IsLike t x y
+    → y.call ≡ call.Poll handles → x.call ≡ call.Poll handles
+poll-like t handles x y at (beside.same unsent none_own) is = is
+poll-like t handles x y at (beside.in_place {d = d} stands) is =
+    let sent = stands-sends stands in absurd (false≢true (sym (ap sends is) ∙ sent.1))
+poll-like t handles x y at (beside.refused {errno = errno} sees may due) is =
+    absurd (subst (λ stage. IsTakenUp stage errno) at may)
+poll-like t handles x y at (beside.own_fault own) is = cc
+
+poll-made : (t : TrussState) (x : Exchange) → t.stage ≡ Polling → Turn t x
+    → (handles : List ℕ) × (x.call ≡ call.Poll handles)
+unfolding next_call_of call_of
+poll-made t x at (goes_out sees over stay) = absurd (subst (λ stage. SeesTo t stage x.call) at sees)
+poll-made t x at (goes_on y like called now) =
+    let handles : List ℕ = map (λ (u : Traced). u.control) (ordinary t).traced in (
+      handles,
+      poll-like t handles x y at like
+          (same_Some y.call (call.Poll handles) (sym called ∙ ap (λ stage. call_of (ordinary t) stage) at)),
+    )
+
 -- ---- the interrupt
 
 module _ (n k : ℕ) (o : Options) (s : TracedState) (h : List Entry) (run : IsFunctionRun n k o s h)
@@ -374,10 +426,70 @@ module _ (n k : ℕ) (o : Options) (s : TracedState) (h : List Entry) (run : IsF
   is-front : h ≡ before ++ e ∷ (until ++ c ∷ (behind ++ later))
   is-front = is ∙ append_assoc before (e ∷ until) (c ∷ (behind ++ later))
 
+  read-quiet : WasNotInterrupted (let r = w.reads in r.x)
+  read-quiet =
+      let r = w.reads in
+      let m = r.meets in
+      record {
+        unbroken = λ broken. let d : Interrupted ≡ Accepted = sym (broken-answer r.x broken) ∙ m.accepted in cc;
+      }
+
+  until-quiet : All WasNotInterrupted (exchanges k until)
+  until-quiet =
+      let r = w.reads in
+      let legal =
+      legal-at (Unit {0}) n k o s h run (λ x. reached) (λ x. bytes) before (e ∷ (until ++ c ∷ (behind ++ later)))
+      is-front in
+      quiet-until (status-handle n k o s h run reached bytes before until (c ∷ (behind ++ later)) e place id is-front
+      calm r)
+      (exchanges k until)
+      (r.reads_last _
+      (handle-is n k o s h run reached bytes before until (c ∷ (behind ++ later)) e place id is-front calm r))
+      (calm-exchanges until n k (after (state_after s before) e)
+      (legal-front n (after (state_after s before) e) until (c ∷ (behind ++ later)) legal.1))
+
   -- up to the interrupt it was not interrupted
   calm-front : All WasNotInterrupted (exchanges k f)
   calm-front =
-      calm-polling (Unit {0}) n k o s h run (λ r. reached) (λ r. bytes) f (c ∷ (behind ++ later)) is w.polls
+      let r = w.reads in
+      subst (All WasNotInterrupted) (sym (exchanges-both k before (e ∷ until)))
+      (All-append WasNotInterrupted (exchanges k before) (exchanges k (e ∷ until)) calm
+      (subst (All WasNotInterrupted)
+      (sym (cons-exchanges k e until ∙ ap (λ y. cons_option y (exchanges k until)) r.own))
+      (All-cons WasNotInterrupted r.x (exchanges k until) read-quiet until-quiet)))
+
+  run-there : IsFunctionRun n k o s (f ++ c ∷ (behind ++ later))
+  run-there = subst (IsFunctionRun n k o s) is run
+
+  -- It is in a poll. The only other call that waits is that of an opening, and where truss has read the status of a
+  -- process it has polled, and opens none any more.
+  at-poll : (functions_at k o f).stage ≡ Polling
+  at-poll = by b.waits
+    where
+      b : BeginsToLeave (functions_at k o f) (fed_functions (functions_at k o f) w.x.reply)
+      b = begins n k o s h run reached bytes pid f c (behind ++ later) is calm-front w.x w.own w.interrupted
+
+      polled : All IsGoingOn (exchanges k before) → ⊥
+      polled =
+          let r = w.reads in
+          let m = r.meets in
+          subst (Going (exchanges k before)) m.reads
+          (entries.going n k o s before (until ++ c ∷ (behind ++ later)) e
+          (subst (IsFunctionRun n k o s) is-front run))
+
+      by : WaitsAt (functions_at k o f) → (functions_at k o f).stage ≡ Polling
+      by (polls at) = at
+      by (awaits_opening q stop at) =
+          let all : All IsGoingOn (exchanges k f) =
+          subst (Going (exchanges k f)) at (entries.going n k o s f (behind ++ later) c run-there) in
+          absurd
+          (polled
+          (all-front IsGoingOn (exchanges k before) (exchanges k (e ∷ until))
+          (subst (All IsGoingOn) (exchanges-both k before (e ∷ until)) all)))
+
+  polls-there : (handles : List ℕ) × (w.x.call ≡ call.Poll handles)
+  polls-there =
+      poll-made (functions_at k o f) w.x at-poll (entries.turned n k o s f (behind ++ later) c run-there w.x w.own)
 
   begun : IsLeaving (Unit {0}) k o (functions_at k o (f ++ c ∷ [])) (state_after s (f ++ c ∷ []))
   begun =
@@ -409,7 +521,7 @@ module _ (n k : ℕ) (o : Options) (s : TracedState) (h : List Entry) (run : IsF
       let a : IsAttached (traced_at (ordinary t) q) =
       opened-attached n k o s f (c ∷ (behind ++ later)) pid (subst (IsFunctionRun n k o s) is run)
       (IsSo (Unit {0}) k t.options (state_after s f)) g.kept q (subst (λ m. q < m) shares.many within)
-      (ap (λ (x : Stage). is_opened x q) w.polls) in
+      (ap (λ (x : Stage). is_opened x q) at-poll) in
       shares.attached q ∙ ap (λ (u : Traced). u.attached) (sym (at-ordinary t q)) ∙ a.attached)
 
   left-alone-there : OthersOnlyStop pid id behind
@@ -421,6 +533,8 @@ module _ (n k : ℕ) (o : Options) (s : TracedState) (h : List Entry) (run : IsF
 pub is-left-alone : (n k : ℕ) (o : Options) (s : TracedState) (h : List Entry) → IsFunctionRun n k o s h → IsReached s
     → HasBytes h → IsLeftAlone k o s h
 is-left-alone n k o s h run reached bytes = record {
+  polls = λ before until behind later e c place id is calm w.
+      polls-there n k o s h run reached bytes before until behind later e c place id is calm w;
   each = λ before until behind later e c place id is calm w.
       left-alone-there n k o s h run reached bytes before until behind later e c place id is calm w;
 }

@@ -5,7 +5,7 @@ use Rattle.std.proofs.lemmas.List.{append-nil, append_assoc}
 use Rattle.std.proofs.lemmas.List.Elements.{All-append, All-cons, All-head, All-nil}
 use Rattle.std.proofs.lemmas.Option.{none-some, same_Some}
 use Rattle.std.specs.List.{All, cons_option}
-use Rattle.pr_lawful.proofs.HistoryLemmas.{history-state}
+use Rattle.pr_lawful.proofs.LawfulStates.HistoryLemmas.{history-state}
 use Rattle.pr_line.specs.declared.options.Options.{Options}
 use Rattle.pr_model.specs.Calls.{Answer}
 use Rattle.pr_model.specs.Lawful.{IsLawful}
@@ -16,7 +16,7 @@ use Rattle.pr_model.specs.declared.calls.Call.TheVariants as call
 use Rattle.pr_model.specs.declared.calls.Reply.TheVariants as reply
 use Rattle.pr_model.specs.declared.events.Entry.{Entry}
 use Rattle.pr_num.specs.declared.errnos.Errno.TheVariants.{Intr}
-use Rattle.pr_reached.proofs.ReachedLemmas.{later-reached}
+use Rattle.pr_reached.proofs.Together.ReachedLemmas.{later-reached}
 use Rattle.pr_reached.specs.ByteHistories.{HasBytes, IsEntryOfBytes}
 use Rattle.pr_reached.specs.Reached.{IsReached}
 use Rattle.pr_report_laws.proofs.Files.FileLaws.{HasFiles}
@@ -33,7 +33,7 @@ use Rattle.pr_truss.specs.declared.processes.Traced.{Traced}
 use Rattle.pr_truss.specs.declared.replies.Answer.{Answer as Told}
 use Rattle.pr_truss.specs.declared.replies.Answer.TheVariants.{Accepted, Gone, Interrupted, Refused}
 use Rattle.pr_truss.specs.declared.stages.OpeningStep.TheVariants as opening
-use Rattle.pr_truss.specs.declared.stages.Stage.TheVariants.{Opening, Polling}
+use Rattle.pr_truss.specs.declared.stages.Stage.TheVariants.{Opening}
 use Rattle.pr_truss_laws.proofs.Replies.AnswerLemmas.{IsAnswer, answer-is}
 use Rattle.pr_truss_laws.proofs.Replies.FunctionOptionLemmas.{fed_functions-options}
 use Rattle.pr_truss_laws.proofs.Files.OpensLemmas.{looking-stays, only_looks}
@@ -43,8 +43,6 @@ use Rattle.pr_truss_laws.specs.Exchanges.{Exchange, exchange_of, exchanges}
 use Rattle.pr_function_laws.proofs.Stepping.BreakpointLemmas.{IsOwnEntry, foreign-entry, own-entry}
 use Rattle.pr_function_laws.proofs.Marks.KeptPlaces.{AtStage, rests}
 use Rattle.pr_function_laws.proofs.LeavingProcesses.LeavingKept.{IsLeaving, begin-first, foreign-leaving, own-leaving}
-use Rattle.pr_function_laws.proofs.LeavingProcesses.LeavingStages.{IsLeft, asks, closes_files, halts, has_ended}
-use Rattle.pr_function_laws.proofs.LeavingProcesses.LeavingStages.{awaits, lifts_all, looks, reads_text, waits_again}
 use Rattle.pr_function_laws.proofs.LeavingProcesses.LeavingSteps.{BeginsToLeave, WaitsAt, awaits_opening, begins-to-leave, polls}
 use Rattle.pr_function_laws.proofs.OpenedProcesses.OpenedCalls.{IsSo}
 use Rattle.pr_function_laws.proofs.OpenedProcesses.OpenedLaws.{Goes, before-goes, bytes-front}
@@ -341,26 +339,6 @@ module _ (Reached : Type 0) (n k : ℕ) (o : Options) (s : TracedState) (h : Lis
       by : Course f → All WasNotInterrupted (exchanges k f)
       by (goes_on calm) = calm
       by (leaves g) = absurd (false≢true (sym off ∙ g.on))
-
-  -- nor where it polls
-  pub calm-polling : (f later : List Entry) → h ≡ f ++ later → (T f).stage ≡ Polling
-      → All WasNotInterrupted (exchanges k f)
-  calm-polling f later is at_poll = by (course-at f later is)
-    where
-      not-left : (t : TrussState) → IsLeft t → t.stage ≡ Polling → ⊥
-      not-left t (halts at idle within) at_poll = cc
-      not-left t (awaits until at beside within) at_poll = cc
-      not-left t (asks at beside within) at_poll = cc
-      not-left t (waits_again until at beside within) at_poll = cc
-      not-left t (looks at idle within) at_poll = cc
-      not-left t (reads_text l from len at idle within) at_poll = cc
-      not-left t (lifts_all clear at beside within) at_poll = cc
-      not-left t (closes_files at idle within) at_poll = cc
-      not-left t (has_ended at idle) at_poll = cc
-
-      by : Course f → All WasNotInterrupted (exchanges k f)
-      by (goes_on calm) = calm
-      by (leaves g) = absurd (not-left (T f) g.at at_poll)
 
   -- and where it does
   pub leaving-at : (f later : List Entry) → h ≡ f ++ later → (T f).leaving ≡ true

@@ -4,8 +4,8 @@ use Rattle.std.proofs.lemmas.Bool.{cases_eq, eqb-true}
 use Rattle.std.proofs.lemmas.Option.{none-some, same_Some}
 use Rattle.std.specs.List.{slice_set}
 use Rattle.std.specs.Option.{option_map}
-use Rattle.pr_lawful.proofs.TurnLemmas.{acting}
-use Rattle.pr_lawful.proofs.UseLemmas.{live-lawful}
+use Rattle.pr_lawful.proofs.LawfulTurns.TurnLemmas.{acting}
+use Rattle.pr_lawful.proofs.Following.UseLemmas.{live-lawful}
 use Rattle.pr_line.specs.Events.{event_of}
 use Rattle.pr_model.specs.Calls.{Answer, answer_to, controlled, is_interrupted, waited}
 use Rattle.pr_model.specs.ControlMessages.{aim_of, decoded_answer, decoded_wait, held_wait, system_refusal, tail_of}

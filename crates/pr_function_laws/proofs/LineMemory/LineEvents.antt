@@ -1,4 +1,5 @@
 use Rattle.std.proofs.Common.{◌≡◌, ◌<◌, ◌++◌, ℕ, Bool, true, false, cond, Option, Some, None, List, [], ◌∷◌, append-nil, append_assoc, length, refl, sym, subst, ap, ◌∙◌, inl, inr}
+use Rattle.std.proofs.lemmas.Bool.{false≢true}
 use Rattle.std.proofs.lemmas.List.{append_cancel_left}
 use Rattle.std.proofs.lemmas.Option.{none-some, same_Some}
 use Rattle.std.specs.List.{All, filter_map}
@@ -33,6 +34,7 @@ use Rattle.pr_report_laws.specs.Shown.{LwpEvent, event_reported, event_told, pic
 use Rattle.pr_report_laws.specs.Watching.{place_of, watches}
 use Rattle.pr_truss.specs.Stops.{asked_range, text_of}
 use Rattle.pr_truss.specs.Trusses.{TrussState, first_truss, traced_at}
+use Rattle.pr_truss.specs.declared.processes.Traced.{Traced}
 use Rattle.pr_truss.specs.declared.reports.Report.{Report}
 use Rattle.pr_truss.specs.declared.reports.Report.TheVariants as report
 use Rattle.pr_truss.specs.declared.stages.Stage.TheVariants.{ReadingText}
@@ -44,18 +46,22 @@ use Rattle.pr_function_laws.proofs.Stepping.BreakpointLemmas.{own-entry}
 use Rattle.pr_function_laws.proofs.LeavingProcesses.LeavingCourse.{entry-legal, files-at, fits-at}
 use Rattle.pr_function_laws.proofs.Listing.LeavingEvents.{listed-at}
 use Rattle.pr_function_laws.proofs.LineMemory.LineReads.{Lately, ReadsLately, lately-at}
-use Rattle.pr_function_laws.proofs.LineMemory.LineTexts.{IsAtText, IsLostPatch, IsTextThere, have-texts-there, lost_there, none_asked, read_there}
+use Rattle.pr_function_laws.proofs.LineMemory.LineTexts.{IsAtText, IsTextThere, have-texts-there, lost_there, none_asked, read_there}
 use Rattle.pr_function_laws.proofs.Listing.ListedStates as states
 use Rattle.pr_function_laws.proofs.Listing.ListedStates.{is_over as ended_unread, none_due, unread_yet}
+use Rattle.pr_function_laws.proofs.OrdinaryTruss.OrdinaryCalls.{later-sends}
 use Rattle.pr_function_laws.proofs.OrdinaryTruss.OrdinaryEntries as entries
 use Rattle.pr_function_laws.proofs.OrdinaryTruss.OrdinaryEntries.{front-run}
 use Rattle.pr_function_laws.proofs.OrdinaryTruss.OrdinaryFiles.{Follows}
+use Rattle.pr_function_laws.proofs.OrdinaryTruss.OrdinaryReplies.{at-ordinary}
 use Rattle.pr_function_laws.proofs.OrdinaryTruss.OrdinaryShown.{shows-what-it-reads}
-use Rattle.pr_function_laws.proofs.LineMemory.PatchMoments.{Fate, fate-end, is_over, lives_on}
-use Rattle.pr_function_laws.proofs.LineMemory.PatchWrites.{KeepsAt, Leaves, at-joins, at-weaker, has-same-but, patch-write, patches-keep, write-keeps}
+use Rattle.pr_function_laws.proofs.LineMemory.MemoryFile.{same-bytes}
+use Rattle.pr_function_laws.proofs.LineMemory.QuietMoments.{Fate, fate-end, is_over, lives_on}
+use Rattle.pr_function_laws.proofs.LineMemory.TextsAtOnce.{asked-text, next-no-message, none-since}
 use Rattle.pr_function_laws.proofs.CallTurns.TurnWalks.{own-in}
-use Rattle.pr_function_laws.specs.LineEvents.{AreOfTheirEventsIn, IsOfItsEventIn, IsTextSince, over, read, told_over}
-use Rattle.pr_function_laws.specs.LineTexts.{IsPatch, IsTextLost, IsTextRead}
+use Rattle.pr_function_laws.specs.LineEvents.{AreOfTheirEventsIn, IsOfItsEventIn, IsTextSince, over, read}
+use Rattle.pr_function_laws.specs.LineMoments.{HasSameMemory}
+use Rattle.pr_function_laws.specs.LineTexts.{IsPatch, IsTextRead}
 use Rattle.pr_function_laws.specs.ListedEvents.{events_to_show, is_to_show_in, to_show_in}
 use Rattle.pr_function_laws.specs.Opened.{IsFunctionRun, functions_at}
 use Rattle.pr_function_laws.specs.Ordinary.{ordinary, ordinary_among}
@@ -68,13 +74,8 @@ use Rattle.pr_function_laws.specs.ToldTurns.{AreSteppable}
 
 asks-its : (o : Options) (l : LwpStatus) (event : LwpEvent) (range : ℕ × ℕ) → event_told l ≡ Some event
     → range_asked o l ≡ Some range → text_range event.event ≡ Some range
-unfolding asked_range
 asks-its o l event range told asked = by (event_of l) refl
   where
-    by-count : (ev : Event) (b : Bool) → cond b None (text_range ev) ≡ Some range → text_range ev ≡ Some range
-    by-count ev true is = absurd (none-some range is)
-    by-count ev false is = is
-
     by : (ev : Option Event) → event_of l ≡ ev → text_range event.event ≡ Some range
     by None none =
         absurd (none-some event (sym (ap (option_map (λ (e : Event). record { id = l.id; event = e })) none) ∙ told))
@@ -83,7 +84,7 @@ asks-its o l event range told asked = by (event_of l) refl
         same_Some _ event
         (sym (ap (option_map (λ (e : Event). record { id = l.id; event = e })) is) ∙ told) in
         ap (λ (w : LwpEvent). text_range w.event) (sym same)
-        ∙ by-count ev o.count (sym (ap (option_and_then (asked_range o)) is) ∙ asked)
+        ∙ asked-text o ev range (sym (ap (option_and_then (asked_range o)) is) ∙ asked)
 
 -- ---- what comes while truss watches a process
 
@@ -184,6 +185,12 @@ module _ (n k : ℕ) (o : Options) (s : TracedState) (h : List Entry) (pid : ℕ
 
       base-is : h ≡ base ++ (since ++ rest)
       base-is = before-is ∙ sym (append_assoc before (again ∷ []) (since ++ rest))
+
+      -- it called nothing since
+      at-once : exchanges k since ≡ []
+      at-once =
+          none-since n k o s h run reached bytes steps front rest is at.place l from len at.at base since
+          (front_is ∙ sym (append_assoc before (again ∷ []) since)) control patches
 
       its-read : states.ReadsIts k o s pid before again
       its-read = by reads
@@ -305,9 +312,6 @@ module _ (n k : ℕ) (o : Options) (s : TracedState) (h : List Entry) (pid : ℕ
 
         -- ---- up to the text
 
-        abbrev Left : ℕ → Type 0
-        Left = Leaves k o steps pid since
-
         abbrev Ended : List Entry → Type 0
         Ended done = WasKilled pid moment (prior ++ done)
 
@@ -351,30 +355,30 @@ module _ (n k : ℕ) (o : Options) (s : TracedState) (h : List Entry) (pid : ℕ
         whole-front : base ++ since ≡ front
         whole-front = append_assoc before (again ∷ []) since ∙ sym front_is
 
-        stage-there : (ordinary (T (base ++ since))).stage ≡ ReadingText at.place l from len
-        stage-there = ap (λ es. (ordinary (T es)).stage) whole-front ∙ at.at
+        stage-there : (T (base ++ since)).stage ≡ ReadingText at.place l from len
+        stage-there = ap (λ es. (T es).stage) whole-front ∙ at.at
 
-        pid-there : (traced_at (ordinary (T (base ++ since))) at.place).pid ≡ pid
-        pid-there = ap (λ es. (traced_at (ordinary (T es)) at.place).pid) whole-front ∙ sym at.of
+        pid-there : (traced_at (T (base ++ since)) at.place).pid ≡ pid
+        pid-there =
+            ap (λ es. (traced_at (T es) at.place).pid) whole-front
+            ∙ ap (λ (z : Traced). z.pid) (sym (at-ordinary (T front) at.place)) ∙ sym at.of
 
         abbrev FateAt : List Entry → Type 0
         FateAt =
             Fate n k o s h run reached bytes base since rest base-is pid at.place l from len stage-there pid-there
-            control patches w.process (KeepsAt Left) (at-weaker Left) (at-joins Left) (patches-keep k o steps pid since)
-            Ended ended-now ended-on
+            at-once w.process Ended ended-now ended-on
 
         first-fate : FateAt []
         first-fate =
             lives_on p
             (ap (λ (es : List Entry). live_process (state_after s es).system pid) (append-nil base)
             ∙ ap (λ (u : TracedSystem). live_process u pid) same-system ∙ live)
-            (at-weaker Left w.process p kept)
+            kept
 
         fate : FateAt since
         fate =
             fate-end n k o s h run reached bytes base since rest base-is pid at.place l from len stage-there pid-there
-            control patches w.process (KeepsAt Left) (at-weaker Left) (at-joins Left) (patches-keep k o steps pid since)
-            Ended ended-now ended-on first-fate
+            at-once w.process Ended ended-now ended-on first-fate
 
         at-front : {A : Type 0} (o_of : Option A) (g : TracedSystem → Option A)
             → g (state_after s (base ++ since)).system ≡ o_of → g (state_after s front).system ≡ o_of
@@ -385,37 +389,34 @@ module _ (n k : ℕ) (o : Options) (s : TracedState) (h : List Entry) (pid : ℕ
         killed-is = subst (WasKilled pid moment) (append_assoc w.mid (again ∷ []) since)
 
         abbrev StayedAt : List Entry → Type 0
-        StayedAt f = IsTextSince k o pid from len s h reports text moment (w.mid ++ again ∷ since) since f
+        StayedAt f = IsTextSince k o pid from len s h reports text moment w.process (w.mid ++ again ∷ since) f
 
-        -- truss read the memory
-        read-stayed : (m : IsTextRead k o pid from len s h reports text) → m.before ≡ front → FateAt since
-            → StayedAt front
-        read-stayed m same (lives_on z live_z keeps) =
-            let kept =
-            has-same-but k o steps pid since moment (state_after s front) w.process z w.lives
-            (at-front (Some z) (λ u. live_process u pid) live_z) own-memory keeps in
-            read m same kept (λ all.
-            m.stood
+        -- the memory is the same
+        same-memory : (z : TracedProcess) → live_process (state_after s front).system pid ≡ Some z
+            → KeepsMemory w.process z → HasSameMemory pid moment (state_after s front) w.process z
+        same-memory z live_z keeps =
+            let both = keeps.own own-memory in
+            record {
+              before = own-memory;
+              now = both.0;
+              same = both.1;
+              reads = λ from len.
+                  same-bytes moment.system (state_after s front).system pid from len w.process z w.lives live_z
+                  own-memory both.0 both.1;
+            }
+
+        -- and truss read it, where the process lives
+        stayed : (m : IsTextRead k o pid from len s h reports text) → m.before ≡ front → FateAt since → StayedAt front
+        stayed m same (lives_on z live_z keeps) =
+            let live_now = at-front (Some z) (λ u. live_process u pid) live_z in
+            let kept = same-memory z live_now keeps in
+            read m same z live_now kept
+            (m.stood
             ∙ ap (λ (es : List Entry). text_of len (bytes_in (file_read (state_after s es).system pid 0 from len Mem)))
             same
-            ∙ ap (λ (reply : Reply). text_of len (bytes_in reply)) (kept.reads from len all))
-        read-stayed m same (is_over gone killed) =
+            ∙ ap (λ (reply : Reply). text_of len (bytes_in reply)) (kept.reads from len))
+        stayed m same (is_over gone killed) =
             over m same (at-front None (λ u. live_process u pid) gone) (killed-is killed)
-
-        -- or it was told of the end, so that the process lives no more
-        lost-stayed : (m : IsTextLost k o pid s h reports text) → m.before ≡ front
-            → IsLostPatch k o pid s front m.entry → h ≡ front ++ m.entry ∷ m.later → FateAt since → StayedAt front
-        lost-stayed m same patch parts (lives_on z live_z keeps) =
-            let it =
-            own-entry n k (state_after s front) m.entry
-            (record { call = patch.call; reply = reply.Fail Noent }) (legal front m.entry m.later parts) patch.is in
-            let wrote = patch-write o steps patch.patch in
-            let sent =
-            write-keeps o patch.control pid k patch.call wrote (state_after s front) patch.has z
-            (at-front (Some z) (λ u. live_process u pid) live_z) it.answer it.is (λ b. ⊥) (λ b none. absurd none) in
-            absurd (sent.taken it.replied)
-        lost-stayed m same patch parts (is_over gone killed) =
-            told_over m same (at-front None (λ u. live_process u pid) gone) (killed-is killed)
 
         its-file : HasFile k pid Ctl control (state_after s front)
         its-file =
@@ -426,8 +427,9 @@ module _ (n k : ℕ) (o : Options) (s : TracedState) (h : List Entry) (pid : ℕ
             let f = files.control at.place within in
             record { held = _; there = f.is; of = sym at.of; file = refl }
 
-        of-it : StayedAt front → IsOfItsEventIn k o pid from len s h reports l text
-        of-it stayed = record {
+        pub of-it : (m : IsTextRead k o pid from len s h reports text) → m.before ≡ front
+            → IsOfItsEventIn k o pid from len s h reports l text
+        of-it m same = record {
           front = front;
           later = rest;
           is = is;
@@ -443,6 +445,7 @@ module _ (n k : ℕ) (o : Options) (s : TracedState) (h : List Entry) (pid : ℕ
             has = its-file;
             patches = patches;
           };
+          at_once = at-once;
           earlier = w.front;
           entry = w.entry;
           between = w.mid;
@@ -452,17 +455,8 @@ module _ (n k : ℕ) (o : Options) (s : TracedState) (h : List Entry) (pid : ℕ
           in_order = in-order;
           process = w.process;
           lives = w.lives;
-          stayed = stayed;
+          stayed = stayed m same fate;
         }
-
-        pub read-of-it : (m : IsTextRead k o pid from len s h reports text) → m.before ≡ front
-            → IsOfItsEventIn k o pid from len s h reports l text
-        read-of-it m same = of-it (read-stayed m same fate)
-
-        pub lost-of-it : (m : IsTextLost k o pid s h reports text) → m.before ≡ front
-            → IsLostPatch k o pid s front m.entry → h ≡ front ++ m.entry ∷ m.later
-            → IsOfItsEventIn k o pid from len s h reports l text
-        lost-of-it m same patch parts = of-it (lost-stayed m same patch parts fate)
 
       -- what is missing is the event
       module _ (G : Type 0)
@@ -495,18 +489,14 @@ module _ (n k : ℕ) (o : Options) (s : TracedState) (h : List Entry) (pid : ℕ
       w.event w.tells w.reads w.patches w.asks w.had_shown w.shows
       (IsOfItsEventIn k o pid from len s h reports l text)
       (λ since p live kept.
-      read-of-it m.before (m.entry ∷ m.later) m.is reports l from len at m.reported w.front w.entry w.since w.is
-      w.event w.tells w.reads w.patches w.asks w.had_shown w.shows since p live kept text m refl))
+      of-it m.before (m.entry ∷ m.later) m.is reports l from len at m.reported w.front w.entry w.since w.is w.event
+      w.tells w.reads w.patches w.asks w.had_shown w.shows since p live kept text m refl))
   its-event reports l text (lost_there from len asks m at patch) range asked =
-      let w = lately m.before (m.entry ∷ m.later) m.is reports l from len at m.reported in
-      subst (λ (q : ℕ × ℕ). IsOfItsEventIn k o pid q.0 q.1 s h reports l text)
-      (same_Some (from, len) range (sym asks ∙ asked))
-      (reached-goal m.before (m.entry ∷ m.later) m.is reports l from len at m.reported w.front w.entry w.since w.is
-      w.event w.tells w.reads w.patches w.asks w.had_shown w.shows
-      (IsOfItsEventIn k o pid from len s h reports l text)
-      (λ since p live kept.
-      lost-of-it m.before (m.entry ∷ m.later) m.is reports l from len at m.reported w.front w.entry w.since w.is
-      w.event w.tells w.reads w.patches w.asks w.had_shown w.shows since p live kept text m refl patch m.is))
+      absurd
+      (false≢true
+      (sym (next-no-message n k o s h run reached bytes steps m.before (m.entry ∷ m.later) m.is at.place l from len
+      at.at m.entry m.later refl (record { call = patch.call; reply = reply.Fail Noent }) patch.is)
+      ∙ later-sends (T m.before) o patch.control patch.patch))
 
   pub are-of-their-events : AreOfTheirEventsIn k o pid s h (ordinary_among (functions_at k o h).reports)
   are-of-their-events = record {

@@ -1,11 +1,8 @@
 use Rattle.std.proofs.Common.{◌≡◌, ◌++◌, ℕ, Option, Some, None, List, [], ◌∷◌, append-nil, append_assoc, refl, sym, subst, ap, ◌∙◌}
-use Rattle.std.proofs.lemmas.List.Elements.{All-nil}
 use Rattle.std.proofs.lemmas.Option.{none-some, same_Some}
-use Rattle.std.specs.List.{All, cons_option}
 use Rattle.pr_line.specs.Selections.{is_selected}
 use Rattle.pr_line.specs.TextRanges.{text_range}
 use Rattle.pr_line.specs.declared.options.Options.{Options}
-use Rattle.pr_model.specs.Calls.{Answer, answer_to}
 use Rattle.pr_model.specs.Legal.{IsLegal, after, state_after}
 use Rattle.pr_model.specs.LwpTurns.{LwpTurn, turn_of, with_counted}
 use Rattle.pr_model.specs.State.{TracedProcess, TracedState, TracedSystem, live_process, with_lwp}
@@ -13,33 +10,29 @@ use Rattle.pr_model.specs.declared.calls.Call.TheVariants as call
 use Rattle.pr_model.specs.declared.events.Entry.{Entry}
 use Rattle.pr_reached.specs.ByteHistories.{HasBytes}
 use Rattle.pr_reached.specs.Reached.{IsReached}
-use Rattle.pr_report_laws.proofs.Files.WatchHistories.{cons-exchanges, exchanges-both}
 use Rattle.pr_report_laws.proofs.Machine.EventOwners.{event-owns}
 use Rattle.pr_report_laws.proofs.Machine.OwnTurnLaws.{event-halts}
 use Rattle.pr_report_laws.proofs.SeenChildren.Splits.{state_after-both}
 use Rattle.pr_report_laws.proofs.Watching.HistoryParts.{legal-rest}
 use Rattle.pr_report_laws.specs.Shown.{LwpEvent}
 use Rattle.pr_truss.specs.Trusses.{traced_at}
+use Rattle.pr_truss.specs.declared.processes.Traced.{Traced}
 use Rattle.pr_truss.specs.declared.stages.Stage.TheVariants.{ReadingText}
 use Rattle.pr_truss_laws.proofs.Machine.FrameLemmas.{memory-next, memory-same, memory-self}
 use Rattle.pr_truss_laws.proofs.Files.OpensLemmas.{looking-stays, only_looks}
 use Rattle.pr_truss_laws.proofs.Machine.StillLemmas.{halting-leaves}
-use Rattle.pr_truss_laws.specs.Exchanges.{Exchange, exchange_of, exchanges}
+use Rattle.pr_truss_laws.specs.Exchanges.{exchanges}
 use Rattle.pr_truss_laws.specs.Stills.{KeepsMemory, with_lwp_stopped}
 use Rattle.pr_function_laws.proofs.Stepping.BreakpointLemmas.{own-entry}
 use Rattle.pr_function_laws.proofs.Pending.EventReads.{pending-with}
 use Rattle.pr_function_laws.proofs.LineMemory.LineReads.{IsToRead, is-to-read}
 use Rattle.pr_function_laws.proofs.LineMemory.MemoryFile.{same-bytes}
+use Rattle.pr_function_laws.proofs.LineMemory.QuietMoments.{Fate, fate-end, is_over, lives_on}
+use Rattle.pr_function_laws.proofs.OrdinaryTruss.OrdinaryReplies.{at-ordinary}
 use Rattle.pr_function_laws.proofs.Pending.PendingWalk.{On, Pending}
 use Rattle.pr_function_laws.specs.EventsRead.{ComesAndIsRead}
-use Rattle.pr_function_laws.specs.Lifted.{HasControl}
 use Rattle.pr_function_laws.specs.LineMoments.{HasSameMemory, MemoriesStand, ReadsMemoryIn}
 use Rattle.pr_function_laws.specs.Opened.{IsFunctionRun, functions_at}
-use Rattle.pr_function_laws.specs.Ordinary.{ordinary, PlantsLater}
-use Rattle.pr_function_laws.specs.ToldTurns.{AreSteppable}
-use Rattle.pr_function_laws.proofs.LineMemory.PatchMoments.{Fate, fate-end, is_over, lives_on}
-use Rattle.pr_function_laws.proofs.LineMemory.PatchWrites.{KeepsAt, Leaves, at-joins, at-weaker, has-same-but, patches-keep}
-use Rattle.pr_function_laws.specs.LineTexts.{IsPatch}
 
 -- The memory that truss with calls of functions reads for a line is that of the moment of its event.
 
@@ -102,16 +95,8 @@ module _ (n k : ℕ) (o : Options) (s : TracedState) (h : List Entry) (run : IsF
 
   -- ---- up to the read of memory
 
-  module _ (middle rest : List Entry) (reads : Entry) (splits : later ≡ middle ++ reads ∷ rest) (control : ℕ)
-      (patches : All (IsPatch o control) (exchanges k middle))
-      (m : ReadsMemoryIn k pid (state_after s (last ++ again ∷ middle)) reads)
-      (R : TracedProcess → TracedProcess → Type 0) (weaker : (z w : TracedProcess) → KeepsMemory z w → R z w)
-      (joins : (z w v : TracedProcess) → R z w → R w v → R z v)
-      (writes : (done more : List Entry) (f : Entry) (y : Exchange) → middle ≡ done ++ f ∷ more
-      → exchange_of k f ≡ Some y → (number : ℕ) → PlantsLater o number y.call → (u : TracedState)
-      → HasControl k pid number u → (a : Answer) → answer_to u k y.call ≡ Some a → (z : TracedProcess)
-      → live_process u.system pid ≡ Some z
-      → (w : TracedProcess) × ((live_process a.state.system pid ≡ Some w) × R z w)) where
+  module _ (middle rest : List Entry) (reads : Entry) (splits : later ≡ middle ++ reads ∷ rest)
+      (none : exchanges k middle ≡ []) (m : ReadsMemoryIn k pid (state_after s (last ++ again ∷ middle)) reads) where
     abbrev base : List Entry
     base = last ++ again ∷ []
 
@@ -153,13 +138,24 @@ module _ (n k : ℕ) (o : Options) (s : TracedState) (h : List Entry) (run : IsF
     end-is : end ≡ base ++ middle
     end-is = sym (append_assoc last (again ∷ []) middle)
 
+    abbrev ToRead : Type 0
+    ToRead = IsToRead n k o s end rest reads run-end pid m.handle m.from m.len m.has
+
+    stage-there : (r : ToRead) → (functions_at k o (base ++ middle)).stage ≡ ReadingText r.place r.lwp m.from m.len
+    stage-there r =
+        subst (λ es. (functions_at k o es).stage ≡ ReadingText r.place r.lwp m.from m.len) end-is r.at
+
+    pid-there : (r : ToRead) → (traced_at (functions_at k o (base ++ middle)) r.place).pid ≡ pid
+    pid-there r =
+        subst (λ es. (traced_at (functions_at k o es) r.place).pid ≡ pid) end-is
+        (ap (λ (z : Traced). z.pid) (sym (at-ordinary (functions_at k o end) r.place)) ∙ r.of)
+
     abbrev FateAt : List Entry → Type 0
     FateAt =
         let r = to-read in
         Fate n k o s h run reached bytes base middle (reads ∷ rest) parts pid r.place r.lwp m.from m.len
-        (subst (λ es. (ordinary (functions_at k o es)).stage ≡ ReadingText r.place r.lwp m.from m.len) end-is r.at)
-        (subst (λ es. (traced_at (ordinary (functions_at k o es)) r.place).pid ≡ pid) end-is r.of) control patches p R
-        weaker joins writes (λ es. Unit {0}) (λ done more f z w split live gone left status. tt) (λ done f w. tt)
+        (stage-there r) (pid-there r) none p (λ es. Unit {0}) (λ done more f z w split live gone left status. tt)
+        (λ done f w. tt)
 
     first : FateAt []
     first = by (live_process (state_after s (base ++ [])).system pid) refl
@@ -173,45 +169,28 @@ module _ (n k : ℕ) (o : Options) (s : TracedState) (h : List Entry) (run : IsF
         by : (y : Option TracedProcess) → live_process (state_after s (base ++ [])).system pid ≡ y → FateAt []
         by None gone = is_over gone tt
         by (Some z) live =
-            lives_on z live
-            (weaker p z (kept-until z (ap (λ (u : TracedSystem). live_process u pid) (sym same) ∙ live)))
+            lives_on z live (kept-until z (ap (λ (u : TracedSystem). live_process u pid) (sym same) ∙ live))
 
-    kept-end : (q : TracedProcess) → live_process (state_after s end).system pid ≡ Some q → R p q
+    kept-end : (q : TracedProcess) → live_process (state_after s end).system pid ≡ Some q → KeepsMemory p q
     kept-end q live_q =
         let r = to-read in
         by
         (fate-end n k o s h run reached bytes base middle (reads ∷ rest) parts pid r.place r.lwp m.from m.len
-        (subst (λ es. (ordinary (functions_at k o es)).stage ≡ ReadingText r.place r.lwp m.from m.len) end-is r.at)
-        (subst (λ es. (traced_at (ordinary (functions_at k o es)) r.place).pid ≡ pid) end-is r.of) control patches p R
-        weaker joins writes (λ es. Unit {0}) (λ done more f z w split live gone left status. tt) (λ done f w. tt) first)
+        (stage-there r) (pid-there r) none p (λ es. Unit {0}) (λ done more f z w split live gone left status. tt)
+        (λ done f w. tt) first)
       where
         there : live_process (state_after s (base ++ middle)).system pid ≡ Some q
         there = ap (λ (es : List Entry). live_process (state_after s es).system pid) (sym end-is) ∙ live_q
 
-        by : FateAt middle → R p q
-        by (lives_on z live kept) = subst (R p) (same_Some z q (sym live ∙ there)) kept
+        by : FateAt middle → KeepsMemory p q
+        by (lives_on z live kept) = subst (KeepsMemory p) (same_Some z q (sym live ∙ there)) kept
         by (is_over gone ended) = absurd (none-some q (sym gone ∙ there))
 
 -- ---- the law
 
-none-there : (k : ℕ) (middle done more : List Entry) (f : Entry) (y : Exchange) → exchanges k middle ≡ []
-    → middle ≡ done ++ f ∷ more → exchange_of k f ≡ Some y → ⊥
-none-there k middle done more f y none split own =
-    no-one y (exchanges k more)
-    (sym (back-none (exchanges k done) (exchanges k (f ∷ more))
-    (sym (exchanges-both k done (f ∷ more)) ∙ ap (exchanges k) (sym split) ∙ none))
-    ∙ cons-exchanges k f more ∙ ap (λ z. cons_option z (exchanges k more)) own)
-  where
-    back-none : (xs ys : List Exchange) → xs ++ ys ≡ [] → ys ≡ []
-    back-none [] ys nothing = nothing
-    back-none (z ∷ xs) ys nothing = cc
-
-    no-one : (z : Exchange) (ys : List Exchange) → [] ≡ z ∷ ys → ⊥
-    no-one z ys nothing = cc
-
 pub memories-stand : (n k : ℕ) (o : Options) (s : TracedState) (h : List Entry) → IsFunctionRun n k o s h
-    → IsReached s → HasBytes h → AreSteppable o → MemoriesStand k o s h
-memories-stand n k o s h run reached bytes steps = record {
+    → IsReached s → HasBytes h → MemoriesStand k o s h
+memories-stand n k o s h run reached bytes = record {
   read = λ front between later e again place event range p q is c asks live there.
       same-memory n k o s h run reached bytes front between later e again place event range p is c asks live
       (state_after s (front ++ e ∷ between)) q there
@@ -220,22 +199,7 @@ memories-stand n k o s h run reached bytes steps = record {
       same-memory n k o s h run reached bytes front between (middle ++ reads ∷ rest) e again place event range p is c
       asks live (state_after s ((front ++ e ∷ between) ++ again ∷ middle)) q there
       (kept-end n k o s h run reached bytes front between (middle ++ reads ∷ rest) e again place event range p is c asks
-      live middle rest reads refl 0 (subst (All (IsPatch o 0)) (sym none) (All-nil (IsPatch o 0))) m KeepsMemory
-      (λ z v w. w) memory-next
-      (λ done more f y split own number plants u its a answer z now.
-      absurd (none-there k middle done more f y none split own)) q there);
-  beside = λ front between middle rest e again reads place event range control p q is c asks patches m live there.
-      let pid : ℕ = (traced_at (functions_at k o front) place).pid in
-      let owned =
-      own-memory n k o s h run reached bytes front between (middle ++ reads ∷ rest) e again place event range p is c
-      asks live in
-      let w =
-      kept-end n k o s h run reached bytes front between (middle ++ reads ∷ rest) e again place event range p is c asks
-      live middle rest reads refl control patches m (KeepsAt (Leaves k o steps pid middle))
-      (at-weaker (Leaves k o steps pid middle)) (at-joins (Leaves k o steps pid middle))
-      (patches-keep k o steps pid middle) q there in
-      has-same-but k o steps pid middle (state_after s (front ++ e ∷ []))
-      (state_after s ((front ++ e ∷ between) ++ again ∷ middle)) p q live there owned w;
+      live middle rest reads refl none m q there);
 }
 
 pub ruleset moments = (memories-stand)

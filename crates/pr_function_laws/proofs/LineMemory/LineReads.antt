@@ -39,6 +39,8 @@ use Rattle.pr_truss.specs.Reports.{all_reports, pending_at}
 use Rattle.pr_truss.specs.Stops.{asked_range}
 use Rattle.pr_truss.specs.Trusses.{TrussState, first_of_program, first_truss, idle, opening_or, traced_at, with_stage}
 use Rattle.pr_truss.specs.declared.processes.Traced.{Traced}
+use Rattle.pr_truss.specs.Replies.{answer_of}
+use Rattle.pr_truss.specs.declared.replies.Answer.TheVariants.{Accepted}
 use Rattle.pr_truss.specs.declared.reports.Report.{Report}
 use Rattle.pr_truss.specs.declared.reports.Report.TheVariants.{Event as Reported}
 use Rattle.pr_truss.specs.declared.stages.OpeningStep.{OpeningStep}
@@ -75,6 +77,12 @@ looked-at u r stage place lwp l at (step.reads_status _) tells = at_status at te
 looked-at u r stage place lwp l at step.reads_none tells = absurd (none-some l tells)
 looked-at u r stage place lwp l at (step.reads_lwps _) tells = at_lwps at refl tells
 
+granted : (u : TrussState) (r : Reply) (stage : Stage) (place : ℕ) (lwp : Option LwpStatus) (l : LwpStatus)
+    → Reads u r stage place lwp → lwp ≡ Some l → answer_of r ≡ Accepted
+granted u r stage place lwp l (step.reads_status accepted) tells = accepted
+granted u r stage place lwp l step.reads_none tells = absurd (none-some l tells)
+granted u r stage place lwp l (step.reads_lwps accepted) tells = accepted
+
 module _ (u : TrussState) (place : ℕ) (l : LwpStatus) where
   pub no-message : (r : Reply) (d : Call) → ReadsAt u r place l → next_call_of u ≡ Some d → sends d ≡ false
   unfolding next_call_of call_of
@@ -99,38 +107,46 @@ module _ (u : TrussState) (place : ℕ) (l : LwpStatus) where
   same-read x y (refused {errno = errno} sees may is) next reads = absurd (not-failed errno reads)
   same-read x y (own_fault own) next reads = absurd (not-empty reads)
 
+-- Truss is told of an event that it has not looked at before, and whose line asks for memory.
+pub record HasRead (u : TrussState) (r : Reply) : Type 0 where
+  pub place : ℕ
+  pub lwp : LwpStatus
+  pub event : Event
+  pub looked : ReadsAt u r place lwp
+  pub accepted : answer_of r ≡ Accepted
+  pub new : IsNew u r place lwp event
+  pub range : ℕ × ℕ
+  pub asked : asked_range u.options event ≡ Some range
+
 -- it reads memory only behind such a read
 module _ (u : TrussState) (r : Reply) (place : ℕ) (l : LwpStatus) (from len : ℕ) where
   abbrev Behind : TrussState → Type 0
   Behind v = v.stage ≡ ReadingText place l from len
 
-  abbrev HasRead : Type 0
-  HasRead = (q : ℕ) × ((lwp : LwpStatus) × ReadsAt u r q lwp)
-
-  goes-elsewhere : (z v : TrussState) (given : Bool) → GoesOn z given v → Behind v → HasRead
+  goes-elsewhere : (z v : TrussState) (given : Bool) → GoesOn z given v → Behind v → HasRead u r
   goes-elsewhere z v given (step.polls _ _) is = cc
   goes-elsewhere z v given (step.finishes _) is = cc
   goes-elsewhere z v given (step.unfollows _ _ _) is = cc
   goes-elsewhere z v given (step.closes_first _ _ _) is = cc
   goes-elsewhere z v given (step.opens_next _) is = cc
 
-  over-elsewhere : (z v : TrussState) (at : ℕ) (pid : Option ℕ) → StopOver z at pid v → Behind v → HasRead
+  over-elsewhere : (z v : TrussState) (at : ℕ) (pid : Option ℕ) → StopOver z at pid v → Behind v → HasRead u r
   over-elsewhere z v at pid (step.runs _) is = cc
   over-elsewhere z v at pid (step.leaves _) is = cc
   over-elsewhere z v at pid (step.opens_child _) is = cc
   over-elsewhere z v at pid (step.frees_child _) is = cc
 
   opens-elsewhere : (stage to : Stage) (at pid : ℕ) → Opens at stage pid to → to ≡ ReadingText place l from len
-      → HasRead
+      → HasRead u r
   opens-elsewhere stage to at pid step.new_given is = cc
   opens-elsewhere stage to at pid step.new_child is = cc
 
   learns-elsewhere : (stage to : Stage) (at : ℕ) (z : Traced) → Learns u r stage at z to
-      → to ≡ ReadingText place l from len → HasRead
+      → to ≡ ReadingText place l from len → HasRead u r
   learns-elsewhere stage to at z (step.opening_goes _) is = cc
   learns-elsewhere stage to at z (step.child_goes _) is = cc
 
-  turns-elsewhere : (stage to : Stage) → Turns u r stage to → to ≡ ReadingText place l from len → HasRead
+  turns-elsewhere : (stage to : Stage) → Turns u r stage to → to ≡ ReadingText place l from len → HasRead u r
   turns-elsewhere stage to (step.starts _) is = cc
   turns-elsewhere stage to step.polls_again is = cc
   turns-elsewhere stage to (step.is_named _) is = cc
@@ -139,11 +155,20 @@ module _ (u : TrussState) (r : Reply) (place : ℕ) (l : LwpStatus) (from len : 
   turns-elsewhere stage to step.frees_on is = cc
   turns-elsewhere stage to step.has_finished is = cc
 
-  step-behind : (stage : Stage) (v : TrussState) → u.stage ≡ stage → ReplyStep u r stage v → Behind v → HasRead
+  step-behind : (stage : Stage) (v : TrussState) → u.stage ≡ stage → ReplyStep u r stage v → Behind v → HasRead u r
   step-behind stage v at (step.settles {given = given} {u = z} settled on) is = goes-elsewhere z v given on is
   step-behind stage v at (step.looks {place = q} {pid = pid} {u = z} looked over) is = over-elsewhere z v q pid over is
-  step-behind stage v at (step.asks {place = q} {l = lwp} reads new chosen asked) is =
-      (q, (lwp, looked-at u r stage q (Some lwp) lwp at reads refl))
+  step-behind stage v at (step.asks {place = q} {l = lwp} {e = event} {range = range} reads new chosen asked) is =
+      record {
+        place = q;
+        lwp = lwp;
+        event = event;
+        looked = looked-at u r stage q (Some lwp) lwp at reads refl;
+        accepted = granted u r stage q (Some lwp) lwp reads refl;
+        new = new;
+        range = range;
+        asked = asked;
+      }
   step-behind stage v at (step.closes closed) is = cc
   step-behind stage v at (step.loses _) is = cc
   step-behind stage v at (step.opens {next = to} {pid = pid} accepted opened) is =
@@ -153,7 +178,7 @@ module _ (u : TrussState) (r : Reply) (place : ℕ) (l : LwpStatus) (from len : 
   step-behind stage v at (step.returns _) is = cc
   step-behind stage v at (step.turns {next = to} turned) is = turns-elsewhere stage to turned is
 
-  pub read-before : Behind (fed u r) → HasRead
+  pub read-before : Behind (fed u r) → HasRead u r
   read-before is = step-behind u.stage (fed u r) refl (fed-step u r) is
 
 -- ---- what was read lately

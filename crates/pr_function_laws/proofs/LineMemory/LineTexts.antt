@@ -46,7 +46,6 @@ use Rattle.pr_function_laws.proofs.OrdinaryTruss.OrdinaryEntries.{along}
 use Rattle.pr_function_laws.proofs.OrdinaryTruss.OrdinaryExchanges.{IsFit, Turn, goes_on, goes_out}
 use Rattle.pr_function_laws.proofs.OrdinaryTruss.OrdinaryFiles.{Follows}
 use Rattle.pr_function_laws.proofs.OrdinaryTruss.OrdinaryReplies.{at-ordinary, first-ordinary}
-use Rattle.pr_function_laws.specs.Lifted.{HasControl}
 use Rattle.pr_function_laws.specs.LineTexts.{HasItsTextIn, HaveTheirTextsIn, IsTextLost, IsTextRead, lost, read, unasked}
 use Rattle.pr_function_laws.specs.Opened.{IsFunctionRun, functions_at}
 use Rattle.pr_function_laws.specs.Ordinary.{IsLike, IsTakenUp, OwnFaultRead, PlantsLater, SeesTo, in_place, lifts_again, ordinary, ordinary_among, own_fault, plants_again, refused, same}
@@ -65,13 +64,11 @@ pub record IsAtText (k : ℕ) (o : Options) (pid : ℕ) (l : LwpStatus) (from le
   pub of : pid ≡ (traced_at (ordinary (functions_at k o before)) place).pid
 
 -- In this entry a patch of it is refused, since the process has ended.
-pub record IsLostPatch (k : ℕ) (o : Options) (pid : ℕ) (s : TracedState) (before : List Entry) (entry : Entry)
-    : Type 0 where
+pub record IsLostPatch (k : ℕ) (o : Options) (entry : Entry) : Type 0 where
   pub call : Call
   pub control : ℕ
   pub patch : PlantsLater o control call
   pub is : exchange_of k entry ≡ Some (record { call = call; reply = reply.Fail Noent })
-  pub has : HasControl k pid control (state_after s before)
 
 -- the text of a report of an event, with that
 pub data IsTextThere (k : ℕ) (o : Options) (s : TracedState) (h : List Entry) (earlier : List Report) (pid : ℕ)
@@ -82,7 +79,7 @@ pub data IsTextThere (k : ℕ) (o : Options) (s : TracedState) (h : List Entry) 
       → IsTextThere k o s h earlier pid l text
   lost_there : (from len : ℕ) → range_asked o l ≡ Some (from, len)
       → (m : IsTextLost k o pid s h earlier text) → IsAtText k o pid l from len m.before
-      → IsLostPatch k o pid s m.before m.entry → IsTextThere k o s h earlier pid l text
+      → IsLostPatch k o m.entry → IsTextThere k o s h earlier pid l text
 
 abbrev pub HasTextThere : ℕ → Options → TracedState → List Entry → List Report → Report → Type 0
 HasTextThere k o s h earlier (report.CannotStart program errno) = Unit {0}
@@ -322,21 +319,16 @@ module _ (n k : ℕ) (o : Options) (s : TracedState) (before later : List Entry)
             }
 
         lost-patch : (c : Call) (errno : Errno) → x ≡ record { call = c; reply = reply.Fail errno }
-            → SeesTo t (ReadingText place l from len) c → errno ≡ Noent → IsLostPatch k o pid s before e
+            → SeesTo t (ReadingText place l from len) c → errno ≡ Noent → IsLostPatch k o e
         lost-patch c errno is sees gone =
-            let f : IsFileOf k now (traced_at u place).pid (traced_at u place).control Ctl WriteExcl =
-            files.control place (subst (Fits u.traced) at fits) in
             let w = fit in
             record {
               call = c;
-              control = (traced_at u place).control;
-              patch =
-                  subst (λ m. PlantsLater o m c) (sym (ap (λ (z : Traced). z.control) (at-ordinary t place)))
-                  (subst (λ opts. PlantsLater opts (traced_at t place).control c) w.options sees);
+              control = (traced_at t place).control;
+              patch = subst (λ opts. PlantsLater opts (traced_at t place).control c) w.options sees;
               is =
                   own ∙ ap (λ (z : Exchange). Some z) is
                   ∙ ap (λ n. Some (record { call = c; reply = reply.Fail n })) gone;
-              has = subst (λ i. HasControl k i (traced_at u place).control now) (sym of) f.is;
             }
 
         stage-has : HowLike t x y → IsTextThere k o s then u.reports pid l text

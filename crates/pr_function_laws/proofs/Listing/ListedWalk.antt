@@ -27,7 +27,7 @@ use Rattle.pr_model.specs.declared.events.Actor.TheVariants.{Controller, Lwp, Cl
 use Rattle.pr_model.specs.declared.events.Entry.{Entry}
 use Rattle.pr_num.specs.Signals.{signal_number}
 use Rattle.pr_num.specs.declared.signals.Sig.TheVariants.{Kill}
-use Rattle.pr_reached.proofs.ReachedLemmas.{later-reached}
+use Rattle.pr_reached.proofs.Together.ReachedLemmas.{later-reached}
 use Rattle.pr_reached.specs.ByteHistories.{HasBytes}
 use Rattle.pr_reached.specs.Reached.{IsReached}
 use Rattle.pr_rec.specs.declared.lwps.LwpStatus.{LwpStatus}

@@ -5,8 +5,8 @@ use Rattle.std.proofs.lemmas.Option.{none-some, same_Some}
 use Rattle.std.specs.List.{slice_set}
 use Rattle.std.specs.Option.{option_and_then}
 use Rattle.pr_laws.proofs.RunLemmas.{representative-stands}
-use Rattle.pr_lawful.proofs.EndLemmas.{found-live}
-use Rattle.pr_lawful.proofs.UseLemmas.{live-lawful}
+use Rattle.pr_lawful.proofs.LawfulTurns.EndLemmas.{found-live}
+use Rattle.pr_lawful.proofs.Following.UseLemmas.{live-lawful}
 use Rattle.pr_line.specs.Events.{event_of}
 use Rattle.pr_line.specs.declared.options.Options.{Options}
 use Rattle.pr_model.specs.Calls.{Answer, answer_to}
@@ -32,7 +32,7 @@ use Rattle.pr_num.specs.Limits.{all_faults, all_signals, instruction_size}
 use Rattle.pr_num.specs.Messages.{spelling}
 use Rattle.pr_num.specs.declared.messages.Message.{Message}
 use Rattle.pr_num.specs.declared.messages.Message.TheVariants as message
-use Rattle.pr_reached.proofs.EntryRanges.{records-range}
+use Rattle.pr_reached.proofs.RecordsInRange.EntryRanges.{records-range}
 use Rattle.pr_reached.specs.Fits.{IsFitLwp, IsFitProcess}
 use Rattle.pr_reached.specs.Reached.{IsReached}
 use Rattle.pr_rec.specs.declared.lwps.LwpStatus.{LwpStatus}

@@ -16,7 +16,7 @@ code-of code None is = absurd (false≢true is)
 code-of code (Some bytes) is = ap (λ bs. Some bs) ((bytes_eq-Decides bytes code).0 is)
 
 module _ (o : Options) (function : ℕ) where
-  first-of : is_first_there o function ≡ true
+  pub first-of : is_first_there o function ≡ true
       → position (begins_at (address_of o function)) o.functions ≡ Some function
   unfolding is_first_there
   first-of is = by (position (begins_at (address_of o function)) o.functions) is

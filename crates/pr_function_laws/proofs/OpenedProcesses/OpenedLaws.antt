@@ -4,10 +4,10 @@ use Rattle.std.proofs.lemmas.List.Elements.{All-cons, All-head, All-nil, All-tai
 use Rattle.std.proofs.lemmas.Option.{none-some, same_Some}
 use Rattle.std.specs.List.{All, cons_option}
 use Rattle.std.specs.Option.{option_and_then}
-use Rattle.pr_lawful.proofs.EndLemmas.{found-live}
+use Rattle.pr_lawful.proofs.LawfulTurns.EndLemmas.{found-live}
 use Rattle.pr_laws.proofs.RepresentativeLemmas.{representative-leads}
-use Rattle.pr_lawful.proofs.HistoryLemmas.{history-state}
-use Rattle.pr_lawful.proofs.UseLemmas.{live-lawful}
+use Rattle.pr_lawful.proofs.LawfulStates.HistoryLemmas.{history-state}
+use Rattle.pr_lawful.proofs.Following.UseLemmas.{live-lawful}
 use Rattle.pr_line.specs.declared.options.Options.{Options}
 use Rattle.pr_model.specs.Calls.{answer_to}
 use Rattle.pr_model.specs.Handles.{handle_of}
@@ -33,8 +33,8 @@ use Rattle.pr_model.specs.declared.handles.Held.{Held}
 use Rattle.pr_num.specs.Agents.{agent_id}
 use Rattle.pr_num.specs.ById.{IsRising}
 use Rattle.pr_num.specs.declared.faults.Flt.{Flt}
-use Rattle.pr_reached.proofs.EntryRanges.{records-range}
-use Rattle.pr_reached.proofs.ReachedLemmas.{later-reached}
+use Rattle.pr_reached.proofs.RecordsInRange.EntryRanges.{records-range}
+use Rattle.pr_reached.proofs.Together.ReachedLemmas.{later-reached}
 use Rattle.pr_reached.specs.ByteHistories.{HasBytes, IsEntryOfBytes}
 use Rattle.pr_reached.specs.Reached.{IsReached}
 use Rattle.pr_rec.specs.InRange.{IsStatus}

@@ -1,9 +1,9 @@
 use Rattle.std.proofs.Common.{◌≡◌, ◌≢◌, ◌<◌, ◌++◌, ◌||◌, ℕ, Bool, true, false, cond, is_ok, is_some, Option, Some, None, List, [], ◌∷◌, length, refl, sym, subst, ap, ◌∙◌, inl, inr, zero, suc, arith, replicate}
 use Rattle.std.proofs.lemmas.Bool.{cases_eq, false≢true, ne_eqb, le-ltb}
 use Rattle.std.proofs.lemmas.Option.{none-some, same_Some}
-use Rattle.pr_lawful.proofs.HistoryLemmas.{history-state}
-use Rattle.pr_lawful.proofs.TurnLemmas.{acting}
-use Rattle.pr_lawful.proofs.UseLemmas.{live-lawful}
+use Rattle.pr_lawful.proofs.LawfulStates.HistoryLemmas.{history-state}
+use Rattle.pr_lawful.proofs.LawfulTurns.TurnLemmas.{acting}
+use Rattle.pr_lawful.proofs.Following.UseLemmas.{live-lawful}
 use Rattle.pr_line.specs.declared.functions.Function.{Function}
 use Rattle.pr_line.specs.declared.options.Options.{Options}
 use Rattle.pr_model.specs.Calls.{Answer, answer_to, controlled}
@@ -78,7 +78,7 @@ use Rattle.pr_truss_laws.proofs.Machine.OutlastLemmas as outlast
 use Rattle.pr_laws.proofs.RunLemmas.{representative-stands}
 use Rattle.pr_function_laws.specs.Stretches.{acts_by}
 use Rattle.pr_function_laws.proofs.Stepping.StretchLemmas as stretch
-use Rattle.pr_lawful.proofs.EndLemmas.{found-live}
+use Rattle.pr_lawful.proofs.LawfulTurns.EndLemmas.{found-live}
 use Rattle.pr_line.specs.Events.{event_of}
 use Rattle.pr_line.specs.declared.events.Event.TheVariants.{Incurred}
 use Rattle.pr_model.specs.Statuses.{lwpstatus_of}

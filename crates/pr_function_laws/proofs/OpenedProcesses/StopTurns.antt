@@ -8,7 +8,7 @@ use Rattle.pr_num.specs.Control.{async_mode, has_flags}
 use Rattle.pr_num.specs.Files.{FileTable}
 use Rattle.pr_num.specs.Programs.{Program}
 use Rattle.pr_num.specs.Spaces.{Space}
-use Rattle.pr_lawful.proofs.FileLemmas.{choice}
+use Rattle.pr_lawful.proofs.ProcessParts.FileLemmas.{choice}
 use Rattle.pr_num.specs.declared.faults.Flt.{Flt}
 use Rattle.pr_num.specs.declared.faults.Flt.TheVariants.{Trace, Watch}
 use Rattle.pr_num.specs.declared.syscalls.Sysno.{Sysno}
@@ -17,11 +17,11 @@ use Rattle.pr_keeps.proofs.LoanLemmas.{lent-keeps}
 use Rattle.pr_keeps.proofs.RowLemmas.{row-kind}
 use Rattle.pr_keeps.specs.RowKinds as kind
 use Rattle.pr_keeps.specs.RowKinds.{RowKind}
-use Rattle.pr_lawful.proofs.EffectLemmas.{IsActing}
-use Rattle.pr_lawful.proofs.EndLemmas.{found-live}
-use Rattle.pr_lawful.proofs.SuitingLemmas.{SuitsTransition}
-use Rattle.pr_lawful.proofs.TransitionLemmas.{stayed}
-use Rattle.pr_lawful.proofs.TurnLemmas.{acting, row-suits}
+use Rattle.pr_lawful.proofs.LawfulTurns.EffectLemmas.{IsActing}
+use Rattle.pr_lawful.proofs.LawfulTurns.EndLemmas.{found-live}
+use Rattle.pr_lawful.proofs.LawfulTurns.SuitingLemmas.{SuitsTransition}
+use Rattle.pr_lawful.proofs.LawfulTurns.TransitionLemmas.{stayed}
+use Rattle.pr_lawful.proofs.LawfulTurns.TurnLemmas.{acting, row-suits}
 use Rattle.pr_model.proofs.TurnLemmas.{turn-taken}
 use Rattle.pr_model.specs.Changes.{Change, changed, files_are, space_is, signals, signals_itself, takes_shared, job_stops, disposition_is, held_is, resumes, forks, reaps, becomes, makes_lwp, suspends, all_changed, ended, Effect, Ending, does, ends, ends_process, ends_lwp, resumed, sleeps as effect_sleeps, with_disposition_of, with_fds, with_held, with_job_stop, with_shared_taken, with_space, with_suspended}
 use Rattle.pr_model.specs.InstructionEffects.{InstructionEffect, Store, instruction_effect}
@@ -43,7 +43,7 @@ use Rattle.pr_model.specs.declared.stops.Point.{Point}
 use Rattle.pr_model.specs.declared.stops.Point.TheVariants.{Signal, Fault, Entry, Exit}
 use Rattle.pr_model.specs.declared.stops.Stop.{Stop}
 use Rattle.pr_model.specs.declared.stops.Stop.TheVariants as stop
-use Rattle.pr_reached.proofs.CalmLemmas.{AreCalm, HasLwp, IsStopless, There, changes-calm, is_there}
+use Rattle.pr_reached.proofs.FitStates.CalmLemmas.{AreCalm, HasLwp, IsStopless, There, changes-calm, is_there}
 use Rattle.pr_truss_laws.proofs.EventStops.BridgeLemmas.{mapped-some}
 use Rattle.pr_truss_laws.proofs.Machine.FrameLemmas.{Spares, end-spares, ended-same, generated-spares, lent-apart, loan_back-spares, made-spares, reaped-spares}
 use Rattle.pr_truss_laws.proofs.EventStops.OwnTurnLemmas.{meeting-same}

@@ -175,7 +175,7 @@ module _ (s : TrussState) where
   plants-sends o control (reads_code below) = refl
   plants-sends o control (plants_at_first below) = refl
 
-  later-sends : (o : Options) (control : ℕ) {c : Call} → PlantsLater o control c → sends c ≡ true
+  pub later-sends : (o : Options) (control : ℕ) {c : Call} → PlantsLater o control c → sends c ≡ true
   later-sends o control (plants_again below) = refl
   later-sends o control (lifts_again below) = refl
 

@@ -215,7 +215,7 @@ over-closes u place clear leaves =
     subst (λ b. ClosesAt place clear (cond b (with_closing u place) (with_stage u (Running place)))) (sym leaves)
     (refl, nothing-first)
 
-none-before : (n : ℕ) → nat_lt 0 n ≡ false → n ≡ 0
+pub none-before : (n : ℕ) → nat_lt 0 n ≡ false → n ≡ 0
 none-before zero none = refl
 none-before (suc n) none = absurd (false≢true (sym none ∙ lt-ltb 0 (suc n) (omega arith)))
 

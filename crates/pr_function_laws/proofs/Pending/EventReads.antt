@@ -19,7 +19,7 @@ use Rattle.pr_model.specs.declared.events.Act.TheVariants as act
 use Rattle.pr_model.specs.declared.events.Actor.{Actor}
 use Rattle.pr_model.specs.declared.events.Actor.TheVariants.{Controller, Lwp, Clock}
 use Rattle.pr_model.specs.declared.events.Entry.{Entry}
-use Rattle.pr_reached.proofs.ReachedLemmas.{later-reached}
+use Rattle.pr_reached.proofs.Together.ReachedLemmas.{later-reached}
 use Rattle.pr_reached.specs.ByteHistories.{HasBytes}
 use Rattle.pr_reached.specs.Reached.{IsReached}
 use Rattle.pr_report_laws.proofs.Files.WatchHistories.{cons-exchanges, exchanges-both}

@@ -2,7 +2,7 @@ use Rattle.std.proofs.Common.{cond, ◌≡◌, ◌≢◌, ◌<◌, ℕ, true, So
 use Rattle.std.proofs.lemmas.Option.{none-some, same_Some}
 use Rattle.pr_line.specs.declared.options.Options.{Options}
 use Rattle.pr_model.specs.Calls.{Answer, answer_to}
-use Rattle.pr_lawful.proofs.HandleLemmas.{handle-at, handle-writer}
+use Rattle.pr_lawful.proofs.ProcessParts.HandleLemmas.{handle-at, handle-writer}
 use Rattle.pr_model.specs.Handles.{handle_of, has_writer}
 use Rattle.pr_model.specs.Lawful.{IsLawful}
 use Rattle.pr_model.specs.State.{TracedProcess, TracedState, live_process}

@@ -4,10 +4,10 @@ use Rattle.std.proofs.lemmas.Result.{IfOk-weaker}
 use Rattle.std.proofs.lemmas.Option.{none-some, same_Some}
 use Rattle.std.specs.Option.{option_and_then}
 use Rattle.std.specs.List.{cons_option}
-use Rattle.pr_lawful.proofs.EndLemmas.{found-live}
-use Rattle.pr_lawful.proofs.HandleLemmas.{handle-at}
-use Rattle.pr_lawful.proofs.HistoryLemmas.{history-state}
-use Rattle.pr_lawful.proofs.UseLemmas.{live-lawful}
+use Rattle.pr_lawful.proofs.LawfulTurns.EndLemmas.{found-live}
+use Rattle.pr_lawful.proofs.ProcessParts.HandleLemmas.{handle-at}
+use Rattle.pr_lawful.proofs.LawfulStates.HistoryLemmas.{history-state}
+use Rattle.pr_lawful.proofs.Following.UseLemmas.{live-lawful}
 use Rattle.pr_model.specs.Calls.{Answer, answer_to, controlled}
 use Rattle.pr_model.specs.Changes.{with_space}
 use Rattle.pr_model.specs.ControlMessages.{tail_of}
@@ -46,7 +46,7 @@ use Rattle.pr_num.specs.declared.messages.Message.{Message}
 use Rattle.pr_num.specs.declared.messages.Message.TheVariants as message
 use Rattle.pr_num.specs.declared.messages.MsgFault.{MsgFault}
 use Rattle.pr_parts.specs.AddressSpaces.{with_bytes}
-use Rattle.pr_reached.proofs.FitHistoryLemmas.{history-fits}
+use Rattle.pr_reached.proofs.FitStates.FitHistoryLemmas.{history-fits}
 use Rattle.pr_report_laws.proofs.Files.WatchHistories.{cons-exchanges}
 use Rattle.pr_report_laws.proofs.Machine.RecordLaws.{status-read}
 use Rattle.pr_truss.specs.FunctionCalls.{call_beside, function_call_of, next_function_call_of, write_code_call}

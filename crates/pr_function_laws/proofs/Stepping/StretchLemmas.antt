@@ -2,9 +2,9 @@ use Rattle.std.proofs.Common.{◌≡◌, ◌≢◌, ◌<◌, ◌≤◌, ◌==◌
 use Rattle.std.proofs.lemmas.Bool.{cases_eq, eq-eqb, eqb-true, false≢true}
 use Rattle.std.proofs.lemmas.Option.{none-some, same_Some}
 use Rattle.pr_laws.proofs.RepresentativeLemmas.{representative-leads}
-use Rattle.pr_lawful.proofs.EndLemmas.{found-live}
-use Rattle.pr_lawful.proofs.UseLemmas.{live-lawful}
-use Rattle.pr_lawful.proofs.HistoryLemmas.{history-state}
+use Rattle.pr_lawful.proofs.LawfulTurns.EndLemmas.{found-live}
+use Rattle.pr_lawful.proofs.Following.UseLemmas.{live-lawful}
+use Rattle.pr_lawful.proofs.LawfulStates.HistoryLemmas.{history-state}
 use Rattle.pr_model.specs.Calls.{Answer, answer_to, controlled}
 use Rattle.pr_model.specs.ControlMessages.{aim_of, decoded_answer, system_refusal, tail_of, targeted_answer}
 use Rattle.pr_model.proofs.TurnLemmas.{turn-taken}
@@ -42,7 +42,7 @@ use Rattle.pr_num.specs.declared.errnos.Errno.TheVariants.{Busy, Inval, Io, Noen
 use Rattle.pr_num.specs.declared.messages.Message.{Message}
 use Rattle.pr_num.specs.declared.messages.Message.TheVariants as message
 use Rattle.pr_num.specs.declared.signals.Sig.{Sig}
-use Rattle.pr_reached.proofs.FitHistoryLemmas.{history-fits}
+use Rattle.pr_reached.proofs.FitStates.FitHistoryLemmas.{history-fits}
 use Rattle.pr_reached.specs.Fits.{IsFitSystem}
 use Rattle.pr_report_laws.proofs.Machine.TracedPoints.{fit-process}
 use Rattle.pr_truss_laws.proofs.EventStops.AloneLemmas.{alone-halting}

@@ -21,9 +21,9 @@ use Rattle.pr_model.specs.Transitions.{after_transition}
 use Rattle.pr_model.specs.declared.lwps.Phase.{Phase}
 use Rattle.pr_model.specs.declared.lwps.Phase.TheVariants.{User, Entered, Asleep, Exiting, Faulted}
 use Rattle.pr_model.proofs.StateLemmas.{live_process-found}
-use Rattle.pr_erasure.proofs.BareLemmas.{same-system}
-use Rattle.pr_erasure.proofs.PointLemmas.{after_meeting-hidden, with_counted-hidden}
-use Rattle.pr_erasure.proofs.StateLemmas.{with_lwp-hidden, with_process-hidden}
+use Rattle.pr_erasure.proofs.SeenParts.BareLemmas.{same-system}
+use Rattle.pr_erasure.proofs.SeenTurns.PointLemmas.{after_meeting-hidden, with_counted-hidden}
+use Rattle.pr_erasure.proofs.SeenParts.StateLemmas.{with_lwp-hidden, with_process-hidden}
 use Rattle.pr_hidden.specs.Covers.{Cover, Covers, Patch, all_kept, keeps_lwp, lwp_beneath, patched, phase_beneath, process_beneath, seen, seen_under, uncovered, uncovered_lwp, uncovered_process, with_cover}
 use Rattle.pr_hidden.specs.Hiding.{AreCovered, ChangesOwn, IsSeenAlike, Stands, nothing, stores, with_fault, with_own_agent, with_patches}
 use Rattle.pr_hidden.proofs.Covers.OneLemmas.{come-hidden, go-hidden, one-followed}

@@ -29,11 +29,11 @@ use Rattle.pr_model.specs.declared.lwps.Phase.TheVariants.{Exiting, User}
 use Rattle.pr_model.specs.declared.steps.Step.TheVariants.{Exec}
 use Rattle.pr_model.specs.declared.stops.Point.TheVariants as point
 use Rattle.pr_model.proofs.StateLemmas.{live_process-found, live_process-live}
-use Rattle.pr_erasure.proofs.BareLemmas.{same-system}
-use Rattle.pr_erasure.proofs.PointLemmas.{after_meeting-hidden, with_counted-hidden}
-use Rattle.pr_erasure.proofs.RowLemmas.{HasTurn}
-use Rattle.pr_erasure.proofs.StateLemmas.{with_process-hidden}
-use Rattle.pr_erasure.proofs.TurnLemmas.{row-runs}
+use Rattle.pr_erasure.proofs.SeenParts.BareLemmas.{same-system}
+use Rattle.pr_erasure.proofs.SeenTurns.PointLemmas.{after_meeting-hidden, with_counted-hidden}
+use Rattle.pr_erasure.proofs.SeenTurns.RowLemmas.{HasTurn}
+use Rattle.pr_erasure.proofs.SeenParts.StateLemmas.{with_process-hidden}
+use Rattle.pr_erasure.proofs.SeenTurns.TurnLemmas.{row-runs}
 use Rattle.pr_hidden.specs.Covers.{Cover, Covers, Patch, patched, seen, uncovered, uncovered_lwp, uncovered_process, with_cover}
 use Rattle.pr_hidden.specs.Following.{AllowsAll, IsOpenTurn, RunsInstruction, patched_changes}
 use Rattle.pr_hidden.specs.Hiding.{GoesBack, IsUnhampered, Stands, with_fault}

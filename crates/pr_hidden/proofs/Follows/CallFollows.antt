@@ -46,12 +46,12 @@ use Rattle.pr_model.specs.declared.handles.Held.{Held}
 use Rattle.pr_model.specs.declared.steps.Step.{Step}
 use Rattle.pr_model.specs.declared.steps.Step.TheVariants as step
 use Rattle.pr_model.proofs.StateLemmas.{live_process-found}
-use Rattle.pr_lawful.proofs.MadeLemmas.{Grows, generated-grows, process-grows, same-grows, spawned-grows}
-use Rattle.pr_lawful.proofs.UseLemmas.{process-lawful}
+use Rattle.pr_lawful.proofs.Following.MadeLemmas.{Grows, generated-grows, process-grows, same-grows, spawned-grows}
+use Rattle.pr_lawful.proofs.Following.UseLemmas.{process-lawful}
 use Rattle.pr_laws.proofs.RefusalLemmas.{control-leaves, refused-system}
 use Rattle.pr_erasure.specs.Untouched.{IsUntouched}
-use Rattle.pr_erasure.proofs.CallLemmas.{released-hidden}
-use Rattle.pr_erasure.proofs.OutsideLemmas.{kill-follows, spawn-follows}
+use Rattle.pr_erasure.proofs.SeenHistories.CallLemmas.{released-hidden}
+use Rattle.pr_erasure.proofs.SeenHistories.OutsideLemmas.{kill-follows, spawn-follows}
 use Rattle.pr_hidden.specs.Covers.{Cover, Covers, no_cover, seen, uncovered, uncovered_lwp, uncovered_process, with_cover}
 use Rattle.pr_hidden.specs.Following.{MayEnd}
 use Rattle.pr_hidden.specs.Hiders.{Hiders, covers_called, covers_closed, covers_controlled, covers_sent, covers_targeted, finished, hides, is_ctl}

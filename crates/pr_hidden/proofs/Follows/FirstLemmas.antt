@@ -10,7 +10,7 @@ use Rattle.pr_model.specs.Lives.{bare_process}
 use Rattle.pr_model.specs.Machines.{nothing_set, traced}
 use Rattle.pr_model.specs.State.{TracedSystem}
 use Rattle.pr_erasure.specs.Untouched.{IsUntouched, IsUntouchedLwp, IsUntouchedProcess}
-use Rattle.pr_erasure.proofs.OutsideLemmas.{with_spawned-untouched}
+use Rattle.pr_erasure.proofs.SeenHistories.OutsideLemmas.{with_spawned-untouched}
 
 -- The first state is untouched.
 

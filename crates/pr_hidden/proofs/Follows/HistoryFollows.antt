@@ -35,9 +35,9 @@ use Rattle.pr_model.specs.declared.steps.Step.{Step}
 use Rattle.pr_model.specs.declared.steps.Step.TheVariants.{Fault, Tick}
 use Rattle.pr_model.proofs.TurnLemmas.{turn-taken}
 use Rattle.pr_lawful.specs.Starts.{IsStart}
-use Rattle.pr_lawful.proofs.HistoryLemmas.{history-state}
-use Rattle.pr_lawful.proofs.MadeLemmas.{Grows, settled-grows}
-use Rattle.pr_lawful.proofs.StartLemmas.{first-lawful}
+use Rattle.pr_lawful.proofs.LawfulStates.HistoryLemmas.{history-state}
+use Rattle.pr_lawful.proofs.Following.MadeLemmas.{Grows, settled-grows}
+use Rattle.pr_lawful.proofs.LawfulStates.StartLemmas.{first-lawful}
 use Rattle.pr_laws.proofs.RunLemmas.{UntracedRun-append}
 use Rattle.pr_erasure.specs.Untouched.{IsUntouched}
 use Rattle.pr_hidden.specs.Covers.{Cover, Covers, Patch, keeps_lwp, no_cover, seen, uncovered, with_cover}

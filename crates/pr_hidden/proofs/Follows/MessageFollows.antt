@@ -27,8 +27,8 @@ use Rattle.pr_model.specs.Stops.{has_event_stop, representative}
 use Rattle.pr_model.specs.declared.calls.Reply.{Reply}
 use Rattle.pr_model.specs.declared.calls.Reply.TheVariants as reply
 use Rattle.pr_model.proofs.StateLemmas.{live_process-found, representative-agent}
-use Rattle.pr_lawful.proofs.MadeLemmas.{Grows, edit-grows, process-grows, same-grows}
-use Rattle.pr_lawful.proofs.UseLemmas.{live-lawful}
+use Rattle.pr_lawful.proofs.Following.MadeLemmas.{Grows, edit-grows, process-grows, same-grows}
+use Rattle.pr_lawful.proofs.Following.UseLemmas.{live-lawful}
 use Rattle.pr_laws.proofs.RepresentativeLemmas.{representative-leads}
 use Rattle.pr_hidden.specs.Covers.{Cover, Covers, seen, with_cover}
 use Rattle.pr_hidden.specs.Hiders.{Hiders, are_some, cover_sent, patches_written}

@@ -2,7 +2,7 @@ use Rattle.std.proofs.Common.{◌≡◌, ◌≢◌, ◌≤◌, ◌<◌, ◌+◌,
 use Rattle.pr_num.specs.declared.infos.Info.{Info}
 use Rattle.pr_num.specs.declared.signals.Sig.{Sig}
 use Rattle.pr_num.proofs.ByIdLaws.{All-under}
-use Rattle.pr_lawful.proofs.MadeLemmas.{Grows, settled-grows}
+use Rattle.pr_lawful.proofs.Following.MadeLemmas.{Grows, settled-grows}
 use Rattle.pr_model.specs.Changes.{Change, Ending, all_changed, becomes, changed, disposition_is, files_are, forks, held_is, job_stops, makes_lwp, reaps, resumes, signals, signals_itself, space_is, suspends, takes_shared}
 use Rattle.pr_model.specs.Lawful.{IsLawfulSystem, IsNumberedBelow}
 use Rattle.pr_model.specs.LwpTurns.{settled}

@@ -20,7 +20,7 @@ use Rattle.pr_model.specs.Messages.{tracing_entries, tracing_exits, tracing_faul
 use Rattle.pr_model.specs.Passive.{is_passive_message}
 use Rattle.pr_model.specs.Running.{let_go, with_directive, without_directive}
 use Rattle.pr_model.specs.State.{TracedControl, TracedLwp, TracedProcess, TracedSystem, process_of, with_process}
-use Rattle.pr_erasure.proofs.StateLemmas.{map_each-all_hidden, with_lwp-hidden}
+use Rattle.pr_erasure.proofs.SeenParts.StateLemmas.{map_each-all_hidden, with_lwp-hidden}
 use Rattle.pr_hidden.specs.Covers.{Covers, seen}
 use Rattle.pr_hidden.proofs.Covers.BareCovers.{seen-by-bare}
 use Rattle.pr_hidden.proofs.Follows.FaultRows.{no-way}

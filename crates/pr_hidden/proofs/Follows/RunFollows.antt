@@ -18,7 +18,7 @@ use Rattle.pr_model.specs.Stops.{has_event_stop, representative}
 use Rattle.pr_model.specs.declared.lwps.Phase.{Phase}
 use Rattle.pr_model.specs.declared.lwps.Phase.TheVariants as phase
 use Rattle.pr_model.specs.declared.stops.Stop.TheVariants.{Requested}
-use Rattle.pr_erasure.proofs.StateLemmas.{map_each-all_hidden, map_each-hidden}
+use Rattle.pr_erasure.proofs.SeenParts.StateLemmas.{map_each-all_hidden, map_each-hidden}
 use Rattle.pr_hidden.specs.Covers.{Cover, Covers, all_kept, keeps_lwp, lwp_beneath, patched, seen, seen_under, uncovered_lwp, uncovered_process}
 use Rattle.pr_hidden.specs.Hiding.{with_own_agent}
 use Rattle.pr_hidden.specs.Tidiness.{is_step_flags}

@@ -34,14 +34,14 @@ use Rattle.pr_model.specs.declared.steps.Step.{Step}
 use Rattle.pr_model.specs.declared.steps.Step.TheVariants.{Exec}
 use Rattle.pr_model.proofs.StateLemmas.{live_process-found}
 use Rattle.pr_model.proofs.TurnLemmas.{turn-taken}
-use Rattle.pr_lawful.proofs.MadeLemmas.{Grows, settled-grows}
-use Rattle.pr_lawful.proofs.UseLemmas.{live-lawful}
+use Rattle.pr_lawful.proofs.Following.MadeLemmas.{Grows, settled-grows}
+use Rattle.pr_lawful.proofs.Following.UseLemmas.{live-lawful}
 use Rattle.pr_erasure.specs.PlainEffects.{IsPlain}
 use Rattle.pr_erasure.specs.Untouched.{IsUntouched, IsUntouchedLwp, IsUntouchedProcess}
-use Rattle.pr_erasure.proofs.FaultLemmas.{plain}
-use Rattle.pr_erasure.proofs.ProperLemmas.{row-proper}
-use Rattle.pr_erasure.proofs.TransitionLemmas.{requested-bare}
-use Rattle.pr_erasure.proofs.UntouchedLemmas.{settled-keeps}
+use Rattle.pr_erasure.proofs.SeenTurns.FaultLemmas.{plain}
+use Rattle.pr_erasure.proofs.SeenTurns.ProperLemmas.{row-proper}
+use Rattle.pr_erasure.proofs.SeenTurns.TransitionLemmas.{requested-bare}
+use Rattle.pr_erasure.proofs.SeenTurns.UntouchedLemmas.{settled-keeps}
 use Rattle.pr_hidden.specs.Covers.{Cover, Covers, Patch, keeps_lwp, no_cover, seen, uncovered, uncovered_lwp, uncovered_process, with_cover}
 use Rattle.pr_hidden.specs.Following.{IsOpenTurn, RunsInstruction, SparesPatches}
 use Rattle.pr_hidden.specs.Hiders.{Hiders, cover_turned, covers_turned, exits, has_hold, is_at_patch, is_directed, is_own, is_own_fault, lwp_at, lwp_in, without_replaced}

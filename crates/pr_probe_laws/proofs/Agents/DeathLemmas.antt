@@ -3,8 +3,8 @@ use Rattle.std.proofs.lemmas.Bool.{cases_eq, eq-eqb, false≢true}
 use Rattle.std.proofs.lemmas.Option.{none-some, same_Some}
 use Rattle.std.specs.Option.{option_and_then, option_map}
 use Rattle.pr_keeps.proofs.LoanLemmas.{loans_passed-keep}
-use Rattle.pr_lawful.proofs.EndLemmas.{buried}
-use Rattle.pr_lawful.proofs.FileLemmas.{choice}
+use Rattle.pr_lawful.proofs.LawfulTurns.EndLemmas.{buried}
+use Rattle.pr_lawful.proofs.ProcessParts.FileLemmas.{choice}
 use Rattle.pr_model.specs.Changes.{Change, Ending, all_changed, changed, signals}
 use Rattle.pr_model.specs.Generation.{signalled}
 use Rattle.pr_model.specs.LwpTurns.{settled, with_counted}

@@ -3,7 +3,7 @@ use Rattle.std.proofs.lemmas.Bool.{false≢true}
 use Rattle.std.proofs.lemmas.Option.{none-some, same_Some}
 use Rattle.pr_api.specs.Entries.{call_entry}
 use Rattle.pr_model.specs.Handles.{handle_of as handle_in}
-use Rattle.pr_model.specs.Legal.{IsLegal, state_after}
+use Rattle.pr_model.specs.Legal.{state_after}
 use Rattle.pr_model.specs.Replies.{number_of}
 use Rattle.pr_model.specs.State.{TracedState}
 use Rattle.pr_model.specs.declared.calls.Call.{Call}
@@ -29,7 +29,7 @@ use Rattle.pr_probe.specs.declared.probe_stages.ProbeStage.TheVariants as stage
 use Rattle.pr_probe.specs.declared.traced_sets.SetKind.{SetKind}
 use Rattle.pr_probe.specs.declared.traced_sets.SetKind.TheVariants.{Signals, Faults, Entries, Exits}
 use Rattle.pr_tool_laws.proofs.Stages.ProtocolLemmas.{KeptByCalls, KeptByOthers, own-keeps}
-use Rattle.pr_tool_laws.specs.OwnCalls.{AreOwnCalls}
+use Rattle.pr_tool_laws.specs.Runs.{IsRunOf}
 use Rattle.pr_tools.specs.Handles.{handle_at, last_open}
 use Rattle.pr_tools.specs.Replies.{bytes_read}
 use Rattle.pr_world.specs.Controllers.{after_reply, next_call}
@@ -398,11 +398,11 @@ module _ (n k pid : ℕ) (first : TracedState) where
 
 -- at any time
 pub lets-be : (controllers : List ControllerState) (n k pid : ℕ) (s : TracedState) (h : List Entry) (p : ProbeState)
-    → slice_get controllers k ≡ Some (Probe (first_probe pid)) → IsLegal n s h → AreOwnCalls controllers h
+    → IsRunOf n k (Probe (first_probe pid)) controllers s h
     → slice_get (controllers_at controllers h) k ≡ Some (Probe p) → p.stood ≡ true → RunsNobody k pid s h
 unfolding Lets
-lets-be controllers n k pid s h p starts legal own ends stood =
+lets-be controllers n k pid s h p run ends stood =
     let kept =
     own-keeps n k s (Lets n k pid s) (others-let n k pid s) (calls-let n k pid s) controllers h
-    (Probe (first_probe pid)) (Probe p) legal own starts ends (rows.first-owning n k pid s, begins n k pid s) in
+    (Probe (first_probe pid)) (Probe p) run ends (rows.first-owning n k pid s, begins n k pid s) in
     kept.1.lets stood

@@ -2,7 +2,6 @@ use Rattle.std.proofs.Common.{◌≡◌, ℕ, Bool, true, cond, List, [], Some, 
 use Rattle.std.proofs.lemmas.Bool.{false≢true}
 use Rattle.std.proofs.lemmas.List.Elements.{All-nil}
 use Rattle.pr_model.specs.Lawful.{IsLawful}
-use Rattle.pr_model.specs.Legal.{IsLegal}
 use Rattle.pr_model.specs.State.{TracedState}
 use Rattle.pr_model.specs.declared.calls.Reply.TheVariants as reply
 use Rattle.pr_model.specs.declared.events.Entry.{Entry}
@@ -13,7 +12,7 @@ use Rattle.pr_tool_laws.proofs.Stages.ProtocolLemmas.{KeptByCalls, KeptByOthers,
 use Rattle.pr_tools.specs.Refusals.{refusal_line}
 use Rattle.pr_world.specs.Controllers.{after_reply, next_call}
 use Rattle.pr_world.specs.ControllerStates.{ControllerState, Probe}
-use Rattle.pr_tool_laws.specs.OwnCalls.{AreOwnCalls}
+use Rattle.pr_tool_laws.specs.Runs.{IsRunOf}
 use Rattle.pr_world.specs.Protocol.{controllers_at}
 use Rattle.pr_probe_laws.proofs.Hiding.HiddenPlain.{IsInOrder, first-order, order-fed}
 use Rattle.pr_probe_laws.proofs.Ending.ReasonStages.{Why, called-why, fed-pid, why-still}
@@ -81,14 +80,14 @@ line-is p pid e its ended refused =
     ∙ ap (λ (q : ℕ). refusal_line (codes "apfiles") q e) its
 
 pub tells-why : (controllers : List ControllerState) (n k pid : ℕ) (s : TracedState) (h : List Entry)
-    (p : ProbeState) (e : Errno) → IsLawful s → slice_get controllers k ≡ Some (Probe (first_probe pid))
-    → IsLegal n s h → AreOwnCalls controllers h → slice_get (controllers_at controllers h) k ≡ Some (Probe p)
+    (p : ProbeState) (e : Errno) → IsLawful s → IsRunOf n k (Probe (first_probe pid)) controllers s h
+    → slice_get (controllers_at controllers h) k ≡ Some (Probe p)
     → has_ended p ≡ true → p.refusal ≡ Some e → TellsWhy k pid e s h (printed p)
 unfolding So IsProbeKnown
-tells-why controllers n k pid s h p e lawful starts legal follows ends ended refused =
+tells-why controllers n k pid s h p e lawful run ends ended refused =
     let kept =
     own-keeps n k s (IsKept n k pid s) (others-tell n k pid s) (calls-tell n k pid s) controllers h
-    (Probe (first_probe pid)) (Probe p) legal follows starts ends
+    (Probe (first_probe pid)) (Probe p) run ends
     ((lawful, λ none. sets.at_first n k pid s), begins n k pid s) in
     record {
       line = line-is p pid e kept.1.its ended refused;

@@ -1,7 +1,6 @@
 use Rattle.std.proofs.Common.{◌≡◌, ℕ, true, List, [], Some, None, subst, slice_get}
 use Rattle.std.proofs.lemmas.List.Elements.{All-nil}
 use Rattle.std.specs.List.{All}
-use Rattle.pr_model.specs.Lawful.{IsLawful}
 use Rattle.pr_model.specs.Legal.{IsLegal}
 use Rattle.pr_model.specs.State.{TracedState}
 use Rattle.pr_model.specs.declared.events.Entry.{Entry}
@@ -9,13 +8,11 @@ use Rattle.pr_probe.proofs.FedLemmas.{ended-closes}
 use Rattle.pr_probe.specs.Probes.{ProbeState, first_probe, has_ended}
 use Rattle.pr_probe.specs.declared.probe_stages.ProbeStage.{ProbeStage}
 use Rattle.pr_probe.specs.declared.probe_stages.ProbeStage.TheVariants.{Close}
-use Rattle.pr_reached.specs.ByteHistories.{HasBytes}
-use Rattle.pr_reached.specs.InRange.{IsInRange}
 use Rattle.pr_tool_laws.proofs.RunningAgain.LookLemmas.{looks}
 use Rattle.pr_tool_laws.proofs.Stages.ProtocolLemmas.{KeptByCalls, KeptByOthers, own-keeps}
 use Rattle.pr_world.specs.Controllers.{after_reply, next_call}
 use Rattle.pr_world.specs.ControllerStates.{ControllerState, Probe}
-use Rattle.pr_tool_laws.specs.OwnCalls.{AreOwnCalls}
+use Rattle.pr_tool_laws.specs.Runs.{IsRunOf, StaysInRange}
 use Rattle.pr_tool_laws.specs.Stacks.{OpensAtMost}
 use Rattle.pr_world.specs.Protocol.{controllers_at}
 use Rattle.pr_probe_laws.proofs.Ending.LetsBe.{lets-be}
@@ -57,13 +54,13 @@ module _ (n k pid : ℕ) (first : TracedState) where
   unfolding Leads first_probe
   begins = All-nil (OpensAtMost k)
 
-  at-last : (h : List Entry) (p : ProbeState) → IsLawful first → IsInRange first.system → HasBytes h
-      → IsLegal n first h → p.stage ≡ Close → Leads k pid first h p p.stage
-      → (p.stood ≡ true → RunsNobody k pid first h) → LeavesItsProcess k pid first h
+  at-last : (h : List Entry) (p : ProbeState) → StaysInRange first h → IsLegal n first h → p.stage ≡ Close
+      → Leads k pid first h p p.stage → (p.stood ≡ true → RunsNobody k pid first h) → LeavesItsProcess k pid first h
   unfolding Leads
-  at-last h p lawful ranged bytes legal closing so lets =
+  at-last h p stays legal closing so lets =
       let both = subst (λ (g : ProbeStage). Leads k pid first h p g) closing so in
-      let look = looks n k pid p.stood first h lawful ranged bytes legal both.0.0 (All (OpensAtMost k)) both.0.1 in
+      let look = looks n k pid p.stood first h stays.lawful stays.in_range stays.bytes legal both.0.0
+      (All (OpensAtMost k)) both.0.1 in
       record {
         left = record { stood = p.stood; looked = look.0; came = look.1; runs = both.1 };
         lets_be = lets;
@@ -71,15 +68,14 @@ module _ (n k pid : ℕ) (first : TracedState) where
 
 -- In the end it has done so, unless it was refused.
 pub runs-at-last : (controllers : List ControllerState) (n k pid : ℕ) (s : TracedState) (h : List Entry)
-    (p : ProbeState) → IsLawful s → IsInRange s.system → HasBytes h
-    → slice_get controllers k ≡ Some (Probe (first_probe pid)) → IsLegal n s h → AreOwnCalls controllers h
+    (p : ProbeState) → StaysInRange s h → IsRunOf n k (Probe (first_probe pid)) controllers s h
     → slice_get (controllers_at controllers h) k ≡ Some (Probe p) → has_ended p ≡ true → p.refusal ≡ None
     → LeavesItsProcess k pid s h
 unfolding IsProbeKnown
-runs-at-last controllers n k pid s h p lawful ranged bytes starts legal follows ends ended accepted =
+runs-at-last controllers n k pid s h p stays run ends ended accepted =
     let kept =
     own-keeps n k s (IsLeading n k pid s) (others-lead n k pid s) (calls-lead n k pid s) controllers h
-    (Probe (first_probe pid)) (Probe p) legal follows starts ends
-    ((lawful, λ none. sets.at_first n k pid s), λ none. begins n k pid s) in
-    at-last n k pid s h p lawful ranged bytes legal (ended-closes p ended) (kept.1 accepted)
-    (lets-be controllers n k pid s h p starts legal follows ends)
+    (Probe (first_probe pid)) (Probe p) run ends
+    ((stays.lawful, λ none. sets.at_first n k pid s), λ none. begins n k pid s) in
+    at-last n k pid s h p stays run.legal (ended-closes p ended) (kept.1 accepted)
+    (lets-be controllers n k pid s h p run ends)

@@ -1,8 +1,7 @@
 use Rattle.std.proofs.Common.{◌≡◌, ◌≢◌, ◌∷◌, ◌++◌, ℕ, Bool, false, List, [], Option, Some, None, refl, sym, subst, ap, ◌∙◌, arith}
 use Rattle.std.proofs.lemmas.Bool.{false≢true}
-use Rattle.std.proofs.lemmas.List.Elements.{All-append, All-cons, All-nil}
+use Rattle.std.proofs.lemmas.List.Elements.{All-nil}
 use Rattle.std.proofs.lemmas.Option.{same_Some}
-use Rattle.std.specs.List.{All}
 use Rattle.pr_api.specs.Entries.{call_entry}
 use Rattle.pr_model.specs.Calls.{Answer, answer_to}
 use Rattle.pr_model.specs.Lawful.{IsLawful}
@@ -33,8 +32,6 @@ use Rattle.pr_probe.specs.declared.traced_sets.SetKind.TheVariants.{Signals, Fau
 use Rattle.pr_tool_laws.proofs.RunningAgain.LeavingLemmas.{Comes, HasLookedFirst, comes-still, looked-still, opens-more, ran-still}
 use Rattle.pr_tool_laws.proofs.Sending.SentEffects.{runs}
 use Rattle.pr_tool_laws.proofs.Stages.StageLemmas.{state-called}
-use Rattle.pr_tool_laws.proofs.Stages.ToolLemmas.{place-still}
-use Rattle.pr_tool_laws.specs.Stacks.{OpensAtMost}
 use Rattle.pr_tools.specs.Calls.{run_bytes}
 use Rattle.pr_tools.specs.Handles.{handle_at, last_open}
 use Rattle.pr_tools.specs.Replies.{bytes_read}

@@ -3,7 +3,6 @@ use Rattle.std.proofs.lemmas.Bool.{false≢true}
 use Rattle.std.proofs.lemmas.Option.{none-some, same_Some}
 use Rattle.pr_api.specs.Entries.{call_entry}
 use Rattle.pr_api.specs.Shapes.{is_failure}
-use Rattle.pr_model.specs.Lawful.{IsLawful}
 use Rattle.pr_model.specs.Legal.{IsLegal, state_after}
 use Rattle.pr_model.specs.Replies.{number_of}
 use Rattle.pr_model.specs.State.{TracedState}
@@ -28,15 +27,13 @@ use Rattle.pr_probe.specs.declared.probe_stages.ProbeFile.TheVariants.{Control, 
 use Rattle.pr_probe.specs.declared.probe_stages.ProbeStage.{ProbeStage}
 use Rattle.pr_probe.specs.declared.probe_stages.ProbeStage.TheVariants as stage
 use Rattle.pr_probe.specs.declared.traced_sets.SetKind.TheVariants.{Signals, Faults, Entries, Exits}
-use Rattle.pr_reached.specs.ByteHistories.{HasBytes}
-use Rattle.pr_reached.specs.InRange.{IsInRange}
 use Rattle.pr_tool_laws.proofs.RunningAgain.LookLemmas.{HasNoted, looks, noted-still}
 use Rattle.pr_tool_laws.proofs.Stages.ProtocolLemmas.{KeptByCalls, KeptByOthers, own-keeps}
 use Rattle.pr_tool_laws.proofs.RunningAgain.RequestLemmas.{asks-push, is_message, other-asks, run-asks, stop-asks}
 use Rattle.pr_tool_laws.proofs.Sending.SentStages.{exchange, others-made, own-made}
 use Rattle.pr_tool_laws.proofs.Stages.ToolLemmas.{place-still}
 use Rattle.pr_tool_laws.specs.Leaving.{SendsTo}
-use Rattle.pr_tool_laws.specs.OwnCalls.{AreOwnCalls}
+use Rattle.pr_tool_laws.specs.Runs.{IsRunOf, StaysInRange}
 use Rattle.pr_tool_laws.specs.Requests.{asks_after, asks_still}
 use Rattle.pr_tool_laws.specs.Stacks.{HasLooked}
 use Rattle.pr_tools.specs.Calls.{run_bytes, stop_bytes}
@@ -412,9 +409,9 @@ module _ (n k pid : ℕ) (first : TracedState) where
 
   -- who closes, and made no agent
   closes-so : (h : List Entry) (p : ProbeState) → p.stage ≡ stage.Close → IsTaking k pid first h p
-      → IsLawful first → IsInRange first.system → HasBytes h → IsLegal n first h → TakesBack k pid first h
+      → StaysInRange first h → IsLegal n first h → TakesBack k pid first h
   unfolding AtStage
-  closes-so h p closing it lawful ranged bytes legal none =
+  closes-so h p closing it stays legal none =
       by (subst (AtStage (asks_in k pid first h) (HasMade k pid first h) p.stood) closing it.asked)
     where
       denied : (r : Reply) → is_failure r ≡ true → ((e : Errno) → r ≢ reply.Fail e) → ⊥
@@ -425,19 +422,19 @@ module _ (n k pid : ℕ) (first : TracedState) where
           → (asks_in k pid first h ≡ false) ⊎ HasLooked k pid true first h
       by (inl asked) = inl asked
       by (inr (inl stood)) =
-          inr (looks n k pid true first h lawful ranged bytes legal (it.noted stood) (λ es. Unit {0}) tt).0
+          inr (looks n k pid true first h stays.lawful stays.in_range stays.bytes legal (it.noted stood)
+          (λ es. Unit {0}) tt).0
       by (inr (inr m)) =
           absurd (denied m.reply_is
           (none.each m.before m.after m.call m.reply_is (agent_registers 0 text_base) m.place m.sends) m.accepts)
 
 -- In the end it has done so, unless it made an agent.
 pub probe-takes-back : (controllers : List ControllerState) (n k pid : ℕ) (s : TracedState) (h : List Entry)
-    (p : ProbeState) → IsLawful s → IsInRange s.system → HasBytes h
-    → slice_get controllers k ≡ Some (Probe (first_probe pid)) → IsLegal n s h → AreOwnCalls controllers h
+    (p : ProbeState) → StaysInRange s h → IsRunOf n k (Probe (first_probe pid)) controllers s h
     → slice_get (controllers_at controllers h) k ≡ Some (Probe p) → has_ended p ≡ true → TakesBack k pid s h
 unfolding Takes
-probe-takes-back controllers n k pid s h p lawful ranged bytes starts legal own ends ended =
+probe-takes-back controllers n k pid s h p stays run ends ended =
     let kept =
     own-keeps n k s (Takes n k pid s) (others-take n k pid s) (calls-take n k pid s) controllers h
-    (Probe (first_probe pid)) (Probe p) legal own starts ends (rows.first-owning n k pid s, begins n k pid s) in
-    closes-so n k pid s h p (ended-closes p ended) kept.1 lawful ranged bytes legal
+    (Probe (first_probe pid)) (Probe p) run ends (rows.first-owning n k pid s, begins n k pid s) in
+    closes-so n k pid s h p (ended-closes p ended) kept.1 stays run.legal

@@ -32,9 +32,9 @@ use Rattle.pr_num.specs.declared.messages.Message.{Message}
 use Rattle.pr_num.specs.declared.signals.Sig.{Sig}
 use Rattle.pr_num.specs.declared.signals.Sig.TheVariants.{Kill}
 use Rattle.pr_parts.specs.FileTables.{at_place, count_at, open_of, stands_for, users_at, users_of}
-use Rattle.pr_lawful.proofs.EndLemmas.{found-live}
-use Rattle.pr_lawful.proofs.HandleLemmas.{any-at, count-some}
-use Rattle.pr_lawful.proofs.SystemLemmas.{descriptors-open}
+use Rattle.pr_lawful.proofs.LawfulTurns.EndLemmas.{found-live}
+use Rattle.pr_lawful.proofs.ProcessParts.HandleLemmas.{any-at, count-some}
+use Rattle.pr_lawful.proofs.ProcessParts.SystemLemmas.{descriptors-open}
 use Rattle.pr_file_laws.proofs.TableLemmas.{from_flat}
 use Rattle.pr_model.specs.Lawful.{IsLawfulSystem}
 use Rattle.pr_probe_laws.specs.ShownDescriptors.{kind_at}

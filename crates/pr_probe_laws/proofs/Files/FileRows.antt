@@ -18,7 +18,7 @@ use Rattle.pr_parts.specs.FileTransfers.{read_fd}
 use Rattle.pr_parts.specs.declared.files.FileNo.{FileNo}
 use Rattle.pr_parts.specs.declared.files.FileNo.TheVariants.{Sleep}
 use Rattle.pr_keeps.specs.RowKinds as kind
-use Rattle.pr_keeps.specs.RowKinds.{IsInCall, RowKind}
+use Rattle.pr_keeps.specs.RowKinds.{RowKind}
 use Rattle.pr_keeps.proofs.RowLemmas.{row-kind}
 use Rattle.pr_model.specs.CallEffects.{call_effect}
 use Rattle.pr_model.specs.Changes.{Change, files_are, space_is, Effect, does, sleeps, ends}

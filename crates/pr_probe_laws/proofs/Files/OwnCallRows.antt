@@ -33,6 +33,7 @@ use Rattle.pr_tool_laws.proofs.Stages.StageLemmas.{state-called}
 use Rattle.pr_tool_laws.proofs.Records.WholeLemmas.{front-legal}
 use Rattle.pr_tool_laws.specs.FileHandles.{HasHandleOf}
 use Rattle.pr_tool_laws.specs.OwnCalls.{AreOwnCalls}
+use Rattle.pr_tool_laws.specs.Runs.{IsRunOf}
 use Rattle.pr_tool_laws.specs.ToolHandles.{HoldsOnly}
 use Rattle.pr_tools.specs.Handles.{handle_at, last_open, last_place}
 use Rattle.pr_truss_laws.specs.Handles.{HasNothingOpen}
@@ -225,13 +226,13 @@ module _ (n k pid : ℕ) (first : TracedState) where
   )
 
   pub owning-at : (controllers : List ControllerState) (h : List Entry) (p : ProbeState)
-      → slice_get controllers k ≡ Some (Probe (first_probe pid)) → IsLegal n first h → AreOwnCalls controllers h
+      → IsRunOf n k (Probe (first_probe pid)) controllers first h
       → slice_get (controllers_at controllers h) k ≡ Some (Probe p)
       → saves.IsProbeKept n k pid first h (Probe p) × IsOwning h p
   unfolding Owns
-  owning-at controllers h p starts legal own ends =
-      own-keeps n k first Owns others-owning calls-owning controllers h (Probe (first_probe pid)) (Probe p) legal own
-      starts ends first-owning
+  owning-at controllers h p run ends =
+      own-keeps n k first Owns others-owning calls-owning controllers h (Probe (first_probe pid)) (Probe p) run ends
+      first-owning
 
   -- what it writes back is as long as what it read
   module _ (h : List Entry) (p : ProbeState) (order : IsInOrder p)
@@ -253,19 +254,21 @@ module _ (n k pid : ℕ) (first : TracedState) where
     whole-stack at = (accepted-at stage.WriteStack at refl).2.whole
 
 pub makes-its-calls : (controllers : List ControllerState) (n k pid : ℕ) (s : TracedState) (h : List Entry)
-    → slice_get controllers k ≡ Some (Probe (first_probe pid)) → IsLegal n s h → AreOwnCalls controllers h
-    → MakesProbeCalls k pid s h
+    → IsRunOf n k (Probe (first_probe pid)) controllers s h → MakesProbeCalls k pid s h
 unfolding saves.IsProbeKept next_call_of
-makes-its-calls controllers n k pid s h starts legal own = record {
+makes-its-calls controllers n k pid s h run = record {
   each = λ front back c r place.
-      let its_legal = subst (λ (es : List Entry). IsLegal n s es) place legal in
-      let its_own = subst (AreOwnCalls controllers) place own in
+      let its_legal = subst (λ (es : List Entry). IsLegal n s es) place run.legal in
+      let its_own = subst (AreOwnCalls controllers) place run.own_calls in
       let rest : List Entry = call_entry k c r ∷ back in
-      let now = probe-at k controllers front (first_probe pid, starts) in
+      let now = probe-at k controllers front (first_probe pid, run.begins) in
       let p : ProbeState = now.0 in
-      let kept =
-      owning-at n k pid s controllers front p starts (front-legal n s front rest its_legal)
-      (own-front controllers front rest its_own) now.1 in
+      let front_run : IsRunOf n k (Probe (first_probe pid)) controllers s front = record {
+        begins = run.begins;
+        legal = front-legal n s front rest its_legal;
+        own_calls = own-front controllers front rest its_own;
+      } in
+      let kept = owning-at n k pid s controllers front p front_run now.1 in
       let next =
       next-is k (controllers_at controllers front) p c r now.1
       (own-there controllers front (call_entry k c r) back its_own) in
@@ -276,11 +279,10 @@ makes-its-calls controllers n k pid s h starts legal own = record {
 
 -- At any time it has files of its process alone open, and none once it has finished.
 module _ (controllers : List ControllerState) (n k pid : ℕ) (s : TracedState) (h : List Entry) (p : ProbeState)
-    (nothing : HasNothingOpen k s) (starts : slice_get controllers k ≡ Some (Probe (first_probe pid)))
-    (legal : IsLegal n s h) (own : AreOwnCalls controllers h)
+    (nothing : HasNothingOpen k s) (run : IsRunOf n k (Probe (first_probe pid)) controllers s h)
     (ends : slice_get (controllers_at controllers h) k ≡ Some (Probe p)) where
   kept : IsOwning n k pid s h p
-  kept = (owning-at n k pid s controllers h p starts legal own ends).1
+  kept = (owning-at n k pid s controllers h p run ends).1
 
   pub probe-holds : HoldsOnly k pid (state_after s h)
   probe-holds = holds-only k pid s (state_after s h) p nothing kept.owns kept.placed

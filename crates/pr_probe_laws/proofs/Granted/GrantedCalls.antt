@@ -6,8 +6,8 @@ use Rattle.std.proofs.lemmas.Option.{none-some, same_Some}
 use Rattle.std.specs.List.{All, find, list_all, list_any, position, slice_set}
 use Rattle.pr_codec.proofs.MessageLemmas.{spelt_is_read}
 use Rattle.pr_codec.proofs.WordLemmas.{length-words_bytes}
-use Rattle.pr_lawful.proofs.EndLemmas.{found-live}
-use Rattle.pr_lawful.proofs.HandleLemmas.{any-swap, count-some, count-swap}
+use Rattle.pr_lawful.proofs.LawfulTurns.EndLemmas.{found-live}
+use Rattle.pr_lawful.proofs.ProcessParts.HandleLemmas.{any-swap, count-some, count-swap}
 use Rattle.pr_model.specs.Calls.{Answer, answer_to, controlled, interrupted_answer, is_interrupted, is_polled_ready, open_answer, open_unless, opened, poll_answer, ready_answer, refused as denied}
 use Rattle.pr_model.specs.ControlMessages.{control_answer, control_handle, decoded_answer, held_answer, still_there, system_refusal, tail_of, target_of, targeted_answer}
 use Rattle.pr_model.specs.Changes.{with_space}

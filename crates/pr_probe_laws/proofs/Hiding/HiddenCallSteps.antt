@@ -7,7 +7,7 @@ use Rattle.pr_api.specs.Entries.{call_entry}
 use Rattle.pr_hidden.specs.Covers.{Cover, Covers}
 use Rattle.pr_hidden.specs.Hiders.{Hiders, covers_after, covers_at, covers_called, hides, is_ctl}
 use Rattle.pr_hidden.specs.Tidiness.{IsClear, IsClearLwp, IsTidyCall, IsTidyClose, IsTidyMessage, MayKill, is_hider_act, is_hider_message}
-use Rattle.pr_lawful.proofs.EndLemmas.{found-live}
+use Rattle.pr_lawful.proofs.LawfulTurns.EndLemmas.{found-live}
 use Rattle.pr_model.specs.Calls.{Answer, answer_to, kill_answer}
 use Rattle.pr_model.specs.ControlMessages.{aim_of, tail_of, target_of}
 use Rattle.pr_model.specs.Handles.{handle_of, is_control}
@@ -52,7 +52,7 @@ use Rattle.pr_probe_laws.proofs.StepMarks.MarkCalls.{called-unstepped}
 use Rattle.pr_probe_laws.specs.StepMarks.{IsUnstepped}
 use Rattle.pr_probe_laws.specs.HiddenProbes.{is_hiding}
 use Rattle.pr_probe_laws.proofs.Hiding.HiddenWork.{hides-hiding, refused-plain, special-hides, ctl-control}
-use Rattle.pr_probe_laws.proofs.Hiding.HiddenOnes.{IsRunOfProbes, IsOne, IsBare, IsHiddenBy, Kept, here, lives, ask, alone-hides, others-apart, may-end}
+use Rattle.pr_probe_laws.proofs.Hiding.HiddenOnes.{IsUnseenRun, IsOne, IsBare, IsHiddenBy, Kept, here, lives, ask, alone-hides, others-apart, may-end}
 use Rattle.pr_probe_laws.proofs.Hiding.HiddenEntries.{lawful, at-longer, state-longer, not-gone, Steps}
 use Rattle.pr_probe_laws.proofs.Hiding.HiddenOwnCalls.{next-covering}
 use Rattle.pr_probe_laws.proofs.Hiding.HiddenCallers as Calls
@@ -130,11 +130,11 @@ all-clear c clean [] = All-nil (IsClearLwp c)
 all-clear c clean (e ∷ ls) = All-cons (IsClearLwp c) e ls (λ f address at. clean e.0) (all-clear c clean ls)
 
 module _ {n : ℕ} {who : Hiders} {controllers : List ControllerState} {first : TracedState} {h : List Entry}
-    (run : IsRunOfProbes n who controllers first h)
+    (run : IsUnseenRun n who controllers first h)
     (front : List Entry) (j : ℕ) (c : calls.Call) (r : Reply) (back : List Entry)
     (place : h ≡ front ++ call_entry j c r ∷ back) (kept : Kept run front) where
   abbrev none : (k : ℕ) → who.functions k ≡ []
-  none = run.are.no_functions
+  none = run.of.left_alone.probes.no_functions
 
   abbrev at : List Entry → Covers
   at front = covers_at who first front

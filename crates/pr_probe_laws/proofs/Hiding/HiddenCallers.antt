@@ -30,7 +30,7 @@ use Rattle.pr_probe_laws.proofs.Hiding.HiddenPlain.{is_special, plain-of}
 use Rattle.pr_probe_laws.proofs.Hiding.HiddenFacts.{Facts, facts, legal-call, next-is, own-feeds, probe-at}
 use Rattle.pr_probe_laws.specs.HiddenProbes.{is_hiding}
 use Rattle.pr_probe_laws.proofs.Hiding.HiddenWork.{refused-plain, ctl-control}
-use Rattle.pr_probe_laws.proofs.Hiding.HiddenOnes.{IsRunOfProbes, IsOne, IsBare, IsHiddenBy, Kept, others-apart}
+use Rattle.pr_probe_laws.proofs.Hiding.HiddenOnes.{IsUnseenRun, IsOne, IsBare, IsHiddenBy, Kept, others-apart}
 use Rattle.pr_probe_laws.proofs.Hiding.HiddenEntries.{legal_here, own_here, lawful, controllers-longer, one-before, stays-bare}
 
 -- Who makes a call, and what the call leaves hidden of processes of which it hides nothing.
@@ -52,9 +52,9 @@ used-control s j number bytes a given used is held there =
         absurd (let refused = sym is ∙ ap (λ (x : Answer). x.reply) (rw none at it) in cc)
 
 module _ {n : ℕ} {who : Hiders} {controllers : List ControllerState} {first : TracedState} {h : List Entry}
-    (run : IsRunOfProbes n who controllers first h) where
+    (run : IsUnseenRun n who controllers first h) where
   abbrev none : (k : ℕ) → who.functions k ≡ []
-  none = run.are.no_functions
+  none = run.of.left_alone.probes.no_functions
 
   abbrev at : List Entry → Covers
   at front = covers_at who first front
@@ -93,12 +93,12 @@ module _ {n : ℕ} {who : Hiders} {controllers : List ControllerState} {first : 
       pub starts : slice_get controllers j ≡ Some (Probe (first_probe pid))
       pub is : slice_get (controllers_at controllers front) j ≡ Some (Probe p)
       pub next : next_call_of p ≡ Some c
-      pub fact : Facts n controllers first h run.reached run.bytes run.legal run.theirs j pid starts front p
+      pub fact : Facts n who controllers first h run.reached run.of j pid starts front p
       pub later : slice_get (controllers_at controllers (front ++ called_entry ∷ [])) j ≡ Some (Probe (fed p r))
 
     pub caller : who.probes j ≡ true → (pid : ℕ) × ((p : ProbeState) × IsCaller pid p)
     caller hider =
-        let starts = run.are.probes j hider in
+        let starts = run.of.left_alone.probes.probes j hider in
         let now = probe-at j controllers front (first_probe starts.pid, starts.at) in (
           starts.pid,
           (
@@ -111,8 +111,8 @@ module _ {n : ℕ} {who : Hiders} {controllers : List ControllerState} {first : 
                   next-is j (controllers_at controllers front) now.0 c r now.1
                   (own_here run front (Controller j) (act.Call c r) back place kept);
               fact =
-                  facts n controllers first h run.reached run.bytes run.legal run.theirs j starts.pid starts.at front
-                  (called_entry ∷ back) place now.0 now.1;
+                  facts n who controllers first h run.reached run.of j starts.pid
+                  starts.at front (called_entry ∷ back) place now.0 now.1;
               later =
                   ap (λ (cs : List ControllerState). slice_get cs j)
                   (controllers-longer run front (Controller j) (act.Call c r) back place kept)

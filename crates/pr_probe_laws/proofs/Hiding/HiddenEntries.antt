@@ -25,13 +25,13 @@ use Rattle.pr_probe_laws.proofs.Hiding.HiddenKept.{hides-on}
 use Rattle.pr_probe_laws.proofs.Hiding.HiddenStages.{Hides}
 use Rattle.pr_probe_laws.specs.StepMarks.{IsUnstepped}
 use Rattle.pr_probe_laws.specs.HiddenProbes.{IsAlive, is_hiding}
-use Rattle.pr_probe_laws.proofs.Hiding.HiddenOnes.{IsRunOfProbes, IsOne, IsBare, IsHiddenBy, Kept, here, hiding, its, fact, lives, ask, sole}
+use Rattle.pr_probe_laws.proofs.Hiding.HiddenOnes.{IsUnseenRun, IsOne, IsBare, IsHiddenBy, Kept, here, hiding, its, fact, lives, ask, sole}
 
 -- What is so one entry later, of a process of which nothing is hidden, and of one of which another hides something; so
 -- of all of them at a tick of the clock.
 
 module _ {n : ℕ} {who : Hiders} {controllers : List ControllerState} {first : TracedState} {h : List Entry}
-    (run : IsRunOfProbes n who controllers first h) where
+    (run : IsUnseenRun n who controllers first h) where
   abbrev at : List Entry → Covers
   at front = covers_at who first front
 
@@ -55,10 +55,10 @@ module _ {n : ℕ} {who : Hiders} {controllers : List ControllerState} {first : 
     new = covers_after who (at front) t e
 
     pub legal_here : IsLegalEntry n t e
-    legal_here = legal-there n first front e back (subst (λ (es : List Entry). IsLegal n first es) place run.legal)
+    legal_here = legal-there n first front e back (subst (λ (es : List Entry). IsLegal n first es) place run.of.legal)
 
     pub own_here : IsOwnCall (controllers_at controllers front) e
-    own_here = own-there controllers front e back (subst (AreOwnCalls controllers) place run.theirs)
+    own_here = own-there controllers front e back (subst (AreOwnCalls controllers) place run.of.own_calls)
 
     pub lawful : IsLawful t
     lawful = (here run front rest place).lawful

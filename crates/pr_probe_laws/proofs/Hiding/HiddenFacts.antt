@@ -4,6 +4,7 @@ use Rattle.std.proofs.lemmas.List.{append_assoc}
 use Rattle.std.specs.Option.{option_and_then}
 use Rattle.std.proofs.lemmas.Option.{slice_get_within}
 use Rattle.pr_api.specs.Entries.{call_entry}
+use Rattle.pr_hidden.specs.Hiders.{Hiders}
 use Rattle.pr_model.specs.Legal.{IsLegal, IsLegalEntry, after, state_after}
 use Rattle.pr_model.specs.LwpTurns.{turn_of}
 use Rattle.pr_model.specs.State.{TracedState, TracedSystem}
@@ -16,7 +17,7 @@ use Rattle.pr_model.specs.declared.events.Actor.TheVariants.{Controller, Lwp}
 use Rattle.pr_model.specs.declared.events.Entry.{Entry}
 use Rattle.pr_model.specs.declared.events.Turned.{Turned}
 use Rattle.pr_probe.specs.Probes.{ProbeState, fed, first_probe, next_call_of}
-use Rattle.pr_reached.proofs.ReachedLemmas.{later-reached}
+use Rattle.pr_reached.proofs.Together.ReachedLemmas.{later-reached}
 use Rattle.pr_reached.specs.ByteHistories.{HasBytes}
 use Rattle.pr_reached.specs.Reached.{IsReached}
 use Rattle.pr_tool_laws.proofs.Stages.ProtocolLemmas.{KeptByCalls, KeptByOthers, fed-other, fed-own, own-keeps}
@@ -25,6 +26,7 @@ use Rattle.pr_tool_laws.proofs.Records.WholeLemmas.{front-bytes, front-legal}
 use Rattle.pr_world.specs.ControllerStates.{ControllerState, Probe}
 use Rattle.pr_world.specs.Controllers.{after_reply, call_by, next_call, with_fed}
 use Rattle.pr_tool_laws.specs.OwnCalls.{AreOwnCalls, IsOwnCall}
+use Rattle.pr_tool_laws.specs.Runs.{IsRunOf}
 use Rattle.pr_world.specs.Protocol.{controllers_after, controllers_at}
 use Rattle.pr_model.specs.Calls.{answer_to}
 use Rattle.pr_probe_laws.proofs.Hiding.HiddenPlain.{IsInOrder, first-order, order-fed}
@@ -35,7 +37,7 @@ use Rattle.pr_probe_laws.proofs.OneState.TextLaw as text
 use Rattle.pr_probe_laws.proofs.OneState.TextLaw.{IsProbeReading, calls-read, others-read}
 use Rattle.pr_probe_laws.proofs.OneState.TextStages.{IsAsking, Making, Reads, asking, whole-place}
 use Rattle.pr_probe_laws.specs.ShownDescriptors.{HasRoom, WasUnlent}
-use Rattle.pr_probe_laws.specs.HiddenProbes.{IsAsSeen, IsLeftAlone, IsHidingAfter}
+use Rattle.pr_probe_laws.specs.HiddenProbes.{IsAsSeen, IsLeftAlone, IsHidingAfter, IsRunOfProbes}
 
 -- What is known of an apfiles after each front of a history.
 
@@ -122,12 +124,12 @@ legal-call n s j c r legal = (legal.1.0, legal.1.1)
 
 -- ---- the facts
 
-module _ (n : ℕ) (controllers : List ControllerState) (first : TracedState) (h : List Entry) (reached : IsReached first)
-    (bytes : HasBytes h) (legal : IsLegal n first h) (own : AreOwnCalls controllers h) where
+module _ (n : ℕ) (who : Hiders) (controllers : List ControllerState) (first : TracedState) (h : List Entry)
+    (reached : IsReached first) (run : IsRunOfProbes n who controllers first h) where
   pub reached-at : (front back : List Entry) → h ≡ front ++ back → IsReached (state_after first front)
   reached-at front back place =
-      later-reached n first front reached (front-bytes front back (subst HasBytes place bytes))
-      (front-legal n first front back (subst (λ (es : List Entry). IsLegal n first es) place legal))
+      later-reached n first front reached (front-bytes front back (subst HasBytes place run.bytes))
+      (front-legal n first front back (subst (λ (es : List Entry). IsLegal n first es) place run.legal))
 
   module _ (k pid : ℕ) (starts : slice_get controllers k ≡ Some (Probe (first_probe pid))) where
     -- what is known of it
@@ -154,19 +156,22 @@ module _ (n : ℕ) (controllers : List ControllerState) (first : TracedState) (h
         → slice_get (controllers_at controllers front) k ≡ Some (Probe p) → Facts front p
     unfolding IsProbeKnown IsProbeReading InOrder
     facts front back place p is =
-        let its_legal = front-legal n first front back (subst (λ (es : List Entry). IsLegal n first es) place legal) in
-        let its_own = own-front controllers front back (subst (AreOwnCalls controllers) place own) in
+        let own_run : IsRunOf n k (Probe (first_probe pid)) controllers first front = record {
+          begins = starts;
+          legal = front-legal n first front back (subst (λ (es : List Entry). IsLegal n first es) place run.legal);
+          own_calls = own-front controllers front back (subst (AreOwnCalls controllers) place run.own_calls);
+        } in
         let known =
         own-keeps n k first (IsProbeKnown n k pid first) (others-known n k pid first) (calls-known n k pid first)
-        controllers front (Probe (first_probe pid)) (Probe p) its_legal its_own starts is
+        controllers front (Probe (first_probe pid)) (Probe p) own_run is
         (reached.lawful, λ none. sets.at_first n k pid first) in
         let read =
         own-keeps n k first (IsProbeReading n k pid first) (others-read n k pid first) (calls-read n k pid first)
-        controllers front (Probe (first_probe pid)) (Probe p) its_legal its_own starts is
+        controllers front (Probe (first_probe pid)) (Probe p) own_run is
         (reached.lawful, λ none. text.at_first n k pid first) in
         let order =
         own-keeps n k first InOrder others-order calls-order controllers front (Probe (first_probe pid)) (Probe p)
-        its_legal its_own starts is (first-order pid) in
+        own_run is (first-order pid) in
         record { knows = known.1; reads = read.1; order = order }
 
     -- on which conditions its agent asks

@@ -6,7 +6,7 @@ use Rattle.pr_hidden.specs.Covers.{Cover, Patch}
 use Rattle.pr_hidden.specs.Hiders.{exits}
 use Rattle.pr_hidden.specs.Hiding.{with_own_agent}
 use Rattle.pr_hidden.specs.Tidiness.{IsAgentMove}
-use Rattle.pr_lawful.proofs.EndLemmas.{found-live}
+use Rattle.pr_lawful.proofs.LawfulTurns.EndLemmas.{found-live}
 use Rattle.pr_model.specs.Lawful.{IsLawful, IsLawfulProcess}
 use Rattle.pr_model.specs.Legal.{IsLegalEntry, after, state_after}
 use Rattle.pr_model.specs.LwpTurns.{LwpTurn, settled, turn_of}

@@ -9,7 +9,7 @@ use Rattle.pr_hidden.specs.Covers.{Covers}
 use Rattle.pr_hidden.specs.Hiders.{Hiders, covers_after, covers_at, no_covers}
 use Rattle.pr_hidden.specs.Tidiness.{HoldsFrom, IsPassiveBut, IsSparing, IsSparingEntry, IsTidy, IsTidyEntry}
 use Rattle.pr_model.proofs.HistoryLemmas.{state_after-push}
-use Rattle.pr_model.specs.Legal.{IsLegal, IsLegalEntry, state_after}
+use Rattle.pr_model.specs.Legal.{IsLegalEntry, state_after}
 use Rattle.pr_model.specs.State.{TracedLwp, TracedProcess, TracedState, has_agent, live_process}
 use Rattle.pr_model.specs.declared.calls.Call as calls
 use Rattle.pr_model.specs.declared.calls.Reply.{Reply}
@@ -24,7 +24,6 @@ use Rattle.pr_num.specs.declared.messages.Message.TheVariants as message
 use Rattle.pr_probe.specs.ProbeStages.{is_passed_over}
 use Rattle.pr_probe.specs.Probes.{ProbeState, call_of, first_probe, next_call_of, refusal_in}
 use Rattle.pr_probe.specs.declared.probe_stages.ProbeStage.TheVariants as stage
-use Rattle.pr_reached.specs.ByteHistories.{HasBytes}
 use Rattle.pr_reached.specs.Reached.{IsReached}
 use Rattle.pr_world.specs.ControllerStates.{ControllerState, Probe}
 use Rattle.pr_tool_laws.specs.OwnCalls.{AreOwnCalls}
@@ -41,10 +40,10 @@ use Rattle.pr_probe_laws.proofs.Hiding.HiddenFacts.{Facts, facts, next-is, own-t
 use Rattle.pr_probe_laws.proofs.Hiding.HiddenStages.{Hides}
 use Rattle.pr_probe_laws.proofs.StepMarks.MarkCalls.{untouched-unstepped}
 use Rattle.pr_probe_laws.specs.StepMarks.{IsUnstepped}
-use Rattle.pr_probe_laws.specs.HiddenProbes.{AreLeftAlone, IsHidingAfter, is_hiding}
+use Rattle.pr_probe_laws.specs.HiddenProbes.{IsHidingAfter, IsRunOfProbes, is_hiding}
 use Rattle.pr_tool_laws.specs.Leaving.{SendsTo}
 use Rattle.pr_probe_laws.proofs.Hiding.HiddenWork.{hiding-goes, still-accepted}
-use Rattle.pr_probe_laws.proofs.Hiding.HiddenOnes.{IsRunOfProbes, IsOne, IsBare, IsHiddenBy, Kept, alone-hides}
+use Rattle.pr_probe_laws.proofs.Hiding.HiddenOnes.{IsUnseenRun, IsOne, IsBare, IsHiddenBy, Kept, alone-hides}
 use Rattle.pr_probe_laws.proofs.Hiding.HiddenEntries.{legal_here, Steps, tick-steps}
 use Rattle.pr_probe_laws.proofs.Hiding.HiddenTurnSteps.{turn-steps}
 use Rattle.pr_probe_laws.proofs.Hiding.HiddenOwnCalls.{next, right}
@@ -53,7 +52,7 @@ use Rattle.pr_probe_laws.proofs.Hiding.HiddenCallSteps.{call-steps}
 -- Each apfiles is tidy.
 
 module _ {n : ℕ} {who : Hiders} {controllers : List ControllerState} {first : TracedState} {h : List Entry}
-    (run : IsRunOfProbes n who controllers first h) where
+    (run : IsUnseenRun n who controllers first h) where
   abbrev at : List Entry → Covers
   at front = covers_at who first front
 
@@ -127,10 +126,9 @@ module _ {n : ℕ} {who : Hiders} {controllers : List ControllerState} {first : 
     kept_here : Kept run front
     kept_here = kept-after [] front its_rest place at_first
 
-    its_fact : Facts n controllers first h run.reached run.bytes run.legal run.theirs k pid starts front p
+    its_fact : Facts n who controllers first h run.reached run.of k pid starts front p
     its_fact =
-        facts n controllers first h run.reached run.bytes run.legal run.theirs k pid starts front its_rest place p
-        its_way.is
+        facts n who controllers first h run.reached run.of k pid starts front its_rest place p its_way.is
 
     its_one : IsOne run pid front k p
     its_one = record {
@@ -184,21 +182,17 @@ module _ {n : ℕ} {who : Hiders} {controllers : List ControllerState} {first : 
 -- Where all who hide nothing make passive calls alone, and each apfiles is left alone, each is tidy, and programs leave
 -- alone what it wrote over.
 module _ (n : ℕ) (who : Hiders) (controllers : List ControllerState) (s : TracedState) (h : List Entry)
-    (reached : IsReached s) (bytes : HasBytes h) (legal : IsLegal n s h) (theirs : AreOwnCalls controllers h)
-    (are : AreLeftAlone who controllers s h) where
+    (reached : IsReached s) (run : IsRunOfProbes n who controllers s h) where
   passive_but : IsPassiveBut who h
-  passive_but = others-enough n who controllers s h legal theirs are.probes are.passive
+  passive_but =
+      others-enough n who controllers s h run.legal run.own_calls run.left_alone.probes run.left_alone.passive
 
-  its-run : IsUnstepped s.system → IsRunOfProbes n who controllers s h
+  its-run : IsUnstepped s.system → IsUnseenRun n who controllers s h
   its-run unstepped = record {
     reached = reached;
-    bytes = bytes;
-    legal = legal;
-    theirs = theirs;
-    are = are.probes;
-    passive = passive_but;
-    alone = are.alone;
     first_unstepped = unstepped;
+    of = run;
+    passive = passive_but;
   }
 
   pub alone-tidy : IsUnstepped s.system → IsTidy who s h
@@ -229,7 +223,7 @@ module _ (n : ℕ) (who : Hiders) (controllers : List ControllerState) (s : Trac
       let now = probe-at k controllers front (first_probe pid, starts) in
       let p : ProbeState = now.0 in
       let its_own =
-      own-there controllers front (call_entry k c r) back (subst (AreOwnCalls controllers) place theirs) in
+      own-there controllers front (call_entry k c r) back (subst (AreOwnCalls controllers) place run.own_calls) in
       let made = next-is k (controllers_at controllers front) p c r now.1 its_own in
       let at_write : p.stage ≡ stage.WriteStack =
       writes-stack-at k pid (state_after s front) c tail sent p p.stage made in
@@ -239,5 +233,5 @@ module _ (n : ℕ) (who : Hiders) (controllers : List ControllerState) (s : Trac
   -- so programs see nothing of it
   pub alone-hidden : IsUntouched s.system → IsHidden who s h
   alone-hidden untouched =
-      hidden-later n who s h reached.lawful untouched legal passive_but
+      hidden-later n who s h reached.lawful untouched run.legal passive_but
       (alone-spares (untouched-unstepped s.system untouched)) (alone-tidy (untouched-unstepped s.system untouched))

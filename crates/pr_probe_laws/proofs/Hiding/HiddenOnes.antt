@@ -6,12 +6,12 @@ use Rattle.pr_hidden.specs.Covers.{Covers}
 use Rattle.pr_hidden.specs.Following.{MayEnd}
 use Rattle.pr_hidden.specs.Hiders.{Hiders, covers_at}
 use Rattle.pr_hidden.specs.Tidiness.{IsPassiveBut}
-use Rattle.pr_lawful.proofs.EndLemmas.{found-live}
-use Rattle.pr_lawful.proofs.HandleLemmas.{control-writes, handle-at}
+use Rattle.pr_lawful.proofs.LawfulTurns.EndLemmas.{found-live}
+use Rattle.pr_lawful.proofs.ProcessParts.HandleLemmas.{control-writes, handle-at}
 use Rattle.pr_lending.proofs.LoanLemmas.{borrower-found, lender-found}
 use Rattle.pr_model.specs.Handles.{handle_of, is_control, is_writable}
 use Rattle.pr_model.specs.Lawful.{IsFitting, IsLawful}
-use Rattle.pr_model.specs.Legal.{IsLegal, state_after}
+use Rattle.pr_model.specs.Legal.{state_after}
 use Rattle.pr_model.specs.State.{TracedProcess, TracedState, live_process}
 use Rattle.pr_model.specs.declared.events.Entry.{Entry}
 use Rattle.pr_model.specs.declared.handles.Held.{Held}
@@ -19,11 +19,9 @@ use Rattle.pr_num.proofs.SearchLemmas.{All-at}
 use Rattle.pr_probe.specs.ProbeStages.{mode_of}
 use Rattle.pr_probe.specs.Probes.{ProbeState, first_probe}
 use Rattle.pr_probe.specs.declared.probe_stages.ProbeFile.TheVariants.{Control}
-use Rattle.pr_reached.specs.ByteHistories.{HasBytes}
 use Rattle.pr_reached.specs.Reached.{IsReached}
 use Rattle.pr_truss_laws.specs.Handles.{HasNoOtherWriter}
 use Rattle.pr_world.specs.ControllerStates.{ControllerState, Probe}
-use Rattle.pr_tool_laws.specs.OwnCalls.{AreOwnCalls}
 use Rattle.pr_world.specs.Protocol.{controllers_at}
 use Rattle.pr_probe_laws.proofs.Hiding.HiddenCovers.{HaveNoFaults}
 use Rattle.pr_probe_laws.proofs.Hiding.HiddenFacts.{Facts, asks-at, facts, reached-at}
@@ -32,24 +30,20 @@ use Rattle.pr_probe_laws.proofs.Files.FilePlaces.{held_of}
 use Rattle.pr_probe_laws.proofs.Sets.SetStages.{fair-now}
 use Rattle.pr_probe_laws.proofs.OneState.TextStages.{IsAsking, Making}
 use Rattle.pr_probe_laws.specs.StepMarks.{IsUnstepped}
-use Rattle.pr_probe_laws.specs.HiddenProbes.{AreProbes, IsLeftAlone, IsHidingAfter, IsAlive, is_hiding}
+use Rattle.pr_probe_laws.specs.HiddenProbes.{IsLeftAlone, IsHidingAfter, IsAlive, IsRunOfProbes, is_hiding}
 use Rattle.pr_probe_laws.proofs.Hiding.HiddenWork.{hides-hiding, IsAtWork, works}
 
 -- One that hides something of a process: that is one alone, its process lives, and stands as it has to; and nothing is
 -- hidden of who lends memory.
 
--- a legal history of apfiles that are left alone, beside which all make passive calls
-pub record IsRunOfProbes (n : ℕ) (who : Hiders) (controllers : List ControllerState) (first : TracedState)
+-- a run of apfiles that are left alone, from a state that is reached and in which no lwp has a step mark; so all else
+-- in it is passive
+pub record IsUnseenRun (n : ℕ) (who : Hiders) (controllers : List ControllerState) (first : TracedState)
     (h : List Entry) : Type 0 where
   pub reached : IsReached first
-  pub bytes : HasBytes h
-  pub legal : IsLegal n first h
-  pub theirs : AreOwnCalls controllers h
-  pub are : AreProbes who controllers
-  pub passive : IsPassiveBut who h
-  pub alone : (k pid : ℕ) → who.probes k ≡ true → slice_get controllers k ≡ Some (Probe (first_probe pid))
-      → IsLeftAlone k pid controllers first h
   pub first_unstepped : IsUnstepped first.system
+  pub of : IsRunOfProbes n who controllers first h
+  pub passive : IsPassiveBut who h
 
 -- a control file is open for writing
 held-writes : (s : TracedState) (j number : ℕ) (held : Held) → IsLawful s → handle_of s.opens j number ≡ Some held
@@ -59,7 +53,7 @@ held-writes s j number held lawful there control =
     (All-at IsFitting s.opens number (Some held) (handle-at s.opens j number held there) lawful.fitting) control
 
 module _ {n : ℕ} {who : Hiders} {controllers : List ControllerState} {first : TracedState} {h : List Entry}
-    (run : IsRunOfProbes n who controllers first h) where
+    (run : IsUnseenRun n who controllers first h) where
   abbrev at : List Entry → Covers
   at front = covers_at who first front
 
@@ -96,7 +90,7 @@ module _ {n : ℕ} {who : Hiders} {controllers : List ControllerState} {first : 
     s = state_after first front
 
     pub here : IsReached s
-    here = reached-at n controllers first h run.reached run.bytes run.legal run.theirs front back place
+    here = reached-at n who controllers first h run.reached run.of front back place
 
     module _ (pid : ℕ) (b : IsHiddenBy pid front) where
       pub hiding : is_hiding b.p.stage ≡ true
@@ -106,20 +100,18 @@ module _ {n : ℕ} {who : Hiders} {controllers : List ControllerState} {first : 
       way = record { is = b.one.is; hides = hiding }
 
       pub its : IsLeftAlone b.k pid controllers first h
-      its = run.alone b.k pid b.one.hider b.one.starts
+      its = run.of.left_alone.alone b.k pid b.one.hider b.one.starts
 
-      pub fact : Facts n controllers first h run.reached run.bytes run.legal run.theirs b.k pid b.one.starts front b.p
+      pub fact : Facts n who controllers first h run.reached run.of b.k pid b.one.starts front b.p
       fact =
-          facts n controllers first h run.reached run.bytes run.legal run.theirs b.k pid b.one.starts front back place
-          b.p b.one.is
+          facts n who controllers first h run.reached run.of b.k pid b.one.starts front back place b.p b.one.is
 
       pub lives : IsAlive pid s
       lives = its.lives front back b.p place way
 
       pub ask : (m : Making b.k pid first front) → IsAsking b.k pid first front m
       ask =
-          asks-at n controllers first h run.reached run.bytes run.legal run.theirs b.k pid b.one.starts its front back
-          place b.p way
+          asks-at n who controllers first h run.reached run.of b.k pid b.one.starts its front back place b.p way
 
       work : IsAtWork b.k pid first front s b.p
       work = works b.k pid first front s b.p b.p.stage hiding (fact.knows b.one.accepted)
@@ -131,7 +123,7 @@ module _ {n : ℕ} {who : Hiders} {controllers : List ControllerState} {first : 
             sole =
                 its.sole front back b.p place way work.began.before work.began.later work.began.opened work.began.place;
             ranged = λ f r split.
-                (reached-at n controllers first h run.reached run.bytes run.legal run.theirs f (r ++ back)
+                (reached-at n who controllers first h run.reached run.of f (r ++ back)
                 (place ∙ ap (λ (es : List Entry). es ++ back) split ∙ append_assoc f r back)).in_range;
           })
 
@@ -148,8 +140,7 @@ module _ {n : ℕ} {who : Hiders} {controllers : List ControllerState} {first : 
           its_work : IsAtWork k pid first front s p
           its_work =
               let so =
-              facts n controllers first h run.reached run.bytes run.legal run.theirs k pid one.starts front back place
-              p one.is in
+              facts n who controllers first h run.reached run.of k pid one.starts front back place p one.is in
               works k pid first front s p p.stage hides (so.knows one.accepted)
 
           by : (k ≡ b.k) ⊎ (k ≢ b.k) → k ≡ b.k

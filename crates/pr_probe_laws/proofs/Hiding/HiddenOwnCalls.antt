@@ -43,7 +43,7 @@ use Rattle.pr_probe_laws.specs.ShownDescriptors.{WasUnlent}
 use Rattle.pr_probe_laws.specs.HiddenProbes.{IsAsSeen, MakesAgent, StandsSaved, is_hiding}
 use Rattle.pr_tool_laws.specs.Leaving.{SendsTo}
 use Rattle.pr_probe_laws.proofs.Hiding.HiddenWork.{hides-hiding, still-accepted, refused-plain, special-hides}
-use Rattle.pr_probe_laws.proofs.Hiding.HiddenOnes.{IsRunOfProbes, IsOne, IsBare, IsHiddenBy, Kept, way, its, fact, lives, ask, alone-hides}
+use Rattle.pr_probe_laws.proofs.Hiding.HiddenOnes.{IsUnseenRun, IsOne, IsBare, IsHiddenBy, Kept, way, its, fact, lives, ask, alone-hides}
 use Rattle.pr_probe_laws.proofs.Hiding.HiddenEntries.{own_here, lawful, place_longer, at-longer, controllers-longer, one-before, moved-on, stays-hidden}
 use Rattle.pr_probe_laws.proofs.Hiding.HiddenCallers as Calls
 
@@ -55,11 +55,11 @@ unfolding first_probe
 first-pid a b same = ap (λ (p : ProbeState). p.pid) same
 
 module _ {n : ℕ} {who : Hiders} {controllers : List ControllerState} {first : TracedState} {h : List Entry}
-    (run : IsRunOfProbes n who controllers first h)
+    (run : IsUnseenRun n who controllers first h)
     (front : List Entry) (j : ℕ) (c : calls.Call) (r : Reply) (back : List Entry)
     (place : h ≡ front ++ call_entry j c r ∷ back) (kept : Kept run front) where
   abbrev none : (k : ℕ) → who.functions k ≡ []
-  none = run.are.no_functions
+  none = run.of.left_alone.probes.no_functions
 
   abbrev at : List Entry → Covers
   at front = covers_at who first front
@@ -98,7 +98,8 @@ module _ {n : ℕ} {who : Hiders} {controllers : List ControllerState} {first : 
       → live_process v.system pid ≡ Some q → StandsSaved p q.space
   unfolding Reads
   saved-there pid p it accepted is u fed_is hides makes_it q live =
-      by ((run.alone j pid it.hider it.starts).as_seen front back called_entry p place makes_it it.is q live)
+      by ((run.of.left_alone.alone j pid it.hider it.starts).as_seen front back called_entry p place makes_it it.is q
+      live)
     where
       known : Comes j pid first front v p 4 (TracesWith j pid first front p AllBack)
       known = subst (λ (g : ProbeStage). Reads j pid first front v p g) is (it.fact.reads accepted)
@@ -111,14 +112,14 @@ module _ {n : ℕ} {who : Hiders} {controllers : List ControllerState} {first : 
           fair-front j pid first front called_entry known.began
           (record {
             sole =
-                (run.alone j pid it.hider it.starts).sole (front ++ called_entry ∷ []) back u place_on
+                (run.of.left_alone.alone j pid it.hider it.starts).sole (front ++ called_entry ∷ []) back u place_on
                 (record { is = it.later ∙ ap (λ (x : ProbeState). Some (Probe x)) fed_is; hides = hides })
                 (began-still j pid first front called_entry known.began).before
                 (began-still j pid first front called_entry known.began).later
                 (began-still j pid first front called_entry known.began).opened
                 (began-still j pid first front called_entry known.began).place;
             ranged = λ f rest split.
-                (reached-at n controllers first h run.reached run.bytes run.legal run.theirs f (rest ++ back)
+                (reached-at n who controllers first h run.reached run.of f (rest ++ back)
                 (place_on ∙ ap (λ (es : List Entry). es ++ back) split ∙ append_assoc f rest back)).in_range;
           })
 
@@ -278,7 +279,7 @@ module _ {n : ℕ} {who : Hiders} {controllers : List ControllerState} {first : 
         next-is j (controllers_at controllers front) p c r one.is
         (own_here run front (Controller j) (act.Call c r) back place kept)
 
-    known : Facts n controllers first h run.reached run.bytes run.legal run.theirs j pid one.starts front p
+    known : Facts n who controllers first h run.reached run.of j pid one.starts front p
     known = fact run front (called_entry ∷ back) place pid mine
 
     -- it is refused nothing

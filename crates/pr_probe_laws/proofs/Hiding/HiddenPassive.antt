@@ -169,7 +169,8 @@ module _ (n : ℕ) (who : Hiders) (controllers : List ControllerState) (first : 
           let starts = are.probes j hider in
           let s : TracedState = state_after first front in
           let made =
-          (makes-its-calls controllers n j starts.pid first h starts.at legal own).each front back c r place in
+          (makes-its-calls controllers n j starts.pid first h
+          (record { begins = starts.at; legal = legal; own_calls = own })).each front back c r place in
           let does =
           legal-call n s j c r
           (legal-there n first front (call_entry j c r) back (subst (IsLegal n first) place legal)) in

@@ -25,15 +25,15 @@ use Rattle.pr_probe_laws.proofs.Hiding.HiddenTurns.{agent-spares, agent-tidy, cl
 use Rattle.pr_probe_laws.proofs.StepMarks.StepTurns.{turn-plain, turn-unstepped}
 use Rattle.pr_probe_laws.specs.StepMarks.{IsUnstepped}
 use Rattle.pr_probe_laws.specs.HiddenProbes.{IsAlive, is_hiding, is_signal_turn}
-use Rattle.pr_probe_laws.proofs.Hiding.HiddenOnes.{IsRunOfProbes, IsOne, IsBare, IsHiddenBy, Kept, hiding, way, its, fact, lives, ask, sole, held, bare-ends, may-end}
+use Rattle.pr_probe_laws.proofs.Hiding.HiddenOnes.{IsUnseenRun, IsOne, IsBare, IsHiddenBy, Kept, hiding, way, its, fact, lives, ask, sole, held, bare-ends, may-end}
 use Rattle.pr_probe_laws.proofs.Hiding.HiddenEntries.{legal_here, lawful, place_longer, at-longer, state-longer, one-before, stays-bare, moved-on, stays-one, not-gone, stays-hidden, Steps}
 
 -- Each turn is tidy, and spares what is written over; and what is hidden after it is so.
 
 module _ {n : ℕ} {who : Hiders} {controllers : List ControllerState} {first : TracedState} {h : List Entry}
-    (run : IsRunOfProbes n who controllers first h) where
+    (run : IsUnseenRun n who controllers first h) where
   abbrev none : (k : ℕ) → who.functions k ≡ []
-  none = run.are.no_functions
+  none = run.of.left_alone.probes.no_functions
 
   abbrev at : List Entry → Covers
   at front = covers_at who first front

@@ -8,7 +8,7 @@ use Rattle.pr_keeps.specs.RowKinds as kind
 use Rattle.pr_keeps.specs.RowKinds.{RowKind}
 use Rattle.pr_model.specs.CallEffects.{call_effect}
 use Rattle.pr_model.specs.Changes as change
-use Rattle.pr_model.specs.Changes.{Change, Effect}
+use Rattle.pr_model.specs.Changes.{Effect}
 use Rattle.pr_model.specs.InstructionEffects as instruction
 use Rattle.pr_model.specs.InstructionEffects.{Decoded, InstructionEffect, Store, decoded, enters_call, faults_itself, instruction_effect, leaves as leaves_call, loads, stores}
 use Rattle.pr_model.specs.Rows.{Row, entered_row, executed_row, handler_row, incurred_row, interrupted_row, own_taken_row, performed_row, posted_row, ran_row, requested_row, returned_row, row_for, shared_taken_row, watched_row}

@@ -6,7 +6,7 @@ use Rattle.std.specs.List.{All}
 use Rattle.pr_api.specs.Entries.{call_entry}
 use Rattle.pr_keeps.proofs.LoanLemmas.{own-space}
 use Rattle.pr_model.specs.Readers.{space_seen}
-use Rattle.pr_lawful.proofs.EndLemmas.{found-live}
+use Rattle.pr_lawful.proofs.LawfulTurns.EndLemmas.{found-live}
 use Rattle.pr_model.specs.Calls.{Answer, answer_to, answered}
 use Rattle.pr_model.specs.Changes.{with_space}
 use Rattle.pr_model.specs.Handles.{handle_of as handle_in}
@@ -60,7 +60,7 @@ use Rattle.pr_probe.specs.declared.probe_stages.ProbeStage.TheVariants as stage
 use Rattle.pr_probe.specs.declared.traced_sets.SetKind.{SetKind}
 use Rattle.pr_probe.specs.declared.traced_sets.SetKind.TheVariants.{Signals, Faults, Entries, Exits}
 use Rattle.pr_probe.specs.declared.traced_sets.TracedSets.{TracedSets}
-use Rattle.pr_reached.proofs.EntryRanges.{records-range}
+use Rattle.pr_reached.proofs.RecordsInRange.EntryRanges.{records-range}
 use Rattle.pr_rec.specs.Reading.{record_read}
 use Rattle.pr_rec.specs.RecordBytes.{lwpstatus_bytes}
 use Rattle.pr_report_laws.proofs.Machine.ControlLaws.{run-reads}
@@ -73,7 +73,7 @@ use Rattle.pr_truss_laws.proofs.Files.OpensLemmas.{keeps_handles}
 use Rattle.pr_truss_laws.specs.Stills.{IsHalting}
 use Rattle.pr_probe_laws.proofs.Agents.AgentCalls.{agent-lives, agent_writer, polled, registered, run}
 use Rattle.pr_probe_laws.proofs.Agents.AgentTurns.{IsFetchable, IsPlanted, asks}
-use Rattle.pr_lawful.proofs.CallLemmas.{call-state}
+use Rattle.pr_lawful.proofs.LawfulStates.CallLemmas.{call-state}
 use Rattle.pr_probe_laws.proofs.Files.FileEntries.{call-stay, kinds-stay}
 use Rattle.pr_probe_laws.proofs.Files.FilePlaces.{HasFile, HasFirst, held_of, none-first}
 use Rattle.pr_probe_laws.proofs.PuttingBack.MemoryMessages.{read-given, read_bytes, write_bytes, writer_of}

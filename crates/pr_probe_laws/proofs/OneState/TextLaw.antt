@@ -2,8 +2,8 @@ use Rattle.std.proofs.Common.{true, ◌≡◌, ◌⊎◌, ◌∷◌, ◌++◌, �
 use Rattle.std.proofs.lemmas.List.Elements.{All-nil}
 use Rattle.std.proofs.lemmas.List.{append_assoc}
 use Rattle.pr_api.specs.Entries.{call_entry}
-use Rattle.pr_lawful.proofs.CallLemmas.{call-state}
-use Rattle.pr_lawful.proofs.HistoryLemmas.{history-state}
+use Rattle.pr_lawful.proofs.LawfulStates.CallLemmas.{call-state}
+use Rattle.pr_lawful.proofs.LawfulStates.HistoryLemmas.{history-state}
 use Rattle.pr_model.proofs.HistoryLemmas.{state_after-push}
 use Rattle.pr_model.specs.Lawful.{IsLawful}
 use Rattle.pr_model.specs.Legal.{IsLegal, after, state_after}
@@ -15,7 +15,7 @@ use Rattle.pr_probe.specs.DescriptorLines.{apfiles_text}
 use Rattle.pr_probe.specs.ProbeText.{printed}
 use Rattle.pr_probe.specs.Probes.{ProbeState, fed, first_probe, has_ended}
 use Rattle.pr_probe.specs.declared.probe_stages.ProbeStage.{ProbeStage}
-use Rattle.pr_reached.proofs.ReachedLemmas.{later-reached}
+use Rattle.pr_reached.proofs.Together.ReachedLemmas.{later-reached}
 use Rattle.pr_reached.specs.ByteHistories.{HasBytes}
 use Rattle.pr_reached.specs.Reached.{IsReached}
 use Rattle.pr_tool_laws.proofs.Stages.ProtocolLemmas.{KeptByCalls, KeptByOthers, own-keeps}
@@ -24,7 +24,7 @@ use Rattle.pr_tool_laws.proofs.Records.WholeLemmas.{front-bytes, front-legal}
 use Rattle.pr_world.specs.ControllerStates.{ControllerState, Probe}
 use Rattle.pr_world.specs.Controllers.{after_reply, next_call}
 use Rattle.pr_world.specs.Protocol.{controllers_at}
-use Rattle.pr_tool_laws.specs.OwnCalls.{AreOwnCalls}
+use Rattle.pr_tool_laws.specs.Runs.{IsRunOf}
 use Rattle.pr_probe_laws.proofs.Agents.AgentTurns.{asks}
 use Rattle.pr_probe_laws.proofs.OneState.TextCalls.{called-reads}
 use Rattle.pr_probe_laws.proofs.OneState.TextStages.{HasShown, IsAsking, IsRanged, Reads, reads-still}
@@ -84,14 +84,14 @@ text-is p pid ended accepted its = rw (ended, accepted, its) refl
 -- In the end its text is that of the state that its last look finds, unless it was refused.
 pub shows-one : (controllers : List ControllerState) (n k : ℕ) (pid : ℕ) (s : TracedState) (h : List Entry)
     (p : ProbeState) → IsReached s → HasBytes h
-    → slice_get controllers k ≡ Some (Probe (first_probe pid)) → IsLegal n s h → AreOwnCalls controllers h
+    → IsRunOf n k (Probe (first_probe pid)) controllers s h
     → slice_get (controllers_at controllers h) k ≡ Some (Probe p) → has_ended p ≡ true → p.refusal ≡ None
     → ShowsOneState k pid s h (printed p)
 unfolding IsProbeReading
-shows-one controllers n k pid s h p reached bytes starts legal follows ends ended accepted =
+shows-one controllers n k pid s h p reached bytes run ends ended accepted =
     let kept =
     own-keeps n k s (IsProbeReading n k pid s) (others-read n k pid s) (calls-read n k pid s) controllers h
-    (Probe (first_probe pid)) (Probe p) legal follows starts ends (reached.lawful, λ none. at_first n k pid s) in
+    (Probe (first_probe pid)) (Probe p) run ends (reached.lawful, λ none. at_first n k pid s) in
     let shown = has-shown n k pid s h (state_after s h) p ended (kept.1 accepted) in
     of shown.0 shown.1
   where
@@ -100,7 +100,7 @@ shows-one controllers n k pid s h p reached bytes starts legal follows ends ende
     front-ranged front back place =
         let there =
         later-reached n s front reached (front-bytes front back (subst HasBytes place bytes))
-        (front-legal n s front back (subst (λ (es : List Entry). IsLegal n s es) place legal)) in
+        (front-legal n s front back (subst (λ (es : List Entry). IsLegal n s es) place run.legal)) in
         record { range = there.in_range; fit = there.fit }
 
     of : p.pid ≡ pid → HasShown k pid s h p.lines → ShowsOneState k pid s h (printed p)

@@ -2,7 +2,7 @@ use Rattle.std.proofs.Common.{◌≡◌, ◌==◌, ◌<◌, ◌≤◌, ◌+◌, 
 use Rattle.std.proofs.lemmas.Bool.{lt-ltb}
 use Rattle.std.proofs.lemmas.List.{append_assoc, append-nil, length-append}
 use Rattle.pr_codec.proofs.WordLemmas.{length-words_bytes}
-use Rattle.pr_core_laws.proofs.ReadLemmas.{all-read}
+use Rattle.pr_core_laws.proofs.OneState.ReadLemmas.{all-read}
 use Rattle.pr_model.specs.Reads.{file_read, file_reply, of_lwp, of_process, part_read, read_process}
 use Rattle.pr_model.specs.State.{TracedLwp, TracedProcess, TracedSystem, live_process, lwp_of}
 use Rattle.pr_model.specs.Statuses.{errno_in, lwpstatus_of}

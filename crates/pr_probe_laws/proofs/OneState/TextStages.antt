@@ -7,7 +7,7 @@ use Rattle.std.specs.List.{All}
 use Rattle.std.proofs.lemmas.List.{append_assoc, append-nil}
 use Rattle.std.proofs.lemmas.Option.{same_Some}
 use Rattle.pr_api.specs.Entries.{call_entry}
-use Rattle.pr_lawful.proofs.EndLemmas.{found-live}
+use Rattle.pr_lawful.proofs.LawfulTurns.EndLemmas.{found-live}
 use Rattle.pr_model.proofs.HistoryLemmas.{state_after-push}
 use Rattle.pr_model.specs.Handles.{handle_of}
 use Rattle.pr_model.specs.Lawful.{IsLawful, IsLawfulProcess}
@@ -63,7 +63,7 @@ use Rattle.pr_probe_laws.proofs.Agents.AgentEntries.{Becomes, had_turn, is_left,
 use Rattle.pr_probe_laws.proofs.Agents.AgentMemory.{first-bytes}
 use Rattle.pr_probe_laws.proofs.Agents.AgentRows.{AfterAgent, agent-turn, goes_on, is_back}
 use Rattle.pr_probe_laws.proofs.Agents.AgentTurns.{IsUnheld, IsAgent, IsFetchable, IsPlanted, IsReady, Position, Tells, calling, in_code, leaving}
-use Rattle.pr_lawful.proofs.HistoryLemmas.{history-state}
+use Rattle.pr_lawful.proofs.LawfulStates.HistoryLemmas.{history-state}
 use Rattle.pr_probe_laws.proofs.Files.FileEntries.{entry-stay, kinds-stay}
 use Rattle.pr_probe_laws.proofs.Files.FilePlaces.{HasFirst, held_of, keeps-first}
 use Rattle.pr_probe_laws.proofs.Room.RoomFrames.{IsKept}

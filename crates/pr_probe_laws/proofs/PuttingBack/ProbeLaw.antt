@@ -2,7 +2,7 @@ use Rattle.std.proofs.Common.{◌≡◌, ◌++◌, ◌∷◌, ℕ, Some, None, L
 use Rattle.std.proofs.lemmas.List.Elements.{All-nil}
 use Rattle.pr_api.specs.Entries.{call_entry}
 use Rattle.pr_model.proofs.HistoryLemmas.{state_after-push}
-use Rattle.pr_model.specs.Legal.{IsLegal, after, state_after}
+use Rattle.pr_model.specs.Legal.{after, state_after}
 use Rattle.pr_model.specs.State.{TracedState}
 use Rattle.pr_model.specs.declared.calls.Call.TheVariants as call
 use Rattle.pr_model.specs.declared.events.Entry.{Entry}
@@ -15,7 +15,7 @@ use Rattle.pr_tool_laws.proofs.Stages.StageLemmas.{state-called}
 use Rattle.pr_world.specs.Controllers.{after_reply, next_call}
 use Rattle.pr_world.specs.ControllerStates.{ControllerState, Probe}
 use Rattle.pr_world.specs.Protocol.{controllers_at}
-use Rattle.pr_tool_laws.specs.OwnCalls.{AreOwnCalls}
+use Rattle.pr_tool_laws.specs.Runs.{IsRunOf}
 use Rattle.pr_probe_laws.proofs.PuttingBack.ProbeCalls.{called-so}
 use Rattle.pr_probe_laws.proofs.PuttingBack.ProbeStages.{BothBack, So, others-hold, so-still}
 use Rattle.pr_probe_laws.proofs.Sets.SetStages.{others-call}
@@ -59,14 +59,14 @@ module _ (n k pid : ℕ) (first : TracedState) where
 
 -- In the end it has done that, unless it was refused.
 pub puts-back : (controllers : List ControllerState) (n k : ℕ) (pid : ℕ) (s : TracedState) (h : List Entry)
-    (p : ProbeState) → slice_get controllers k ≡ Some (Probe (first_probe pid)) → IsLegal n s h
-    → AreOwnCalls controllers h → slice_get (controllers_at controllers h) k ≡ Some (Probe p) → has_ended p ≡ true
-    → p.refusal ≡ None → PutsBack k pid s h
+    (p : ProbeState) → IsRunOf n k (Probe (first_probe pid)) controllers s h
+    → slice_get (controllers_at controllers h) k ≡ Some (Probe p) → has_ended p ≡ true → p.refusal ≡ None
+    → PutsBack k pid s h
 unfolding IsProbeKept
-puts-back controllers n k pid s h p starts legal follows ends ended accepted =
+puts-back controllers n k pid s h p run ends ended accepted =
     let kept =
     own-keeps n k s (IsProbeKept n k pid s) (others-kept n k pid s) (calls-kept n k pid s) controllers h
-    (Probe (first_probe pid)) (Probe p) legal follows starts ends (λ none. at_first n k pid s) in
+    (Probe (first_probe pid)) (Probe p) run ends (λ none. at_first n k pid s) in
     let both = all-back n k pid s h p (kept accepted) (ended-closes p ended) in
     record {
       code = p.code;

@@ -3,8 +3,8 @@ use Rattle.std.proofs.lemmas.Bool.{and_parts}
 use Rattle.std.proofs.lemmas.List.{take_all}
 use Rattle.std.proofs.lemmas.Option.{same_Some}
 use Rattle.pr_api.specs.Entries.{call_entry}
-use Rattle.pr_core_laws.proofs.ReadLemmas.{status-there}
-use Rattle.pr_lawful.proofs.EndLemmas.{found-live}
+use Rattle.pr_core_laws.proofs.OneState.ReadLemmas.{status-there}
+use Rattle.pr_lawful.proofs.LawfulTurns.EndLemmas.{found-live}
 use Rattle.pr_model.specs.Calls.{Answer, answer_to}
 use Rattle.pr_model.specs.Lawful.{IsLawful}
 use Rattle.pr_model.specs.Legal.{state_after}
@@ -42,7 +42,7 @@ use Rattle.pr_probe.specs.declared.probe_stages.ProbeFile.{ProbeFile}
 use Rattle.pr_probe.specs.declared.probe_stages.ProbeFile.TheVariants.{Control, Status, Map}
 use Rattle.pr_probe.specs.declared.traced_sets.SetKind.{SetKind}
 use Rattle.pr_probe.specs.declared.traced_sets.SetKind.TheVariants.{Signals, Faults, Entries, Exits}
-use Rattle.pr_reached.proofs.EntryRanges.{records-range}
+use Rattle.pr_reached.proofs.RecordsInRange.EntryRanges.{records-range}
 use Rattle.pr_reached.specs.InRange.{IsProcessInRange}
 use Rattle.pr_rec.specs.Reading.{record_read}
 use Rattle.pr_rec.specs.RecordBytes.{map_bytes, status_bytes}

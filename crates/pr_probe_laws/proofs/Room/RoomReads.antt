@@ -4,7 +4,7 @@ use Rattle.std.proofs.lemmas.List.{drop_at, length-map}
 use Rattle.std.proofs.lemmas.List.Elements.{All-head, All-tail}
 use Rattle.std.specs.List.{All, AllPairs, find}
 use Rattle.pr_codec.proofs.WordLemmas.{length-words_bytes}
-use Rattle.pr_core_laws.proofs.ReadLemmas.{all-read}
+use Rattle.pr_core_laws.proofs.OneState.ReadLemmas.{all-read}
 use Rattle.pr_model.specs.Readers.{space_seen}
 use Rattle.pr_model.specs.Records.{map_entry_of, map_of}
 use Rattle.pr_model.specs.Reads.{part_read}

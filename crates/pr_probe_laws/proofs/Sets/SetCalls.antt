@@ -3,8 +3,8 @@ use Rattle.std.proofs.lemmas.List.Elements.{All-nil}
 use Rattle.std.specs.List.{All}
 use Rattle.std.proofs.lemmas.Option.{none-some, same_Some}
 use Rattle.pr_api.specs.Entries.{call_entry}
-use Rattle.pr_core_laws.proofs.ReadLemmas.{status-gone, status-there}
-use Rattle.pr_lawful.proofs.EndLemmas.{found-live}
+use Rattle.pr_core_laws.proofs.OneState.ReadLemmas.{status-gone, status-there}
+use Rattle.pr_lawful.proofs.LawfulTurns.EndLemmas.{found-live}
 use Rattle.pr_model.specs.Calls.{Answer, answer_to, answered, controlled}
 use Rattle.pr_model.specs.Handles.{handle_of as handle_in}
 use Rattle.pr_model.specs.Lawful.{IsLawful, IsLawfulProcess}
@@ -49,7 +49,7 @@ use Rattle.pr_probe.specs.declared.probe_stages.ProbeStage.TheVariants as stage
 use Rattle.pr_probe.specs.declared.traced_sets.SetKind.{SetKind}
 use Rattle.pr_probe.specs.declared.traced_sets.SetKind.TheVariants.{Signals, Faults, Entries, Exits}
 use Rattle.pr_probe.specs.declared.traced_sets.TracedSets.{TracedSets}
-use Rattle.pr_reached.proofs.EntryRanges.{records-range}
+use Rattle.pr_reached.proofs.RecordsInRange.EntryRanges.{records-range}
 use Rattle.pr_rec.specs.Reading.{record_read}
 use Rattle.pr_rec.specs.RecordBytes.{status_bytes}
 use Rattle.pr_report_laws.proofs.Machine.ControlLaws.{run-reads}

@@ -4,8 +4,8 @@ use Rattle.std.proofs.lemmas.List.Elements.{All-nil}
 use Rattle.std.proofs.lemmas.List.{append_assoc}
 use Rattle.std.proofs.lemmas.Option.{none-some}
 use Rattle.pr_api.specs.Entries.{call_entry}
-use Rattle.pr_lawful.proofs.CallLemmas.{call-state}
-use Rattle.pr_lawful.proofs.HistoryLemmas.{history-state}
+use Rattle.pr_lawful.proofs.LawfulStates.CallLemmas.{call-state}
+use Rattle.pr_lawful.proofs.LawfulStates.HistoryLemmas.{history-state}
 use Rattle.pr_model.proofs.HistoryLemmas.{state_after-push}
 use Rattle.pr_model.specs.Lawful.{IsLawful}
 use Rattle.pr_model.specs.Legal.{IsLegal, after, state_after}
@@ -19,7 +19,7 @@ use Rattle.pr_probe.specs.Probes.{ProbeState, call_of, fed, first_probe, has_end
 use Rattle.pr_probe.specs.declared.probe_stages.ProbeFile.TheVariants.{Control}
 use Rattle.pr_probe.specs.declared.probe_stages.ProbeStage.{ProbeStage}
 use Rattle.pr_probe.specs.declared.probe_stages.ProbeStage.TheVariants.{Close}
-use Rattle.pr_reached.proofs.HistoryRanges.{history-range}
+use Rattle.pr_reached.proofs.StatesInRange.HistoryRanges.{history-range}
 use Rattle.pr_reached.specs.ByteHistories.{HasBytes}
 use Rattle.pr_reached.specs.InRange.{IsInRange}
 use Rattle.pr_tool_laws.proofs.Stages.ProtocolLemmas.{KeptByCalls, KeptByOthers, own-keeps}
@@ -30,7 +30,7 @@ use Rattle.pr_tools.specs.declared.handles.Opened.{Opened}
 use Rattle.pr_world.specs.ControllerStates.{ControllerState, Probe}
 use Rattle.pr_world.specs.Controllers.{after_reply, next_call}
 use Rattle.pr_world.specs.Protocol.{controllers_at}
-use Rattle.pr_tool_laws.specs.OwnCalls.{AreOwnCalls}
+use Rattle.pr_tool_laws.specs.Runs.{IsRunOf, StaysInRange}
 use Rattle.pr_probe_laws.proofs.Sets.SetCalls.{called-knows}
 use Rattle.pr_probe_laws.proofs.Sets.SetStages.{AllBack, HasLeft, Knows, Leaves, knows-still}
 use Rattle.pr_probe_laws.specs.SetsBack.{HoldsControl, SetsBack}
@@ -108,22 +108,21 @@ module _ (n k pid : ℕ) (first : TracedState) where
 
 -- In the end it has done that, unless it was refused.
 pub sets-back : (controllers : List ControllerState) (n k : ℕ) (pid : ℕ) (s : TracedState) (h : List Entry)
-    (p : ProbeState) → IsLawful s → IsInRange s.system → HasBytes h
-    → slice_get controllers k ≡ Some (Probe (first_probe pid)) → IsLegal n s h → AreOwnCalls controllers h
+    (p : ProbeState) → StaysInRange s h → IsRunOf n k (Probe (first_probe pid)) controllers s h
     → slice_get (controllers_at controllers h) k ≡ Some (Probe p) → has_ended p ≡ true → p.refusal ≡ None
     → SetsBack k pid s h
 unfolding IsProbeKnown
-sets-back controllers n k pid s h p lawful ranged bytes starts legal follows ends ended accepted =
+sets-back controllers n k pid s h p stays run ends ended accepted =
     let kept =
     own-keeps n k s (IsProbeKnown n k pid s) (others-known n k pid s) (calls-known n k pid s) controllers h
-    (Probe (first_probe pid)) (Probe p) legal follows starts ends (lawful, λ none. at_first n k pid s) in
+    (Probe (first_probe pid)) (Probe p) run ends (stays.lawful, λ none. at_first n k pid s) in
     of (has-left n k pid s h (state_after s h) p ended (kept.1 accepted))
   where
     -- each front of the history leads to a state in range
     front-range : (front back : List Entry) → h ≡ front ++ back → IsInRange (state_after s front).system
     front-range front back place =
-        history-range n s front lawful ranged (front-bytes front back (subst HasBytes place bytes))
-        (front-legal n s front back (subst (λ (es : List Entry). IsLegal n s es) place legal))
+        history-range n s front stays.lawful stays.in_range (front-bytes front back (subst HasBytes place stays.bytes))
+        (front-legal n s front back (subst (λ (es : List Entry). IsLegal n s es) place run.legal))
 
     of : HasLeft k pid s h → SetsBack k pid s h
     of left =

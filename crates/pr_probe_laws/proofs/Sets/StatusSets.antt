@@ -1,7 +1,7 @@
 use Rattle.std.proofs.Common.{◌≡◌, ◌++◌, ℕ, Bool, true, false, List, [], Some, Ok, refl, sym, ap, ◌∙◌, arith}
 use Rattle.std.proofs.lemmas.List.{append-nil}
 use Rattle.pr_codec.proofs.WordLemmas.{length-words_bytes}
-use Rattle.pr_core_laws.proofs.ReadLemmas.{all-read}
+use Rattle.pr_core_laws.proofs.OneState.ReadLemmas.{all-read}
 use Rattle.pr_keeps.proofs.CallLemmas.{call-edit}
 use Rattle.pr_keeps.specs.CallEdits as edit
 use Rattle.pr_keeps.specs.CallEdits.{CallEdit}

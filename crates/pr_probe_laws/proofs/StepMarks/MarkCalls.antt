@@ -1,4 +1,4 @@
-use Rattle.std.proofs.Common.{Bool, Err, List, None, Ok, Result, Some, [], ap, eqb, false, inl, inr, refl, subst, sym, true, ℕ, ◌==◌, ◌||◌, ◌∙◌, ◌≡◌, ◌≢◌}
+use Rattle.std.proofs.Common.{Bool, List, None, Ok, Some, [], ap, eqb, false, inl, inr, refl, subst, sym, true, ℕ, ◌==◌, ◌||◌, ◌∙◌, ◌≡◌, ◌≢◌}
 use Rattle.std.proofs.lemmas.Bool.{cases_Bool, eqb-true, false≢true}
 use Rattle.std.proofs.lemmas.List.Elements.{All-cons, All-nil, All-weaker}
 use Rattle.std.proofs.lemmas.Option.{same_Some}
@@ -6,7 +6,7 @@ use Rattle.std.specs.Bool.{IsTrue}
 use Rattle.std.specs.List.{All}
 use Rattle.pr_erasure.specs.Untouched.{IsUntouched, IsUntouchedLwp, IsUntouchedProcess}
 use Rattle.pr_hidden.specs.Hiders.{Hiders}
-use Rattle.pr_hidden.specs.Tidiness.{is_hider_act, is_hider_message, is_hider_write, is_probe_message}
+use Rattle.pr_hidden.specs.Tidiness.{is_hider_act, is_hider_message, is_probe_message}
 use Rattle.pr_keeps.proofs.CallLemmas.{call-edit, close-edit}
 use Rattle.pr_keeps.proofs.KeepsLemmas.{all-replaced, lwp-edits-keep, process-edits-keep}
 use Rattle.pr_keeps.specs.CallEdits as edit
@@ -16,7 +16,7 @@ use Rattle.pr_keeps.specs.LwpEdits.{LwpEdit, LwpEdits}
 use Rattle.pr_keeps.specs.MessageEdits as made
 use Rattle.pr_keeps.specs.MessageEdits.{MessageEdit}
 use Rattle.pr_keeps.specs.ProcessEdits as process
-use Rattle.pr_keeps.specs.ProcessEdits.{ProcessEdit, ProcessEdits}
+use Rattle.pr_keeps.specs.ProcessEdits.{ProcessEdit}
 use Rattle.pr_laws.proofs.RefusalLemmas.{control-leaves, refused-system}
 use Rattle.pr_model.proofs.StateLemmas.{live_process-found}
 use Rattle.pr_model.specs.Calls.{Answer, answer_to}
@@ -26,7 +26,7 @@ use Rattle.pr_model.specs.Handles.{handle_of, released, released_lwp, with_close
 use Rattle.pr_model.specs.Lives.{bare_process, first_lwp, new_lwp, new_process, with_spawned}
 use Rattle.pr_model.specs.Machines.{no_marks, traced}
 use Rattle.pr_model.specs.Messages.{agent_lwp, lwp_without_one, with_address, with_agent, with_held_set, with_registers}
-use Rattle.pr_model.specs.Passive.{is_passive_act, is_passive_message, is_passive_write}
+use Rattle.pr_model.specs.Passive.{is_passive_act, is_passive_message}
 use Rattle.pr_model.specs.Running.{let_go, with_abort, with_directive, without_current, without_directive, without_fault}
 use Rattle.pr_model.specs.State.{TracedLwp, TracedProcess, TracedState, TracedSystem, process_of, with_process}
 use Rattle.pr_model.specs.declared.calls.Call.TheVariants as call
@@ -45,7 +45,6 @@ use Rattle.pr_num.specs.Sets.{common_word}
 use Rattle.pr_num.specs.declared.errnos.Errno.{Errno}
 use Rattle.pr_num.specs.declared.messages.Message.TheVariants as message
 use Rattle.pr_num.specs.declared.messages.Message.{Message}
-use Rattle.pr_num.specs.declared.messages.MsgFault.{MsgFault}
 use Rattle.pr_probe_laws.proofs.StepMarks.MarkTurns.{IsAny, KeepsLwps, KeepsMarks, all-unmarked, generated-keeps, lwp-keeps, lwps-keep, made-keeps, process-keeps, unmarked-all, with_this_ended-keeps}
 use Rattle.pr_probe_laws.specs.StepMarks.{AreUnmarked, IsUnmarkedAt, IsUnstepped, IsUnsteppedLwp, IsUnsteppedProcess}
 

@@ -4,7 +4,7 @@ use Rattle.std.proofs.lemmas.List.{get_or-set_other, length-set}
 use Rattle.std.proofs.lemmas.List.Sums.{position_or_len_is, sum_by-set}
 use Rattle.std.specs.List.{count_by, position, position_or_len, slice_get, slice_index_or, slice_set, sum_by}
 use Rattle.pr_file_laws.proofs.PlaceLemmas.{slice_get-set_other}
-use Rattle.pr_lawful.proofs.HandleLemmas.{any-at, count-some, count-swap, handle-at}
+use Rattle.pr_lawful.proofs.ProcessParts.HandleLemmas.{any-at, count-some, count-swap, handle-at}
 use Rattle.pr_model.specs.Handles.{handle_of, is_exclusive_writer, is_writer}
 use Rattle.pr_model.specs.Lawful.{AreExclusive}
 use Rattle.pr_model.specs.State.{Places, TracedState}

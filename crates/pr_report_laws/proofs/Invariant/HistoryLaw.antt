@@ -19,12 +19,12 @@ use Rattle.pr_truss.specs.declared.stages.Stage.TheVariants.{Opening, OpeningChi
 use Rattle.pr_truss_laws.proofs.Files.OwnLemmas.{first-owns}
 use Rattle.pr_truss_laws.specs.Exchanges.{Exchange, Makes, exchange_of, exchanges, truss_after}
 use Rattle.pr_truss_laws.specs.Runs.{IsTrussRun}
-use Rattle.pr_reached.proofs.HistoryRanges.{history-range}
-use Rattle.pr_reached.proofs.RecordRanges.{lstatus-of-range, status-range}
+use Rattle.pr_reached.proofs.StatesInRange.HistoryRanges.{history-range}
+use Rattle.pr_reached.proofs.RecordsInRange.RecordRanges.{lstatus-of-range, status-range}
 use Rattle.pr_reached.specs.ByteHistories.{HasBytes, IsEntryOfBytes}
 use Rattle.pr_reached.specs.InRange.{IsInRange}
 use Rattle.pr_reached.specs.Reached.{IsReached}
-use Rattle.pr_lawful.proofs.EndLemmas.{found-live}
+use Rattle.pr_lawful.proofs.LawfulTurns.EndLemmas.{found-live}
 use Rattle.std.proofs.lemmas.List.Elements.{All-cons, All-head, All-nil, All-tail}
 use Rattle.pr_report_laws.proofs.Invariant.Tallies.{IsWhole, Tally, told_in, unread}
 use Rattle.pr_report_laws.proofs.Invariant.EntrySteps.{EndsByKill, Lost}

@@ -30,7 +30,7 @@ use Rattle.pr_report_laws.proofs.Files.FileSteps.{IsUninterrupted, MakesNext, en
 use Rattle.pr_report_laws.proofs.Machine.TracedPoints.{PicksTraced}
 use Rattle.pr_report_laws.proofs.Replies.NewStops.{read_now}
 use Rattle.pr_report_laws.proofs.Replies.OptionLemmas.{told-options}
-use Rattle.pr_reached.proofs.FitHistoryLemmas.{history-fits}
+use Rattle.pr_reached.proofs.FitStates.FitHistoryLemmas.{history-fits}
 use Rattle.pr_report_laws.proofs.Machine.FrameLaws.{no-events}
 use Rattle.pr_truss_laws.proofs.Machine.OverLemmas.{stays-made, stays-over}
 use Rattle.pr_report_laws.proofs.Invariant.OwnCallSteps.{call-goes}

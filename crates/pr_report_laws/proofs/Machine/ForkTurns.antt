@@ -3,8 +3,8 @@ use Rattle.std.proofs.lemmas.Bool.{cases_Bool, cases_eq, false≢true, ne_eqb}
 use Rattle.std.proofs.lemmas.Option.{none-some, same_Some}
 use Rattle.std.specs.Option.{option_and_then}
 use Rattle.pr_parts.specs.FileCalls.{with_all_shared}
-use Rattle.pr_lawful.proofs.EndLemmas.{found-live}
-use Rattle.pr_lawful.proofs.UseLemmas.{new-unopened}
+use Rattle.pr_lawful.proofs.LawfulTurns.EndLemmas.{found-live}
+use Rattle.pr_lawful.proofs.Following.UseLemmas.{new-unopened}
 use Rattle.pr_line.specs.Events.{event_of as event_shown}
 use Rattle.pr_line.specs.declared.events.Event.TheVariants.{Left}
 use Rattle.pr_line.specs.declared.options.Options.{Options}

@@ -2,8 +2,8 @@ use Rattle.std.proofs.Common.{◌≡◌, ◌≢◌, ◌==◌, ◌&&◌, ◌||◌
 use Rattle.std.proofs.lemmas.Bool.{and_parts, cases_Bool, eq-eqb, eqb-true, false≢true, or_parts}
 use Rattle.std.proofs.lemmas.Option.{none-some, same_Some}
 use Rattle.std.specs.List.{list_any, slice_get, slice_set}
-use Rattle.pr_lawful.proofs.EndLemmas.{found-live}
-use Rattle.pr_lawful.proofs.HandleLemmas.{any-at, any-swap, handle-at}
+use Rattle.pr_lawful.proofs.LawfulTurns.EndLemmas.{found-live}
+use Rattle.pr_lawful.proofs.ProcessParts.HandleLemmas.{any-at, any-swap, handle-at}
 use Rattle.pr_line.specs.declared.options.Options.{Options}
 use Rattle.pr_model.specs.Calls.{Answer, answer_to}
 use Rattle.pr_model.specs.Handles.{after_last_close, has_writer, is_writable, is_writer, was_last_writer, with_closed, with_last_close}

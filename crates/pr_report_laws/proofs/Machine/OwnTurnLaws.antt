@@ -9,8 +9,8 @@ use Rattle.pr_num.proofs.ByIdLaws.{under-change_under, under-change_under_other,
 use Rattle.pr_num.specs.Agents.{agent_id}
 use Rattle.pr_num.specs.ById.{under}
 use Rattle.pr_num.specs.Control.{async_mode, has_flags, klc_mode}
-use Rattle.pr_lawful.proofs.EndLemmas.{found-live}
-use Rattle.pr_lawful.proofs.SuitingLemmas.{is_stop}
+use Rattle.pr_lawful.proofs.LawfulTurns.EndLemmas.{found-live}
+use Rattle.pr_lawful.proofs.LawfulTurns.SuitingLemmas.{is_stop}
 use Rattle.pr_model.proofs.TurnLemmas.{TakesTurn, turn-taken}
 use Rattle.pr_model.specs.Events.{event_of, events_of, lwp_alone, lwp_in_state}
 use Rattle.pr_model.specs.Lawful.{IsLawfulSystem}

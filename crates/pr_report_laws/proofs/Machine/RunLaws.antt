@@ -14,7 +14,7 @@ use Rattle.pr_num.specs.Words.{word_bytes, word_of}
 use Rattle.pr_num.specs.declared.errnos.Errno.TheVariants.{Busy}
 use Rattle.pr_num.specs.declared.messages.Message.TheVariants as message
 use Rattle.pr_laws.proofs.RunLemmas.{all-free, all-go_on, each-stays, no_flags, representative-stands, run-granted as not-refused}
-use Rattle.pr_lawful.proofs.EndLemmas.{found-live}
+use Rattle.pr_lawful.proofs.LawfulTurns.EndLemmas.{found-live}
 use Rattle.pr_laws.specs.Runs.{IsFree, others_let_run, with_stop_kept}
 use Rattle.pr_model.specs.Calls.{Answer, answer_to, controlled}
 use Rattle.pr_model.specs.ControlMessages.{aim_of, decoded_answer, system_refusal, tail_of, targeted_answer}

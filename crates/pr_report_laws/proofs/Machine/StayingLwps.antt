@@ -16,11 +16,11 @@ use Rattle.pr_num.specs.declared.infos.Info.{Info}
 use Rattle.pr_num.specs.declared.signals.Sig.{Sig}
 use Rattle.pr_num.specs.declared.signals.Sig.TheVariants.{Cld}
 use Rattle.pr_parts.specs.SignalRules.{deleted_by}
-use Rattle.pr_lawful.proofs.EndLemmas.{found-live}
-use Rattle.pr_lawful.proofs.FileLemmas.{choice}
-use Rattle.pr_lawful.proofs.SuitingLemmas.{SuitChanges, SuitsChange, SuitsLwp, SuitsProgram, SuitsTransition}
-use Rattle.pr_lawful.proofs.TransitionLemmas.{stayed}
-use Rattle.pr_lawful.proofs.TurnLemmas.{acting, row-suits}
+use Rattle.pr_lawful.proofs.LawfulTurns.EndLemmas.{found-live}
+use Rattle.pr_lawful.proofs.ProcessParts.FileLemmas.{choice}
+use Rattle.pr_lawful.proofs.LawfulTurns.SuitingLemmas.{SuitChanges, SuitsChange, SuitsLwp, SuitsProgram, SuitsTransition}
+use Rattle.pr_lawful.proofs.LawfulTurns.TransitionLemmas.{stayed}
+use Rattle.pr_lawful.proofs.LawfulTurns.TurnLemmas.{acting, row-suits}
 use Rattle.pr_model.proofs.TurnLemmas.{turn-taken}
 use Rattle.pr_model.specs.Changes.{Change, changed, files_are, space_is, signals, signals_itself, takes_shared, job_stops, disposition_is, held_is, resumes, forks, reaps, becomes, makes_lwp, suspends, all_changed, ended, Ending, ends_process, ends_lwp, resumed, with_disposition_of, with_fds, with_held, with_job_stop, with_shared_taken, with_space, with_suspended}
 use Rattle.pr_model.specs.Generation.{ends_job_stop, lwp_with_pending, lwp_without_pending, signalled, with_deletions, with_pending, without_job_stop, without_pending}

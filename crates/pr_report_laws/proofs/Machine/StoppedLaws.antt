@@ -11,8 +11,8 @@ use Rattle.pr_num.specs.ById.{IsRising, change_under, map_each, under, without_i
 use Rattle.pr_num.specs.declared.signals.Sig.{Sig}
 use Rattle.pr_laws.proofs.RepresentativeLemmas.{representative-leads}
 use Rattle.pr_laws.proofs.RunLemmas.{representative-stands}
-use Rattle.pr_lawful.proofs.EndLemmas.{found-live}
-use Rattle.pr_lawful.proofs.HandleLemmas.{count-none}
+use Rattle.pr_lawful.proofs.LawfulTurns.EndLemmas.{found-live}
+use Rattle.pr_lawful.proofs.ProcessParts.HandleLemmas.{count-none}
 use Rattle.pr_line.specs.declared.events.Event.{Event}
 use Rattle.pr_model.specs.Lawful.{IsLawfulProcess, IsLawfulSystem}
 use Rattle.pr_model.specs.Running.{is_request, lets_run, shows_run}

@@ -6,7 +6,7 @@ use Rattle.pr_line.specs.Events.{event_of as event_shown}
 use Rattle.pr_line.specs.declared.events.Event.{Event}
 use Rattle.pr_line.specs.declared.events.Event.TheVariants.{Entered, Left, Received, Incurred}
 use Rattle.pr_rec.specs.Fields.{disposition_of as class_of}
-use Rattle.pr_lawful.proofs.EndLemmas.{found-live}
+use Rattle.pr_lawful.proofs.LawfulTurns.EndLemmas.{found-live}
 use Rattle.pr_model.specs.Events.{Event as MachineEvent, entry, event_of, events_of, exit, fault, gone, lwp_alone, lwp_in_state, signal}
 use Rattle.pr_model.specs.Lawful.{IsLawfulSystem}
 use Rattle.pr_model.specs.Legal.{after, after_turn}

@@ -3,7 +3,7 @@ use Rattle.std.proofs.lemmas.Bool.{eq-eqb, false≢true}
 use Rattle.std.proofs.lemmas.Option.{none-some, same_Some}
 use Rattle.std.specs.List.{All, count_by, slice_get, slice_set}
 use Rattle.pr_file_laws.proofs.PlaceLemmas.{slice_get-set_other}
-use Rattle.pr_lawful.proofs.HandleLemmas.{count-swap, handle-at}
+use Rattle.pr_lawful.proofs.ProcessParts.HandleLemmas.{count-swap, handle-at}
 use Rattle.pr_line.specs.declared.options.Options.{Options}
 use Rattle.pr_model.specs.Handles.{handle_of}
 use Rattle.pr_model.specs.Legal.{state_after}

@@ -3,8 +3,8 @@ use Rattle.std.proofs.lemmas.Bool.{cases_Bool, cases_eq, eq-eqb, eqb-false, eqb-
 use Rattle.std.proofs.lemmas.Option.{none-some, same_Some}
 use Rattle.std.specs.List.{slice_get, slice_set}
 use Rattle.pr_file_laws.proofs.PlaceLemmas.{slice_get-set_other}
-use Rattle.pr_lawful.proofs.EndLemmas.{found-live}
-use Rattle.pr_lawful.proofs.HandleLemmas.{any-at, handle-at}
+use Rattle.pr_lawful.proofs.LawfulTurns.EndLemmas.{found-live}
+use Rattle.pr_lawful.proofs.ProcessParts.HandleLemmas.{any-at, handle-at}
 use Rattle.pr_num.proofs.ByIdLaws.{All-under}
 use Rattle.pr_model.specs.Calls.{Answer, answer_to}
 use Rattle.pr_model.specs.Handles.{handle_of, has_writer, is_control, is_writable, is_writer}

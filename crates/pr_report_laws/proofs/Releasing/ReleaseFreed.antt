@@ -1,7 +1,7 @@
 use Rattle.std.proofs.Common.{◌≡◌, ◌≢◌, ◌==◌, ◌&&◌, ◌<◌, ℕ, cond, None, Some, Option, length, refl, sym, subst, ap, ◌∙◌, inl, inr}
 use Rattle.std.proofs.lemmas.Bool.{cases_eq, eq-eqb, false≢true}
 use Rattle.std.proofs.lemmas.Option.{none-some, same_Some}
-use Rattle.pr_lawful.proofs.HandleLemmas.{handle-at}
+use Rattle.pr_lawful.proofs.ProcessParts.HandleLemmas.{handle-at}
 use Rattle.pr_line.specs.declared.options.Options.{Options}
 use Rattle.pr_model.specs.Calls.{answer_to}
 use Rattle.pr_model.specs.Handles.{handle_of}

@@ -7,8 +7,8 @@ use Rattle.pr_model.specs.Events.{Logged, events_from, events_of}
 use Rattle.pr_model.specs.Legal.{IsLegal, after, state_after}
 use Rattle.pr_model.specs.State.{TracedProcess, TracedState}
 use Rattle.pr_model.specs.declared.events.Entry.{Entry}
-use Rattle.pr_reached.proofs.FitHistoryLemmas.{history-fits}
-use Rattle.pr_reached.proofs.HistoryRanges.{history-range}
+use Rattle.pr_reached.proofs.FitStates.FitHistoryLemmas.{history-fits}
+use Rattle.pr_reached.proofs.StatesInRange.HistoryRanges.{history-range}
 use Rattle.pr_reached.specs.ByteHistories.{HasBytes, IsEntryOfBytes}
 use Rattle.pr_reached.specs.Reached.{IsReached}
 use Rattle.pr_truss.specs.Feeding.{fed}

@@ -16,7 +16,7 @@ use Rattle.pr_model.specs.declared.events.Actor.TheVariants.{Controller, Lwp, Cl
 use Rattle.pr_model.specs.declared.events.Did.TheVariants.{Stopped}
 use Rattle.pr_model.specs.declared.events.Entry.{Entry}
 use Rattle.pr_model.specs.declared.events.Turned.{Turned}
-use Rattle.pr_reached.proofs.HistoryRanges.{history-range}
+use Rattle.pr_reached.proofs.StatesInRange.HistoryRanges.{history-range}
 use Rattle.pr_reached.specs.ByteHistories.{HasBytes, IsEntryOfBytes}
 use Rattle.pr_reached.specs.InRange.{IsInRange}
 use Rattle.pr_truss.specs.Feeding.{fed}

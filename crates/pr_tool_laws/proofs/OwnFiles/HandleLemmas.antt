@@ -3,11 +3,11 @@ use Rattle.std.proofs.lemmas.Bool.{cases_Bool, eqb-false, eqb-true}
 use Rattle.std.proofs.lemmas.Option.{none-some, same_Some}
 use Rattle.std.specs.List.{slice_set}
 use Rattle.pr_api.specs.Entries.{call_entry}
-use Rattle.pr_lawful.proofs.HandleLemmas.{handle-at}
+use Rattle.pr_lawful.proofs.ProcessParts.HandleLemmas.{handle-at}
 use Rattle.pr_model.proofs.HistoryLemmas.{state_after-push}
 use Rattle.pr_model.specs.Calls.{Answer, answer_to}
 use Rattle.pr_model.specs.Handles.{handle_of}
-use Rattle.pr_model.specs.Legal.{IsLegal, IsLegalEntry, after, state_after}
+use Rattle.pr_model.specs.Legal.{IsLegalEntry, after, state_after}
 use Rattle.pr_model.specs.State.{Places, TracedState}
 use Rattle.pr_model.specs.declared.calls.Call.{Call}
 use Rattle.pr_model.specs.declared.calls.Call.TheVariants as call
@@ -22,7 +22,7 @@ use Rattle.pr_tools.specs.declared.steps.Step.{Step}
 use Rattle.pr_tools.specs.declared.steps.Step.TheVariants as step
 use Rattle.pr_world.specs.ControllerStates.{ControllerState, Tool}
 use Rattle.pr_world.specs.Protocol.{controllers_at}
-use Rattle.pr_tool_laws.specs.OwnCalls.{AreOwnCalls}
+use Rattle.pr_tool_laws.specs.Runs.{IsRunOf}
 use Rattle.pr_tool_laws.proofs.Stages.KindLemmas.{fed-pid}
 use Rattle.pr_tool_laws.proofs.Stages.LawLemmas.{tool-keeps}
 use Rattle.pr_tool_laws.proofs.Stages.StageLemmas.{state-called}
@@ -149,9 +149,9 @@ module _ (n k : ℕ) (kind : ToolKind) (pid : ℕ) (first : TracedState) where
       (fed-pid t a.reply ∙ kept.0, subst (HoldsOnly k pid) (sym (state-called first h k c a given)) holds)
 
   pub tool-holds : (controllers : List ControllerState) (h : List Entry) (t : ToolState) → HasNothingOpen k first
-      → slice_get controllers k ≡ Some (Tool (first_tool kind pid)) → IsLegal n first h → AreOwnCalls controllers h
+      → IsRunOf n k (Tool (first_tool kind pid)) controllers first h
       → slice_get (controllers_at controllers h) k ≡ Some (Tool t) → HoldsOnly k pid (state_after first h)
   unfolding first_tool
-  tool-holds controllers h t nothing begins legal follows ends =
-      (tool-keeps n k first HoldsIn others-kept calls-kept controllers h (first_tool kind pid) t legal follows begins
-      ends (refl, none-held k (IsOf pid) first nothing)).1
+  tool-holds controllers h t nothing run ends =
+      (tool-keeps n k first HoldsIn others-kept calls-kept controllers h (first_tool kind pid) t run ends
+      (refl, none-held k (IsOf pid) first nothing)).1

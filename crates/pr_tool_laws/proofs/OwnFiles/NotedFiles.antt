@@ -2,7 +2,7 @@ use Rattle.std.proofs.Common.{◌≡◌, ◌≢◌, ◌⊎◌, ◌<◌, ◌-◌,
 use Rattle.std.proofs.lemmas.Bool.{cases_eq}
 use Rattle.std.proofs.lemmas.List.{get_or-set_other, get_or-set_same}
 use Rattle.std.proofs.lemmas.Option.{none-some, same_Some}
-use Rattle.pr_lawful.proofs.HandleLemmas.{handle-at}
+use Rattle.pr_lawful.proofs.ProcessParts.HandleLemmas.{handle-at}
 use Rattle.pr_model.specs.Calls.{Answer, answer_to}
 use Rattle.pr_model.specs.Handles.{handle_of}
 use Rattle.pr_model.specs.Replies.{opened_in}

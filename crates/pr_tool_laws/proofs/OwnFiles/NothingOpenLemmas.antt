@@ -6,7 +6,7 @@ use Rattle.pr_api.specs.Entries.{call_entry}
 use Rattle.pr_model.proofs.HistoryLemmas.{state_after-push}
 use Rattle.pr_model.specs.Calls.{Answer, answer_to}
 use Rattle.pr_model.specs.Handles.{handle_of}
-use Rattle.pr_model.specs.Legal.{IsLegal, IsLegalEntry, state_after}
+use Rattle.pr_model.specs.Legal.{IsLegalEntry, state_after}
 use Rattle.pr_model.specs.Replies.{opened_in}
 use Rattle.pr_model.specs.State.{TracedState}
 use Rattle.pr_model.specs.declared.calls.Call.{Call}
@@ -32,7 +32,7 @@ use Rattle.pr_tools.specs.declared.steps.Step.{Step}
 use Rattle.pr_tools.specs.declared.steps.Step.TheVariants as step
 use Rattle.pr_world.specs.ControllerStates.{ControllerState, Tool}
 use Rattle.pr_world.specs.Protocol.{controllers_at}
-use Rattle.pr_tool_laws.specs.OwnCalls.{AreOwnCalls}
+use Rattle.pr_tool_laws.specs.Runs.{IsRunOf}
 use Rattle.pr_tool_laws.proofs.Stages.KindLemmas.{accepted-opened, advanced-goes, moves_files}
 use Rattle.pr_tool_laws.proofs.Stages.LawLemmas.{tool-keeps}
 use Rattle.pr_tool_laws.proofs.OwnFiles.NotedFiles.{Knows, closed-known, denied-known, no-handle, none-at, opened-known, same-known}
@@ -421,19 +421,18 @@ module _ (n k : ℕ) (kind : ToolKind) (pid : ℕ) (first : TracedState) where
           (ap (call_of t) (ended-closes t ended) ∙ ap (option_map call.Close) is) ended)
 
   pub tool-closes : (controllers : List ControllerState) (h : List Entry) (t : ToolState) → HasNothingOpen k first
-      → slice_get controllers k ≡ Some (Tool (first_tool kind pid)) → IsLegal n first h → AreOwnCalls controllers h
+      → IsRunOf n k (Tool (first_tool kind pid)) controllers first h
       → slice_get (controllers_at controllers h) k ≡ Some (Tool t) → has_ended t ≡ true
       → HasNothingOpen k (state_after first h)
   unfolding first_tool
-  tool-closes controllers h t nothing begins legal follows ends ended =
+  tool-closes controllers h t nothing run ends ended =
       let begun : IsKnownIn [] (first_tool kind pid) = record {
         known = λ number held there. absurd (none-some held (sym (nothing.none number) ∙ there));
         fresh = first-fresh kind;
         whole = nothing-whole;
       } in
       let kept =
-      tool-keeps n k first IsKnownIn others-kept calls-kept controllers h (first_tool kind pid) t legal follows begins
-      ends begun in
+      tool-keeps n k first IsKnownIn others-kept calls-kept controllers h (first_tool kind pid) t run ends begun in
       let s : TracedState = state_after first h in
       record {
         none = λ number.

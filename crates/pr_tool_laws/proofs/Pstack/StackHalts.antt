@@ -2,7 +2,7 @@ use Rattle.pr_model.specs.declared.events.Entry.{Entry}
 use Rattle.pr_truss_laws.specs.Handles.{HasNoOtherWriter}
 use Rattle.std.proofs.Common.{◌≡◌, ◌≢◌, ◌<◌, ℕ, Option, Some, None, refl, sym, subst, ◌∙◌}
 use Rattle.std.proofs.lemmas.Option.{none-some, same_Some}
-use Rattle.pr_lawful.proofs.HandleLemmas.{handle-at}
+use Rattle.pr_lawful.proofs.ProcessParts.HandleLemmas.{handle-at}
 use Rattle.pr_model.specs.Lawful.{IsLawful, IsOfMade}
 use Rattle.pr_model.specs.Legal.{IsLegalEntry, after}
 use Rattle.pr_model.specs.State.{TracedProcess, TracedState, TracedSystem, live_process}

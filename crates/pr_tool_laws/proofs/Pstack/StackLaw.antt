@@ -1,21 +1,19 @@
 use Rattle.std.proofs.Common.{◌≡◌, ◌++◌, ◌∷◌, ℕ, Some, None, List, [], true, refl, sym, subst, slice_get}
 use Rattle.pr_api.specs.Entries.{call_entry}
-use Rattle.pr_lawful.proofs.CallLemmas.{call-state}
-use Rattle.pr_lawful.proofs.HistoryLemmas.{history-state}
+use Rattle.pr_lawful.proofs.LawfulStates.CallLemmas.{call-state}
+use Rattle.pr_lawful.proofs.LawfulStates.HistoryLemmas.{history-state}
 use Rattle.pr_model.proofs.HistoryLemmas.{state_after-push}
 use Rattle.pr_model.specs.Lawful.{IsLawful}
-use Rattle.pr_model.specs.Legal.{IsLegal, IsLegalEntry, after, state_after}
+use Rattle.pr_model.specs.Legal.{IsLegalEntry, after, state_after}
 use Rattle.pr_model.specs.State.{TracedState}
 use Rattle.pr_model.specs.declared.events.Entry.{Entry}
 use Rattle.pr_model.specs.declared.tools.ToolKind.TheVariants.{Pstack}
 use Rattle.pr_num.specs.Programs.{Program}
-use Rattle.pr_reached.specs.ByteHistories.{HasBytes}
-use Rattle.pr_reached.specs.InRange.{IsInRange}
 use Rattle.pr_tools.specs.Tools.{ToolState, fed, first_tool, has_ended, printed}
 use Rattle.pr_world.specs.Controllers.{after_reply, next_call}
 use Rattle.pr_world.specs.ControllerStates.{ControllerState, Tool}
 use Rattle.pr_world.specs.Protocol.{controllers_at}
-use Rattle.pr_tool_laws.specs.OwnCalls.{AreOwnCalls}
+use Rattle.pr_tool_laws.specs.Runs.{IsRunOf, StaysInRange}
 use Rattle.pr_tool_laws.proofs.Stages.ProtocolLemmas.{KeptByCalls, KeptByOthers, own-keeps}
 use Rattle.pr_tool_laws.proofs.Pstack.StackCalls.{called-stage}
 use Rattle.pr_tool_laws.proofs.Pstack.StackEnds.{ended-stage, shows}
@@ -58,14 +56,14 @@ module _ (n k pid : ℕ) (first : TracedState) where
 
 -- In the end it shows them, unless it was refused.
 pub shows-one-stack : (controllers : List ControllerState) (n k pid : ℕ) (s : TracedState) (h : List Entry)
-    (t : ToolState) (programs : List Program) → IsLawful s → IsInRange s.system → HasBytes h
-    → slice_get controllers k ≡ Some (Tool (first_tool Pstack pid)) → IsLegal n s h → AreOwnCalls controllers h
+    (t : ToolState) (programs : List Program)
+    → StaysInRange s h → IsRunOf n k (Tool (first_tool Pstack pid)) controllers s h
     → slice_get (controllers_at controllers h) k ≡ Some (Tool t) → has_ended t ≡ true → t.refusal ≡ None
     → ShowsOneStack k pid programs s h (printed t programs)
 unfolding IsStackKept
-shows-one-stack controllers n k pid s h t programs lawful ranged bytes begins legal follows ends ended accepted =
+shows-one-stack controllers n k pid s h t programs stays run ends ended accepted =
     let kept =
     own-keeps n k s (IsStackKept n k pid s) (others-keep n k pid s) (calls-keep n k pid s) controllers h
-    (Tool (first_tool Pstack pid)) (Tool t) legal follows begins ends (lawful, at_first refl) in
-    shows n k pid s h t programs lawful ranged bytes legal ended accepted
+    (Tool (first_tool Pstack pid)) (Tool t) run ends (stays.lawful, at_first refl) in
+    shows n k pid s h t programs stays.lawful stays.in_range stays.bytes run.legal ended accepted
     (ended-stage n k pid s h (state_after s h) t ended accepted kept.1)

@@ -5,10 +5,10 @@ use Rattle.std.proofs.lemmas.List.{length-map}
 use Rattle.std.proofs.lemmas.List.Elements.{All-cons, All-head, All-nil, All-tail}
 use Rattle.pr_api.proofs.ShapeLemmas.{machine-shaped}
 use Rattle.pr_api.specs.Shapes.{has_shape}
-use Rattle.pr_lawful.proofs.EndLemmas.{found-live}
-use Rattle.pr_lawful.proofs.HistoryLemmas.{history-state}
+use Rattle.pr_lawful.proofs.LawfulTurns.EndLemmas.{found-live}
+use Rattle.pr_lawful.proofs.LawfulStates.HistoryLemmas.{history-state}
 use Rattle.pr_model.specs.Calls.{answer_to, answered}
-use Rattle.pr_model.specs.Lawful.{IsLawful, IsLawfulProcess, IsLawfulSystem}
+use Rattle.pr_model.specs.Lawful.{IsLawfulProcess, IsLawfulSystem}
 use Rattle.pr_model.specs.Legal.{IsLegal, after, state_after}
 use Rattle.pr_model.specs.Records.{fd_entries_from, fd_entry_before, fds_of, list_of, lstatus_of, map_of, map_entry_of, psinfo_of, statuses_of_lwps}
 use Rattle.pr_model.specs.State.{TracedLwp, TracedProcess, TracedState, TracedSystem, live_process, process_of}
@@ -23,8 +23,8 @@ use Rattle.pr_num.specs.Limits.{list_limit, read_limit, spawn_limit}
 use Rattle.pr_num.specs.Programs.{Program}
 use Rattle.pr_num.specs.declared.files.OpenFile.{OpenFile}
 use Rattle.pr_parts.specs.FileTables.{at_place}
-use Rattle.pr_reached.proofs.EntryRanges.{records-range, seen-range}
-use Rattle.pr_reached.proofs.HistoryRanges.{history-range}
+use Rattle.pr_reached.proofs.RecordsInRange.EntryRanges.{records-range, seen-range}
+use Rattle.pr_reached.proofs.StatesInRange.HistoryRanges.{history-range}
 use Rattle.pr_reached.specs.AllRecords.{AreRecordsInRange, HasRecordsInRange}
 use Rattle.pr_reached.specs.ByteHistories.{HasBytes, IsEntryOfBytes}
 use Rattle.pr_reached.specs.InRange.{IsInRange, IsSpaceInRange}
@@ -39,7 +39,7 @@ use Rattle.pr_tool_laws.specs.ToolTexts.{reads_once}
 use Rattle.pr_tools.specs.Tools.{ToolState, first_tool, has_ended, printed}
 use Rattle.pr_world.specs.ControllerStates.{ControllerState, Tool}
 use Rattle.pr_world.specs.Protocol.{controllers_at}
-use Rattle.pr_tool_laws.specs.OwnCalls.{AreOwnCalls}
+use Rattle.pr_tool_laws.specs.Runs.{IsRunOf, StaysInRange}
 
 -- In a lawful system in range one read has what stands there, with its fields in their ranges; so a tool shows that.
 
@@ -174,18 +174,18 @@ front-bytes (e ∷ before) rest bytes =
 -- ---- what a tool shows
 
 -- a text of one state is what stands there
-stands-there : (n k : ℕ) (kind : ToolKind) (pid : ℕ) (s : TracedState) (h : List Entry) (text : List ℕ) → IsLawful s
-    → IsInRange s.system → HasBytes h → IsLegal n s h → reads_once kind ≡ true
+stands-there : (n k : ℕ) (kind : ToolKind) (pid : ℕ) (s : TracedState) (h : List Entry) (text : List ℕ)
+    → StaysInRange s h → IsLegal n s h → reads_once kind ≡ true
     → IsOfKnownState k kind pid s (EndsIfAwaited kind pid) h text → ShowsOneState k kind pid s h text
-stands-there n k kind pid s h text lawful ranged bytes legal once of_known =
+stands-there n k kind pid s h text stays legal once of_known =
     let it : IsOfOneState k kind pid s h text = of_known.one in
     let legal_before : IsLegal n s it.before =
     front-legal n s it.before _ (subst (λ (g : List Entry). IsLegal n s g) it.place legal) in
-    let bytes_before : HasBytes it.before = front-bytes it.before _ (subst HasBytes it.place bytes) in
+    let bytes_before : HasBytes it.before = front-bytes it.before _ (subst HasBytes it.place stays.bytes) in
     let system : IsLawfulSystem (state_after s it.before).system =
-    (history-state n s it.before lawful legal_before).system in
+    (history-state n s it.before stays.lawful legal_before).system in
     let range : IsInRange (state_after s it.before).system =
-    history-range n s it.before lawful ranged bytes_before legal_before in
+    history-range n s it.before stays.lawful stays.in_range bytes_before legal_before in
     record {
       before = it.before;
       call = it.call;
@@ -200,10 +200,10 @@ stands-there n k kind pid s h text lawful ranged bytes legal once of_known =
 
 -- from a lawful state in range a tool shows what stands in one state
 pub tool-shows : (controllers : List ControllerState) (n k : ℕ) (kind : ToolKind) (pid : ℕ) (s : TracedState)
-    (h : List Entry) (t : ToolState) (programs : List Program) → IsLawful s → IsInRange s.system → HasBytes h
-    → reads_once kind ≡ true → slice_get controllers k ≡ Some (Tool (first_tool kind pid)) → IsLegal n s h
-    → AreOwnCalls controllers h → slice_get (controllers_at controllers h) k ≡ Some (Tool t) → has_ended t ≡ true
-    → t.refusal ≡ None → ShowsOneState k kind pid s h (printed t programs)
-tool-shows controllers n k kind pid s h t programs lawful ranged bytes once begins legal follows ends ended accepted =
-    stands-there n k kind pid s h (printed t programs) lawful ranged bytes legal once
-    (tool-of-known-state controllers n k kind pid s h t programs lawful once begins legal follows ends ended accepted)
+    (h : List Entry) (t : ToolState) (programs : List Program) → StaysInRange s h → reads_once kind ≡ true
+    → IsRunOf n k (Tool (first_tool kind pid)) controllers s h
+    → slice_get (controllers_at controllers h) k ≡ Some (Tool t) → has_ended t ≡ true → t.refusal ≡ None
+    → ShowsOneState k kind pid s h (printed t programs)
+tool-shows controllers n k kind pid s h t programs stays once run ends ended accepted =
+    stands-there n k kind pid s h (printed t programs) stays run.legal once
+    (tool-of-known-state controllers n k kind pid s h t programs stays.lawful once run ends ended accepted)

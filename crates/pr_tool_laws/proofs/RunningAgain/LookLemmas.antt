@@ -1,6 +1,6 @@
 use Rattle.std.proofs.Common.{◌≡◌, ◌≢◌, ◌∷◌, ◌++◌, ℕ, Bool, List, [], Option, Some, None, IfSome, refl, sym, subst, ap, ◌∙◌}
 use Rattle.pr_api.specs.Entries.{call_entry}
-use Rattle.pr_lawful.proofs.HistoryLemmas.{history-state}
+use Rattle.pr_lawful.proofs.LawfulStates.HistoryLemmas.{history-state}
 use Rattle.pr_model.specs.Calls.{Answer, answer_to}
 use Rattle.pr_model.specs.Handles.{handle_of}
 use Rattle.pr_model.specs.Lawful.{IsLawful}
@@ -19,7 +19,7 @@ use Rattle.pr_model.specs.declared.tools.ToolKind.TheVariants.{Pflags}
 use Rattle.pr_num.specs.Limits.{read_limit}
 use Rattle.pr_num.specs.declared.errnos.Errno.{Errno}
 use Rattle.pr_num.specs.declared.errnos.Errno.TheVariants.{Noent}
-use Rattle.pr_reached.proofs.HistoryRanges.{history-range}
+use Rattle.pr_reached.proofs.StatesInRange.HistoryRanges.{history-range}
 use Rattle.pr_reached.specs.ByteHistories.{HasBytes}
 use Rattle.pr_reached.specs.InRange.{IsInRange}
 use Rattle.pr_rec.specs.RecordBytes.{lstatus_bytes}

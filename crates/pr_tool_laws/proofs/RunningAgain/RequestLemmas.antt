@@ -3,7 +3,7 @@ use Rattle.std.proofs.lemmas.Bool.{false≢true}
 use Rattle.std.proofs.lemmas.Option.{none-some, same_Some}
 use Rattle.pr_api.specs.Entries.{call_entry}
 use Rattle.pr_model.specs.Calls.{Answer, answer_to}
-use Rattle.pr_model.specs.Legal.{IsLegal, IsLegalEntry, state_after}
+use Rattle.pr_model.specs.Legal.{IsLegalEntry, state_after}
 use Rattle.pr_model.specs.State.{TracedState}
 use Rattle.pr_model.specs.declared.calls.Call.{Call}
 use Rattle.pr_model.specs.declared.calls.Call.TheVariants as call
@@ -27,7 +27,7 @@ use Rattle.pr_tools.specs.declared.steps.Step.{Step}
 use Rattle.pr_tools.specs.declared.steps.Step.TheVariants as step
 use Rattle.pr_world.specs.ControllerStates.{ControllerState, Tool}
 use Rattle.pr_world.specs.Protocol.{controllers_at}
-use Rattle.pr_tool_laws.specs.OwnCalls.{AreOwnCalls}
+use Rattle.pr_tool_laws.specs.Runs.{IsRunOf}
 use Rattle.pr_tool_laws.proofs.Stages.KindLemmas.{fed-kind}
 use Rattle.pr_tool_laws.proofs.Stages.LawLemmas.{tool-keeps}
 use Rattle.pr_tool_laws.proofs.OwnFiles.NothingOpenLemmas.{refused-reply}
@@ -228,12 +228,12 @@ module _ (n k pid : ℕ) (first : TracedState) where
   )
 
   pub takes-back : (controllers : List ControllerState) (h : List Entry) (t : ToolState)
-      → slice_get controllers k ≡ Some (Tool (first_tool Pstack pid)) → IsLegal n first h
-      → AreOwnCalls controllers h → slice_get (controllers_at controllers h) k ≡ Some (Tool t) → has_ended t ≡ true
-      → IsSome t.refusal → asks_still false (exchanges k h) ≡ false
+      → IsRunOf n k (Tool (first_tool Pstack pid)) controllers first h
+      → slice_get (controllers_at controllers h) k ≡ Some (Tool t) → has_ended t ≡ true → IsSome t.refusal
+      → asks_still false (exchanges k h) ≡ false
   unfolding first_tool first_step exchanges
-  takes-back controllers h t begins legal follows ends ended was =
+  takes-back controllers h t run ends ended was =
       let kept =
-      tool-keeps n k first IsAskedIn others-kept calls-kept controllers h (first_tool Pstack pid) t legal follows
-      begins ends (refl, (refl, refl)) in
+      tool-keeps n k first IsAskedIn others-kept calls-kept controllers h (first_tool Pstack pid) t run ends
+      (refl, (refl, refl)) in
       (subst (AtStep (is_some t.refusal) (asks_in h)) (ended-closes t ended) kept.1) was

@@ -5,12 +5,12 @@ use Rattle.std.proofs.lemmas.List.{get_or-set_other}
 use Rattle.std.specs.List.{All}
 use Rattle.std.proofs.lemmas.Option.{none-some, same_Some}
 use Rattle.pr_api.specs.Entries.{call_entry}
-use Rattle.pr_lawful.proofs.CallLemmas.{call-state}
+use Rattle.pr_lawful.proofs.LawfulStates.CallLemmas.{call-state}
 use Rattle.pr_model.proofs.HistoryLemmas.{state_after-push}
 use Rattle.pr_model.specs.Calls.{Answer, answer_to}
 use Rattle.pr_model.specs.Handles.{handle_of}
 use Rattle.pr_model.specs.Lawful.{IsLawful}
-use Rattle.pr_model.specs.Legal.{IsLegal, IsLegalEntry, after, state_after}
+use Rattle.pr_model.specs.Legal.{IsLegalEntry, after, state_after}
 use Rattle.pr_model.specs.Replies.{number_of, opened_in, until_in}
 use Rattle.pr_model.specs.State.{Places, TracedState}
 use Rattle.pr_model.specs.declared.calls.Call.{Call}
@@ -29,8 +29,6 @@ use Rattle.pr_model.specs.declared.tools.ToolKind.{ToolKind}
 use Rattle.pr_model.specs.declared.tools.ToolKind.TheVariants.{Pstack}
 use Rattle.pr_num.specs.Limits.{read_limit}
 use Rattle.pr_num.specs.declared.errnos.Errno.{Errno}
-use Rattle.pr_reached.specs.ByteHistories.{HasBytes}
-use Rattle.pr_reached.specs.InRange.{IsInRange}
 use Rattle.pr_tools.specs.Calls.{run_bytes}
 use Rattle.pr_tools.specs.Handles.{handle_at, nothing_open, with_handle}
 use Rattle.pr_tools.specs.Replies.{bytes_read, is_passed_over, refusal_in}
@@ -43,7 +41,7 @@ use Rattle.pr_tools.specs.declared.steps.Step.{Step}
 use Rattle.pr_tools.specs.declared.steps.Step.TheVariants as step
 use Rattle.pr_world.specs.ControllerStates.{ControllerState, Tool}
 use Rattle.pr_world.specs.Protocol.{controllers_at}
-use Rattle.pr_tool_laws.specs.OwnCalls.{AreOwnCalls}
+use Rattle.pr_tool_laws.specs.Runs.{IsRunOf, StaysInRange}
 use Rattle.pr_tool_laws.proofs.Stages.KindLemmas.{fed-kind, fed-pid, refused-still}
 use Rattle.pr_tool_laws.proofs.Stages.LawLemmas.{tool-keeps}
 use Rattle.pr_tool_laws.proofs.RunningAgain.LeavingLemmas.{Comes, HasLookedFirst, comes-still, looked-still, opens-more, others-none}
@@ -519,16 +517,17 @@ module _ (n k pid : ℕ) (first : TracedState) where
 
 -- In the end it has done so, unless it was refused.
 pub runs-again : (controllers : List ControllerState) (n k pid : ℕ) (s : TracedState) (h : List Entry) (t : ToolState)
-    → IsLawful s → IsInRange s.system → HasBytes h → slice_get controllers k ≡ Some (Tool (first_tool Pstack pid))
-    → IsLegal n s h → AreOwnCalls controllers h → slice_get (controllers_at controllers h) k ≡ Some (Tool t)
-    → has_ended t ≡ true → t.refusal ≡ None → RunsAgain k pid s h
+    → StaysInRange s h → IsRunOf n k (Tool (first_tool Pstack pid)) controllers s h
+    → slice_get (controllers_at controllers h) k ≡ Some (Tool t) → has_ended t ≡ true → t.refusal ≡ None
+    → RunsAgain k pid s h
 unfolding first_tool
-runs-again controllers n k pid s h t lawful ranged bytes begins legal follows ends ended accepted =
+runs-again controllers n k pid s h t stays run ends ended accepted =
     let begun : IsRunKept n k pid s [] (first_tool Pstack pid) =
-    record { lawful = lawful; kind = refl; of = refl; so = λ none. first-so n k pid s } in
+    record { lawful = stays.lawful; kind = refl; of = refl; so = λ none. first-so n k pid s } in
     let kept =
     tool-keeps n k s (IsRunKept n k pid s) (others-kept n k pid s) (calls-kept n k pid s) controllers h
-    (first_tool Pstack pid) t legal follows begins ends begun in
+    (first_tool Pstack pid) t run ends begun in
     let both = ended-at n k pid s h t ended (kept.so accepted) in
-    let look = looks n k pid t.stood s h lawful ranged bytes legal both.0.0 (All (OpensAtMost k)) both.0.1 in
+    let look = looks n k pid t.stood s h stays.lawful stays.in_range stays.bytes run.legal both.0.0
+    (All (OpensAtMost k)) both.0.1 in
     record { stood = t.stood; looked = look.0; came = look.1; runs = both.1 }

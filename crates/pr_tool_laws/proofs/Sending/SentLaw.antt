@@ -1,10 +1,10 @@
 use Rattle.std.proofs.Common.{◌≡◌, ◌++◌, ◌∷◌, ℕ, Some, None, List, [], true, refl, sym, subst, slice_get}
 use Rattle.pr_api.specs.Entries.{call_entry}
-use Rattle.pr_lawful.proofs.CallLemmas.{call-state}
+use Rattle.pr_lawful.proofs.LawfulStates.CallLemmas.{call-state}
 use Rattle.pr_model.proofs.HistoryLemmas.{state_after-push}
 use Rattle.pr_model.specs.Lawful.{IsLawful}
 use Rattle.pr_model.specs.Calls.{Answer, answer_to}
-use Rattle.pr_model.specs.Legal.{IsLegal, IsLegalEntry, state_after}
+use Rattle.pr_model.specs.Legal.{IsLegalEntry, state_after}
 use Rattle.pr_model.specs.State.{TracedProcess, TracedState}
 use Rattle.pr_model.specs.declared.calls.Call.{Call}
 use Rattle.pr_model.specs.declared.events.Act.{Act}
@@ -22,7 +22,7 @@ use Rattle.pr_tools.specs.declared.steps.Step.TheVariants as step
 use Rattle.pr_model.specs.Replies.{opened_in}
 use Rattle.pr_world.specs.ControllerStates.{ControllerState, Tool}
 use Rattle.pr_world.specs.Protocol.{controllers_at}
-use Rattle.pr_tool_laws.specs.OwnCalls.{AreOwnCalls}
+use Rattle.pr_tool_laws.specs.Runs.{IsRunOf}
 use Rattle.pr_tool_laws.proofs.Stages.LawLemmas.{tool-keeps}
 use Rattle.pr_tool_laws.proofs.Sending.SentEffects.{Does, directs, runs}
 use Rattle.pr_tool_laws.proofs.Sending.SentStages.{IsSender, SentStage, called-stage, ended-stage, first-stage, others-stage}
@@ -94,28 +94,28 @@ module _ (n k : ℕ) (kind : ToolKind) (pid : ℕ) (send : Step) (bytes : List �
       (sym (state-called first h k c a given)) (lawful, stage)
 
   has-acted : (controllers : List ControllerState) (h : List Entry) (t : ToolState) → IsLawful first
-      → slice_get controllers k ≡ Some (Tool (first_tool kind pid)) → IsLegal n first h
-      → AreOwnCalls controllers h → slice_get (controllers_at controllers h) k ≡ Some (Tool t) → has_ended t ≡ true
-      → t.refusal ≡ None → HasActed k pid bytes Becomes first h
-  has-acted controllers h t lawful begins legal follows ends ended accepted =
+      → IsRunOf n k (Tool (first_tool kind pid)) controllers first h
+      → slice_get (controllers_at controllers h) k ≡ Some (Tool t) → has_ended t ≡ true → t.refusal ≡ None
+      → HasActed k pid bytes Becomes first h
+  has-acted controllers h t lawful run ends ended accepted =
       let stage = first-stage n k kind pid send bytes Becomes sender does first first in
       let kept =
-      tool-keeps n k first IsSentKept others-kept calls-kept controllers h (first_tool kind pid) t legal follows begins
-      ends (lawful, stage) in
+      tool-keeps n k first IsSentKept others-kept calls-kept controllers h (first_tool kind pid) t run ends
+      (lawful, stage) in
       ended-stage n k kind pid send bytes Becomes sender does first h t ended accepted kept.1
 
 -- ---- the tools
 
 pub pstop-stops : (controllers : List ControllerState) (n k pid : ℕ) (s : TracedState) (h : List Entry) (t : ToolState)
-    → IsLawful s → slice_get controllers k ≡ Some (Tool (first_tool Pstop pid)) → IsLegal n s h
-    → AreOwnCalls controllers h → slice_get (controllers_at controllers h) k ≡ Some (Tool t) → has_ended t ≡ true
-    → t.refusal ≡ None → StopsItsProcess k pid s h
+    → IsLawful s → IsRunOf n k (Tool (first_tool Pstop pid)) controllers s h
+    → slice_get (controllers_at controllers h) k ≡ Some (Tool t) → has_ended t ≡ true → t.refusal ≡ None
+    → StopsItsProcess k pid s h
 pstop-stops controllers n k pid s h t =
     has-acted n k Pstop pid step.Direct direct_bytes IsDirected pstop-sends directs s controllers h t
 
 pub prun-runs : (controllers : List ControllerState) (n k pid : ℕ) (s : TracedState) (h : List Entry) (t : ToolState)
-    → IsLawful s → slice_get controllers k ≡ Some (Tool (first_tool Prun pid)) → IsLegal n s h
-    → AreOwnCalls controllers h → slice_get (controllers_at controllers h) k ≡ Some (Tool t) → has_ended t ≡ true
-    → t.refusal ≡ None → RunsItsProcess k pid s h
+    → IsLawful s → IsRunOf n k (Tool (first_tool Prun pid)) controllers s h
+    → slice_get (controllers_at controllers h) k ≡ Some (Tool t) → has_ended t ≡ true → t.refusal ≡ None
+    → RunsItsProcess k pid s h
 prun-runs controllers n k pid s h t =
     has-acted n k Prun pid step.Run run_bytes IsSetGoing prun-sends runs s controllers h t

@@ -1,10 +1,10 @@
 use Rattle.std.proofs.Common.{◌≡◌, ◌<◌, ◌∷◌, ℕ, Bool, true, false, cond, is_none, is_some, not, Option, None, Some, List, [], refl, sym, ap, ◌∙◌, subst}
 use Rattle.std.proofs.lemmas.Option.{none-some}
 use Rattle.std.specs.List.{find, list_all}
-use Rattle.pr_lawful.proofs.CallLemmas.{call-state}
-use Rattle.pr_lawful.proofs.FileLemmas.{choice}
-use Rattle.pr_lawful.proofs.HandleLemmas.{handle-at}
-use Rattle.pr_lawful.proofs.HistoryLemmas.{history-state}
+use Rattle.pr_lawful.proofs.LawfulStates.CallLemmas.{call-state}
+use Rattle.pr_lawful.proofs.ProcessParts.FileLemmas.{choice}
+use Rattle.pr_lawful.proofs.ProcessParts.HandleLemmas.{handle-at}
+use Rattle.pr_lawful.proofs.LawfulStates.HistoryLemmas.{history-state}
 use Rattle.pr_model.specs.Calls.{Answer, answer_to, interrupted_answer, is_handle_ready, is_held_ready, is_interrupted, is_open_by, is_polled_ready, poll_answer, ready_answer, refused, with_interrupt_seen}
 use Rattle.pr_model.specs.Handles.{handle_of, is_control}
 use Rattle.pr_model.specs.Lawful.{IsLawful, IsOfMade}

@@ -2,7 +2,7 @@ use Rattle.std.proofs.Common.{◌≡◌, ◌≢◌, ◌++◌, ◌∷◌, ℕ, So
 use Rattle.pr_api.specs.Entries.{call_entry}
 use Rattle.pr_model.specs.Calls.{Answer, answer_to}
 use Rattle.pr_model.specs.Lawful.{IsLawful}
-use Rattle.pr_model.specs.Legal.{IsLegal, IsLegalEntry, state_after}
+use Rattle.pr_model.specs.Legal.{IsLegalEntry, state_after}
 use Rattle.pr_model.specs.State.{TracedState, TracedSystem}
 use Rattle.pr_model.specs.declared.calls.Call.{Call}
 use Rattle.pr_model.specs.declared.events.Act.{Act}
@@ -19,7 +19,7 @@ use Rattle.pr_tools.specs.declared.steps.Step.TheVariants as step
 use Rattle.pr_world.specs.Controllers.{after_reply, next_call}
 use Rattle.pr_world.specs.ControllerStates.{ControllerState, Tool}
 use Rattle.pr_world.specs.Protocol.{controllers_at}
-use Rattle.pr_tool_laws.specs.OwnCalls.{AreOwnCalls}
+use Rattle.pr_tool_laws.specs.Runs.{IsRunOf}
 use Rattle.pr_tool_laws.proofs.Stages.ProtocolLemmas.{KeptByCalls, KeptByOthers, own-keeps}
 use Rattle.pr_tool_laws.proofs.Stages.EndedLemmas.{IsAwaited, first-awaited, pwait-keeps}
 use Rattle.pr_tool_laws.proofs.Stages.OtherStages as other
@@ -60,12 +60,12 @@ module _ (n k : ℕ) (first : TracedState) (Q : List Entry → ToolState → Typ
   calls-core h (Tool t) c a next given q = by_calls h t c a next given q
   calls-core h _ c a next given q = absurd q
 
-  pub tool-keeps : (controllers : List ControllerState) (h : List Entry) (t u : ToolState) → IsLegal n first h
-      → AreOwnCalls controllers h → slice_get controllers k ≡ Some (Tool t)
-      → slice_get (controllers_at controllers h) k ≡ Some (Tool u) → Q [] t → Q h u
+  pub tool-keeps : (controllers : List ControllerState) (h : List Entry) (t u : ToolState)
+      → IsRunOf n k (Tool t) controllers first h → slice_get (controllers_at controllers h) k ≡ Some (Tool u)
+      → Q [] t → Q h u
   unfolding P
-  tool-keeps controllers h t u legal follows begins ends q =
-      own-keeps n k first P others-core calls-core controllers h (Tool t) (Tool u) legal follows begins ends q
+  tool-keeps controllers h t u run ends q =
+      own-keeps n k first P others-core calls-core controllers h (Tool t) (Tool u) run ends q
 
 -- ---- what is so of a tool at the end
 
@@ -73,7 +73,7 @@ module _ (n k : ℕ) (first : TracedState) (Q : List Entry → ToolState → Typ
 abbrev LawOf : ℕ → ℕ → ToolKind → ℕ → TracedState → (List Entry → List ℕ → Type 0) → Type 0
 LawOf n k kind pid first IsSo =
     (controllers : List ControllerState) (h : List Entry) (t : ToolState) (programs : List Program)
-    → slice_get controllers k ≡ Some (Tool (first_tool kind pid)) → IsLegal n first h → AreOwnCalls controllers h
+    → IsRunOf n k (Tool (first_tool kind pid)) controllers first h
     → slice_get (controllers_at controllers h) k ≡ Some (Tool t)
     → has_ended t ≡ true → t.refusal ≡ None → IsSo h (printed t programs)
 
@@ -99,13 +99,13 @@ known-law : (n k : ℕ) (kind : ToolKind) (pid : ℕ) (first : TracedState) (Kno
     → Known step.OpenFile first
     → LawOf n k kind pid first (IsOfKnownState k kind pid first Shown)
 unfolding of-read of-one-state
-known-law n k kind pid first Known Shown once reader keeps begun controllers h t programs begins legal follows ends
+known-law n k kind pid first Known Shown once reader keeps begun controllers h t programs run ends
     ended accepted =
     let stage =
     tool-keeps n k first (stages.Stage n k kind pid first reader Known Shown keeps)
     (stages.others-stage n k kind pid first reader Known Shown keeps)
     (λ h t c a next given q. stages.called-stage n k kind pid first reader Known Shown keeps h c a given t next q)
-    controllers h (first_tool kind pid) t legal follows begins ends (stages.at_first refl begun) in
+    controllers h (first_tool kind pid) t run ends (stages.at_first refl begun) in
     let it = stages.ended-stage n k kind pid first reader Known Shown keeps h t ended accepted stage in
     record { one = of-read k kind pid first h t programs once ended accepted it.has; known = it.shown }
 
@@ -120,28 +120,28 @@ no-more n k kind pid = record {
 
 reader-law : (n k : ℕ) (kind : ToolKind) (pid : ℕ) (first : TracedState) → reads_once kind ≡ true → IsReader kind
     → Law n k kind pid first
-reader-law n k kind pid first once reader controllers h t programs begins legal follows ends ended accepted =
+reader-law n k kind pid first once reader controllers h t programs run ends ended accepted =
     (known-law n k kind pid first (λ next s. Unit {0}) (λ s. Unit {0}) once reader
-    (no-more n k kind pid) tt controllers h t programs begins legal follows ends ended accepted).one
+    (no-more n k kind pid) tt controllers h t programs run ends ended accepted).one
 
 quiet-law : (n k : ℕ) (kind : ToolKind) (pid : ℕ) (first : TracedState) → other.IsQuiet kind → Law n k kind pid first
-quiet-law n k kind pid first quiet controllers h t programs begins legal follows ends ended accepted =
+quiet-law n k kind pid first quiet controllers h t programs run ends ended accepted =
     let stage =
     tool-keeps n k first (other.QuietStage k kind pid first quiet)
     (λ h t actor it legal apart q. other.others-quiet k kind pid first quiet h
     (record { actor = actor; act = it }) t q)
     (λ h t c a next given q. other.called-quiet k kind pid first quiet h t c a q)
-    controllers h (first_tool kind pid) t legal follows begins ends (other.at_first refl) in
+    controllers h (first_tool kind pid) t run ends (other.at_first refl) in
     let silent = other.ended-quiet k kind pid first quiet h t programs ended accepted stage in
     of-one-state k kind pid first (read-back kind pid) h (printed t programs) [] silent.text silent.showed
 
 tree-law : (n k pid : ℕ) (first : TracedState) → reads_once Ptree ≡ true → Law n k Ptree pid first
-tree-law n k pid first once controllers h t programs begins legal follows ends ended accepted =
+tree-law n k pid first once controllers h t programs run ends ended accepted =
     let stage =
     tool-keeps n k first (other.TreeStage k pid first)
     (λ h t actor it legal apart q. other.others-tree k pid first h (record { actor = actor; act = it }) t q)
     (λ h t c a next given q. other.called-tree k pid first h t c a next given q)
-    controllers h (first_tool Ptree pid) t legal follows begins ends (other.at_first refl) in
+    controllers h (first_tool Ptree pid) t run ends (other.at_first refl) in
     of-read k Ptree pid first h t programs once ended accepted (other.ended-tree k pid first h t ended stage)
 
 -- ---- how each tool goes on
@@ -240,11 +240,11 @@ kind-law n k Ptree pid first once = tree-law n k pid first once
 
 pub tool-of-one-state : (controllers : List ControllerState) (n k : ℕ) (kind : ToolKind) (pid : ℕ)
     (first : TracedState) (h : List Entry) (t : ToolState) (programs : List Program) → reads_once kind ≡ true
-    → slice_get controllers k ≡ Some (Tool (first_tool kind pid)) → IsLegal n first h → AreOwnCalls controllers h
+    → IsRunOf n k (Tool (first_tool kind pid)) controllers first h
     → slice_get (controllers_at controllers h) k ≡ Some (Tool t) → has_ended t ≡ true → t.refusal ≡ None
     → IsOfOneState k kind pid first h (printed t programs)
-tool-of-one-state controllers n k kind pid first h t programs once begins legal follows ends ended accepted =
-    kind-law n k kind pid first once controllers h t programs begins legal follows ends ended accepted
+tool-of-one-state controllers n k kind pid first h t programs once run ends ended accepted =
+    kind-law n k kind pid first once controllers h t programs run ends ended accepted
 
 -- ---- the state that pwait shows
 
@@ -254,18 +254,18 @@ EndsIfAwaited kind pid s = kind ≡ Pwait → HasEnded pid s
 
 not-awaited : (n k : ℕ) (kind : ToolKind) (pid : ℕ) (first : TracedState) → kind ≢ Pwait → Law n k kind pid first
     → LawOf n k kind pid first (IsOfKnownState k kind pid first (EndsIfAwaited kind pid))
-not-awaited n k kind pid first other law controllers h t programs begins legal follows ends ended accepted =
+not-awaited n k kind pid first other law controllers h t programs run ends ended accepted =
     record {
-      one = law controllers h t programs begins legal follows ends ended accepted;
+      one = law controllers h t programs run ends ended accepted;
       known = λ is. absurd (other is);
     }
 
 awaited-law : (n k pid : ℕ) (first : TracedState) → reads_once Pwait ≡ true → IsLawful first
     → LawOf n k Pwait pid first (IsOfKnownState k Pwait pid first (EndsIfAwaited Pwait pid))
-awaited-law n k pid first once lawful controllers h t programs begins legal follows ends ended accepted =
+awaited-law n k pid first once lawful controllers h t programs run ends ended accepted =
     let it =
     known-law n k Pwait pid first (IsAwaited pid) (HasEnded pid) once pwait-reads (pwait-keeps n k pid)
-    (first-awaited n k pid first lawful) controllers h t programs begins legal follows ends ended accepted in
+    (first-awaited n k pid first lawful) controllers h t programs run ends ended accepted in
     record { one = it.one; known = λ is. it.known }
 
 ended-law : (n k : ℕ) (kind : ToolKind) (pid : ℕ) (first : TracedState) → reads_once kind ≡ true → IsLawful first
@@ -276,8 +276,8 @@ ended-law n k kind pid first once lawful = not-awaited n k kind pid first (λ is
 -- from a lawful state
 pub tool-of-known-state : (controllers : List ControllerState) (n k : ℕ) (kind : ToolKind) (pid : ℕ)
     (first : TracedState) (h : List Entry) (t : ToolState) (programs : List Program) → IsLawful first
-    → reads_once kind ≡ true → slice_get controllers k ≡ Some (Tool (first_tool kind pid)) → IsLegal n first h
-    → AreOwnCalls controllers h → slice_get (controllers_at controllers h) k ≡ Some (Tool t) → has_ended t ≡ true
-    → t.refusal ≡ None → IsOfKnownState k kind pid first (EndsIfAwaited kind pid) h (printed t programs)
-tool-of-known-state controllers n k kind pid first h t programs lawful once begins legal follows ends ended accepted =
-    ended-law n k kind pid first once lawful controllers h t programs begins legal follows ends ended accepted
+    → reads_once kind ≡ true → IsRunOf n k (Tool (first_tool kind pid)) controllers first h
+    → slice_get (controllers_at controllers h) k ≡ Some (Tool t) → has_ended t ≡ true → t.refusal ≡ None
+    → IsOfKnownState k kind pid first (EndsIfAwaited kind pid) h (printed t programs)
+tool-of-known-state controllers n k kind pid first h t programs lawful once run ends ended accepted =
+    ended-law n k kind pid first once lawful controllers h t programs run ends ended accepted

@@ -21,6 +21,7 @@ use Rattle.pr_world.specs.Controllers.{after_reply, call_by, feed_at, next_call,
 use Rattle.pr_world.specs.ControllerStates.{ControllerState}
 use Rattle.pr_world.specs.Protocol.{Follows, FollowsAt, controllers_after, controllers_at}
 use Rattle.pr_tool_laws.specs.OwnCalls.{AreOwnCalls, IsOwnCall}
+use Rattle.pr_tool_laws.specs.Runs.{IsRunOf}
 use Rattle.pr_tool_laws.proofs.OwnFiles.StandingLemmas.{IsOther}
 
 -- What a controller keeps in a legal history in which it makes its own calls: by these, and by what others do.
@@ -149,14 +150,8 @@ module _ (n k : ℕ) (first : TracedState) (P : List Entry → ControllerState �
 
     -- it is so of the controller at the end, if it was so at first
     pub own-keeps : (controllers : List ControllerState) (h : List Entry) (core last : ControllerState)
-        → IsLegal n first h → AreOwnCalls controllers h → slice_get controllers k ≡ Some core
-        → slice_get (controllers_at controllers h) k ≡ Some last → P [] core → P h last
-    own-keeps controllers h core last legal own at_first at_last p =
-        let begins : IfSome (slice_get controllers k) (P []) = subst (λ o. IfSome o (P [])) (sym at_first) p in
-        subst (λ o. IfSome o (P h)) at_last (history-keeps [] h controllers legal own begins)
-
-    pub protocol-keeps : (controllers : List ControllerState) (h : List Entry) (core last : ControllerState)
-        → IsLegal n first h → Follows controllers first h → slice_get controllers k ≡ Some core
-        → slice_get (controllers_at controllers h) k ≡ Some last → P [] core → P h last
-    protocol-keeps controllers h core last legal follows =
-        own-keeps controllers h core last legal (follows-own controllers first h follows)
+        → IsRunOf n k core controllers first h → slice_get (controllers_at controllers h) k ≡ Some last
+        → P [] core → P h last
+    own-keeps controllers h core last run ends p =
+        let begins : IfSome (slice_get controllers k) (P []) = subst (λ o. IfSome o (P [])) (sym run.begins) p in
+        subst (λ o. IfSome o (P h)) ends (history-keeps [] h controllers run.legal run.own_calls begins)

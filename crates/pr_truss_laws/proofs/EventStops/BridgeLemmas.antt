@@ -6,9 +6,9 @@ use Rattle.pr_num.proofs.ByIdLaws.{under-change_under, under-map_each}
 use Rattle.pr_num.specs.ById.{change_under, under}
 use Rattle.pr_num.specs.Control.{async_mode, has_flags}
 use Rattle.pr_num.specs.declared.signals.Sig.{Sig}
-use Rattle.pr_lawful.proofs.EndLemmas.{found-live}
-use Rattle.pr_lawful.proofs.SuitingLemmas.{SuitsTransition, is_stop}
-use Rattle.pr_lawful.proofs.TurnLemmas.{acting, row-suits}
+use Rattle.pr_lawful.proofs.LawfulTurns.EndLemmas.{found-live}
+use Rattle.pr_lawful.proofs.LawfulTurns.SuitingLemmas.{SuitsTransition, is_stop}
+use Rattle.pr_lawful.proofs.LawfulTurns.TurnLemmas.{acting, row-suits}
 use Rattle.pr_model.specs.Changes.{Change, all_changed, changed, takes_shared, with_shared_taken}
 use Rattle.pr_model.specs.Lawful.{IsLawfulSystem}
 use Rattle.pr_model.specs.LwpTurns.{LwpTurn, settled, turn_of, with_counted}

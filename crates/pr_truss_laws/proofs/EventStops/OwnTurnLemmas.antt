@@ -9,10 +9,10 @@ use Rattle.pr_num.specs.Files.{FileTable}
 use Rattle.pr_num.specs.Programs.{Program}
 use Rattle.pr_parts.specs.FileCalls.{with_all_shared}
 use Rattle.pr_keeps.proofs.LoanLemmas.{lent-keeps}
-use Rattle.pr_lawful.proofs.EndLemmas.{found-live}
-use Rattle.pr_lawful.proofs.SuitingLemmas.{SuitChanges, SuitsChange, SuitsProgram, SuitsTransition, is_stop}
-use Rattle.pr_lawful.proofs.TransitionLemmas.{stayed}
-use Rattle.pr_lawful.proofs.TurnLemmas.{acting, row-suits}
+use Rattle.pr_lawful.proofs.LawfulTurns.EndLemmas.{found-live}
+use Rattle.pr_lawful.proofs.LawfulTurns.SuitingLemmas.{SuitChanges, SuitsChange, SuitsProgram, SuitsTransition, is_stop}
+use Rattle.pr_lawful.proofs.LawfulTurns.TransitionLemmas.{stayed}
+use Rattle.pr_lawful.proofs.LawfulTurns.TurnLemmas.{acting, row-suits}
 use Rattle.pr_model.specs.Changes.{Change, changed, files_are, space_is, signals, signals_itself, takes_shared, job_stops, disposition_is, held_is, resumes, forks, reaps, becomes, makes_lwp, suspends, all_changed, ended, Ending, ends_process, ends_lwp, resumed, with_disposition_of, with_fds, with_held, with_job_stop, with_shared_taken, with_space, with_suspended}
 use Rattle.pr_model.specs.Lives.{Birth, lent_to, with_lent, with_loan_back, forked, new_lwp, started, with_child, with_lwp_ended, with_made, with_reaped, with_new_lwp, with_program, without_lwp}
 use Rattle.pr_model.specs.Lawful.{IsLawfulProcess, IsLawfulSystem}

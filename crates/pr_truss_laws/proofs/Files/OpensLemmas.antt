@@ -3,7 +3,7 @@ use Rattle.std.proofs.lemmas.Bool.{cases_Bool, eqb-true, eqb-false, eq-eqb, ne_e
 use Rattle.std.proofs.lemmas.Option.{same_Some, none-some}
 use Rattle.std.specs.List.{slice_get, slice_set, position}
 use Rattle.std.specs.Option.{is_none}
-use Rattle.pr_lawful.proofs.HandleLemmas.{free-at, handle-at}
+use Rattle.pr_lawful.proofs.ProcessParts.HandleLemmas.{free-at, handle-at}
 use Rattle.pr_keeps.specs.CallEdits as edit
 use Rattle.pr_keeps.specs.CallEdits.{CallEdit}
 use Rattle.pr_keeps.proofs.CallLemmas.{call-edit}

@@ -4,8 +4,8 @@ use Rattle.std.proofs.lemmas.Option.{same_Some, none-some}
 use Rattle.std.specs.List.{slice_get, slice_set, count_by}
 use Rattle.pr_laws.proofs.CloseLemmas.{released-after}
 use Rattle.pr_laws.specs.LastCloses.{IsReleased}
-use Rattle.pr_lawful.proofs.HandleLemmas.{any-at, count-some, count-swap, handle-at}
-use Rattle.pr_lawful.proofs.HistoryLemmas.{history-state}
+use Rattle.pr_lawful.proofs.ProcessParts.HandleLemmas.{any-at, count-some, count-swap, handle-at}
+use Rattle.pr_lawful.proofs.LawfulStates.HistoryLemmas.{history-state}
 use Rattle.pr_line.specs.declared.options.Options.{Options}
 use Rattle.pr_model.specs.Calls.{Answer, answer_to}
 use Rattle.pr_model.specs.Handles.{handle_of, has_writer, is_exclusive, is_exclusive_writer, is_writable, is_writer, was_last_writer, with_closed}

@@ -3,8 +3,8 @@ use Rattle.std.proofs.lemmas.Bool.{false≢true, cases_Bool, eqb-true, eqb-false
 use Rattle.std.proofs.lemmas.Option.{get_or_from_slice_get, same_Some, slice_get_within}
 use Rattle.std.specs.List.{All, slice_get, slice_set}
 use Rattle.pr_num.specs.declared.messages.Message.{Message}
-use Rattle.pr_lawful.proofs.EndLemmas.{found-live}
-use Rattle.pr_lawful.proofs.HandleLemmas.{any-at, control-writes, handle-at}
+use Rattle.pr_lawful.proofs.LawfulTurns.EndLemmas.{found-live}
+use Rattle.pr_lawful.proofs.ProcessParts.HandleLemmas.{any-at, control-writes, handle-at}
 use Rattle.pr_keeps.specs.CallEdits as edit
 use Rattle.pr_keeps.specs.CallEdits.{CallEdit, CloseEdit}
 use Rattle.pr_keeps.specs.MessageEdits as message

@@ -11,9 +11,9 @@ use Rattle.pr_num.specs.declared.infos.Info.{Info}
 use Rattle.pr_num.specs.declared.signals.Sig.{Sig}
 use Rattle.pr_num.specs.declared.signals.Sig.TheVariants.{Cld, Kill}
 use Rattle.pr_keeps.proofs.LoanLemmas.{process_if-keeps, lent-keeps, loans_passed-keep}
-use Rattle.pr_lawful.proofs.EndLemmas.{buried, found-live}
-use Rattle.pr_lawful.proofs.SuitingLemmas.{SuitChanges, SuitsChange, SuitsReaped}
-use Rattle.pr_lawful.proofs.TurnLemmas.{acting as acting_in, row-suits}
+use Rattle.pr_lawful.proofs.LawfulTurns.EndLemmas.{buried, found-live}
+use Rattle.pr_lawful.proofs.LawfulTurns.SuitingLemmas.{SuitChanges, SuitsChange, SuitsReaped}
+use Rattle.pr_lawful.proofs.LawfulTurns.TurnLemmas.{acting as acting_in, row-suits}
 use Rattle.pr_parts.specs.SignalRules.{deleted_by}
 use Rattle.pr_model.specs.Generation.{ends_job_stop, lwp_with_pending, lwp_without_pending, signalled, with_deletions, with_pending, without_job_stop, without_pending}
 use Rattle.pr_model.specs.Changes.{Change, changed, files_are, space_is, signals, signals_itself, takes_shared, job_stops, disposition_is, held_is, resumes, forks, reaps, becomes, all_changed, ended, Ending, ends_process, ends_lwp, with_fds, with_space}

@@ -4,7 +4,7 @@ use Rattle.std.proofs.lemmas.Option.{same_Some, none-some}
 use Rattle.std.specs.Option.{option_and_then, option_map}
 use Rattle.pr_num.proofs.ByIdLaws.{under-change_under, under-change_under_other}
 use Rattle.pr_num.specs.ById.{change_under, under}
-use Rattle.pr_lawful.proofs.EndLemmas.{found-live}
+use Rattle.pr_lawful.proofs.LawfulTurns.EndLemmas.{found-live}
 use Rattle.pr_model.specs.Changes.{all_changed}
 use Rattle.pr_model.specs.LwpTurns.{LwpTurn, can_move, is_held_back, may_turn, may_turn_in, may_turn_of, settled, turn_of, turn_of_lwp, turn_of_process, with_counted}
 use Rattle.pr_model.specs.Machines.{stopped_as_directed, traced}

@@ -23,7 +23,7 @@ use Rattle.pr_parts.specs.FileTransfers.{read_fd}
 use Rattle.pr_parts.specs.declared.files.FileNo.{FileNo}
 use Rattle.pr_parts.specs.declared.files.FileNo.TheVariants.{Sleep}
 use Rattle.pr_parts.specs.declared.files.Stat.{Stat}
-use Rattle.pr_lawful.proofs.FileLemmas.{choice}
+use Rattle.pr_lawful.proofs.ProcessParts.FileLemmas.{choice}
 use Rattle.pr_keeps.specs.RowKinds as kind
 use Rattle.pr_keeps.specs.RowKinds.{RowKind}
 use Rattle.pr_keeps.proofs.RowLemmas.{row-kind}

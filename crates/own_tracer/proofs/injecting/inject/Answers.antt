@@ -1,4 +1,4 @@
-use Rattle.std.proofs.Common.{subst}
+use Rattle.std.proofs.Common.{◌∙◌, ap, subst, sym}
 use Rattle.pr_api.specs.Steps.{IsCalled}
 use Rattle.own_tracer.proofs.GoingLemmas.{goes-nowhere}
 use Rattle.own_tracer.proofs.RunLemmas.{inject-goes, injects}
@@ -31,3 +31,13 @@ returns-clause-injects g c =
     c.order.ensures c.in_ok-taken.ensures.called in
     injects c.args.grip.control c.args.faults.now c.count.new.self (view c.args.kern.now) (view c.ask.new.kern)
     (view c.send.new.kern) one two c.in_ok-taken.taken c.in_ok-taken.ensures.taken c.count.ensures
+
+pub returns-then-not-ready-clause-ready : goal.returns-then-not-ready-clause-ready
+returns-then-not-ready-clause-ready g c =
+    let kernel = g.Q.Kernel.view c.args.kern.now in
+    sym c.if-not-ready.true ∙ c.ready.ensures ∙ ap (kernel.is_ready 0) c.in_ok-poll.ensures
+
+pub returns-clause-ready : goal.returns-clause-ready
+returns-clause-ready g c =
+    let kernel = g.Q.Kernel.view c.args.kern.now in
+    sym c.if-not-ready.false ∙ c.ready.ensures ∙ ap (kernel.is_ready 0) c.in_ok-poll.ensures

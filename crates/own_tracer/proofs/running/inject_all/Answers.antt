@@ -1,6 +1,6 @@
-use Rattle.std.proofs.Common.{inr}
+use Rattle.std.proofs.Common.{refl, arith, inl, inr}
 use Rattle.own_tracer.proofs.GoingLemmas.{goes-nowhere}
-use Rattle.own_tracer.proofs.RunLemmas.{attached-held, attached-left, attached-none, attached-pid}
+use Rattle.own_tracer.proofs.RunLemmas.{attached-calls, attached-held, attached-left, attached-none, attached-pid, kept-calls}
 use Rattle.own_tracer.specs.Stances.{HoldsNothing}
 use Rattle.own_tracer.proofs.running.inject_all.Goals as goal
 
@@ -25,7 +25,7 @@ returns-in_ok-run_beside-in-Some-clause-goes g c =
     attached-left c.args.pid c.in-Some.grip (view c.args.kern.now) (view c.attach.new.kern)
     (view c.run_beside.new.kern)
     (attached-pid c.in_ok-grip.field-0 c.in-Some.grip c.args.pid c.in-Some.is c.in_ok-grip.ensures.pid) held
-    c.in_ok-run_beside-in-Some.ensures
+    c.in_ok-run_beside-in-Some.ensures.goes
 
 pub returns-in-None-clause-goes : goal.returns-in-None-clause-goes
 returns-in-None-clause-goes g c =
@@ -33,6 +33,31 @@ returns-in-None-clause-goes g c =
     attached-none c.in_ok-grip.field-0 (view c.args.kern.now) (view c.attach.new.kern) c.in-None.is
     c.in_ok-grip.ensures.goes
 
+pub returns-then-places-entries-lt5-clause-out : goal.returns-then-places-entries-lt5-clause-out
+returns-then-places-entries-lt5-clause-out g c =
+    λ kept. record {
+      why = inl (omega (arith, c.places.ensures, c.entries.ensures.value, c.if-places-entries-lt5.true), refl);
+      last = refl;
+    }
+
 pub returns-in-None-clause-out : goal.returns-in-None-clause-out
 returns-in-None-clause-out g c =
-    λ kept. record { why = inr (c.in_ok-grip.ensures.refused c.in-None.is) }
+    let view = g.Q.Kernel.view in
+    λ kept. record {
+      why = inr (kept-calls c.in_ok-grip.field-0 c.args.pid (view c.args.kern.now).history
+          (view c.attach.new.kern).history c.in-None.is c.in_ok-grip.ensures.calls);
+      last = refl;
+    }
+
+pub returns-in_ok-run_beside-in-Some-clause-beside : goal.returns-in_ok-run_beside-in-Some-clause-beside
+returns-in_ok-run_beside-in-Some-clause-beside g c =
+    let view = g.Q.Kernel.view in
+    λ is. record {
+      grip = c.in-Some.grip;
+      held = view c.attach.new.kern;
+      gets = attached-calls c.in_ok-grip.field-0 c.args.pid (view c.args.kern.now).history
+          (view c.attach.new.kern).history c.in-Some.grip c.in-Some.is c.in_ok-grip.ensures.calls;
+      goes = attached-held c.in_ok-grip.field-0 c.in-Some.grip (view c.args.kern.now) (view c.attach.new.kern)
+          c.in-Some.is c.in_ok-grip.ensures.goes;
+      runs = c.in_ok-run_beside-in-Some.ensures.runs;
+    }

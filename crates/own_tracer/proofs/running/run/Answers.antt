@@ -1,7 +1,4 @@
-use Rattle.own_tracer.proofs.GoingLemmas.{on-ok}
-use Rattle.own_tracer.proofs.RunLemmas.{injected, left-nothing}
-use Rattle.own_tracer.specs.Going.{Goes}
-use Rattle.own_tracer.specs.Stances.{HoldsNothing}
+use Rattle.own_tracer.proofs.RunLemmas.{left-nothing, on-both}
 use Rattle.own_tracer.proofs.running.run.Goals as goal
 
 pub run_alone-requires : goal.run_alone-requires
@@ -15,7 +12,14 @@ run_alone-requires g c =
 pub returns : goal.returns
 returns g c =
     let view = g.Q.Kernel.view in
-    on-ok c.run_alone.result (Goes HoldsNothing (view c.inject_all.new.kern) (view c.run_alone.new.kern)) _
-    (λ after. injected c.in_ok-inject_all.field-0 c.args.pid (view c.args.kern.now) (view c.inject_all.new.kern)
-    (view c.run_alone.new.kern) c.in_ok-inject_all.ensures.out
-    c.in_ok-inject_all.ensures.goes after) c.run_alone.ensures
+    on-both c.run_alone.result _ _ _
+    (λ after alone. record {
+      middle = record { kernel = view c.inject_all.new.kern; last = c.inject_all.new.programs.last };
+      attached = c.in_ok-inject_all.field-0;
+      out = c.in_ok-inject_all.ensures.out;
+      beside = c.in_ok-inject_all.ensures.beside;
+      before = c.in_ok-inject_all.ensures.goes;
+      after = after;
+      last = c.run_alone.new.programs.last;
+      alone = alone;
+    }) c.run_alone.ensures.goes c.run_alone.ensures.runs

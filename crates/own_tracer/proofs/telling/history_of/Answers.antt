@@ -1,4 +1,4 @@
-use Rattle.std.proofs.Common.{◌≤◌, ◌∙◌, ◌≡◌, List, ℕ, ap, subst, sym}
+use Rattle.std.proofs.Common.{◌≤◌, ◌∙◌, List, ℕ, ap, subst, sym}
 use Rattle.std.specs.List.{slice_get, sum_by}
 use Rattle.pr_kern.specs.Starts.{stored}
 use Rattle.pr_model.specs.FirstState.{first_state, size_at_start}
@@ -42,5 +42,6 @@ returns c =
     ∙ ap (λ (spawns : List ℕ). first_state parts.programs.items (stored parts.files.items) spawns)
     c.as_slice.ensures.value in
     subst (λ (x : Scenario). IsHistoryOf x c.into_history.result.entries) c.scenario.view_is
-    (history-is s c.in_ok-kern.kern c.run.new.kern c.into_history.result.entries state kern.history kern.places
+    (history-is s c.in_ok-kern.kern c.run.new.kern c.into_history.result.entries c.new-2.result c.new-2.ensures
+    state kern.history kern.places
     c.in_ok-run.ensures c.into_history.ensures)

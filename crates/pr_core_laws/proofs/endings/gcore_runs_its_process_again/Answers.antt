@@ -1,4 +1,4 @@
-use Rattle.pr_core_laws.proofs.EndingLaw.{gcore-runs-again}
+use Rattle.pr_core_laws.proofs.Refused.EndingLaw.{gcore-runs-again}
 use Rattle.pr_core_laws.proofs.endings.gcore_runs_its_process_again.Goals as goal
 
 pub returns : goal.returns

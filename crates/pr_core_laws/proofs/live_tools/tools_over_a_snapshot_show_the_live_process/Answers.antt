@@ -1,4 +1,4 @@
-use Rattle.pr_core_laws.proofs.LiveTexts.{pfiles-live, pflags-live, pmap-live, psig-live, pstack-live}
+use Rattle.pr_core_laws.proofs.OneState.LiveTexts.{pfiles-live, pflags-live, pmap-live, psig-live, pstack-live}
 use Rattle.pr_core_laws.proofs.live_tools.tools_over_a_snapshot_show_the_live_process.Goals as goal
 
 pub returns-clause-pflags : goal.returns-clause-pflags

@@ -1,4 +1,4 @@
-use Rattle.pr_lawful.proofs.CallLemmas.{call-state}
+use Rattle.pr_lawful.proofs.LawfulStates.CallLemmas.{call-state}
 use Rattle.pr_lawful.proofs.states.calls_keep_states_lawful.Goals as goal
 
 pub returns : goal.returns

@@ -1,5 +1,5 @@
-use Rattle.pr_lawful.proofs.HistoryLemmas.{history-state}
-use Rattle.pr_lawful.proofs.StartLemmas.{first-lawful}
+use Rattle.pr_lawful.proofs.LawfulStates.HistoryLemmas.{history-state}
+use Rattle.pr_lawful.proofs.LawfulStates.StartLemmas.{first-lawful}
 use Rattle.pr_lawful.proofs.states.reached_states_are_lawful.Goals as goal
 
 pub returns : goal.returns

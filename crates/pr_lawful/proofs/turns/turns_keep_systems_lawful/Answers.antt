@@ -1,4 +1,4 @@
-use Rattle.pr_lawful.proofs.TurnLemmas.{turn-lawful}
+use Rattle.pr_lawful.proofs.LawfulTurns.TurnLemmas.{turn-lawful}
 use Rattle.pr_lawful.proofs.turns.turns_keep_systems_lawful.Goals as goal
 
 pub returns : goal.returns

@@ -1,5 +1,5 @@
-use Rattle.pr_lawful.proofs.RecordLemmas.{lstatus-info, lwpstatus-info, status-info}
-use Rattle.pr_lawful.proofs.UseLemmas.{lwp-lawful}
+use Rattle.pr_lawful.proofs.Following.RecordLemmas.{lstatus-info, lwpstatus-info, status-info}
+use Rattle.pr_lawful.proofs.Following.UseLemmas.{lwp-lawful}
 use Rattle.pr_lawful.proofs.uses.infos_of_lawful_processes_are_in_range.Goals as goal
 
 pub returns : goal.returns

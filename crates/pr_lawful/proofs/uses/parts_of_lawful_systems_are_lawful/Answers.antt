@@ -1,4 +1,4 @@
-use Rattle.pr_lawful.proofs.UseLemmas.{live-lawful, lwp-lawful, process-lawful}
+use Rattle.pr_lawful.proofs.Following.UseLemmas.{live-lawful, lwp-lawful, process-lawful}
 use Rattle.pr_lawful.proofs.uses.parts_of_lawful_systems_are_lawful.Goals as goal
 
 pub returns : goal.returns

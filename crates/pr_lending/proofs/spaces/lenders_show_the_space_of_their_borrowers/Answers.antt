@@ -3,8 +3,8 @@ use Rattle.pr_model.specs.Lawful.{IsLawful}
 use Rattle.pr_model.specs.Legal.{state_after}
 use Rattle.pr_lending.specs.Lending.{AreLending}
 use Rattle.pr_model.specs.State.{TracedState}
-use Rattle.pr_lawful.proofs.HistoryLemmas.{history-state}
-use Rattle.pr_lawful.proofs.StartLemmas.{first-lawful}
+use Rattle.pr_lawful.proofs.LawfulStates.HistoryLemmas.{history-state}
+use Rattle.pr_lawful.proofs.LawfulStates.StartLemmas.{first-lawful}
 use Rattle.pr_lending.proofs.HistoryLemmas.{history-lends}
 use Rattle.pr_lending.proofs.SpaceLemmas.{shown-alike}
 use Rattle.pr_lending.proofs.StartLemmas.{first-lends}

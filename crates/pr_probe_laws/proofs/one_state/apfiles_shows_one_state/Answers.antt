@@ -1,13 +1,12 @@
 use Rattle.pr_model.specs.FirstState.{first_state}
 use Rattle.pr_probe_laws.proofs.OneState.TextLaw.{shows-one}
 use Rattle.pr_probe_laws.proofs.one_state.apfiles_shows_one_state.Goals as goal
-use Rattle.pr_reached.proofs.ReachedLemmas.{first-reached}
+use Rattle.pr_reached.proofs.Together.ReachedLemmas.{first-reached}
 
 pub returns : goal.returns
 returns c = record {
   later = shows-one;
-  first =
-      λ programs files spawns controllers n k pid h p start ranged bytes begins legal follows ends ended accepted.
+  first = λ programs files spawns controllers n k pid h p start ranged bytes run ends ended accepted.
       shows-one controllers n k pid (first_state programs files spawns) h p
-      (first-reached programs files spawns start ranged) bytes begins legal follows ends ended accepted;
+      (first-reached programs files spawns start ranged) bytes run ends ended accepted;
 }

@@ -1,4 +1,4 @@
-use Rattle.pr_reached.proofs.MappedLemmas.{first-history-few, history-few}
+use Rattle.pr_reached.proofs.Together.MappedLemmas.{first-history-few, history-few}
 use Rattle.pr_reached.proofs.mapped.processes_have_few_mappings.Goals as goal
 
 pub returns : goal.returns

@@ -1,12 +1,12 @@
-use Rattle.pr_lawful.proofs.HistoryLemmas.{history-state}
-use Rattle.pr_lawful.proofs.StartLemmas.{first-lawful}
+use Rattle.pr_lawful.proofs.LawfulStates.HistoryLemmas.{history-state}
+use Rattle.pr_lawful.proofs.LawfulStates.StartLemmas.{first-lawful}
 use Rattle.pr_model.specs.FirstState.{first_state}
 use Rattle.pr_model.specs.Lawful.{IsLawful}
 use Rattle.pr_model.specs.Legal.{IsLegal, state_after}
 use Rattle.pr_model.specs.State.{TracedState}
 use Rattle.pr_model.specs.declared.events.Entry.{Entry}
-use Rattle.pr_reached.proofs.EntryRanges.{records-range}
-use Rattle.pr_reached.proofs.HistoryRanges.{first-state-range, history-range}
+use Rattle.pr_reached.proofs.RecordsInRange.EntryRanges.{records-range}
+use Rattle.pr_reached.proofs.StatesInRange.HistoryRanges.{first-state-range, history-range}
 use Rattle.pr_reached.proofs.records.records_of_reached_states_are_in_range.Goals as goal
 use Rattle.pr_reached.specs.AllRecords.{AreRecordsInRange}
 use Rattle.pr_reached.specs.ByteHistories.{HasBytes}

@@ -1,4 +1,4 @@
-use Rattle.pr_reached.proofs.ControllerRanges.{controller-range}
+use Rattle.pr_reached.proofs.StatesInRange.ControllerRanges.{controller-range}
 use Rattle.pr_reached.proofs.states.calls_keep_states_in_range.Goals as goal
 
 pub returns : goal.returns

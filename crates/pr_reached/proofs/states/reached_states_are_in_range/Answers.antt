@@ -1,6 +1,6 @@
-use Rattle.pr_lawful.proofs.StartLemmas.{first-lawful}
+use Rattle.pr_lawful.proofs.LawfulStates.StartLemmas.{first-lawful}
 use Rattle.pr_model.specs.FirstState.{first_state}
-use Rattle.pr_reached.proofs.HistoryRanges.{first-state-range, history-range}
+use Rattle.pr_reached.proofs.StatesInRange.HistoryRanges.{first-state-range, history-range}
 use Rattle.pr_reached.proofs.states.reached_states_are_in_range.Goals as goal
 
 pub returns : goal.returns

@@ -1,4 +1,4 @@
-use Rattle.pr_reached.proofs.HistoryRanges.{first-state-range}
+use Rattle.pr_reached.proofs.StatesInRange.HistoryRanges.{first-state-range}
 use Rattle.pr_reached.proofs.states.the_first_state_is_in_range.Goals as goal
 
 pub returns : goal.returns

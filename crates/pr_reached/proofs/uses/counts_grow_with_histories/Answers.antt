@@ -1,4 +1,4 @@
-use Rattle.pr_reached.proofs.UsageHistories.{first-used, history-used}
+use Rattle.pr_reached.proofs.Usage.UsageHistories.{first-used, history-used}
 use Rattle.pr_reached.proofs.uses.counts_grow_with_histories.Goals as goal
 
 pub returns : goal.returns

@@ -1,4 +1,4 @@
-use Rattle.pr_run_laws.proofs.TracerLemmas.{tracers-passive}
+use Rattle.pr_run_laws.proofs.PassiveControllers.TracerLemmas.{tracers-passive}
 use Rattle.pr_run_laws.proofs.tracers.histories_of_tracers_are_passive.Goals as goal
 
 pub returns : goal.returns

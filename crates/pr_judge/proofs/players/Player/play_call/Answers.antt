@@ -1,7 +1,7 @@
 use Rattle.std.proofs.Common.{◌∙◌, Bool, false, sym, subst, arith}
 use Rattle.pr_api.specs.Entries.{call_entry}
 use Rattle.pr_kern.proofs.AnswerLemmas.{answer-sound}
-use Rattle.pr_lawful.proofs.CallLemmas.{call-state}
+use Rattle.pr_lawful.proofs.LawfulStates.CallLemmas.{call-state}
 use Rattle.pr_judge.proofs.TryLemmas.{tried-call, tried-stranger, tried-unready}
 use Rattle.pr_judge.specs.Players.{HasTried, Played}
 use Rattle.pr_judge.proofs.players.Player.play_call.Goals as goal

@@ -1,7 +1,7 @@
 use Rattle.std.proofs.Common.{◌==◌, ◌+◌, ◌<◌, ◌^◌, sym, subst, arith}
 use Rattle.pr_api.specs.Entries.{tick_entry}
 use Rattle.pr_kern.proofs.KeptLemmas.{ticked-sound}
-use Rattle.pr_lawful.proofs.CallLemmas.{tick-state}
+use Rattle.pr_lawful.proofs.LawfulStates.CallLemmas.{tick-state}
 use Rattle.pr_model.specs.Legal.{ticked}
 use Rattle.pr_model.specs.State.{with_system}
 use Rattle.pr_judge.proofs.TryLemmas.{tried-tick}

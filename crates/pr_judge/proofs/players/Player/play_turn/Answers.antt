@@ -1,7 +1,7 @@
 use Rattle.std.proofs.Common.{◌∙◌, ◌+◌, ◌<◌, ◌^◌, Bool, false, sym, subst}
 use Rattle.pr_api.specs.Entries.{turn_entry}
 use Rattle.pr_kern.proofs.KeptLemmas.{turned-sound}
-use Rattle.pr_lawful.proofs.StateLemmas.{turn-state}
+use Rattle.pr_lawful.proofs.LawfulStates.StateLemmas.{turn-state}
 use Rattle.pr_model.specs.State.{TracedState}
 use Rattle.pr_judge.proofs.TryLemmas.{tried-still, tried-turn}
 use Rattle.pr_judge.specs.Players.{HasTried, Played}

@@ -1,5 +1,5 @@
 use Rattle.std.proofs.Common.{◌<◌, length, sym, subst, arith}
-use Rattle.pr_lawful.proofs.CallLemmas.{call-state}
+use Rattle.pr_lawful.proofs.LawfulStates.CallLemmas.{call-state}
 use Rattle.pr_model.specs.Lawful.{IsLawful}
 use Rattle.pr_kern.specs.Kernels.{Kernel}
 use Rattle.pr_kern.proofs.AnswerLemmas.{answer-sound}

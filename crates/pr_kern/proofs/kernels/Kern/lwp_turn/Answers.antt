@@ -1,5 +1,5 @@
 use Rattle.std.proofs.Common.{◌<◌, length, sym, subst}
-use Rattle.pr_lawful.proofs.StateLemmas.{turn-state}
+use Rattle.pr_lawful.proofs.LawfulStates.StateLemmas.{turn-state}
 use Rattle.pr_kern.specs.Kernels.{Kernel}
 use Rattle.pr_kern.proofs.KeptLemmas.{kept-push, kept-ready, turned-sound}
 use Rattle.pr_kern.proofs.kernels.Kern.lwp_turn.Goals as goal

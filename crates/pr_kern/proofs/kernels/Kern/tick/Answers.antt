@@ -1,5 +1,5 @@
 use Rattle.std.proofs.Common.{◌<◌, length, sym, subst}
-use Rattle.pr_lawful.proofs.CallLemmas.{tick-state}
+use Rattle.pr_lawful.proofs.LawfulStates.CallLemmas.{tick-state}
 use Rattle.pr_kern.specs.Kernels.{Kernel}
 use Rattle.pr_kern.proofs.KeptLemmas.{kept-push, kept-ready, ticked-sound}
 use Rattle.pr_kern.proofs.kernels.Kern.tick.Goals as goal
