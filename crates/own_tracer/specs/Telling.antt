@@ -40,8 +40,8 @@ pub record SpellsNone (left now : Option (List ℕ)) : Type 0 where
   pub refused : scenario_of text ≡ Err fault
 
 -- Why no scenario was read, a row for each status: more bytes came than a scenario may have, or they spell none; no
--- more than that came, and then a read failed; or memory ran out, after some or all came. Only a read that failed raises
--- the count. No other status comes of reading.
+-- more than that came, and then a read failed; or memory ran out, after some or all came. Only a read that failed
+-- raises the count. No other status comes of reading.
 abbrev pub IsUnread : Status → Option (List ℕ) → Option (List ℕ) → ℕ → ℕ → Type 0
 IsUnread Done left now before after = ⊥
 IsUnread Refused left now before after = (CameAbove scenario_limit left now ⊎ SpellsNone left now) × (after ≡ before)

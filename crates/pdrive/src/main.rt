@@ -1,5 +1,5 @@
-//! The program `pdrive`: a kernel with the controllers of a scenario, driven by calls on standard input, each answered on
-//! standard output before the next one is read.
+//! The program `pdrive`: a kernel with the controllers of a scenario, driven by calls on standard input, each answered
+//! on standard output before the next one is read.
 #![tactic(auto)]
 
 ghost use Rattle.std.specs.Prelude.{◌≡◌, drop, IfOk};

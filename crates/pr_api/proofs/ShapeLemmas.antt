@@ -60,7 +60,8 @@ read-within : (at size : ℕ) → bad_operand (message.Read at size) ≡ None �
 unfolding bad_operand
 read-within at size columns = of (nat_le 1 size) (nat_le size message_bytes_limit) refl columns
   where
-    of : (least most : Bool) → nat_le size message_bytes_limit ≡ most → (let o : Option ℕ = cond (least && most) None (Some 2) in o) ≡ None → size ≤ message_bytes_limit
+    of : (least most : Bool) → nat_le size message_bytes_limit ≡ most
+        → (let o : Option ℕ = cond (least && most) None (Some 2) in o) ≡ None → size ≤ message_bytes_limit
     of true true is e = leb-true size message_bytes_limit is
     of true false is e = absurd (cc)
     of false most is e = absurd (cc)
@@ -77,20 +78,28 @@ abbrev Read : Type 0
 Read = Result (Message × ℕ) MsgFault
 
 -- the message that stands before its tail is the one that was read
-tail-columns : (bytes : List ℕ) (m : Message) → bad_operand m ≡ None → IfOk (with_tail bytes m) (λ first. bad_operand first.0 ≡ None)
+tail-columns : (bytes : List ℕ) (m : Message) → bad_operand m ≡ None
+    → IfOk (with_tail bytes m) (λ first. bad_operand first.0 ≡ None)
 unfolding with_tail
-tail-columns bytes m columns = of (nat_lt (length bytes) (encoded_length m)) (list_all (λ b. b == 0) (slice_range bytes (unpadded_length m) (encoded_length m))) (encoded_length m / 8 - 1)
+tail-columns bytes m columns =
+    of (nat_lt (length bytes) (encoded_length m))
+    (list_all (λ b. b == 0) (slice_range bytes (unpadded_length m) (encoded_length m))) (encoded_length m / 8 - 1)
   where
-    of : (short zeros : Bool) (word : ℕ) → IfOk (let r : Read = cond short (Err Short) (cond zeros (let ok : Read = Ok (m, encoded_length m) in ok) (Err (BadOperand word))) in r) (λ first. bad_operand first.0 ≡ None)
+    of : (short zeros : Bool) (word : ℕ)
+        → IfOk (let r : Read =
+        cond short (Err Short) (cond zeros (let ok : Read = Ok (m, encoded_length m) in ok) (Err (BadOperand word))) in
+        r) (λ first. bad_operand first.0 ≡ None)
     of true zeros word = tt
     of false true word = columns
     of false false word = tt
 
-then-columns : (bytes : List ℕ) (r : Result Message MsgFault) → IfOk ((r >>= in_columns) >>= with_tail bytes) (λ first. bad_operand first.0 ≡ None)
+then-columns : (bytes : List ℕ) (r : Result Message MsgFault)
+    → IfOk ((r >>= in_columns) >>= with_tail bytes) (λ first. bad_operand first.0 ≡ None)
 then-columns bytes (Err fault) = tt
 then-columns bytes (Ok m) = of (in_columns m) refl
   where
-    of : (r : Result Message MsgFault) → in_columns m ≡ r → IfOk (r >>= with_tail bytes) (λ first. bad_operand first.0 ≡ None)
+    of : (r : Result Message MsgFault) → in_columns m ≡ r
+        → IfOk (r >>= with_tail bytes) (λ first. bad_operand first.0 ≡ None)
     of (Err fault) is = tt
     of (Ok k) is = tail-columns bytes k (in_columns-good m k is)
 
@@ -99,7 +108,10 @@ first-columns : (bytes : List ℕ) → IfOk (first_message bytes) (λ first. bad
 unfolding first_message
 first-columns bytes = of (nat_lt (length bytes) 8)
   where
-    of : (short : Bool) → IfOk (let r : Read = cond short (Err Short) ((message_read (nth_word bytes 0) bytes >>= in_columns) >>= with_tail bytes) in r) (λ first. bad_operand first.0 ≡ None)
+    of : (short : Bool)
+        → IfOk (let r : Read =
+        cond short (Err Short) ((message_read (nth_word bytes 0) bytes >>= in_columns) >>= with_tail bytes) in r)
+        (λ first. bad_operand first.0 ≡ None)
     of true = tt
     of false = then-columns bytes (message_read (nth_word bytes 0) bytes)
 
@@ -112,7 +124,8 @@ found-among : (p : ℕ → Bool) (xs : List ℕ) (x : ℕ) → find p xs ≡ Som
 found-among p [] x e = absurd (cc)
 found-among p (y ∷ xs) x e = of (p y) e (found-among p xs x)
   where
-    of : (b : Bool) → cond b (Some y) (find p xs) ≡ Some x → (find p xs ≡ Some x → list_any (λ y. y == x) xs ≡ true) → list_any (λ y. y == x) (y ∷ xs) ≡ true
+    of : (b : Bool) → cond b (Some y) (find p xs) ≡ Some x → (find p xs ≡ Some x → list_any (λ y. y == x) xs ≡ true)
+        → list_any (λ y. y == x) (y ∷ xs) ≡ true
     of true here more = rw (eq-eqb y x (same_Some y x here)) refl
     of false rest more = or-true (eqb y x) (list_any (λ y. y == x) xs) (more rest)
 
@@ -126,34 +139,41 @@ refuses : (s : TracedSystem) (e : Errno) → Answers (refused s e)
 refuses s e = record { shape = refl }
 
 module _ (s : TracedSystem) (pid : ℕ) (p : TracedProcess) where
-  found-answers : (len : ℕ) (change : TracedLwp → TracedLwp) (o : Option (ℕ × TracedLwp)) → Answers (on_found s pid p len change o)
+  found-answers : (len : ℕ) (change : TracedLwp → TracedLwp) (o : Option (ℕ × TracedLwp))
+      → Answers (on_found s pid p len change o)
   found-answers len change None = record { shape = refl }
   found-answers len change (Some e) = record { shape = refl }
 
-  stopped-answers : (len : ℕ) (change : TracedLwp → TracedLwp) (o : Option (ℕ × TracedLwp)) → Answers (on_stopped_found s pid p len change o)
+  stopped-answers : (len : ℕ) (change : TracedLwp → TracedLwp) (o : Option (ℕ × TracedLwp))
+      → Answers (on_stopped_found s pid p len change o)
   stopped-answers len change None = refuses s _
   stopped-answers len change (Some e) =
-      either Answers (has_event_stop e.1) (with_process_changed s pid p len (with_lwp e.0 change)) (refused s Busy) (record { shape = refl }) (refuses s Busy)
+      either Answers (has_event_stop e.1) (with_process_changed s pid p len (with_lwp e.0 change)) (refused s Busy)
+      (record { shape = refl }) (refuses s Busy)
 
   run-found-answers : (flags len : ℕ) (o : Option (ℕ × TracedLwp)) → Answers (run_found s pid p flags len o)
   run-found-answers flags len None = refuses s _
   run-found-answers flags len (Some e) =
-      either Answers (lwp_run_refused p e.0 e.1) (refused s Busy) (with_process_changed s pid p len (with_lwp e.0 (run_lwp flags))) (refuses s Busy) (record { shape = refl })
+      either Answers (lwp_run_refused p e.0 e.1) (refused s Busy)
+      (with_process_changed s pid p len (with_lwp e.0 (run_lwp flags))) (refuses s Busy) (record { shape = refl })
 
   run-answers : (aim : Aim) (flags len : ℕ) → Answers (run_answer s pid p aim flags len)
   unfolding run_answer
   run-answers (at_lwp id) flags len = run-found-answers flags len _
   run-answers at_process flags len =
-      either Answers (run_refused p) (refused s Busy) (with_process_changed s pid p len (with_run flags)) (refuses s Busy) (record { shape = refl })
+      either Answers (run_refused p) (refused s Busy) (with_process_changed s pid p len (with_run flags))
+      (refuses s Busy) (record { shape = refl })
 
   ssig-answers : (aim : Aim) (number len : ℕ) → Answers (ssig_answer s pid p aim number len)
   unfolding ssig_answer killed
   ssig-answers aim number len =
-      either Answers (is_kill_of s pid p (signal_of_number number)) _ _ (record { shape = refl }) (found-answers len (with_signal_set (signal_of_number number)) (aimed_lwp s pid p aim))
+      either Answers (is_kill_of s pid p (signal_of_number number)) _ _ (record { shape = refl })
+      (found-answers len (with_signal_set (signal_of_number number)) (aimed_lwp s pid p aim))
 
   kill-answers : (aim : Aim) (len : ℕ) (o : Option Sig) → Answers (kill_by s pid p aim len o)
   kill-answers aim len None = record { shape = refl }
-  kill-answers aim len (Some g) = either Answers (has_room g (pending_at s pid p aim)) _ _ (record { shape = refl }) (refuses s _)
+  kill-answers aim len (Some g) =
+      either Answers (has_room g (pending_at s pid p aim)) _ _ (record { shape = refl }) (refuses s _)
 
   unkill-answers : (aim : Aim) (len : ℕ) (o : Option Sig) → Answers (unkill_by s pid p aim len o)
   unkill-answers aim len None = record { shape = refl }
@@ -173,7 +193,8 @@ module _ (s : TracedSystem) (pid : ℕ) (p : TracedProcess) where
       either Answers (has_agent p || not (list_all (lets_agent p.job_stop) p.lwps)) _ _ (refuses s _)
       (either Answers (nat_le lwp_limit (length p.lwps)) _ _ (refuses s _) (record { shape = refl }))
 
-  memory-answers : (at size : ℕ) → size ≤ message_bytes_limit → (r : Result (List ℕ) BadByte) → mapped_bytes s pid p at size ≡ r → Answers (read_of s pid p r)
+  memory-answers : (at size : ℕ) → size ≤ message_bytes_limit → (r : Result (List ℕ) BadByte)
+      → mapped_bytes s pid p at size ≡ r → Answers (read_of s pid p r)
   memory-answers at size within (Err bad) is = refuses s _
   memory-answers at size within (Ok bytes) is =
       let all = length-bytes_for 0 (space_seen s p) at size bytes is in
@@ -181,7 +202,8 @@ module _ (s : TracedSystem) (pid : ℕ) (p : TracedProcess) where
 
   read-answers : (at size : ℕ) → bad_operand (message.Read at size) ≡ None → Answers (read_answer s pid p at size)
   unfolding read_answer
-  read-answers at size columns = memory-answers at size (read-within at size columns) (mapped_bytes s pid p at size) refl
+  read-answers at size columns =
+      memory-answers at size (read-within at size columns) (mapped_bytes s pid p at size) refl
 
   write-answers : (at : ℕ) (bytes : List ℕ) (len : ℕ) → Answers (write_answer s pid p at bytes len)
   unfolding write_answer
@@ -193,7 +215,8 @@ module _ (s : TracedSystem) (pid : ℕ) (p : TracedProcess) where
   lent-answers c answers = either Answers (has_lent p) (refused s Busy) c (refuses s Busy) answers
 
   -- every message
-  message-answers : (aim : Aim) (m : Message) (tail : List ℕ) (len : ℕ) → bad_operand m ≡ None → Answers (message_answer s pid p aim m tail len)
+  message-answers : (aim : Aim) (m : Message) (tail : List ℕ) (len : ℕ) → bad_operand m ≡ None
+      → Answers (message_answer s pid p aim m tail len)
   unfolding message_answer kill_answer unkill_answer
   message-answers aim message.Stop tail len columns = record { shape = refl }
   message-answers aim message.Dstop tail len columns = record { shape = refl }
@@ -205,26 +228,34 @@ module _ (s : TracedSystem) (pid : ℕ) (p : TracedProcess) where
   message-answers aim (message.Ssig number) tail len columns = ssig-answers aim number len
   message-answers aim (message.Kill number) tail len columns = kill-answers aim len (signal_of_number number)
   message-answers aim (message.Unkill number) tail len columns = unkill-answers aim len (signal_of_number number)
-  message-answers aim (message.Shold signals) tail len columns = found-answers len (with_held_set signals) (aimed_lwp s pid p aim)
+  message-answers aim (message.Shold signals) tail len columns =
+      found-answers len (with_held_set signals) (aimed_lwp s pid p aim)
   message-answers aim (message.Strace signals) tail len columns = record { shape = refl }
   message-answers aim (message.Sfault faults) tail len columns = record { shape = refl }
   message-answers aim (message.Sentry calls) tail len columns = record { shape = refl }
   message-answers aim (message.Sexit calls) tail len columns = record { shape = refl }
   message-answers aim (message.Set modes) tail len columns = record { shape = refl }
   message-answers aim (message.Unset modes) tail len columns = record { shape = refl }
-  message-answers aim (message.Sreg regs) tail len columns = stopped-answers len (with_registers regs) (aimed_lwp s pid p aim)
-  message-answers aim (message.Svaddr pc) tail len columns = stopped-answers len (with_address pc) (aimed_lwp s pid p aim)
+  message-answers aim (message.Sreg regs) tail len columns =
+      stopped-answers len (with_registers regs) (aimed_lwp s pid p aim)
+  message-answers aim (message.Svaddr pc) tail len columns =
+      stopped-answers len (with_address pc) (aimed_lwp s pid p aim)
   message-answers aim (message.Watch at size flags) tail len columns = lent-answers _ (watch-answers at size flags len)
   message-answers aim (message.Agent regs) tail len columns = lent-answers _ (agent-answers regs len)
   message-answers aim (message.Read at size) tail len columns = read-answers at size columns
   message-answers aim (message.Write at size) tail len columns = lent-answers _ (write-answers at tail len)
 
-decoded-answers : (s : TracedSystem) (h : Held) (p : TracedProcess) (bytes : List ℕ) (read : Result (Message × ℕ) MsgFault) → IfOk read (λ first. bad_operand first.0 ≡ None) → Answers (decoded_answer s h p bytes read)
+decoded-answers : (s : TracedSystem) (h : Held) (p : TracedProcess) (bytes : List ℕ)
+    (read : Result (Message × ℕ) MsgFault) → IfOk read (λ first. bad_operand first.0 ≡ None)
+    → Answers (decoded_answer s h p bytes read)
 decoded-answers s h p bytes (Err fault) columns = refuses s _
 decoded-answers s h p bytes (Ok (m, n)) columns =
-    either Answers (eqb h.pid 0) (refused s (system_refusal m)) (message_answer s h.pid p (aim_of h) m (tail_of m bytes) n) (refuses s _) (message-answers s h.pid p (aim_of h) m (tail_of m bytes) n columns)
+    either Answers (eqb h.pid 0) (refused s (system_refusal m))
+    (message_answer s h.pid p (aim_of h) m (tail_of m bytes) n) (refuses s _)
+    (message-answers s h.pid p (aim_of h) m (tail_of m bytes) n columns)
 
-targeted-answers : (s : TracedSystem) (h : Held) (p : Option TracedProcess) (bytes : List ℕ) → Answers (targeted_answer s h p bytes)
+targeted-answers : (s : TracedSystem) (h : Held) (p : Option TracedProcess) (bytes : List ℕ)
+    → Answers (targeted_answer s h p bytes)
 targeted-answers s h None bytes = refuses s _
 targeted-answers s h (Some p) bytes = decoded-answers s h p bytes (first_message bytes) (first-columns bytes)
 
@@ -245,21 +276,27 @@ goes_on : Ends None
 unfolding Ends
 goes_on = tt
 
-waiting-ends : (s : TracedSystem) (h : Held) (p : TracedProcess) (until : ℕ) (interrupted : Bool) (n : ℕ) → Ends (waiting_reply s h p until interrupted n)
+waiting-ends : (s : TracedSystem) (h : Held) (p : TracedProcess) (until : ℕ) (interrupted : Bool) (n : ℕ)
+    → Ends (waiting_reply s h p until interrupted n)
 waiting-ends s h p until interrupted n =
     let told : Option Reply = cond (wait_over s h p until) (Some (Used n)) None in
     let seen : Option Reply = cond interrupted (Some (Fail Intr)) told in
-    either Ends (eqb h.pid 0) _ seen (ends _ refl) (either Ends interrupted _ told (ends _ refl) (either Ends (wait_over s h p until) _ _ (ends _ refl) goes_on))
+    either Ends (eqb h.pid 0) _ seen (ends _ refl)
+    (either Ends interrupted _ told (ends _ refl) (either Ends (wait_over s h p until) _ _ (ends _ refl) goes_on))
 
-decoded-ends : (s : TracedSystem) (h : Held) (p : TracedProcess) (until : ℕ) (interrupted : Bool) (read : Result (Message × ℕ) MsgFault) → Ends (decoded_wait s h p until interrupted read)
+decoded-ends : (s : TracedSystem) (h : Held) (p : TracedProcess) (until : ℕ) (interrupted : Bool)
+    (read : Result (Message × ℕ) MsgFault) → Ends (decoded_wait s h p until interrupted read)
 decoded-ends s h p until interrupted (Err fault) = ends _ refl
-decoded-ends s h p until interrupted (Ok (m, n)) = either Ends (waits m) _ _ (waiting-ends s h p until interrupted n) (ends _ refl)
+decoded-ends s h p until interrupted (Ok (m, n)) =
+    either Ends (waits m) _ _ (waiting-ends s h p until interrupted n) (ends _ refl)
 
-targeted-ends : (s : TracedSystem) (h : Held) (p : Option TracedProcess) (until : ℕ) (interrupted : Bool) (bytes : List ℕ) → Ends (targeted_wait s h p until interrupted bytes)
+targeted-ends : (s : TracedSystem) (h : Held) (p : Option TracedProcess) (until : ℕ) (interrupted : Bool)
+    (bytes : List ℕ) → Ends (targeted_wait s h p until interrupted bytes)
 targeted-ends s h None until interrupted bytes = ends _ refl
 targeted-ends s h (Some p) until interrupted bytes = decoded-ends s h p until interrupted (first_message bytes)
 
-held-ends : (s : TracedSystem) (h : Option Held) (until : ℕ) (interrupted : Bool) (bytes : List ℕ) → Ends (held_wait s h until interrupted bytes)
+held-ends : (s : TracedSystem) (h : Option Held) (until : ℕ) (interrupted : Bool) (bytes : List ℕ)
+    → Ends (held_wait s h until interrupted bytes)
 held-ends s None until interrupted bytes = ends _ refl
 held-ends s (Some h) until interrupted bytes = targeted-ends s h (target_of s h) until interrupted bytes
 
@@ -284,7 +321,8 @@ unfolding mapped_from
 mapped-within space at zero = omega arith
 mapped-within space at (suc n) = of (byte_for 0 space at) refl (mapped-within space ((at + 1) % 2 ^ 64) n)
   where
-    of : (r : Result ℕ BadByte) → byte_for 0 space at ≡ r → length (mapped_from space ((at + 1) % 2 ^ 64) n) ≤ n → length (mapped_from space at (suc n)) ≤ suc n
+    of : (r : Result ℕ BadByte) → byte_for 0 space at ≡ r → length (mapped_from space ((at + 1) % 2 ^ 64) n) ≤ n
+        → length (mapped_from space at (suc n)) ≤ suc n
     of (Err bad) is rest = rw is (omega arith)
     of (Ok byte) is rest = rw is (omega (arith, rest))
 
@@ -296,7 +334,8 @@ lwp-reads : (p : TracedProcess) (id from len : ℕ) (o : Option TracedLwp) → R
 lwp-reads p id from len None = fails-reads len _
 lwp-reads p id from len (Some l) = part-reads _ from len
 
-file-reads : (s : TracedSystem) (pid : ℕ) (p : TracedProcess) (id from len : ℕ) (f : File) → Reads len (file_reply s pid p id from len f)
+file-reads : (s : TracedSystem) (pid : ℕ) (p : TracedProcess) (id from len : ℕ) (f : File)
+    → Reads len (file_reply s pid p id from len f)
 unfolding file_reply
 file-reads s pid p id from len file.Ctl = fails-reads len _
 file-reads s pid p id from len file.Lwpctl = fails-reads len _
@@ -311,7 +350,8 @@ file-reads s pid p id from len file.Sigact = part-reads _ from len
 file-reads s pid p id from len file.Watch = part-reads _ from len
 file-reads s pid p id from len file.Fds = part-reads _ from len
 
-process-reads : (s : TracedSystem) (pid id from len : ℕ) (f : File) (o : Option TracedProcess) → Reads len (of_process s pid id from len f o)
+process-reads : (s : TracedSystem) (pid id from len : ℕ) (f : File) (o : Option TracedProcess)
+    → Reads len (of_process s pid id from len f o)
 process-reads s pid id from len f None = fails-reads len _
 process-reads s pid id from len f (Some p) = file-reads s pid p id from len f
 
@@ -319,20 +359,27 @@ held-reads : (s : TracedSystem) (o : Option Held) (from len : ℕ) → Reads len
 unfolding file_read
 held-reads s None from len = fails-reads len _
 held-reads s (Some h) from len =
-    either (Reads len) (eqb len 0 || ltb read_limit len) (Fail Inval) (of_process s h.pid h.lwp from len h.file (read_process s h.pid h.file)) (fails-reads len _) (process-reads s h.pid h.lwp from len h.file (read_process s h.pid h.file))
+    either (Reads len) (eqb len 0 || ltb read_limit len) (Fail Inval)
+    (of_process s h.pid h.lwp from len h.file (read_process s h.pid h.file)) (fails-reads len _)
+    (process-reads s h.pid h.lwp from len h.file (read_process s h.pid h.file))
 
 -- ---- the list of processes
 
 -- beyond process 0 there are no more entries than ids that were given out
-few-from : (made low : ℕ) (es : List (ℕ × TracedProcess)) → 1 ≤ low → rises_from low es ≡ true → All (IsNumberedBelow made) es → length (list_entries es) ≤ made - low
+few-from : (made low : ℕ) (es : List (ℕ × TracedProcess)) → 1 ≤ low → rises_from low es ≡ true
+    → All (IsNumberedBelow made) es → length (list_entries es) ≤ made - low
 few-from made low [] past rises all = omega arith
 few-from made low (e ∷ es) past rises all =
     let below = (All-head (IsNumberedBelow made) e es all).id in
     let first = rises_from-head low e es rises in
-    let rest = few-from made (e.0 + 1) es (omega arith) (rises_from-tail low e es rises) (All-tail (IsNumberedBelow made) e es all) in
-    either (λ (entries : List ListEntry). length entries ≤ made - low) (eqb e.0 0) (list_entries es) (list_entry_of e.0 e.1 ∷ list_entries es) (omega arith) (omega arith)
+    let rest =
+    few-from made (e.0 + 1) es (omega arith) (rises_from-tail low e es rises)
+    (All-tail (IsNumberedBelow made) e es all) in
+    either (λ (entries : List ListEntry). length entries ≤ made - low) (eqb e.0 0) (list_entries es)
+    (list_entry_of e.0 e.1 ∷ list_entries es) (omega arith) (omega arith)
 
-few-listed : (made : ℕ) (es : List (ℕ × TracedProcess)) → rises_from 0 es ≡ true → All (IsNumberedBelow made) es → length (list_entries es) ≤ made - 1
+few-listed : (made : ℕ) (es : List (ℕ × TracedProcess)) → rises_from 0 es ≡ true → All (IsNumberedBelow made) es
+    → length (list_entries es) ≤ made - 1
 few-listed made [] rises all = omega arith
 few-listed made (e ∷ es) rises all = of (eqb e.0 0) refl
   where
@@ -340,9 +387,13 @@ few-listed made (e ∷ es) rises all = of (eqb e.0 0) refl
     below = (All-head (IsNumberedBelow made) e es all).id
 
     rest : length (list_entries es) ≤ made - (e.0 + 1)
-    rest = few-from made (e.0 + 1) es (omega arith) (rises_from-tail 0 e es rises) (All-tail (IsNumberedBelow made) e es all)
+    rest = few-from made (e.0 + 1) es (omega arith) (rises_from-tail 0 e es rises)
+        (All-tail (IsNumberedBelow made) e es all)
 
-    of : (b : Bool) → eqb e.0 0 ≡ b → length (let entries : List ListEntry = cond b (list_entries es) (list_entry_of e.0 e.1 ∷ list_entries es) in entries) ≤ made - 1
+    of : (b : Bool) → eqb e.0 0 ≡ b
+        → length
+        (let entries : List ListEntry = cond b (list_entries es) (list_entry_of e.0 e.1 ∷ list_entries es) in entries)
+        ≤ made - 1
     of true zeroth = omega (arith, rest)
     of false other = let above = eqb-false e.0 0 other in omega (arith, rest, below, above)
 
@@ -369,17 +420,20 @@ module _ (s : TracedState) (by : ℕ) where
   unfolding HaveShape
   no_answer c = tt
 
-  opened-shaped : (pid id : ℕ) (f : File) (mode : Mode) (h : Held) (place : Option ℕ) → HaveShape (call.Open pid id f mode) (Some (opened s h place))
+  opened-shaped : (pid id : ℕ) (f : File) (mode : Mode) (h : Held) (place : Option ℕ)
+      → HaveShape (call.Open pid id f mode) (Some (opened s h place))
   unfolding has_shape
   opened-shaped pid id f mode h None = shaped _ _ refl
   opened-shaped pid id f mode h (Some place) = shaped _ _ refl
 
-  unless-shaped : (pid id : ℕ) (f : File) (mode : Mode) (h : Held) (refusal : Option Errno) → HaveShape (call.Open pid id f mode) (Some (open_unless s h refusal))
+  unless-shaped : (pid id : ℕ) (f : File) (mode : Mode) (h : Held) (refusal : Option Errno)
+      → HaveShape (call.Open pid id f mode) (Some (open_unless s h refusal))
   unfolding has_shape
   unless-shaped pid id f mode h (Some e) = shaped _ _ refl
   unless-shaped pid id f mode h None = opened-shaped pid id f mode h _
 
-  open-shaped : (pid id : ℕ) (f : File) (mode : Mode) → HaveShape (call.Open pid id f mode) (Some (open_answer s by pid id f mode))
+  open-shaped : (pid id : ℕ) (f : File) (mode : Mode)
+      → HaveShape (call.Open pid id f mode) (Some (open_answer s by pid id f mode))
   unfolding open_answer
   open-shaped pid id f mode = unless-shaped pid id f mode _ _
 
@@ -388,24 +442,30 @@ module _ (s : TracedState) (by : ℕ) where
   close-shaped handle None = shaped _ _ refl
   close-shaped handle (Some h) = shaped _ _ refl
 
-  control-shaped : (handle : ℕ) (bytes : List ℕ) → HaveShape (call.Ctl handle bytes) (Some (controlled s (control_answer s.system s.opens by handle bytes)))
+  control-shaped : (handle : ℕ) (bytes : List ℕ)
+      → HaveShape (call.Ctl handle bytes) (Some (controlled s (control_answer s.system s.opens by handle bytes)))
   unfolding has_shape control_answer
-  control-shaped handle bytes = shaped _ _ (held-answers s.system (control_handle (handle_of s.opens by handle)) bytes).shape
+  control-shaped handle bytes =
+      shaped _ _ (held-answers s.system (control_handle (handle_of s.opens by handle)) bytes).shape
 
-  wait-shaped : (handle until : ℕ) (bytes : List ℕ) (o : Option Reply) → Ends o → HaveShape (call.CtlWait handle until bytes) (option_map (waited s by) o)
+  wait-shaped : (handle until : ℕ) (bytes : List ℕ) (o : Option Reply) → Ends o
+      → HaveShape (call.CtlWait handle until bytes) (option_map (waited s by) o)
   unfolding Ends has_shape
   wait-shaped handle until bytes None h = no_answer _
   wait-shaped handle until bytes (Some (Fail Intr)) h = shaped _ _ refl
   wait-shaped handle until bytes (Some r) h = shaped _ _ h
 
-  read-shaped : (handle from len : ℕ) → HaveShape (call.Read handle from len) (Some (answered s (read_reply s by handle from len)))
+  read-shaped : (handle from len : ℕ)
+      → HaveShape (call.Read handle from len) (Some (answered s (read_reply s by handle from len)))
   unfolding has_shape read_reply
   read-shaped handle from len = shaped _ _ (held-reads s.system (readable (handle_of s.opens by handle)) from len).shape
 
-  ready-shaped : (handles : List ℕ) (o : Option ℕ) → find (is_polled_ready s by) handles ≡ o → HaveShape (call.Poll handles) (ready_answer s o)
+  ready-shaped : (handles : List ℕ) (o : Option ℕ) → find (is_polled_ready s by) handles ≡ o
+      → HaveShape (call.Poll handles) (ready_answer s o)
   unfolding has_shape
   ready-shaped handles None is = no_answer _
-  ready-shaped handles (Some handle) is = shaped _ _ (ap (λ b. b || false) (found-among (is_polled_ready s by) handles handle is))
+  ready-shaped handles (Some handle) is =
+      shaped _ _ (ap (λ b. b || false) (found-among (is_polled_ready s by) handles handle is))
 
   poll-shaped : (handles : List ℕ) → HaveShape (call.Poll handles) (poll_answer s by handles)
   unfolding has_shape poll_answer
@@ -413,18 +473,23 @@ module _ (s : TracedState) (by : ℕ) where
       let P = HaveShape (call.Poll handles) in
       either P (not (list_all (is_open_by s.opens by) handles)) _ _ (shaped _ _ refl)
       (either P (eqb (length handles) 0 || nat_lt handle_limit (length handles)) _ _ (shaped _ _ refl)
-      (either P (is_interrupted s by) _ _ (shaped _ _ refl) (ready-shaped handles (find (is_polled_ready s by) handles) refl)))
+      (either P (is_interrupted s by) _ _ (shaped _ _ refl)
+      (ready-shaped handles (find (is_polled_ready s by) handles) refl)))
 
   until-shaped : (moment : ℕ) → HaveShape (call.Until moment) (until_answer s by moment)
   unfolding has_shape until_answer
   until-shaped moment =
       let P = HaveShape (call.Until moment) in
-      either P (is_interrupted s by) _ _ (shaped _ _ refl) (either P (nat_le moment s.system.clock) _ _ (shaped _ _ refl) (no_answer _))
+      either P (is_interrupted s by) _ _ (shaped _ _ refl)
+      (either P (nat_le moment s.system.clock) _ _ (shaped _ _ refl) (no_answer _))
 
   interrupt-shaped : (controller : ℕ) → HaveShape (call.Interrupt controller) (Some (interrupt_answer s controller))
   unfolding has_shape interrupt_answer
   interrupt-shaped controller =
-      shaped _ _ (either (λ (a : Answer). (is_done a.reply || is_failure a.reply) ≡ true) (nat_lt controller controller_limit) (record { state = record s { interrupted = with_number s.interrupted (controller + 1) }; reply = Done }) (call_refused s Inval) refl refl)
+      shaped _ _
+      (either (λ (a : Answer). (is_done a.reply || is_failure a.reply) ≡ true) (nat_lt controller controller_limit)
+      (record { state = record s { interrupted = with_number s.interrupted (controller + 1) }; reply = Done })
+      (call_refused s Inval) refl refl)
 
   sent-shape : (sending : Sending) → (is_done (sent_reply sending) || is_failure (sent_reply sending)) ≡ true
   sent-shape (refuses_signal e) = refl
@@ -435,12 +500,14 @@ module _ (s : TracedState) (by : ℕ) where
   unfolding has_shape call_kill_answer
   kill-shaped pid number = shaped _ _ (sent-shape _)
 
-  spawn_unless-shaped : (name : List ℕ) (held : Bool) (program : Program) (refusal : Option Errno) → HaveShape (call.Spawn name held) (Some (spawn_unless s program held refusal))
+  spawn_unless-shaped : (name : List ℕ) (held : Bool) (program : Program) (refusal : Option Errno)
+      → HaveShape (call.Spawn name held) (Some (spawn_unless s program held refusal))
   unfolding has_shape
   spawn_unless-shaped name held program None = shaped _ _ refl
   spawn_unless-shaped name held program (Some e) = shaped _ _ refl
 
-  spawn_found-shaped : (name : List ℕ) (held : Bool) (o : Option Program) → HaveShape (call.Spawn name held) (Some (spawn_found s held o))
+  spawn_found-shaped : (name : List ℕ) (held : Bool) (o : Option Program)
+      → HaveShape (call.Spawn name held) (Some (spawn_found s held o))
   unfolding has_shape
   spawn_found-shaped name held None = shaped _ _ refl
   spawn_found-shaped name held (Some program) = spawn_unless-shaped name held program _
@@ -449,7 +516,8 @@ module _ (s : TracedState) (by : ℕ) where
   unfolding spawn_answer
   spawn-shaped name held = spawn_found-shaped name held _
 
-  list-shaped : IsLawfulSystem s.system → HaveShape call.List (Some (answered s (Bytes (list_bytes (list_of s.system)))))
+  list-shaped : IsLawfulSystem s.system
+      → HaveShape call.List (Some (answered s (Bytes (list_bytes (list_of s.system)))))
   unfolding has_shape
   list-shaped h = shaped _ _ (le-leb _ _ (list-within s.system h))
 
@@ -458,7 +526,9 @@ module _ (s : TracedState) (by : ℕ) where
   answer-shaped h (call.Open pid id f mode) = open-shaped pid id f mode
   answer-shaped h (call.Close handle) = close-shaped handle (handle_of s.opens by handle)
   answer-shaped h (call.Ctl handle bytes) = control-shaped handle bytes
-  answer-shaped h (call.CtlWait handle until bytes) = wait-shaped handle until bytes _ (held-ends s.system (control_handle (handle_of s.opens by handle)) until (is_interrupted s by) bytes)
+  answer-shaped h (call.CtlWait handle until bytes) =
+      wait-shaped handle until bytes _
+      (held-ends s.system (control_handle (handle_of s.opens by handle)) until (is_interrupted s by) bytes)
   answer-shaped h (call.Read handle from len) = read-shaped handle from len
   answer-shaped h (call.Poll handles) = poll-shaped handles
   answer-shaped h (call.Interrupt controller) = interrupt-shaped controller
@@ -467,8 +537,10 @@ module _ (s : TracedState) (by : ℕ) where
   answer-shaped h (call.Until moment) = until-shaped moment
   answer-shaped h call.List = list-shaped h
 
-pub machine-shaped : (s : TracedState) (by : ℕ) (c : calls.Call) (a : Answer) → IsLawfulSystem s.system → answer_to s by c ≡ Some a → has_shape c a.reply ≡ true
+pub machine-shaped : (s : TracedState) (by : ℕ) (c : calls.Call) (a : Answer) → IsLawfulSystem s.system
+    → answer_to s by c ≡ Some a → has_shape c a.reply ≡ true
 unfolding HaveShape
-machine-shaped s by c a h is = let P : Option Answer → Type 0 = λ o. IfSome o (λ (x : Answer). has_shape c x.reply ≡ true) in subst P is (answer-shaped s by h c)
+machine-shaped s by c a h is = let P : Option Answer → Type 0 =
+    λ o. IfSome o (λ (x : Answer). has_shape c x.reply ≡ true) in subst P is (answer-shaped s by h c)
 
 pub ruleset shapes = (machine-shaped)

@@ -28,12 +28,17 @@ unfolding taken
 taken-shaped c [] = otherwise-shaped c
 taken-shaped c (r ∷ rs) = of (has_shape c r) refl
   where
-    of : (b : Bool) → has_shape c r ≡ b → has_shape c (let t : Taken = cond b (record { reply = r; left = rs }) (record { reply = otherwise c; left = r ∷ rs }) in t.reply) ≡ true
+    of : (b : Bool) → has_shape c r ≡ b
+        → has_shape c
+        (let t : Taken = cond b (record { reply = r; left = rs }) (record { reply = otherwise c; left = r ∷ rs }) in
+        t.reply) ≡ true
     of true fits = fits
     of false fails = otherwise-shaped c
 
 -- A call took a reply and put its entry after the others.
-pub table-called : (by : ℕ) (c : Call) (old new : TableState) (t : Taken) → t ≡ taken c old.replies → new.history ≡ old.history ++ call_entry by c t.reply ∷ [] → new.places ≡ old.places → IsCalled by c (table_view old) (table_view new)
+pub table-called : (by : ℕ) (c : Call) (old new : TableState) (t : Taken) → t ≡ taken c old.replies
+    → new.history ≡ old.history ++ call_entry by c t.reply ∷ [] → new.places ≡ old.places
+    → IsCalled by c (table_view old) (table_view new)
 table-called by c old new t took grown stays = record {
   reply = t.reply;
   shaped = ap (λ (x : Taken). has_shape c x.reply) took ∙ taken-shaped c old.replies;

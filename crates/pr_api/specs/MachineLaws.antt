@@ -30,22 +30,27 @@ among-last x xs ys there =
 -- ---- lwps
 
 -- an lwp that stands is among those of its process
-among-lwps : (pid id : ℕ) (l : TracedLwp) (es : List (ℕ × TracedLwp)) → under id es ≡ Some l → Contains (pairs_of pid es) (pid, id)
+among-lwps : (pid id : ℕ) (l : TracedLwp) (es : List (ℕ × TracedLwp)) → under id es ≡ Some l
+    → Contains (pairs_of pid es) (pid, id)
 among-lwps pid id l [] found = cc
 among-lwps pid id l (e ∷ es) found = of (e.0 == id) refl found (among-lwps pid id l es)
   where
-    of : (b : Bool) → (e.0 == id) ≡ b → cond b (Some e.1) (under id es) ≡ Some l → (under id es ≡ Some l → Contains (pairs_of pid es) (pid, id)) → Contains ((pid, e.0) ∷ pairs_of pid es) (pid, id)
+    of : (b : Bool) → (e.0 == id) ≡ b → cond b (Some e.1) (under id es) ≡ Some l
+        → (under id es ≡ Some l → Contains (pairs_of pid es) (pid, id))
+        → Contains ((pid, e.0) ∷ pairs_of pid es) (pid, id)
     of true same found below = (zero, omega arith, ap (λ n. (pid, n)) (eqb-true _ _ same))
     of false other found below = later (pid, id) (pid, e.0) (pairs_of pid es) (below found)
 
-in-process : (pid id : ℕ) (p : TracedProcess) (l : TracedLwp) → is_none p.ended ≡ true → under id p.lwps ≡ Some l → Contains (lwps_in (pid, p)) (pid, id)
+in-process : (pid id : ℕ) (p : TracedProcess) (l : TracedLwp) → is_none p.ended ≡ true → under id p.lwps ≡ Some l
+    → Contains (lwps_in (pid, p)) (pid, id)
 unfolding lwps_in
 in-process pid id p l live found =
     let P : Bool → Type 0 = λ b. Contains {X = ℕ × ℕ} (cond b (pairs_of pid p.lwps) []) (pid, id) in
     subst P (sym live) (among-lwps pid id l p.lwps found)
 
 -- the lwps of a live process that stands are among those of all live processes
-among-processes : (pid id : ℕ) (p : TracedProcess) (l : TracedLwp) → is_none p.ended ≡ true → under id p.lwps ≡ Some l → (es : List (ℕ × TracedProcess)) → under pid es ≡ Some p → Contains (lwps_among es) (pid, id)
+among-processes : (pid id : ℕ) (p : TracedProcess) (l : TracedLwp) → is_none p.ended ≡ true → under id p.lwps ≡ Some l
+    → (es : List (ℕ × TracedProcess)) → under pid es ≡ Some p → Contains (lwps_among es) (pid, id)
 among-processes pid id p l live there [] found = cc
 among-processes pid id p l live there (e ∷ es) found =
     of (e.0 == pid) refl found (among-processes pid id p l live there es)
@@ -56,7 +61,8 @@ among-processes pid id p l live there (e ∷ es) found =
         let Q : TracedProcess → Type 0 = λ q. Contains (lwps_in (pid, q)) (pid, id) in
         subst P (sym same) (subst Q (sym thing) (in-process pid id p l live there))
 
-    of : (b : Bool) → (e.0 == pid) ≡ b → cond b (Some e.1) (under pid es) ≡ Some p → (under pid es ≡ Some p → Contains (lwps_among es) (pid, id)) → Contains (lwps_in e ++ lwps_among es) (pid, id)
+    of : (b : Bool) → (e.0 == pid) ≡ b → cond b (Some e.1) (under pid es) ≡ Some p
+        → (under pid es ≡ Some p → Contains (lwps_among es) (pid, id)) → Contains (lwps_in e ++ lwps_among es) (pid, id)
     of true same found below =
         among-first (pid, id) (lwps_in e) (lwps_among es) (here (eqb-true _ _ same) (same_Some e.1 p found))
     of false other found below = among-last (pid, id) (lwps_in e) (lwps_among es) (below found)
@@ -66,15 +72,18 @@ turns-are-live : (s : TracedSystem) (pid id : ℕ) → can_move s pid id ≡ tru
 unfolding can_move live_process live_lwps
 turns-are-live s pid id h = of_process (process_of s pid) refl h
   where
-    of_lwp : (p : TracedProcess) → under pid s.processes ≡ Some p → is_none p.ended ≡ true → (l : Option TracedLwp) → lwp_of p id ≡ l → may_turn_in s pid id p l ≡ true → Contains (lwps_among s.processes) (pid, id)
+    of_lwp : (p : TracedProcess) → under pid s.processes ≡ Some p → is_none p.ended ≡ true → (l : Option TracedLwp)
+        → lwp_of p id ≡ l → may_turn_in s pid id p l ≡ true → Contains (lwps_among s.processes) (pid, id)
     of_lwp p found live None there e = cc
     of_lwp p found live (Some l) there e = among-processes pid id p l live there s.processes found
 
-    if_it_lives : (p : TracedProcess) → under pid s.processes ≡ Some p → (b : Bool) → is_none p.ended ≡ b → may_turn_of s pid id (cond b (Some p) None) ≡ true → Contains (lwps_among s.processes) (pid, id)
+    if_it_lives : (p : TracedProcess) → under pid s.processes ≡ Some p → (b : Bool) → is_none p.ended ≡ b
+        → may_turn_of s pid id (cond b (Some p) None) ≡ true → Contains (lwps_among s.processes) (pid, id)
     if_it_lives p found true live e = of_lwp p found live (lwp_of p id) refl e
     if_it_lives p found false live e = cc
 
-    of_process : (p : Option TracedProcess) → under pid s.processes ≡ p → may_turn_of s pid id (option_and_then if_live p) ≡ true → Contains (lwps_among s.processes) (pid, id)
+    of_process : (p : Option TracedProcess) → under pid s.processes ≡ p
+        → may_turn_of s pid id (option_and_then if_live p) ≡ true → Contains (lwps_among s.processes) (pid, id)
     of_process None found e = cc
     of_process (Some p) found e = if_it_lives p found (is_none p.ended) refl e
 

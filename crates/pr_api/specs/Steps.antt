@@ -28,7 +28,8 @@ pub record IsCalled (by : ℕ) (call : Call) (old new : KernelView) : Type 0 whe
 -- a machine's turn of an lwp
 abbrev pub IsTurnOf : ℕ → ℕ → Turned → Option TracedState → TracedState → Type 0
 IsTurnOf pid id turned new s =
-    (t : TracedSystem) × (turn_of s.system pid id ≡ Some (record { system = t; turned = turned })) × (new ≡ Some (record s { system = t }))
+    (t : TracedSystem) × (turn_of s.system pid id ≡ Some (record { system = t; turned = turned }))
+    × (new ≡ Some (record s { system = t }))
 
 -- a turn of an lwp, which did this
 pub record IsTurned (pid id : ℕ) (turned : Turned) (old new : KernelView) : Type 0 where

@@ -47,7 +47,8 @@ pub record Taken : Type 0 where
 -- A call takes the next reply where that has the call's shape; else the list stays.
 unfoldable pub taken : Call → List Reply → Taken
 taken c [] = record { reply = otherwise c; left = [] }
-taken c (r ∷ rs) = if has_shape c r then record { reply = r; left = rs } else record { reply = otherwise c; left = r ∷ rs }
+taken c (r ∷ rs) =
+    if has_shape c r then record { reply = r; left = rs } else record { reply = otherwise c; left = r ∷ rs }
 
 -- the kernel after a call of a controller
 abbrev pub after_taken : ℕ → Call → TableState → Taken → TableState

@@ -21,7 +21,8 @@ same_pair a b c d left right = (0, omega arith, ap (λ x. (x, b)) left ∙ ap (�
 lwp-there : (lwp : Option (ℕ × ℕ)) (pid id : ℕ) → is_the_lwp lwp pid id ≡ true → Contains (the_lwp lwp) (pid, id)
 lwp-there None pid id h = cc
 lwp-there (Some lwp) pid id h =
-    same_pair lwp.0 lwp.1 pid id (eqb-true _ _ (and_left (lwp.0 == pid) (lwp.1 == id) h)) (eqb-true _ _ (and_right (lwp.0 == pid) (lwp.1 == id) h))
+    same_pair lwp.0 lwp.1 pid id (eqb-true _ _ (and_left (lwp.0 == pid) (lwp.1 == id) h))
+    (eqb-true _ _ (and_right (lwp.0 == pid) (lwp.1 == id) h))
 
 pub table-lawful : (k : TableState) → IsLawful (table_view k)
 table-lawful k = record { live = lwp-there k.lwp; told = λ s e. cc }

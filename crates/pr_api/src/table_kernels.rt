@@ -35,7 +35,14 @@ impl Model for TableKernel {
 
     ghost Value = { TableState };
 
-    ghost view = { λ a. record { replies = reverse a.replies.items; history = a.history.entries; places = a.places; clock = a.clock; lwp = a.lwp } };
+    ghost view = { λ a. record {
+      replies = reverse a.replies.items;
+      history = a.history.entries;
+      places = a.places;
+      clock =
+          a.clock;
+      lwp = a.lwp;
+    } };
 
     ghost invariant = { λ a. HasRoom a.history a.places × (a.clock ≤ length a.history.entries) };
 }
@@ -54,7 +61,8 @@ fn otherwise(alloc: Global, call: &Call) -> Reply
 /// The reply to a call: the next one, which stands last, where it has the call's shape.
 #[tactic(auto, using(crate::proofs::ReplyLemmas::reply_laws), unfolding(crate::specs::TableKernels::taken))]
 fn take_reply(replies: &mut Vec<Reply>, alloc: Global, call: &Call) -> Reply
-    ensures { (record { reply = result; left = reverse replies.new.items }) ≡ taken call.now (reverse replies.old.items) }
+    ensures { (record { reply = result; left = reverse replies.new.items })
+        ≡ taken call.now (reverse replies.old.items) }
 {
     let Some(reply) = replies.pop() else {
         return otherwise(alloc, call);

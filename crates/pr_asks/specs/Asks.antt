@@ -75,10 +75,11 @@ messages_behind operands = messages_to (id_of (split_word operands).0) (split_wo
 
 abbrev pub or_messages : List ℕ → Result Call Kind → Result Ask Kind
 or_messages line (Ok c) = Ok (ask.Call c)
-or_messages line (Err kind) = if bytes_eq (split_word line).0 (codes "ctl") then messages_behind (split_word line).1 else Err kind
+or_messages line (Err kind) =
+    if bytes_eq (split_word line).0 (codes "ctl") then messages_behind (split_word line).1 else Err kind
 
--- What a line asks for: the end, a run, moves, one move; else it is a call, or messages by words. Of a line with more bytes
--- than it may have nothing is read.
+-- What a line asks for: the end, a run, moves, one move; else it is a call, or messages by words. Of a line with more
+-- bytes than it may have nothing is read.
 unfoldable pub ask_of : List ℕ → Result Ask Kind
 ask_of line =
     if nat_lt line_bytes (length line) then Err TooLong

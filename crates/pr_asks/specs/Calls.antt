@@ -8,8 +8,8 @@ use Rattle.pr_plain.specs.EntryReading.{history_of}
 use Rattle.pr_asks.specs.declared.asks.Kind.{Kind}
 use Rattle.pr_asks.specs.declared.asks.Kind.TheVariants.{NoCall}
 
--- Lines that are calls, and words that name actors. There is one language of calls, that of histories: a line is the call
--- that an entry has whose line it makes, with a number, a controller and a reply around it.
+-- Lines that are calls, and words that name actors. There is one language of calls, that of histories: a line is the
+-- call that an entry has whose line it makes, with a number, a controller and a reply around it.
 
 -- a text between two others
 abbrev pub framed : List ℕ → List ℕ → List ℕ → List ℕ

@@ -1,5 +1,5 @@
-//! What a debugger from outside asks for, line by line, and how it is answered: lines from a source, the calls and other
-//! wishes that they are, and replies as lines. Calls and replies are written as a history writes them.
+//! What a debugger from outside asks for, line by line, and how it is answered: lines from a source, the calls and
+//! other wishes that they are, and replies as lines. Calls and replies are written as a history writes them.
 #![tactic(auto)]
 
 mod asks;

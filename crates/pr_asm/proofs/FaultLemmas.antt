@@ -13,7 +13,9 @@ use Rattle.pr_asm.specs.Placing.{place_in}
 
 module _ (place_of : List ℕ → Option Place) where
   -- the line is refused
-  here : (line : ℕ) (p : Program) (read : Result Statement AsmKind) (rest : List (Result Statement AsmKind)) (fault : AsmFault) (kind : AsmKind) → read_added place_of line p read ≡ Err kind → (err : Result Program AsmFault) → err ≡ Err (record { line = line; kind = kind }) → err ≡ Err fault → StopsAt place_of line p (read ∷ rest) fault
+  here : (line : ℕ) (p : Program) (read : Result Statement AsmKind) (rest : List (Result Statement AsmKind))
+      (fault : AsmFault) (kind : AsmKind) → read_added place_of line p read ≡ Err kind → (err : Result Program AsmFault)
+      → err ≡ Err (record { line = line; kind = kind }) → err ≡ Err fault → StopsAt place_of line p (read ∷ rest) fault
   unfolding folded
   here line p read rest fault kind refused err is e =
       let same : fault ≡ record { line = line; kind = kind } = cc in
@@ -28,7 +30,9 @@ module _ (place_of : List ℕ → Option Place) where
       }
 
   -- a line below it is refused
-  below : (line : ℕ) (p q : Program) (read : Result Statement AsmKind) (rest : List (Result Statement AsmKind)) (fault : AsmFault) → read_added place_of line p read ≡ Ok q → StopsAt place_of (line + 1) q rest fault → StopsAt place_of line p (read ∷ rest) fault
+  below : (line : ℕ) (p q : Program) (read : Result Statement AsmKind) (rest : List (Result Statement AsmKind))
+      (fault : AsmFault) → read_added place_of line p read ≡ Ok q → StopsAt place_of (line + 1) q rest fault
+      → StopsAt place_of line p (read ∷ rest) fault
   unfolding folded
   below line p q read rest fault added s =
       let at = s.numbered in
@@ -38,22 +42,34 @@ module _ (place_of : List ℕ → Option Place) where
         above = s.above;
         here = s.here;
         numbered = omega arith;
-        accepted = ap (λ r. numbered line r >>= (λ x. with_lines place_of (line + 1) x (take s.index rest))) added ∙ s.accepted;
+        accepted =
+            ap (λ r. numbered line r >>= (λ x. with_lines place_of (line + 1) x (take s.index rest))) added
+            ∙ s.accepted;
         refused = s.refused;
       }
 
-  by_line : (line : ℕ) (p : Program) (read : Result Statement AsmKind) (rest : List (Result Statement AsmKind)) (fault : AsmFault) (r : Result Program AsmKind) → read_added place_of line p read ≡ r → numbered line (read_added place_of line p read) >>= (λ y. with_lines place_of (line + 1) y rest) ≡ Err fault → ((q : Program) → with_lines place_of (line + 1) q rest ≡ Err fault → StopsAt place_of (line + 1) q rest fault) → StopsAt place_of line p (read ∷ rest) fault
+  by_line : (line : ℕ) (p : Program) (read : Result Statement AsmKind) (rest : List (Result Statement AsmKind))
+      (fault : AsmFault) (r : Result Program AsmKind) → read_added place_of line p read ≡ r
+      → numbered line (read_added place_of line p read) >>= (λ y. with_lines place_of (line + 1) y rest) ≡ Err fault
+      → ((q : Program) → with_lines place_of (line + 1) q rest ≡ Err fault → StopsAt place_of (line + 1) q rest fault)
+      → StopsAt place_of line p (read ∷ rest) fault
   by_line line p read rest fault (Ok q) same e on =
-      below line p q read rest fault same (on q (ap (λ x. numbered line x >>= (λ y. with_lines place_of (line + 1) y rest)) (sym same) ∙ e))
+      below line p q read rest fault same
+      (on q (ap (λ x. numbered line x >>= (λ y. with_lines place_of (line + 1) y rest)) (sym same) ∙ e))
   by_line line p read rest fault (Err kind) same e on =
-      here line p read rest fault kind same (Err (record { line = line; kind = kind })) refl (ap (λ x. numbered line x >>= (λ y. with_lines place_of (line + 1) y rest)) (sym same) ∙ e)
+      here line p read rest fault kind same (Err (record { line = line; kind = kind })) refl
+      (ap (λ x. numbered line x >>= (λ y. with_lines place_of (line + 1) y rest)) (sym same) ∙ e)
 
-  stops_at : (line : ℕ) (p : Program) (reads : List (Result Statement AsmKind)) (fault : AsmFault) → with_lines place_of line p reads ≡ Err fault → StopsAt place_of line p reads fault
+  stops_at : (line : ℕ) (p : Program) (reads : List (Result Statement AsmKind)) (fault : AsmFault)
+      → with_lines place_of line p reads ≡ Err fault → StopsAt place_of line p reads fault
   unfolding folded
   stops_at line p [] fault e = cc
   stops_at line p (read ∷ rest) fault e =
-      by_line line p read rest fault (read_added place_of line p read) refl e (λ q on. stops_at (line + 1) q rest fault on)
+      by_line line p read rest fault (read_added place_of line p read) refl e
+      (λ q on. stops_at (line + 1) q rest fault on)
 
-pub first_fault : (name text : List ℕ) (first : ℕ) (fault : AsmFault) → program_of name text first ≡ Err fault → IsFirstFault name text first fault
+pub first_fault : (name text : List ℕ) (first : ℕ) (fault : AsmFault) → program_of name text first ≡ Err fault
+    → IsFirstFault name text first fault
 unfolding assembled
-first_fault name text first fault e = stops_at (place_in first (reads_of text)) first (program name [] [] []) (reads_of text) fault e
+first_fault name text first fault e =
+    stops_at (place_in first (reads_of text)) first (program name [] [] []) (reads_of text) fault e

@@ -41,7 +41,8 @@ use Rattle.pr_asm.specs.declared.statements.Statement.TheVariants.{Blank, Label,
 label_token : (name : List ℕ) → is_name name ≡ true → IsToken (name ++ 58 ∷ [])
 label_token name h =
     let n = named name h in
-    plain_token (name ++ 58 ∷ []) (omega (arith, length-append name (58 ∷ []), n.some)) (list_all-append is_plain name (58 ∷ []) ∙ ap (λ v. v && true) n.plain)
+    plain_token (name ++ 58 ∷ []) (omega (arith, length-append name (58 ∷ []), n.some))
+    (list_all-append is_plain name (58 ∷ []) ∙ ap (λ v. v && true) n.plain)
 
 read_label : (name : List ℕ) → is_name name ≡ true → label_of (name ++ 58 ∷ []) ≡ Some name
 unfolding label_of
@@ -76,7 +77,8 @@ register_token R5 = plain_token (114 ∷ 53 ∷ []) (omega arith) refl
 register_token R6 = plain_token (114 ∷ 54 ∷ []) (omega arith) refl
 register_token R7 = plain_token (114 ∷ 55 ∷ []) (omega arith) refl
 
-pub read_immediate : (name : Option (List ℕ)) (n : ℕ) → IsImmediate name n → immediate (immediate_text name n) ≡ Ok (record { value = n; name = name })
+pub read_immediate : (name : Option (List ℕ)) (n : ℕ) → IsImmediate name n
+    → immediate (immediate_text name n) ≡ Ok (record { value = n; name = name })
 unfolding immediate_of
 read_immediate None n fits = ap (λ o. immediate_of o (decimal n)) (number_of-decimal n fits)
 read_immediate (Some name) n h =
@@ -161,7 +163,8 @@ call_token Vfork = plain_token (codes "vfork") (omega arith) refl
 on_registers : (a b : Reg) → two_registers (register_text a ∷ register_text b ∷ []) ≡ Ok (a, b)
 unfolding two_registers
 on_registers a b =
-    ap (λ r. r >>= (λ x. register (register_text b) >>= (λ y. Ok (x, y)))) (read_register a) ∙ ap (λ r. r >>= (λ y. Ok (a, y))) (read_register b)
+    ap (λ r. r >>= (λ x. register (register_text b) >>= (λ y. Ok (x, y)))) (read_register a)
+    ∙ ap (λ r. r >>= (λ y. Ok (a, y))) (read_register b)
 
 module _ (name : Option (List ℕ)) (n : ℕ) (h : IsImmediate name n) where
   abbrev it : Immediate
@@ -174,12 +177,16 @@ module _ (name : Option (List ℕ)) (n : ℕ) (h : IsImmediate name n) where
   on_register : (a : Reg) → register_and_immediate (register_text a ∷ immediate_text name n ∷ []) ≡ Ok (a, it)
   unfolding register_and_immediate
   on_register a =
-      ap (λ r. r >>= (λ x. immediate (immediate_text name n) >>= (λ y. Ok (x, y)))) (read_register a) ∙ ap (λ r. r >>= (λ y. Ok (a, y))) (read_immediate name n h)
+      ap (λ r. r >>= (λ x. immediate (immediate_text name n) >>= (λ y. Ok (x, y)))) (read_register a)
+      ∙ ap (λ r. r >>= (λ y. Ok (a, y))) (read_immediate name n h)
 
-  on_all : (a b : Reg) → registers_and_immediate (register_text a ∷ register_text b ∷ immediate_text name n ∷ []) ≡ Ok (a, b, it)
+  on_all : (a b : Reg)
+      → registers_and_immediate (register_text a ∷ register_text b ∷ immediate_text name n ∷ []) ≡ Ok (a, b, it)
   unfolding registers_and_immediate
   on_all a b =
-      ap (λ r. r >>= (λ x. register (register_text b) >>= (λ y. immediate (immediate_text name n) >>= (λ z. Ok (x, y, z))))) (read_register a)
+      ap (λ r. r
+      >>= (λ x. register (register_text b) >>= (λ y. immediate (immediate_text name n) >>= (λ z. Ok (x, y, z)))))
+      (read_register a)
       ∙ ap (λ r. r >>= (λ y. immediate (immediate_text name n) >>= (λ z. Ok (a, y, z)))) (read_register b)
       ∙ ap (λ r. r >>= (λ z. Ok (a, b, z))) (read_immediate name n h)
 
@@ -187,16 +194,23 @@ on_call : (c : Sysno) → one_call (syscall_name c ∷ []) ≡ Ok c
 unfolding one_call
 on_call c = read_call c
 
-read_code : (i : Instruction) (name : Option (List ℕ)) → IsCode i name → statement_in (code_words i name) ≡ Ok (Code i name)
-unfolding begins_comment statement_in label_or label_of statement_with instruction_of mnemonic_name code_of code_words IsCode
+read_code : (i : Instruction) (name : Option (List ℕ)) → IsCode i name
+    → statement_in (code_words i name) ≡ Ok (Code i name)
+unfolding begins_comment statement_in label_or label_of statement_with instruction_of mnemonic_name code_of code_words
+    IsCode
 read_code Bpt name h = ap (λ n. Ok (Code Bpt n)) (sym h)
 read_code Nop name h = ap (λ n. Ok (Code Nop n)) (sym h)
 read_code (Set a i) name h = ap (λ r. r >>= (λ o. Ok (Code (Set o.0 o.1.value) o.1.name))) (on_register name i h a)
-read_code (Mov a b) name h = ap (λ r. r >>= (λ o. Ok (Code (Mov o.0 o.1) None))) (on_registers a b) ∙ ap (λ n. Ok (Code (Mov a b) n)) (sym h)
-read_code (Add a b) name h = ap (λ r. r >>= (λ o. Ok (Code (Add o.0 o.1) None))) (on_registers a b) ∙ ap (λ n. Ok (Code (Add a b) n)) (sym h)
-read_code (Sub a b) name h = ap (λ r. r >>= (λ o. Ok (Code (Sub o.0 o.1) None))) (on_registers a b) ∙ ap (λ n. Ok (Code (Sub a b) n)) (sym h)
-read_code (Mul a b) name h = ap (λ r. r >>= (λ o. Ok (Code (Mul o.0 o.1) None))) (on_registers a b) ∙ ap (λ n. Ok (Code (Mul a b) n)) (sym h)
-read_code (Div a b) name h = ap (λ r. r >>= (λ o. Ok (Code (Div o.0 o.1) None))) (on_registers a b) ∙ ap (λ n. Ok (Code (Div a b) n)) (sym h)
+read_code (Mov a b) name h =
+    ap (λ r. r >>= (λ o. Ok (Code (Mov o.0 o.1) None))) (on_registers a b) ∙ ap (λ n. Ok (Code (Mov a b) n)) (sym h)
+read_code (Add a b) name h =
+    ap (λ r. r >>= (λ o. Ok (Code (Add o.0 o.1) None))) (on_registers a b) ∙ ap (λ n. Ok (Code (Add a b) n)) (sym h)
+read_code (Sub a b) name h =
+    ap (λ r. r >>= (λ o. Ok (Code (Sub o.0 o.1) None))) (on_registers a b) ∙ ap (λ n. Ok (Code (Sub a b) n)) (sym h)
+read_code (Mul a b) name h =
+    ap (λ r. r >>= (λ o. Ok (Code (Mul o.0 o.1) None))) (on_registers a b) ∙ ap (λ n. Ok (Code (Mul a b) n)) (sym h)
+read_code (Div a b) name h =
+    ap (λ r. r >>= (λ o. Ok (Code (Div o.0 o.1) None))) (on_registers a b) ∙ ap (λ n. Ok (Code (Div a b) n)) (sym h)
 read_code (Ld a b i) name h = ap (λ r. r >>= (λ o. Ok (Code (Ld o.0 o.1 o.2.value) o.2.name))) (on_all name i h a b)
 read_code (St a b i) name h = ap (λ r. r >>= (λ o. Ok (Code (St o.0 o.1 o.2.value) o.2.name))) (on_all name i h a b)
 read_code (Ldb a b i) name h = ap (λ r. r >>= (λ o. Ok (Code (Ldb o.0 o.1 o.2.value) o.2.name))) (on_all name i h a b)
@@ -207,26 +221,50 @@ read_code (Jnz a i) name h = ap (λ r. r >>= (λ o. Ok (Code (Jnz o.0 o.1.value)
 read_code (Jlt a b i) name h = ap (λ r. r >>= (λ o. Ok (Code (Jlt o.0 o.1 o.2.value) o.2.name))) (on_all name i h a b)
 read_code (Call i) name h = ap (λ r. r >>= (λ o. Ok (Code (Call o.value) o.name))) (on_immediate name i h)
 read_code Ret name h = ap (λ n. Ok (Code Ret n)) (sym h)
-read_code (Sys c) name h = ap (λ r. r >>= (λ o. Ok (Code (Sys o) None))) (on_call c) ∙ ap (λ n. Ok (Code (Sys c) n)) (sym h)
+read_code (Sys c) name h =
+    ap (λ r. r >>= (λ o. Ok (Code (Sys o) None))) (on_call c) ∙ ap (λ n. Ok (Code (Sys c) n)) (sym h)
 
 tokens_of_code : (i : Instruction) (name : Option (List ℕ)) → IsCode i name → AllByRecursion IsToken (code_words i name)
 unfolding code_words IsCode
 tokens_of_code Bpt name h = (plain_token (codes "bpt") (omega arith) refl, tt)
 tokens_of_code Nop name h = (plain_token (codes "nop") (omega arith) refl, tt)
-tokens_of_code (Set a i) name h = (plain_token (codes "set") (omega arith) refl, (register_token a, (immediate_token name i h, tt)))
-tokens_of_code (Mov a b) name h = (plain_token (codes "mov") (omega arith) refl, (register_token a, (register_token b, tt)))
-tokens_of_code (Add a b) name h = (plain_token (codes "add") (omega arith) refl, (register_token a, (register_token b, tt)))
-tokens_of_code (Sub a b) name h = (plain_token (codes "sub") (omega arith) refl, (register_token a, (register_token b, tt)))
-tokens_of_code (Mul a b) name h = (plain_token (codes "mul") (omega arith) refl, (register_token a, (register_token b, tt)))
-tokens_of_code (Div a b) name h = (plain_token (codes "div") (omega arith) refl, (register_token a, (register_token b, tt)))
-tokens_of_code (Ld a b i) name h = (plain_token (codes "ld") (omega arith) refl, (register_token a, (register_token b, (immediate_token name i h, tt))))
-tokens_of_code (St a b i) name h = (plain_token (codes "st") (omega arith) refl, (register_token a, (register_token b, (immediate_token name i h, tt))))
-tokens_of_code (Ldb a b i) name h = (plain_token (codes "ldb") (omega arith) refl, (register_token a, (register_token b, (immediate_token name i h, tt))))
-tokens_of_code (Stb a b i) name h = (plain_token (codes "stb") (omega arith) refl, (register_token a, (register_token b, (immediate_token name i h, tt))))
+tokens_of_code (Set a i) name h =
+    (plain_token (codes "set") (omega arith) refl, (register_token a, (immediate_token name i h, tt)))
+tokens_of_code (Mov a b) name h =
+    (plain_token (codes "mov") (omega arith) refl, (register_token a, (register_token b, tt)))
+tokens_of_code (Add a b) name h =
+    (plain_token (codes "add") (omega arith) refl, (register_token a, (register_token b, tt)))
+tokens_of_code (Sub a b) name h =
+    (plain_token (codes "sub") (omega arith) refl, (register_token a, (register_token b, tt)))
+tokens_of_code (Mul a b) name h =
+    (plain_token (codes "mul") (omega arith) refl, (register_token a, (register_token b, tt)))
+tokens_of_code (Div a b) name h =
+    (plain_token (codes "div") (omega arith) refl, (register_token a, (register_token b, tt)))
+tokens_of_code (Ld a b i) name h = (
+  plain_token (codes "ld") (omega arith) refl,
+  (register_token a, (register_token b, (immediate_token name i h, tt))),
+)
+tokens_of_code (St a b i) name h = (
+  plain_token (codes "st") (omega arith) refl,
+  (register_token a, (register_token b, (immediate_token name i h, tt))),
+)
+tokens_of_code (Ldb a b i) name h = (
+  plain_token (codes "ldb") (omega arith) refl,
+  (register_token a, (register_token b, (immediate_token name i h, tt))),
+)
+tokens_of_code (Stb a b i) name h = (
+  plain_token (codes "stb") (omega arith) refl,
+  (register_token a, (register_token b, (immediate_token name i h, tt))),
+)
 tokens_of_code (Jmp i) name h = (plain_token (codes "jmp") (omega arith) refl, (immediate_token name i h, tt))
-tokens_of_code (Jz a i) name h = (plain_token (codes "jz") (omega arith) refl, (register_token a, (immediate_token name i h, tt)))
-tokens_of_code (Jnz a i) name h = (plain_token (codes "jnz") (omega arith) refl, (register_token a, (immediate_token name i h, tt)))
-tokens_of_code (Jlt a b i) name h = (plain_token (codes "jlt") (omega arith) refl, (register_token a, (register_token b, (immediate_token name i h, tt))))
+tokens_of_code (Jz a i) name h =
+    (plain_token (codes "jz") (omega arith) refl, (register_token a, (immediate_token name i h, tt)))
+tokens_of_code (Jnz a i) name h =
+    (plain_token (codes "jnz") (omega arith) refl, (register_token a, (immediate_token name i h, tt)))
+tokens_of_code (Jlt a b i) name h = (
+  plain_token (codes "jlt") (omega arith) refl,
+  (register_token a, (register_token b, (immediate_token name i h, tt))),
+)
 tokens_of_code (Call i) name h = (plain_token (codes "call") (omega arith) refl, (immediate_token name i h, tt))
 tokens_of_code Ret name h = (plain_token (codes "ret") (omega arith) refl, tt)
 tokens_of_code (Sys c) name h = (plain_token (codes "sys") (omega arith) refl, (call_token c, tt))
@@ -235,8 +273,10 @@ tokens_of : (s : Statement) → IsStatement s → AllByRecursion IsToken (statem
 unfolding statement_words IsStatement
 tokens_of Blank h = tt
 tokens_of (Label name) h = (label_token name h, tt)
-tokens_of (Data name [] zeros) h =
-    (plain_token (codes "space") (omega arith) refl, (name_token name h.0, (decimal_token zeros (omega (arith, h.2)), tt)))
+tokens_of (Data name [] zeros) h = (
+  plain_token (codes "space") (omega arith) refl,
+  (name_token name h.0, (decimal_token zeros (omega (arith, h.2)), tt)),
+)
 tokens_of (Data name (b ∷ bs) zeros) h =
     (plain_token (codes "text") (omega arith) refl, (name_token name h.0, (quoted_token (b ∷ bs), tt)))
 tokens_of (Code i name) h = tokens_of_code i name h
@@ -245,15 +285,21 @@ read_words : (s : Statement) → IsStatement s → statement_in (statement_words
 unfolding begins_comment statement_in label_or statement_with label_of text_of space_of statement_words IsStatement
 read_words Blank h = refl
 read_words (Label name) h =
-    ap (λ v. cond v (Ok Blank) (label_or (label_of (name ++ 58 ∷ [])) (name ++ 58 ∷ []) [])) (name-no_comment name (58 ∷ []) h)
+    ap (λ v. cond v (Ok Blank) (label_or (label_of (name ++ 58 ∷ [])) (name ++ 58 ∷ []) []))
+    (name-no_comment name (58 ∷ []) h)
     ∙ ap (λ o. label_or o (name ++ 58 ∷ []) []) (read_label name h)
 read_words (Data name [] zeros) h =
-    ap (λ v. ok_or BadOperand (cond v (Some name) None) >>= (λ x. ok_or BadOperand (number_of (decimal zeros)) >>= (λ size. cond (leb 1 size && leb size data_limit) (Ok (Data x [] size)) (Err BadOperand)))) h.0
-    ∙ ap (λ o. ok_or BadOperand o >>= (λ size. cond (leb 1 size && leb size data_limit) (Ok (Data name [] size)) (Err BadOperand))) (number_of-decimal zeros (omega (arith, h.2)))
+    ap (λ v. ok_or BadOperand (cond v (Some name) None)
+    >>= (λ x. ok_or BadOperand (number_of (decimal zeros))
+    >>= (λ size. cond (leb 1 size && leb size data_limit) (Ok (Data x [] size)) (Err BadOperand)))) h.0
+    ∙ ap (λ o. ok_or BadOperand o
+    >>= (λ size. cond (leb 1 size && leb size data_limit) (Ok (Data name [] size)) (Err BadOperand)))
+    (number_of-decimal zeros (omega (arith, h.2)))
     ∙ ap (λ v. cond (v && leb zeros data_limit) (Ok (Data name [] zeros)) (Err BadOperand)) (le-leb 1 zeros h.1)
     ∙ ap (λ v. cond v (Ok (Data name [] zeros)) (Err BadOperand)) (le-leb zeros data_limit h.2)
 read_words (Data name (b ∷ bs) zeros) h =
-    ap (λ v. ok_or BadOperand (cond v (Some name) None) >>= (λ x. ok_or BadOperand (quoted_bytes (quoted (b ∷ bs))) >>= (λ bytes. Ok (Data x bytes 1)))) h.0
+    ap (λ v. ok_or BadOperand (cond v (Some name) None)
+    >>= (λ x. ok_or BadOperand (quoted_bytes (quoted (b ∷ bs))) >>= (λ bytes. Ok (Data x bytes 1)))) h.0
     ∙ ap (λ o. ok_or BadOperand o >>= (λ bytes. Ok (Data name bytes 1))) (quoted_bytes-quoted (b ∷ bs))
     ∙ ap (λ n. Ok (Data name (b ∷ bs) n)) (sym h.1)
 read_words (Code i name) h = read_code i name h
@@ -271,20 +317,24 @@ pub lines-inline : (ss : List Statement) → AllByRecursion IsStatement ss → A
 lines-inline [] h = tt
 lines-inline (s ∷ ss) h = (spelled-inline s h.0, lines-inline ss h.1)
 
-pub reads_spelled : (ss : List Statement) → AllByRecursion IsStatement ss → map statement_of (map spelled ss) ≡ map Ok ss
+pub reads_spelled : (ss : List Statement) → AllByRecursion IsStatement ss
+    → map statement_of (map spelled ss) ≡ map Ok ss
 reads_spelled [] h = refl
 reads_spelled (s ∷ ss) h =
     ap (λ r. r ∷ map statement_of (map spelled ss)) (read_spelled s h.0) ∙ ap (λ rs. Ok s ∷ rs) (reads_spelled ss h.1)
 
-pub read_text : (s : Statement) (ss : List Statement) → AllByRecursion IsStatement (s ∷ ss) → reads_of (text_of_statements (s ∷ ss)) ≡ map Ok (s ∷ ss)
+pub read_text : (s : Statement) (ss : List Statement) → AllByRecursion IsStatement (s ∷ ss)
+    → reads_of (text_of_statements (s ∷ ss)) ≡ map Ok (s ∷ ss)
 read_text s ss h =
-    ap (map statement_of) (lines_of-joined (spelled s) (map spelled ss) (lines-inline (s ∷ ss) h)) ∙ reads_spelled (s ∷ ss) h
+    ap (map statement_of) (lines_of-joined (spelled s) (map spelled ss) (lines-inline (s ∷ ss) h))
+    ∙ reads_spelled (s ∷ ss) h
 
 -- no statements are the empty text, and its one line says nothing
 no_lines : (name : List ℕ) (first : ℕ) → program_of name [] first ≡ assembled name first []
 unfolding assembled folded with_statement statement_of statement_in words_from
 no_lines name first = refl
 
-pub program_spelled : (name : List ℕ) (first : ℕ) (ss : List Statement) → AllByRecursion IsStatement ss → program_of name (text_of_statements ss) first ≡ assembled name first (map Ok ss)
+pub program_spelled : (name : List ℕ) (first : ℕ) (ss : List Statement) → AllByRecursion IsStatement ss
+    → program_of name (text_of_statements ss) first ≡ assembled name first (map Ok ss)
 program_spelled name first [] h = no_lines name first
 program_spelled name first (s ∷ ss) h = ap (assembled name first) (read_text s ss h)

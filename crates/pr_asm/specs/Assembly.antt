@@ -63,7 +63,8 @@ with_label p name = record p { labels = p.labels ++ record { name = name; place 
 
 abbrev pub with_data : Program → List ℕ → ℕ → Program
 with_data p bytes zeros =
-    record p { bytes = p.bytes ++ replicate (aligned (length p.bytes) - length p.bytes) 0 ++ bytes ++ replicate zeros 0 }
+    record p
+    { bytes = p.bytes ++ replicate (aligned (length p.bytes) - length p.bytes) 0 ++ bytes ++ replicate zeros 0 }
 
 abbrev pub with_code : Program → Instruction → Program
 with_code p i = record p { code = p.code ++ i ∷ [] }
@@ -103,7 +104,8 @@ abbrev pub read_added_at : (List ℕ → Option Place) → ℕ → Program → R
 read_added_at place_of line p read = numbered line (read_added place_of line p read)
 
 -- A program with the statements of more lines, which count from `line`, or the first of these lines that is refused.
-abbrev pub with_lines : (List ℕ → Option Place) → ℕ → Program → List (Result Statement AsmKind) → Result Program AsmFault
+abbrev pub with_lines : (List ℕ → Option Place) → ℕ → Program → List (Result Statement AsmKind)
+    → Result Program AsmFault
 with_lines place_of line p reads = folded (read_added_at place_of) line p reads
 
 -- what each line of a text says on its own
@@ -115,8 +117,8 @@ unfoldable pub assembled : List ℕ → ℕ → List (Result Statement AsmKind) 
 assembled name first reads = with_lines (place_in first reads) first (program name [] [] []) reads
 
 -- The program of this name that lines spell, which count from `first`, or the first of them that is refused. First each
--- line is read on its own, then the names of the well formed lines are placed, and then the program is put together line
--- by line.
+-- line is read on its own, then the names of the well formed lines are placed, and then the program is put together
+-- line by line.
 abbrev pub program_in : List ℕ → List (List ℕ) → ℕ → Result Program AsmFault
 program_in name lines first = assembled name first (map statement_of lines)
 

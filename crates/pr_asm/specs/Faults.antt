@@ -12,7 +12,8 @@ use Rattle.pr_asm.specs.Placing.{place_in}
 
 -- Of these lines, which count from `line` and stand below a program, one is the first that is refused: the lines above
 -- it make a program with the first one, and below that it is refused for this kind.
-pub record StopsAt (place_of : List ℕ → Option Place) (line : ℕ) (p : Program) (reads : List (Result Statement AsmKind)) (fault : AsmFault) : Type 0 where
+pub record StopsAt (place_of : List ℕ → Option Place) (line : ℕ) (p : Program) (reads : List (Result Statement AsmKind))
+    (fault : AsmFault) : Type 0 where
   pub index : ℕ
   pub read : Result Statement AsmKind
   pub above : Program

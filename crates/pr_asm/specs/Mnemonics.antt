@@ -6,7 +6,8 @@ use Rattle.pr_asm.specs.declared.mnemonics.Mnemonic.TheVariants.{Bpt, Nop, Set, 
 
 -- every mnemonic, in the order of the operation codes
 abbrev pub mnemonics : List Mnemonic
-mnemonics = Bpt ∷ Nop ∷ Set ∷ Mov ∷ Add ∷ Sub ∷ Mul ∷ Div ∷ Ld ∷ St ∷ Ldb ∷ Stb ∷ Jmp ∷ Jz ∷ Jnz ∷ Jlt ∷ Call ∷ Ret ∷ Sys ∷ []
+mnemonics =
+    Bpt ∷ Nop ∷ Set ∷ Mov ∷ Add ∷ Sub ∷ Mul ∷ Div ∷ Ld ∷ St ∷ Ldb ∷ Stb ∷ Jmp ∷ Jz ∷ Jnz ∷ Jlt ∷ Call ∷ Ret ∷ Sys ∷ []
 
 -- the word of a mnemonic
 unfoldable pub mnemonic_name : Mnemonic → List ℕ

@@ -57,7 +57,8 @@ and_then_all (Some x) xs = x ∷ xs
 unfoldable pub placed_from : Layout → ℕ → List (Result Statement AsmKind) → List (List ℕ × Place)
 placed_from above line [] = []
 placed_from above line (Err kind ∷ rest) = placed_from above (line + 1) rest
-placed_from above line (Ok s ∷ rest) = and_then_all (placed above line s) (placed_from (layout_after above s) (line + 1) rest)
+placed_from above line (Ok s ∷ rest) =
+    and_then_all (placed above line s) (placed_from (layout_after above s) (line + 1) rest)
 
 -- where a name is placed first
 unfoldable pub place_among : List (List ℕ × Place) → List ℕ → Option Place
@@ -76,5 +77,8 @@ unfoldable pub found : Places → List ℕ → Option Place
 found places name = get key_cmp places.map (record { name = name })
 
 -- What one line does to the places: with the names that it places, the names below it are found where they were.
-pub record SeesLine (old new : Places) (above below : Layout) (line : ℕ) (read : Result Statement AsmKind) : Type 0 where
-  pub same : (rest : List (Result Statement AsmKind)) (name : List ℕ) → option_or (found new name) (place_among (placed_from below (line + 1) rest) name) ≡ option_or (found old name) (place_among (placed_from above line (read ∷ rest)) name)
+pub record SeesLine (old new : Places) (above below : Layout) (line : ℕ)
+    (read : Result Statement AsmKind) : Type 0 where
+  pub same : (rest : List (Result Statement AsmKind)) (name : List ℕ)
+      → option_or (found new name) (place_among (placed_from below (line + 1) rest) name)
+      ≡ option_or (found old name) (place_among (placed_from above line (read ∷ rest)) name)

@@ -241,7 +241,8 @@ impl Program {
         line: u32,
         read: &Result<Statement, AsmKind>,
     ) -> Result<(), AsmRefusal>
-        ensures { Answers (λ _. self.new) result (numbered line (read_added (found places.now) line self.old read.now)) }
+        ensures { Answers (λ _. self.new) result
+            (numbered line (read_added (found places.now) line self.old read.now)) }
     {
         let added = match read {
             Ok(statement) => self.add(places, line, statement),

@@ -28,15 +28,18 @@ room-broken : (id : ℕ) (p : TracedProcess) → IsTrue (has_room_for (Some id) 
 unfolding has_room_for has_room_in
 room-broken id p = room-under (under id p.lwps)
 
-room-of : (id : ℕ) (o : Option TracedProcess) → IfSome o (λ p. IsTrue (has_room_for (Some id) SigPipe (with_deletions SigPipe p)))
+room-of : (id : ℕ) (o : Option TracedProcess)
+    → IfSome o (λ p. IsTrue (has_room_for (Some id) SigPipe (with_deletions SigPipe p)))
 room-of id None = tt
 room-of id (Some p) = room-broken id (with_deletions SigPipe p)
 
-pub room-pipe : (s : TracedSystem) (pid id : ℕ) → IfSome (live_process s pid) (λ p. IsTrue (has_room_for (Some id) SigPipe (with_deletions SigPipe p)))
+pub room-pipe : (s : TracedSystem) (pid id : ℕ)
+    → IfSome (live_process s pid) (λ p. IsTrue (has_room_for (Some id) SigPipe (with_deletions SigPipe p)))
 room-pipe s pid id = room-of id (live_process s pid)
 
 module _ (s : TracedSystem) (pid : ℕ) (p : TracedProcess) (id : ℕ) (l : TracedLwp) where
-  pub refused-broken : generated traced pid (Some id) SigPipe of_broken_pipe s ≡ settled pid p id l (Err (Files NoReader)) s
+  pub refused-broken : generated traced pid (Some id) SigPipe of_broken_pipe s
+      ≡ settled pid p id l (Err (Files NoReader)) s
   unfolding after_effect all_changed changed
   refused-broken = refl
 
@@ -80,6 +83,18 @@ module _ (s : TracedSystem) (pid : ℕ) (p : TracedProcess) (id : ℕ) (l : Trac
   unfolding after_effect all_changed
   refused-NoMemory = refl
 
-pub ruleset refusing = (room-pipe, refused-broken, refused-sleep, refused-BadFd, refused-NoFile, refused-NoPlace, refused-TableFull, refused-NoSpace, refused-NotSeekable, refused-BadOffset, refused-NoMemory)
+pub ruleset refusing = (
+  room-pipe,
+  refused-broken,
+  refused-sleep,
+  refused-BadFd,
+  refused-NoFile,
+  refused-NoPlace,
+  refused-TableFull,
+  refused-NoSpace,
+  refused-NotSeekable,
+  refused-BadOffset,
+  refused-NoMemory,
+)
 
 pub ruleset settling = (settled-fails)

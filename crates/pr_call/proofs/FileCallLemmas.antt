@@ -12,11 +12,13 @@ use Rattle.pr_call.proofs.FileKeptLemmas.{closed-keeps, duplicated-keeps, sought
 module _ (t : FileTable) (fds : Descriptors) (space : Space) (f : FileTable) (d : Descriptors) where
   -- close
   module _ (fd : ℕ) where
-    pub close-done : record { files = f; fds = d; answer = Ok tt } ≡ closed t fds fd → gives 0 (files_are f d ∷ []) ≡ close_effect t fds space fd
+    pub close-done : record { files = f; fds = d; answer = Ok tt } ≡ closed t fds fd
+        → gives 0 (files_are f d ∷ []) ≡ close_effect t fds space fd
     unfolding close_effect
     close-done is = rw (sym is) refl
 
-    pub close-refused : (why : FileNo) → record { files = f; fds = d; answer = Err why } ≡ closed t fds fd → refusal_effect why ≡ close_effect t fds space fd
+    pub close-refused : (why : FileNo) → record { files = f; fds = d; answer = Err why } ≡ closed t fds fd
+        → refusal_effect why ≡ close_effect t fds space fd
     unfolding close_effect
     close-refused why is = rw (sym is) refl
 
@@ -27,11 +29,13 @@ module _ (t : FileTable) (fds : Descriptors) (space : Space) (f : FileTable) (d 
     close-fds why is = kept-fds t fds f d why (closed t fds fd) (closed-keeps t fds fd) is
 
     -- dup
-    pub dup-done : (free : ℕ) → record { files = f; fds = d; answer = Ok free } ≡ duplicated t fds fd → gives free (files_are f d ∷ []) ≡ dup_effect t fds space fd
+    pub dup-done : (free : ℕ) → record { files = f; fds = d; answer = Ok free } ≡ duplicated t fds fd
+        → gives free (files_are f d ∷ []) ≡ dup_effect t fds space fd
     unfolding dup_effect file_effect
     dup-done free is = rw (sym is) refl
 
-    pub dup-refused : (why : FileNo) → record { files = f; fds = d; answer = Err why } ≡ duplicated t fds fd → refusal_effect why ≡ dup_effect t fds space fd
+    pub dup-refused : (why : FileNo) → record { files = f; fds = d; answer = Err why } ≡ duplicated t fds fd
+        → refusal_effect why ≡ dup_effect t fds space fd
     unfolding dup_effect file_effect
     dup-refused why is = rw (sym is) refl
 
@@ -43,11 +47,13 @@ module _ (t : FileTable) (fds : Descriptors) (space : Space) (f : FileTable) (d 
 
     -- lseek
     module _ (offset : ℕ) where
-      pub seek-done : (value : ℕ) → record { files = f; fds = d; answer = Ok value } ≡ sought t fds fd offset → gives value (files_are f d ∷ []) ≡ lseek_effect t fds space fd offset
+      pub seek-done : (value : ℕ) → record { files = f; fds = d; answer = Ok value } ≡ sought t fds fd offset
+          → gives value (files_are f d ∷ []) ≡ lseek_effect t fds space fd offset
       unfolding lseek_effect file_effect
       seek-done value is = rw (sym is) refl
 
-      pub seek-refused : (why : FileNo) → record { files = f; fds = d; answer = Err why } ≡ sought t fds fd offset → refusal_effect why ≡ lseek_effect t fds space fd offset
+      pub seek-refused : (why : FileNo) → record { files = f; fds = d; answer = Err why } ≡ sought t fds fd offset
+          → refusal_effect why ≡ lseek_effect t fds space fd offset
       unfolding lseek_effect file_effect
       seek-refused why is = rw (sym is) refl
 

@@ -71,9 +71,12 @@ module _ (birth : Birth) (s : TracedSystem) (p : TracedProcess) (id : ℕ) (args
   birth-granted other is = birth-by birth s p id args other ∙ ap (by_refusal birth s args) is
 
 -- the next id is not that of a process that stands
-next-other : (s : TracedSystem) (pid : ℕ) (p : TracedProcess) → IsLawfulSystem s → live_process s pid ≡ Some p → (s.made == pid) ≡ false
+next-other : (s : TracedSystem) (pid : ℕ) (p : TracedProcess) → IsLawfulSystem s → live_process s pid ≡ Some p
+    → (s.made == pid) ≡ false
 next-other s pid p lawful found =
-    ne_eqb s.made pid (λ same. absurd (none-some p (sym (next-free s lawful) ∙ ap (process_of s) same ∙ live_process-found s pid p found)))
+    ne_eqb s.made pid
+    (λ same.
+    absurd (none-some p (sym (next-free s lawful) ∙ ap (process_of s) same ∙ live_process-found s pid p found)))
 
 module _ (birth : Birth) (s : TracedSystem) (pid : ℕ) (p : TracedProcess) (id : ℕ) (l : TracedLwp) (args : List ℕ) where
   pub born-barred : is_barred birth p id ≡ true → s ≡ after_effect pid p id l (birth_effect birth s p id args) s

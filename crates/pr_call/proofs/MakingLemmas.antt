@@ -17,28 +17,42 @@ use Rattle.pr_model.proofs.StateLemmas.{live_process-found}
 -- What plain calls make of the system.
 
 -- what stays as it was under its id leaves all as it was
-same-under : {X : Type 0} (id : ℕ) (f : X → X) (x : X) (es : List (ℕ × X)) → under id es ≡ Some x → f x ≡ x → change_under id f es ≡ es
-same-under id f x es found same = sym (put_under-found id f x es found) ∙ ap (λ y. put_under id y es) same ∙ put_under-same id x es found
+same-under : {X : Type 0} (id : ℕ) (f : X → X) (x : X) (es : List (ℕ × X)) → under id es ≡ Some x → f x ≡ x
+    → change_under id f es ≡ es
+same-under id f x es found same =
+    sym (put_under-found id f x es found) ∙ ap (λ y. put_under id y es) same ∙ put_under-same id x es found
 
 module _ (s : TracedSystem) (pid : ℕ) (p : TracedProcess) (id : ℕ) (l : TracedLwp) where
   -- an lwp changed in two ways that come to the same for it
-  lwp-alike : (f g : TracedLwp → TracedLwp) → live_process s pid ≡ Some p → lwp_of p id ≡ Some l → f l ≡ g l → with_process pid (with_lwp id f) s ≡ with_process pid (with_lwp id g) s
+  lwp-alike : (f g : TracedLwp → TracedLwp) → live_process s pid ≡ Some p → lwp_of p id ≡ Some l → f l ≡ g l
+      → with_process pid (with_lwp id f) s ≡ with_process pid (with_lwp id g) s
   unfolding with_process with_lwp
   lwp-alike f g found stands same =
-      ap (λ ps. record s { processes = ps }) (change_under-alike pid (with_lwp id f) (with_lwp id g) p s.processes (live_process-found s pid p found) (ap (λ ls. record p { lwps = ls }) (change_under-alike id f g l p.lwps stands same)))
+      ap (λ ps. record s { processes = ps })
+      (change_under-alike pid (with_lwp id f) (with_lwp id g) p s.processes (live_process-found s pid p found)
+      (ap (λ ls. record p { lwps = ls }) (change_under-alike id f g l p.lwps stands same)))
 
-  lwp-same : (f : TracedLwp → TracedLwp) → live_process s pid ≡ Some p → lwp_of p id ≡ Some l → f l ≡ l → with_process pid (with_lwp id f) s ≡ s
+  lwp-same : (f : TracedLwp → TracedLwp) → live_process s pid ≡ Some p → lwp_of p id ≡ Some l → f l ≡ l
+      → with_process pid (with_lwp id f) s ≡ s
   unfolding with_process with_lwp
   lwp-same f found stands same =
-      ap (λ ps. record s { processes = ps }) (same-under pid (with_lwp id f) p s.processes (live_process-found s pid p found) (ap (λ ls. record p { lwps = ls }) (same-under id f l p.lwps stands same)))
+      ap (λ ps. record s { processes = ps })
+      (same-under pid (with_lwp id f) p s.processes (live_process-found s pid p found)
+      (ap (λ ls. record p { lwps = ls }) (same-under id f l p.lwps stands same)))
 
   -- back to the last frame
-  resumed-by : (o : Option Frame) → slice_get l.frames (length l.frames - 1) ≡ o → live_process s pid ≡ Some p → lwp_of p id ≡ Some l → with_process pid (with_lwp id resumed_last) s ≡ all_changed traced pid p id l (resuming o (take (length l.frames - 1) l.frames)) s
+  resumed-by : (o : Option Frame) → slice_get l.frames (length l.frames - 1) ≡ o → live_process s pid ≡ Some p
+      → lwp_of p id ≡ Some l
+      → with_process pid (with_lwp id resumed_last) s
+      ≡ all_changed traced pid p id l (resuming o (take (length l.frames - 1) l.frames)) s
   unfolding resumed_last all_changed changed
   resumed-by None at found stands = lwp-same resumed_last found stands (rw at refl)
-  resumed-by (Some frame) at found stands = lwp-alike resumed_last (resumed frame (take (length l.frames - 1) l.frames)) found stands (rw at refl)
+  resumed-by (Some frame) at found stands =
+      lwp-alike resumed_last (resumed frame (take (length l.frames - 1) l.frames)) found stands (rw at refl)
 
-  pub making-change : (change : Change) (answer : Res) → live_process s pid ≡ Some p → lwp_of p id ≡ Some l → with_process pid (process_changed id change) s ≡ after_effect pid p id l (changes.does answer (changes_meant l (Some change))) s
+  pub making-change : (change : Change) (answer : Res) → live_process s pid ≡ Some p → lwp_of p id ≡ Some l
+      → with_process pid (process_changed id change) s
+      ≡ after_effect pid p id l (changes.does answer (changes_meant l (Some change))) s
   unfolding after_effect process_changed lwp_changed all_changed changed
   making-change (Held held) answer found stands = refl
   making-change (Disposition g disposition) answer found stands = refl
@@ -53,7 +67,8 @@ module _ (s : TracedSystem) (pid : ℕ) (p : TracedProcess) (id : ℕ) (l : Trac
   unfolding after_effect
   making-sleep = refl
 
-  pub making-end : (status : ℕ) → live_process s pid ≡ Some p → with_ended traced pid status s ≡ after_effect pid p id l (changes.ends (changes.ends_process status)) s
+  pub making-end : (status : ℕ) → live_process s pid ≡ Some p
+      → with_ended traced pid status s ≡ after_effect pid p id l (changes.ends (changes.ends_process status)) s
   unfolding after_effect with_ended ended
   making-end status found = rw found refl
 

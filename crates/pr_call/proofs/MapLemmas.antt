@@ -34,26 +34,36 @@ module _ (s : TracedSystem) (p : TracedProcess) (len prot : ℕ) where
   room_of : (size : ℕ) (b : Bool) → size ≡ rounded len → can_grow s p size ≡ b → can_grow s p (rounded len) ≡ b
   room_of size b is e = ap (λ (n : ℕ). can_grow s p n) (sym is) ∙ e
 
-  pub mmap-no_gap : (size : ℕ) → size ≡ rounded len → are_bad len prot ≡ false → gap_in size p.space ≡ None → fails Nomem ≡ mmap_effect s p len prot
+  pub mmap-no_gap : (size : ℕ) → size ≡ rounded len → are_bad len prot ≡ false → gap_in size p.space ≡ None
+      → fails Nomem ≡ mmap_effect s p len prot
   unfolding mmap_effect
   mmap-no_gap size is good none = rw (good, gap_of size None is none) refl
 
   module _ (at : ℕ) where
-    whole : mapped_size (with_mapping (zeros_at at (rounded len) prot Mapped) p.space) ≡ mapped_size p.space + rounded len
+    whole : mapped_size (with_mapping (zeros_at at (rounded len) prot Mapped) p.space)
+        ≡ mapped_size p.space + rounded len
     whole =
-        let sum : mapped_size (with_mapping (zeros_at at (rounded len) prot Mapped) p.space) ≡ length (zeros_at at (rounded len) prot Mapped).bytes + mapped_size p.space = mapped_size-with_mapping (zeros_at at (rounded len) prot Mapped) p.space in
-        let bytes : length (zeros_at at (rounded len) prot Mapped).bytes ≡ rounded len = length-replicate (rounded len) 0 in
+        let sum : mapped_size (with_mapping (zeros_at at (rounded len) prot Mapped) p.space)
+        ≡ length (zeros_at at (rounded len) prot Mapped).bytes + mapped_size p.space =
+        mapped_size-with_mapping (zeros_at at (rounded len) prot Mapped) p.space in
+        let bytes : length (zeros_at at (rounded len) prot Mapped).bytes ≡ rounded len =
+        length-replicate (rounded len) 0 in
         omega arith
 
-    pub mmap-fits : (size : ℕ) → size ≡ rounded len → are_bad len prot ≡ false → gap_in size p.space ≡ Some at → can_grow s p size ≡ true → gives at (space_is (with_mapping (zeros_at at (rounded len) prot Mapped) p.space) ∷ []) ≡ mmap_effect s p len prot
+    pub mmap-fits : (size : ℕ) → size ≡ rounded len → are_bad len prot ≡ false → gap_in size p.space ≡ Some at
+        → can_grow s p size ≡ true
+        → gives at (space_is (with_mapping (zeros_at at (rounded len) prot Mapped) p.space) ∷ [])
+        ≡ mmap_effect s p len prot
     unfolding mmap_effect size_of
     mmap-fits size is good found room = rw (good, gap_of size (Some at) is found, whole, room_of size true is room) refl
 
-    pub mmap-big : (size : ℕ) → size ≡ rounded len → are_bad len prot ≡ false → gap_in size p.space ≡ Some at → can_grow s p size ≡ false → fails Nomem ≡ mmap_effect s p len prot
+    pub mmap-big : (size : ℕ) → size ≡ rounded len → are_bad len prot ≡ false → gap_in size p.space ≡ Some at
+        → can_grow s p size ≡ false → fails Nomem ≡ mmap_effect s p len prot
     unfolding mmap_effect size_of
     mmap-big size is good found room = rw (good, gap_of size (Some at) is found, whole, room_of size false is room) refl
 
-    pub mmap-can : (size : ℕ) → size ≡ rounded len → are_bad len prot ≡ false → gap_in size p.space ≡ Some at → can_grow s p size ≡ true → CanMap p.space len prot at
+    pub mmap-can : (size : ℕ) → size ≡ rounded len → are_bad len prot ≡ false → gap_in size p.space ≡ Some at
+        → can_grow s p size ≡ true → CanMap p.space len prot at
     unfolding size_of
     mmap-can size is good gapped grown =
         let found = gap_of size (Some at) is gapped in
@@ -66,7 +76,9 @@ module _ (s : TracedSystem) (p : TracedProcess) (len prot : ℕ) where
         let gap = gap_in-least (rounded len) p.space at found in
         let place = gap.place in
         let high = place.high in
-        let fits : leb (mapped_size p.space + rounded len) mapping_limit ≡ true = (and_parts (leb (mapped_size p.space + rounded len) mapping_limit) (total_has_room s (mapped_size p.space + rounded len) (mapped_size p.space)) room).0 in
+        let fits : leb (mapped_size p.space + rounded len) mapping_limit ≡ true =
+        (and_parts (leb (mapped_size p.space + rounded len) mapping_limit)
+        (total_has_room s (mapped_size p.space + rounded len) (mapped_size p.space)) room).0 in
         record {
           some = omega arith;
           short = omega arith;
@@ -82,7 +94,8 @@ pub ruleset mmap_laws = (mmap-bad, mmap-no_gap, mmap-fits, mmap-big, mmap-can, g
 
 -- ---- the system
 
-module _ (s : TracedSystem) (pid : ℕ) (q p : TracedProcess) (len prot id : ℕ) (l : TracedLwp) (there : live_process s pid ≡ Some q) (found : live_process s pid ≡ Some p) where
+module _ (s : TracedSystem) (pid : ℕ) (q p : TracedProcess) (len prot id : ℕ) (l : TracedLwp)
+    (there : live_process s pid ≡ Some q) (found : live_process s pid ≡ Some p) where
   the_same : q ≡ p
   the_same = same_Some q p (sym there ∙ found)
 
@@ -90,14 +103,21 @@ module _ (s : TracedSystem) (pid : ℕ) (q p : TracedProcess) (len prot id : ℕ
   unfolding after_effect all_changed
   fails-kept e = refl
 
-  pub mmap-kept : (e : Errno) → fails e ≡ mmap_effect s q len prot → s ≡ after_effect pid p id l (mmap_effect s p len prot) s
+  pub mmap-kept : (e : Errno) → fails e ≡ mmap_effect s q len prot
+      → s ≡ after_effect pid p id l (mmap_effect s p len prot) s
   mmap-kept e effect =
       fails-kept e
       ∙ ap (λ x. after_effect pid p id l x s) (effect ∙ ap (λ (x : TracedProcess). mmap_effect s x len prot) the_same)
 
-  pub mmap-made : (at : ℕ) (r : TracedProcess) (new : Space) → under pid s.processes ≡ Some r → gives at (space_is (with_mapping (zeros_at at (rounded len) prot Mapped) q.space) ∷ []) ≡ mmap_effect s q len prot → new ≡ with_mapping (zeros_at at (rounded len) prot Mapped) r.space → record s { processes = put_under pid (record r { space = new }) s.processes } ≡ after_effect pid p id l (mmap_effect s p len prot) s
+  pub mmap-made : (at : ℕ) (r : TracedProcess) (new : Space) → under pid s.processes ≡ Some r
+      → gives at (space_is (with_mapping (zeros_at at (rounded len) prot Mapped) q.space) ∷ [])
+      ≡ mmap_effect s q len prot → new ≡ with_mapping (zeros_at at (rounded len) prot Mapped) r.space
+      → record s { processes = put_under pid (record r { space = new }) s.processes }
+      ≡ after_effect pid p id l (mmap_effect s p len prot) s
   mmap-made at r new stands effect now =
       let same : r ≡ q = same_Some r q (sym stands ∙ live_process-found s pid q there) in
       space-done s pid r p new (Ok at) (mmap_effect s p len prot) id l stands found
-      (λ _. ap (λ (m : Space). gives at (space_is m ∷ [])) (now ∙ ap (λ (x : TracedProcess). with_mapping (zeros_at at (rounded len) prot Mapped) x.space) same) ∙ (effect ∙ ap (λ (x : TracedProcess). mmap_effect s x len prot) the_same))
+      (λ _. ap (λ (m : Space). gives at (space_is m ∷ []))
+      (now ∙ ap (λ (x : TracedProcess). with_mapping (zeros_at at (rounded len) prot Mapped) x.space) same)
+      ∙ (effect ∙ ap (λ (x : TracedProcess). mmap_effect s x len prot) the_same))
       tt

@@ -41,7 +41,8 @@ module _ (s : TracedSystem) (p : TracedProcess) (id : ℕ) where
   unfolding exec_found exec_refusal
   found-granted o g is refusal = rw is (by (total_has_room s (mapped_size (first_space g)) (given_up s p id)) refusal)
     where
-      by : (b : Bool) → cond b None (Some Nomem) ≡ None → cond b (gives 0 (becomes g ∷ [])) (fails Nomem) ≡ gives 0 (becomes g ∷ [])
+      by : (b : Bool) → cond b None (Some Nomem) ≡ None
+          → cond b (gives 0 (becomes g ∷ [])) (fails Nomem) ≡ gives 0 (becomes g ∷ [])
       by true told = refl
       by false told = absurd (cc)
 
@@ -73,7 +74,8 @@ module _ (s new : TracedSystem) (pid : ℕ) (p : TracedProcess) (id : ℕ) (l : 
       → new ≡ with_process_if p.lender (with_loan_back pid p) (with_process pid (with_program traced id l g) s))
       → ((g : Program) → o ≡ Some g → exec_refusal s p id g ≡ None) → new ≡ after_effect pid p id l x s
   run-by None some is ran free = absurd (cc)
-  run-by (Some g) some is ran free = ran g refl ∙ ran-program s pid p id l (Some g) g refl (free g refl) ∙ ap (λ e. after_effect pid p id l e s) is
+  run-by (Some g) some is ran free =
+      ran g refl ∙ ran-program s pid p id l (Some g) g refl (free g refl) ∙ ap (λ e. after_effect pid p id l e s) is
 
   pub run-system : (place : ℕ) → place < length s.programs → exec_found s p id (slice_get s.programs place) ≡ x
       → ((g : Program) → slice_get s.programs place ≡ Some g
@@ -85,7 +87,8 @@ module _ (s new : TracedSystem) (pid : ℕ) (p : TracedProcess) (id : ℕ) (l : 
   refuse-by : (o : Option Program) (e : Errno) → IsSome o → exec_found s p id o ≡ x → new ≡ s
       → ((g : Program) → o ≡ Some g → exec_refusal s p id g ≡ Some e) → new ≡ after_effect pid p id l x s
   refuse-by None e some is same told = absurd (cc)
-  refuse-by (Some g) e some is same told = same ∙ ran-refused s pid p id l (Some g) g e refl (told g refl) ∙ ap (λ y. after_effect pid p id l y s) is
+  refuse-by (Some g) e some is same told =
+      same ∙ ran-refused s pid p id l (Some g) g e refl (told g refl) ∙ ap (λ y. after_effect pid p id l y s) is
 
   pub refuse-system : (place : ℕ) (e : Errno) → place < length s.programs
       → exec_found s p id (slice_get s.programs place) ≡ x → new ≡ s
@@ -141,7 +144,8 @@ module _ (s : TracedSystem) (p : TracedProcess) (id : ℕ) (x : Effect) where
   run-granted place within = granted-told (slice_get s.programs place) (some-at s.programs place within)
 
 -- a call that is refused leaves all as it was
-pub after-fails : (s : TracedSystem) (pid : ℕ) (p : TracedProcess) (id : ℕ) (l : TracedLwp) (e : Errno) (x : Effect) → fails e ≡ x → s ≡ after_effect pid p id l x s
+pub after-fails : (s : TracedSystem) (pid : ℕ) (p : TracedProcess) (id : ℕ) (l : TracedLwp) (e : Errno) (x : Effect)
+    → fails e ≡ x → s ≡ after_effect pid p id l x s
 unfolding after_effect all_changed
 after-fails s pid p id l e x is = ap (λ y. after_effect pid p id l y s) is
 
@@ -166,10 +170,12 @@ module _ (s : TracedSystem) (p : TracedProcess) (id at : ℕ) where
       by (Some g) e = rw (other, is, e) refl
 
 module _ (s : TracedSystem) (p : TracedProcess) (id at : ℕ) where
-  pub exec-faulty : (e : Errno) → Err e ≡ path_at p.space at → (id == agent_id) ≡ false → fails e ≡ exec_effect s p id at
+  pub exec-faulty : (e : Errno) → Err e ≡ path_at p.space at → (id == agent_id) ≡ false
+      → fails e ≡ exec_effect s p id at
   exec-faulty e is other = sym (exec-by s p id at (Err e) (sym is) other)
 
-  pub exec-none : (name : List ℕ) → Ok name ≡ path_at p.space at → (id == agent_id) ≡ false → program_named s.programs name ≡ None → fails Noent ≡ exec_effect s p id at
+  pub exec-none : (name : List ℕ) → Ok name ≡ path_at p.space at → (id == agent_id) ≡ false
+      → program_named s.programs name ≡ None → fails Noent ≡ exec_effect s p id at
   exec-none name is other none =
       sym (exec-by s p id at (Ok name) (sym is) other ∙ found-none s p id (program_named s.programs name) none)
 

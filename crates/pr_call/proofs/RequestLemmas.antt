@@ -22,17 +22,21 @@ record IsOwn (s : TracedSystem) (pid id : ℕ) (r : Request) : Type 0 where
 
 module _ (s : TracedSystem) (pid id : ℕ) (r : Request) where
   ids : (l : TracedLwp) (phase : Phase) → request_in s.clock pid id l phase ≡ Some r → (r.pid ≡ pid) × (r.lwp ≡ id)
-  ids l (Entered call) made = let same = same_Some _ r made in (ap (λ (q : Request). q.pid) (sym same), ap (λ (q : Request). q.lwp) (sym same))
-  ids l (Asleep call args since) made = let same = same_Some _ r made in (ap (λ (q : Request). q.pid) (sym same), ap (λ (q : Request). q.lwp) (sym same))
+  ids l (Entered call) made = let same = same_Some _ r made in
+      (ap (λ (q : Request). q.pid) (sym same), ap (λ (q : Request). q.lwp) (sym same))
+  ids l (Asleep call args since) made = let same = same_Some _ r made in
+      (ap (λ (q : Request). q.pid) (sym same), ap (λ (q : Request). q.lwp) (sym same))
   ids l _ made = absurd (cc)
 
-  by_lwp : (p : TracedProcess) → live_process s pid ≡ Some p → (o : Option TracedLwp) → lwp_of p id ≡ o → request_by s.clock pid id o ≡ Some r → IsOwn s pid id r
+  by_lwp : (p : TracedProcess) → live_process s pid ≡ Some p → (o : Option TracedLwp) → lwp_of p id ≡ o
+      → request_by s.clock pid id o ≡ Some r → IsOwn s pid id r
   by_lwp p found None stands made = absurd (cc)
   by_lwp p found (Some l) stands made =
       let own = ids l l.phase made in
       record { pid_is = own.0; lwp_is = own.1; process = p; lwp = l; found = found; stands = stands }
 
-  by_process : (o : Option TracedProcess) → live_process s pid ≡ o → request_at s.clock pid id o ≡ Some r → IsOwn s pid id r
+  by_process : (o : Option TracedProcess) → live_process s pid ≡ o → request_at s.clock pid id o ≡ Some r
+      → IsOwn s pid id r
   by_process None found made = absurd (cc)
   by_process (Some p) found made = by_lwp p found (lwp_of p id) refl made
 
@@ -41,13 +45,15 @@ module _ (s : TracedSystem) (pid id : ℕ) (r : Request) where
   own made = by_process (live_process s pid) refl made
 
   -- with the arguments of the call in which the lwp is
-  given : (l : TracedLwp) (phase : Phase) → request_in s.clock pid id l phase ≡ Some r → arguments_in l.regs phase ≡ r.args
+  given : (l : TracedLwp) (phase : Phase) → request_in s.clock pid id l phase ≡ Some r
+      → arguments_in l.regs phase ≡ r.args
   unfolding arguments_in
   given l (Entered call) made = ap (λ (q : Request). q.args) (same_Some _ r made)
   given l (Asleep call args since) made = ap (λ (q : Request). q.args) (same_Some _ r made)
   given l _ made = absurd (cc)
 
-  pub asked-arguments : (p : TracedProcess) (l : TracedLwp) → request_of s pid id ≡ Some r → live_process s pid ≡ Some p → lwp_of p id ≡ Some l → arguments_in l.regs l.phase ≡ r.args
+  pub asked-arguments : (p : TracedProcess) (l : TracedLwp) → request_of s pid id ≡ Some r → live_process s pid ≡ Some p
+      → lwp_of p id ≡ Some l → arguments_in l.regs l.phase ≡ r.args
   unfolding request_of
   asked-arguments p l made found stands =
       given l l.phase (sym (ap (request_at s.clock pid id) found ∙ ap (request_by s.clock pid id) stands) ∙ made)
@@ -63,11 +69,15 @@ module _ (s : TracedSystem) (pid id : ℕ) (r : Request) where
       rw (o.lwp_is, ← same, o.stands) refl
 
 -- what is made of it, is made of the call of the lwp
-module _ (s new : TracedSystem) (pid id : ℕ) (q r : Request) (asks : request_of s pid id ≡ Some q) (makes : request_of s pid id ≡ Some r) where
+module _ (s new : TracedSystem) (pid id : ℕ) (q r : Request) (asks : request_of s pid id ≡ Some q)
+    (makes : request_of s pid id ≡ Some r) where
   same : q ≡ r
   same = same_Some q r (sym asks ∙ makes)
 
-  pub asked-system : ForSome (live_process s q.pid) (λ p. ForSome (lwp_of p q.lwp) (λ l. new ≡ after_effect q.pid p q.lwp l (effect_of s p l q) s)) → ForSome (live_process s pid) (λ p. ForSome (lwp_of p id) (λ l. new ≡ after_effect pid p id l (effect_of s p l r) s))
+  pub asked-system : ForSome (live_process s q.pid)
+      (λ p. ForSome (lwp_of p q.lwp) (λ l. new ≡ after_effect q.pid p q.lwp l (effect_of s p l q) s))
+      → ForSome (live_process s pid)
+      (λ p. ForSome (lwp_of p id) (λ l. new ≡ after_effect pid p id l (effect_of s p l r) s))
   asked-system h p found l stands =
       let o = own s pid id q asks in
       h p (ap (live_process s) o.pid_is ∙ found) l (ap (lwp_of p) o.lwp_is ∙ stands)
@@ -75,19 +85,25 @@ module _ (s new : TracedSystem) (pid id : ℕ) (q r : Request) (asks : request_o
       ∙ ap (λ n. after_effect pid p n l (effect_of s p l q) s) o.lwp_is
       ∙ ap (λ x. after_effect pid p id l (effect_of s p l x) s) same
 
-  pub asked-outcome : (outcome : Performed) → ForSome (live_process s q.pid) (λ p. ForSome (lwp_of p q.lwp) (λ l. outcome ≡ outcome_of (effect_of s p l q))) → ForSome (live_process s pid) (λ p. ForSome (lwp_of p id) (λ l. outcome ≡ outcome_of (effect_of s p l r)))
+  pub asked-outcome : (outcome : Performed)
+      → ForSome (live_process s q.pid) (λ p. ForSome (lwp_of p q.lwp) (λ l. outcome ≡ outcome_of (effect_of s p l q)))
+      → ForSome (live_process s pid) (λ p. ForSome (lwp_of p id) (λ l. outcome ≡ outcome_of (effect_of s p l r)))
   asked-outcome outcome h p found l stands =
       let o = own s pid id q asks in
-      h p (ap (live_process s) o.pid_is ∙ found) l (ap (lwp_of p) o.lwp_is ∙ stands) ∙ ap (λ x. outcome_of (effect_of s p l x)) same
+      h p (ap (live_process s) o.pid_is ∙ found) l (ap (lwp_of p) o.lwp_is ∙ stands)
+      ∙ ap (λ x. outcome_of (effect_of s p l x)) same
 
-  pub asked-memory : ForSome (live_process s q.pid) (λ p. ForSome (lwp_of p q.lwp) (λ l. may_lack_memory (effect_of s p l q) ≡ true)) → ForSome (live_process s pid) (λ p. ForSome (lwp_of p id) (λ l. may_lack_memory (effect_of s p l r) ≡ true))
+  pub asked-memory : ForSome (live_process s q.pid)
+      (λ p. ForSome (lwp_of p q.lwp) (λ l. may_lack_memory (effect_of s p l q) ≡ true))
+      → ForSome (live_process s pid) (λ p. ForSome (lwp_of p id) (λ l. may_lack_memory (effect_of s p l r) ≡ true))
   asked-memory h p found l stands =
       let o = own s pid id q asks in
       ap (λ x. may_lack_memory (effect_of s p l x)) (sym same)
       ∙ h p (ap (live_process s) o.pid_is ∙ found) l (ap (lwp_of p) o.lwp_is ∙ stands)
 
 -- it is the one that the lwp of its ids makes
-pub asked-own : (s : TracedSystem) (pid id : ℕ) (r : Request) → request_of s pid id ≡ Some r → request_of s r.pid r.lwp ≡ Some r
+pub asked-own : (s : TracedSystem) (pid id : ℕ) (r : Request) → request_of s pid id ≡ Some r
+    → request_of s r.pid r.lwp ≡ Some r
 asked-own s pid id r made =
     let o = own s pid id r made in
     ap (λ n. request_of s n r.lwp) o.pid_is ∙ ap (request_of s pid) o.lwp_is ∙ made

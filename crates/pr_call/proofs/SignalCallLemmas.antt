@@ -22,11 +22,14 @@ module _ (dispositions : List ℕ) (number disposition : ℕ) where
   unfolding sigaction_effect
   sigaction-none e = rw e refl
 
-  pub sigaction-some : (g : Sig) → signal_of_number number ≡ Some g → can_be_caught g ≡ true → sigaction_effect dispositions number disposition ≡ gives (disposition_of dispositions g) (disposition_is g disposition ∷ [])
+  pub sigaction-some : (g : Sig) → signal_of_number number ≡ Some g → can_be_caught g ≡ true
+      → sigaction_effect dispositions number disposition
+      ≡ gives (disposition_of dispositions g) (disposition_is g disposition ∷ [])
   unfolding sigaction_effect
   sigaction-some g e can = rw (e, can) refl
 
-  pub sigaction-never : (g : Sig) → signal_of_number number ≡ Some g → can_be_caught g ≡ false → sigaction_effect dispositions number disposition ≡ fails Inval
+  pub sigaction-never : (g : Sig) → signal_of_number number ≡ Some g → can_be_caught g ≡ false
+      → sigaction_effect dispositions number disposition ≡ fails Inval
   unfolding sigaction_effect
   sigaction-never g e cannot = rw (e, cannot) refl
 
@@ -35,12 +38,18 @@ pub ruleset sigaction_laws = (sigaction-none, sigaction-some, sigaction-never)
 pub sigmask-none : (held word : ℕ) → set_of_word signal_count word ≡ None → sigmask_effect held word ≡ fails Inval
 unfolding sigmask_effect
 sigmask-none held word e =
-    elim (cases_Bool (ltb word (2 ^ signal_count))) [ inl within ↦ absurd (let wrong = rw within at e in cc) | inr beyond ↦ rw beyond refl ]
+    elim (cases_Bool (ltb word (2 ^ signal_count)))
+    [ inl within ↦ absurd (let wrong = rw within at e in cc) | inr beyond ↦ rw beyond refl ]
 
-pub sigmask-some : (held word set : ℕ) → set_of_word signal_count word ≡ Some set → sigmask_effect held word ≡ gives held (held_is (holdable_word set) ∷ [])
+pub sigmask-some : (held word set : ℕ) → set_of_word signal_count word ≡ Some set
+    → sigmask_effect held word ≡ gives held (held_is (holdable_word set) ∷ [])
 unfolding sigmask_effect
 sigmask-some held word set e =
-    elim (cases_Bool (ltb word (2 ^ signal_count))) [ inl within ↦ rw within (ap (λ w. gives held (held_is (holdable_word w) ∷ [])) (same_Some word set (rw within at e))) | inr beyond ↦ absurd (let wrong = rw beyond at e in cc) ]
+    elim (cases_Bool (ltb word (2 ^ signal_count))) [
+      | inl within ↦
+          rw within (ap (λ w. gives held (held_is (holdable_word w) ∷ [])) (same_Some word set (rw within at e)))
+      | inr beyond ↦ absurd (let wrong = rw beyond at e in cc)
+    ]
 
 pub ruleset sigmask_laws = (sigmask-none, sigmask-some)
 
@@ -49,7 +58,9 @@ unfolding sigreturn_effect
 sigreturn-none [] none = refl
 sigreturn-none (f ∷ frames) none = absurd (omega arith)
 
-pub sigreturn-some : (frames : List Frame) → length frames ≢ 0 → changes.does (Value 0) (resuming (slice_get frames (length frames - 1)) (take (length frames - 1) frames)) ≡ sigreturn_effect frames
+pub sigreturn-some : (frames : List Frame) → length frames ≢ 0
+    → changes.does (Value 0) (resuming (slice_get frames (length frames - 1)) (take (length frames - 1) frames))
+    ≡ sigreturn_effect frames
 unfolding sigreturn_effect
 sigreturn-some [] some = absurd (some refl)
 sigreturn-some (f ∷ frames) some = rw (slice_get-get_or (f ∷ frames) (length (f ∷ frames) - 1) f (omega arith)) refl

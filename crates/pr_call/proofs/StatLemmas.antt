@@ -27,7 +27,9 @@ module _ (t : FileTable) (fds : Descriptors) (space : Space) (fd at : ℕ) where
     unfolding fstat_effect
     stat-fault cannot = rw (sym is, cannot) refl
 
-    pub stat-stored : (new : Space) → can_write space at (3 * word_size) ≡ true → new ≡ with_bytes at (word_bytes stat.kind ++ word_bytes stat.size ++ word_bytes stat.offset) space → gives 0 (space_is new ∷ []) ≡ fstat_effect t fds space fd at
+    pub stat-stored : (new : Space) → can_write space at (3 * word_size) ≡ true
+        → new ≡ with_bytes at (word_bytes stat.kind ++ word_bytes stat.size ++ word_bytes stat.offset) space
+        → gives 0 (space_is new ∷ []) ≡ fstat_effect t fds space fd at
     unfolding fstat_effect
     stat-stored new can stored = rw (sym is, can, stored) refl
 
@@ -36,7 +38,8 @@ module _ (t : FileTable) (fds : Descriptors) (space : Space) (fd at : ℕ) where
     stat-lacks can = rw (sym is, can) refl
 
   -- no refusal but want of memory says so
-  pub stat-refused-lacks : (why : FileNo) → Err why ≡ described t fds fd → lacks_memory (Err (Files why)) ≡ true → may_lack_memory (fstat_effect t fds space fd at) ≡ true
+  pub stat-refused-lacks : (why : FileNo) → Err why ≡ described t fds fd → lacks_memory (Err (Files why)) ≡ true
+      → may_lack_memory (fstat_effect t fds space fd at) ≡ true
   stat-refused-lacks why is lacks = ap may_lack_memory (sym (stat-refused why is)) ∙ refusal-lacks why lacks
 
 pub ruleset describing = (stat-refused, stat-fault, stat-stored, stat-lacks, stat-refused-lacks)

@@ -8,7 +8,9 @@ use Rattle.pr_codec.proofs.WordLemmas.{words_bytes-two}
 
 -- Words that calls store.
 
-pub three-words : (first second third : ℕ) → words_bytes (first ∷ second ∷ third ∷ []) ≡ word_bytes first ++ word_bytes second ++ word_bytes third
-three-words first second third = rw append_assoc (ap (λ (bytes : List ℕ). word_bytes first ++ bytes) (words_bytes-two second third))
+pub three-words : (first second third : ℕ)
+    → words_bytes (first ∷ second ∷ third ∷ []) ≡ word_bytes first ++ word_bytes second ++ word_bytes third
+three-words first second third =
+    rw append_assoc (ap (λ (bytes : List ℕ). word_bytes first ++ bytes) (words_bytes-two second third))
 
 pub ruleset words = (words_bytes-two, three-words)

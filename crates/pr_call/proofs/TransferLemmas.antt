@@ -56,7 +56,8 @@ over-refusal NoReader = refl
 over-refusal Sleep = refl
 over-refusal NoMemory = refl
 
-over-read : (fds : Descriptors) (space : Space) (at : ℕ) (files : FileTable) (r : Result (List ℕ) FileNo) → is_over (read_meant fds space at files r) ≡ not (waits r)
+over-read : (fds : Descriptors) (space : Space) (at : ℕ) (files : FileTable) (r : Result (List ℕ) FileNo)
+    → is_over (read_meant fds space at files r) ≡ not (waits r)
 over-read fds space at files (Ok bytes) = refl
 over-read fds space at files (Err why) = over-refusal why
 
@@ -76,16 +77,20 @@ module _ (t : FileTable) (fds : Descriptors) (space : Space) (fd at size : ℕ) 
   unfolding read_effect
   read-closed closed = rw (none-some _ closed) refl
 
-  pub read-long : is_some (open_for_reading t fds fd) ≡ true → transfer_limit < size → read_effect t fds space fd at size ≡ fails Inval
+  pub read-long : is_some (open_for_reading t fds fd) ≡ true → transfer_limit < size
+      → read_effect t fds space fd at size ≡ fails Inval
   unfolding read_effect
   read-long ready beyond = rw (some-none _ ready, lt-ltb transfer_limit size beyond) refl
 
-  pub read-faulty : is_some (open_for_reading t fds fd) ≡ true → size ≤ transfer_limit → can_write space at size ≡ false → read_effect t fds space fd at size ≡ fails Fault
+  pub read-faulty : is_some (open_for_reading t fds fd) ≡ true → size ≤ transfer_limit → can_write space at size ≡ false
+      → read_effect t fds space fd at size ≡ fails Fault
   unfolding read_effect
   read-faulty ready within cannot = rw (some-none _ ready, le-ltb transfer_limit size within, cannot) refl
 
   -- what a read makes of what the files answer
-  pub read-made : (r : Result (List ℕ) FileNo) → is_some (open_for_reading t fds fd) ≡ true → size ≤ transfer_limit → can_write space at size ≡ true → (read_fd t fds fd size).bytes ≡ r → read_effect t fds space fd at size ≡ read_meant fds space at (read_fd t fds fd size).files r
+  pub read-made : (r : Result (List ℕ) FileNo) → is_some (open_for_reading t fds fd) ≡ true → size ≤ transfer_limit
+      → can_write space at size ≡ true → (read_fd t fds fd size).bytes ≡ r
+      → read_effect t fds space fd at size ≡ read_meant fds space at (read_fd t fds fd size).files r
   unfolding read_effect
   read-made (Ok bytes) ready within can is =
       rw (some-none _ ready, le-ltb transfer_limit size within, can, whole (read_fd t fds fd size) (Ok bytes) is) refl
@@ -93,7 +98,9 @@ module _ (t : FileTable) (fds : Descriptors) (space : Space) (fd at size : ℕ) 
       rw (some-none _ ready, le-ltb transfer_limit size within, can, whole (read_fd t fds fd size) (Err why) is) refl
 
   -- which reads would not sleep
-  pub read_over-made : (w : Bool) → is_some (open_for_reading t fds fd) ≡ true → size ≤ transfer_limit → can_write space at size ≡ true → w ≡ waits (read_fd t fds fd size).bytes → not w ≡ is_over (read_effect t fds space fd at size)
+  pub read_over-made : (w : Bool) → is_some (open_for_reading t fds fd) ≡ true → size ≤ transfer_limit
+      → can_write space at size ≡ true → w ≡ waits (read_fd t fds fd size).bytes
+      → not w ≡ is_over (read_effect t fds space fd at size)
   read_over-made w ready within can is =
       ap not is
       ∙ sym (over-read fds space at (read_fd t fds fd size).files (read_fd t fds fd size).bytes)
@@ -108,28 +115,37 @@ module _ (t : FileTable) (fds : Descriptors) (space : Space) (fd at size : ℕ) 
   unfolding write_effect
   write-closed closed = rw (none-some _ closed) refl
 
-  pub write-long : is_some (open_for_writing t fds fd) ≡ true → transfer_limit < size → write_effect t fds space fd at size ≡ fails Inval
+  pub write-long : is_some (open_for_writing t fds fd) ≡ true → transfer_limit < size
+      → write_effect t fds space fd at size ≡ fails Inval
   unfolding write_effect
   write-long ready beyond = rw (some-none _ ready, lt-ltb transfer_limit size beyond) refl
 
-  pub write-faulty : is_some (open_for_writing t fds fd) ≡ true → size ≤ transfer_limit → can_read space at size ≡ false → write_effect t fds space fd at size ≡ fails Fault
+  pub write-faulty : is_some (open_for_writing t fds fd) ≡ true → size ≤ transfer_limit → can_read space at size ≡ false
+      → write_effect t fds space fd at size ≡ fails Fault
   unfolding write_effect
   write-faulty ready within cannot = by (bytes_for prot_read space at size) refl cannot
     where
-      by : (r : Result (List ℕ) BadByte) → bytes_for prot_read space at size ≡ r → is_ok r ≡ false → write_effect t fds space fd at size ≡ fails Fault
+      by : (r : Result (List ℕ) BadByte) → bytes_for prot_read space at size ≡ r → is_ok r ≡ false
+          → write_effect t fds space fd at size ≡ fails Fault
       by (Ok bytes) is e = absurd (cc)
       by (Err bad) is e = rw (some-none _ ready, le-ltb transfer_limit size within, is) refl
 
   -- what a write makes of what the files answer
-  pub write-made : (bytes : List ℕ) → is_some (open_for_writing t fds fd) ≡ true → size ≤ transfer_limit → bytes_for prot_read space at size ≡ Ok bytes → write_effect t fds space fd at size ≡ file_effect (write_fd t fds fd bytes)
+  pub write-made : (bytes : List ℕ) → is_some (open_for_writing t fds fd) ≡ true → size ≤ transfer_limit
+      → bytes_for prot_read space at size ≡ Ok bytes
+      → write_effect t fds space fd at size ≡ file_effect (write_fd t fds fd bytes)
   unfolding write_effect
   write-made bytes ready within is = rw (some-none _ ready, le-ltb transfer_limit size within, is) refl
 
   -- which writes would not sleep
-  pub write_over-made : (w : Bool) → is_some (open_for_writing t fds fd) ≡ true → size ≤ transfer_limit → can_read space at size ≡ true → ((bytes : List ℕ) → length bytes ≡ size → w ≡ waits (write_fd t fds fd bytes).answer) → not w ≡ is_over (write_effect t fds space fd at size)
+  pub write_over-made : (w : Bool) → is_some (open_for_writing t fds fd) ≡ true → size ≤ transfer_limit
+      → can_read space at size ≡ true
+      → ((bytes : List ℕ) → length bytes ≡ size → w ≡ waits (write_fd t fds fd bytes).answer)
+      → not w ≡ is_over (write_effect t fds space fd at size)
   write_over-made w ready within can is = by (bytes_for prot_read space at size) refl can
     where
-      by : (r : Result (List ℕ) BadByte) → bytes_for prot_read space at size ≡ r → is_ok r ≡ true → not w ≡ is_over (write_effect t fds space fd at size)
+      by : (r : Result (List ℕ) BadByte) → bytes_for prot_read space at size ≡ r → is_ok r ≡ true
+          → not w ≡ is_over (write_effect t fds space fd at size)
       by (Ok bytes) read e =
           ap not (is bytes (length-bytes_for prot_read space at size bytes read))
           ∙ sym (over-file (write_fd t fds fd bytes) (write_fd t fds fd bytes).answer refl)
@@ -141,16 +157,19 @@ pub ruleset writes_over = (over-fails, write_over-made)
 -- ---- a read that is made
 
 -- as many bytes as came
-pub count-within : (r : Result (List ℕ) FileNo) (count : ℕ) (old new : List ℕ) → Ok count ≡ count_of r → new ≡ filled old r → length new ≡ length old → count ≤ length old
+pub count-within : (r : Result (List ℕ) FileNo) (count : ℕ) (old new : List ℕ) → Ok count ≡ count_of r
+    → new ≡ filled old r → length new ≡ length old → count ≤ length old
 count-within (Ok bytes) count old new is filled_so same =
     let long : count ≡ length bytes = cc in
-    let parts : length (bytes ++ drop (length bytes) old) ≡ length bytes + length (drop (length bytes) old) = length-append bytes (drop (length bytes) old) in
+    let parts : length (bytes ++ drop (length bytes) old) ≡ length bytes + length (drop (length bytes) old) =
+    length-append bytes (drop (length bytes) old) in
     let all : length new ≡ length (bytes ++ drop (length bytes) old) = ap (λ (xs : List ℕ). length xs) filled_so in
     omega arith
 count-within (Err why) count old new is filled_so same = absurd (cc)
 
 -- what stands at the front of the buffer
-front : (r : Result (List ℕ) FileNo) (count : ℕ) (old new bytes : List ℕ) → Ok count ≡ count_of r → new ≡ filled old r → r ≡ Ok bytes → take count new ≡ bytes
+front : (r : Result (List ℕ) FileNo) (count : ℕ) (old new bytes : List ℕ) → Ok count ≡ count_of r → new ≡ filled old r
+    → r ≡ Ok bytes → take count new ≡ bytes
 front (Ok read) count old new bytes is filled_so same =
     let this : read ≡ bytes = cc in
     let long : length read ≡ count = cc in
@@ -158,66 +177,90 @@ front (Ok read) count old new bytes is filled_so same =
 front (Err why) count old new bytes is filled_so same = absurd (cc)
 
 -- fewer bytes can be accessed where more can
-parts-ok : (b : Result ℕ BadByte) (r : Result (List ℕ) BadByte) → is_ok (one_more b r) ≡ true → (is_ok b ≡ true) × (is_ok r ≡ true)
+parts-ok : (b : Result ℕ BadByte) (r : Result (List ℕ) BadByte) → is_ok (one_more b r) ≡ true
+    → (is_ok b ≡ true) × (is_ok r ≡ true)
 parts-ok (Err bad) r e = absurd (cc)
 parts-ok (Ok byte) (Err bad) e = absurd (cc)
 parts-ok (Ok byte) (Ok bytes) e = (refl, refl)
 
-both-ok : (b : Result ℕ BadByte) (r : Result (List ℕ) BadByte) → is_ok b ≡ true → is_ok r ≡ true → is_ok (one_more b r) ≡ true
+both-ok : (b : Result ℕ BadByte) (r : Result (List ℕ) BadByte) → is_ok b ≡ true → is_ok r ≡ true
+    → is_ok (one_more b r) ≡ true
 both-ok (Err bad) r eb er = absurd (cc)
 both-ok (Ok byte) (Err bad) eb er = absurd (cc)
 both-ok (Ok byte) (Ok bytes) eb er = refl
 
-ok-less : (need : ℕ) (space : Space) (at size n : ℕ) → n ≤ size → is_ok (bytes_for need space at size) ≡ true → is_ok (bytes_for need space at n) ≡ true
+ok-less : (need : ℕ) (space : Space) (at size n : ℕ) → n ≤ size → is_ok (bytes_for need space at size) ≡ true
+    → is_ok (bytes_for need space at n) ≡ true
 unfolding bytes_for
 ok-less need space at size zero within all = refl
 ok-less need space at zero (suc n) within all = absurd (omega arith)
 ok-less need space at (suc size) (suc n) within all =
     let parts = parts-ok (byte_for need space at) (bytes_for need space ((at + 1) % 2 ^ 64) size) all in
-    both-ok (byte_for need space at) (bytes_for need space ((at + 1) % 2 ^ 64) n) parts.0 (ok-less need space ((at + 1) % 2 ^ 64) size n (omega arith) parts.1)
+    both-ok (byte_for need space at) (bytes_for need space ((at + 1) % 2 ^ 64) n) parts.0
+    (ok-less need space ((at + 1) % 2 ^ 64) size n (omega arith) parts.1)
 
-pub can_write-less : (space : Space) (at size n : ℕ) → n ≤ size → can_write space at size ≡ true → can_write space at n ≡ true
+pub can_write-less : (space : Space) (at size n : ℕ) → n ≤ size → can_write space at size ≡ true
+    → can_write space at n ≡ true
 can_write-less space at size n within can = ok-less prot_write space at size n within can
 
 -- so much of the buffer can be stored
-pub can_write-front : (space : Space) (at : ℕ) (r : Result (List ℕ) FileNo) (count : ℕ) (old new : List ℕ) → can_write space at (length old) ≡ true → Ok count ≡ count_of r → new ≡ filled old r → length new ≡ length old → can_write space at (length (take count new)) ≡ true
+pub can_write-front : (space : Space) (at : ℕ) (r : Result (List ℕ) FileNo) (count : ℕ) (old new : List ℕ)
+    → can_write space at (length old) ≡ true → Ok count ≡ count_of r → new ≡ filled old r → length new ≡ length old
+    → can_write space at (length (take count new)) ≡ true
 can_write-front space at r count old new can is filled_so same =
-    can_write-less space at (length old) (length (take count new)) (let within = count-within r count old new is filled_so same in let taken = length-take count new in omega arith) can
+    can_write-less space at (length old) (length (take count new))
+    (let within = count-within r count old new is filled_so same in let taken = length-take count new in
+    omega arith) can
 
 module _ (t : FileTable) (fds : Descriptors) (space : Space) (fd at size : ℕ) where
   -- what stands in the buffer is stored
-  pub fill-gave : (count : ℕ) (f : FileTable) (new : Space) (old read : List ℕ) → is_some (open_for_reading t fds fd) ≡ true → size ≤ transfer_limit → can_write space at size ≡ true → f ≡ (read_fd t fds fd size).files → Ok count ≡ count_of (read_fd t fds fd size).bytes → read ≡ filled old (read_fd t fds fd size).bytes → new ≡ with_bytes at (take count read) space → gives count (files_are f fds ∷ space_is new ∷ []) ≡ read_effect t fds space fd at size
+  pub fill-gave : (count : ℕ) (f : FileTable) (new : Space) (old read : List ℕ)
+      → is_some (open_for_reading t fds fd) ≡ true → size ≤ transfer_limit → can_write space at size ≡ true
+      → f ≡ (read_fd t fds fd size).files → Ok count ≡ count_of (read_fd t fds fd size).bytes
+      → read ≡ filled old (read_fd t fds fd size).bytes → new ≡ with_bytes at (take count read) space
+      → gives count (files_are f fds ∷ space_is new ∷ []) ≡ read_effect t fds space fd at size
   fill-gave count f new old read ready within can files answer buffer wrote = by (read_fd t fds fd size).bytes refl
     where
-      by : (r : Result (List ℕ) FileNo) → (read_fd t fds fd size).bytes ≡ r → gives count (files_are f fds ∷ space_is new ∷ []) ≡ read_effect t fds space fd at size
+      by : (r : Result (List ℕ) FileNo) → (read_fd t fds fd size).bytes ≡ r
+          → gives count (files_are f fds ∷ space_is new ∷ []) ≡ read_effect t fds space fd at size
       by (Ok bytes) is =
           let long : count ≡ length bytes = (let same = answer ∙ ap count_of is in cc) in
-          let same : take count read ≡ bytes = front (read_fd t fds fd size).bytes count old read bytes answer buffer is in
+          let same : take count read ≡ bytes =
+          front (read_fd t fds fd size).bytes count old read bytes answer buffer is in
           rw (files, long, wrote, same) (sym (read-made t fds space fd at size (Ok bytes) ready within can is))
       by (Err why) is = absurd (let wrong = answer ∙ ap count_of is in cc)
 
-  pub fill-refused : (why : FileNo) → is_some (open_for_reading t fds fd) ≡ true → size ≤ transfer_limit → can_write space at size ≡ true → Err why ≡ count_of (read_fd t fds fd size).bytes → refusal_effect why ≡ read_effect t fds space fd at size
+  pub fill-refused : (why : FileNo) → is_some (open_for_reading t fds fd) ≡ true → size ≤ transfer_limit
+      → can_write space at size ≡ true → Err why ≡ count_of (read_fd t fds fd size).bytes
+      → refusal_effect why ≡ read_effect t fds space fd at size
   fill-refused why ready within can answer = by (read_fd t fds fd size).bytes refl
     where
-      by : (r : Result (List ℕ) FileNo) → (read_fd t fds fd size).bytes ≡ r → refusal_effect why ≡ read_effect t fds space fd at size
+      by : (r : Result (List ℕ) FileNo) → (read_fd t fds fd size).bytes ≡ r
+          → refusal_effect why ≡ read_effect t fds space fd at size
       by (Ok bytes) is = absurd (let wrong = answer ∙ ap count_of is in cc)
       by (Err other) is =
           let same : why ≡ other = (let e = answer ∙ ap count_of is in cc) in
           rw same (sym (read-made t fds space fd at size (Err other) ready within can is))
 
   -- memory may run out where bytes are stored, or where the files say so
-  pub fill-lacks : (count : ℕ) → is_some (open_for_reading t fds fd) ≡ true → size ≤ transfer_limit → can_write space at size ≡ true → Ok count ≡ count_of (read_fd t fds fd size).bytes → may_lack_memory (read_effect t fds space fd at size) ≡ true
+  pub fill-lacks : (count : ℕ) → is_some (open_for_reading t fds fd) ≡ true → size ≤ transfer_limit
+      → can_write space at size ≡ true → Ok count ≡ count_of (read_fd t fds fd size).bytes
+      → may_lack_memory (read_effect t fds space fd at size) ≡ true
   fill-lacks count ready within can answer = by (read_fd t fds fd size).bytes refl
     where
-      by : (r : Result (List ℕ) FileNo) → (read_fd t fds fd size).bytes ≡ r → may_lack_memory (read_effect t fds space fd at size) ≡ true
+      by : (r : Result (List ℕ) FileNo) → (read_fd t fds fd size).bytes ≡ r
+          → may_lack_memory (read_effect t fds space fd at size) ≡ true
       by (Ok bytes) is = ap may_lack_memory (read-made t fds space fd at size (Ok bytes) ready within can is)
       by (Err why) is = absurd (let wrong = answer ∙ ap count_of is in cc)
 
-  pub fill-refused-lacks : (why : FileNo) → is_some (open_for_reading t fds fd) ≡ true → size ≤ transfer_limit → can_write space at size ≡ true → Err why ≡ count_of (read_fd t fds fd size).bytes → lacks_memory (Err (Files why)) ≡ true → may_lack_memory (read_effect t fds space fd at size) ≡ true
+  pub fill-refused-lacks : (why : FileNo) → is_some (open_for_reading t fds fd) ≡ true → size ≤ transfer_limit
+      → can_write space at size ≡ true → Err why ≡ count_of (read_fd t fds fd size).bytes
+      → lacks_memory (Err (Files why)) ≡ true → may_lack_memory (read_effect t fds space fd at size) ≡ true
   fill-refused-lacks why ready within can answer lacks =
       ap may_lack_memory (sym (fill-refused why ready within can answer)) ∙ refusal-lacks why lacks
 
-  pub fill-files : (why : FileNo) (f : FileTable) → f ≡ (read_fd t fds fd size).files → Err why ≡ count_of (read_fd t fds fd size).bytes → f ≡ t
+  pub fill-files : (why : FileNo) (f : FileTable) → f ≡ (read_fd t fds fd size).files
+      → Err why ≡ count_of (read_fd t fds fd size).bytes → f ≡ t
   fill-files why f files answer = by (read_fd t fds fd size).bytes refl
     where
       by : (r : Result (List ℕ) FileNo) → (read_fd t fds fd size).bytes ≡ r → f ≡ t
@@ -225,7 +268,9 @@ module _ (t : FileTable) (fds : Descriptors) (space : Space) (fd at size : ℕ) 
       by (Err other) is = files ∙ rw is at (read-keeps t fds fd size)
 
 -- a second read of as many bytes gives as many
-pub read-again : (t : FileTable) (fds : Descriptors) (fd size again count : ℕ) (why : FileNo) → Ok count ≡ count_of (read_fd t fds fd size).bytes → Err why ≡ count_of (read_fd t fds fd again).bytes → again ≡ size → ⊥
+pub read-again : (t : FileTable) (fds : Descriptors) (fd size again count : ℕ) (why : FileNo)
+    → Ok count ≡ count_of (read_fd t fds fd size).bytes → Err why ≡ count_of (read_fd t fds fd again).bytes
+    → again ≡ size → ⊥
 read-again t fds fd size again count why first second same =
     let wrong : Err why ≡ Ok count = second ∙ ap (λ n. count_of (read_fd t fds fd n).bytes) same ∙ sym first in
     absurd (cc)
@@ -237,22 +282,30 @@ pub ruleset reading = (read-closed, read-long, read-faulty)
 -- ---- a write that is made
 
 module _ (t : FileTable) (fds : Descriptors) (f : FileTable) (e : FileEffect ℕ) where
-  pub put-done : (count : ℕ) → record { files = f; fds = fds; answer = Ok count } ≡ unless_no_memory t fds (Ok count) e → gives count (files_are f fds ∷ []) ≡ file_effect e
+  pub put-done : (count : ℕ) → record { files = f; fds = fds; answer = Ok count } ≡ unless_no_memory t fds (Ok count) e
+      → gives count (files_are f fds ∷ []) ≡ file_effect e
   unfolding file_effect
   put-done count is = rw (sym is) refl
 
-  pub put-refused : (why : FileNo) → lacks_memory (Err (Files why)) ≡ false → record { files = f; fds = fds; answer = Err why } ≡ unless_no_memory t fds (Err why) e → refusal_effect why ≡ file_effect e
+  pub put-refused : (why : FileNo) → lacks_memory (Err (Files why)) ≡ false
+      → record { files = f; fds = fds; answer = Err why } ≡ unless_no_memory t fds (Err why) e
+      → refusal_effect why ≡ file_effect e
   unfolding file_effect
   put-refused why some is = rw (sym (unless-refused t fds f fds e why some is)) refl
 
-pub put-files : (t : FileTable) (fds : Descriptors) (f : FileTable) (fd : ℕ) (bytes : List ℕ) (why : FileNo) → record { files = f; fds = fds; answer = Err why } ≡ unless_no_memory t fds (Err why) (write_fd t fds fd bytes) → f ≡ t
-put-files t fds f fd bytes why is = unless-files t fds f fds (write_fd t fds fd bytes) why (written-keeps t fds fd bytes) is
+pub put-files : (t : FileTable) (fds : Descriptors) (f : FileTable) (fd : ℕ) (bytes : List ℕ) (why : FileNo)
+    → record { files = f; fds = fds; answer = Err why } ≡ unless_no_memory t fds (Err why) (write_fd t fds fd bytes)
+    → f ≡ t
+put-files t fds f fd bytes why is =
+    unless-files t fds f fds (write_fd t fds fd bytes) why (written-keeps t fds fd bytes) is
 
 cannot-read : (r : Result (List ℕ) BadByte) (fault : MemFault) → Err fault ≡ access_answer r → is_ok r ≡ false
 cannot-read (Ok bytes) fault is = absurd (cc)
 cannot-read (Err bad) fault is = refl
 
-pub write-unread : (t : FileTable) (fds : Descriptors) (space : Space) (fd at size : ℕ) (fault : MemFault) → is_some (open_for_writing t fds fd) ≡ true → size ≤ transfer_limit → Err fault ≡ access_answer (bytes_for prot_read space at size) → fails Fault ≡ write_effect t fds space fd at size
+pub write-unread : (t : FileTable) (fds : Descriptors) (space : Space) (fd at size : ℕ) (fault : MemFault)
+    → is_some (open_for_writing t fds fd) ≡ true → size ≤ transfer_limit
+    → Err fault ≡ access_answer (bytes_for prot_read space at size) → fails Fault ≡ write_effect t fds space fd at size
 write-unread t fds space fd at size fault ready within is =
     sym (write-faulty t fds space fd at size ready within (cannot-read (bytes_for prot_read space at size) fault is))
 

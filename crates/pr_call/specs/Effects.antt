@@ -49,7 +49,8 @@ changes_meant l None = []
 changes_meant l (Some (Held held)) = changes.held_is held ∷ []
 changes_meant l (Some (Disposition g disposition)) = changes.disposition_is g disposition ∷ []
 changes_meant l (Some (Suspended other on)) = changes.suspends other on ∷ []
-changes_meant l (Some Resumed) = resuming (slice_get l.frames (length l.frames - 1)) (take (length l.frames - 1) l.frames)
+changes_meant l (Some Resumed) =
+    resuming (slice_get l.frames (length l.frames - 1)) (take (length l.frames - 1) l.frames)
 
 -- the effect that is meant
 abbrev pub effect_meant : TracedLwp → Effect → changes.Effect

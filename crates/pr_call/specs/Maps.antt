@@ -23,7 +23,8 @@ can_grow s p size =
 
 -- the effect of an mmap that maps there, or is refused
 abbrev pub place_meant : Space → ℕ → ℕ → Result ℕ Errno → Effect
-place_meant space len prot (Ok at) = gives at (space_is (with_mapping (zeros_at at (rounded len) prot Mapped) space) ∷ [])
+place_meant space len prot (Ok at) =
+    gives at (space_is (with_mapping (zeros_at at (rounded len) prot Mapped) space) ∷ [])
 place_meant space len prot (Err e) = fails e
 
 -- a range can be mapped

@@ -8,5 +8,6 @@ use Rattle.pr_model.specs.FileCallRows.{refusal_effect}
 
 -- the effect of a read that the files answered so, into the memory from an address on
 abbrev pub read_meant : Descriptors → Space → ℕ → FileTable → Result (List ℕ) FileNo → Effect
-read_meant fds space at files (Ok bytes) = gives (length bytes) (files_are files fds ∷ space_is (with_bytes at bytes space) ∷ [])
+read_meant fds space at files (Ok bytes) =
+    gives (length bytes) (files_are files fds ∷ space_is (with_bytes at bytes space) ∷ [])
 read_meant fds space at files (Err why) = refusal_effect why

@@ -52,8 +52,12 @@ fn move_break(alloc: Global, space: &mut Space, end: u64) -> Result<(), NoMemory
 pub fn brk(alloc: Global, sys: &mut Sys, pid: u32, end: u64) -> Result<Performed, NoMemory>
     requires lawful { IsLawfulSystem sys.old }
     requires live { IsSome (live_process sys.old pid) }
-    ensures system { IfOk result (λ outcome. ForSome (live_process sys.old pid) (λ p. (id : ℕ) (l : TracedLwp) → sys.new ≡ after_effect pid p id l (brk_effect sys.old p end) sys.old)) }
-    ensures outcome { IfOk result (λ outcome. ForSome (live_process sys.old pid) (λ p. outcome ≡ outcome_of (brk_effect sys.old p end))) }
+    ensures system { IfOk result
+        (λ outcome.
+        ForSome (live_process sys.old pid)
+        (λ p. (id : ℕ) (l : TracedLwp) → sys.new ≡ after_effect pid p id l (brk_effect sys.old p end) sys.old)) }
+    ensures outcome { IfOk result
+        (λ outcome. ForSome (live_process sys.old pid) (λ p. outcome ≡ outcome_of (brk_effect sys.old p end))) }
     ensures memory { OnErr result (ForSome (live_process sys.old pid) (λ p. is_granted (brk_effect sys.old p end) ≡ true)) }
     ensures err { OnErr result (sys.new ≡ sys.old) }
 {

@@ -19,7 +19,8 @@ use std::alloc::Global;
 /// close(2). EBADF.
 #[tactic(auto, using(crate::proofs::FileCallLemmas::closing))]
 pub fn close(files: &mut Files, fds: &mut Fds, fd: u64) -> Result<u64, Refusal>
-    ensures effect { (space : AnySpace) → answer_meant result (files_are files.new fds.new ∷ []) ≡ close_effect files.old fds.old space fd }
+    ensures effect { (space : AnySpace)
+        → answer_meant result (files_are files.new fds.new ∷ []) ≡ close_effect files.old fds.old space fd }
     ensures files { OnErr result (files.new ≡ files.old) }
     ensures fds { OnErr result (fds.new ≡ fds.old) }
 {
@@ -33,7 +34,8 @@ pub fn close(files: &mut Files, fds: &mut Fds, fd: u64) -> Result<u64, Refusal>
 #[tactic(auto, using(crate::proofs::FileCallLemmas::duplicating))]
 pub fn dup(files: &mut Files, fds: &mut Fds, fd: u64) -> Result<u64, Refusal>
     requires { HasRoom files.old 1 }
-    ensures effect { (space : AnySpace) → answer_meant result (files_are files.new fds.new ∷ []) ≡ dup_effect files.old fds.old space fd }
+    ensures effect { (space : AnySpace)
+        → answer_meant result (files_are files.new fds.new ∷ []) ≡ dup_effect files.old fds.old space fd }
     ensures files { OnErr result (files.new ≡ files.old) }
     ensures fds { OnErr result (fds.new ≡ fds.old) }
 {
@@ -46,7 +48,8 @@ pub fn dup(files: &mut Files, fds: &mut Fds, fd: u64) -> Result<u64, Refusal>
 /// lseek(2) gives the new offset. EBADF, ESPIPE, EINVAL.
 #[tactic(auto, using(crate::proofs::FileCallLemmas::seeking))]
 pub fn lseek(files: &mut Files, fds: &Fds, fd: u64, offset: u64) -> Result<u64, Refusal>
-    ensures effect { (space : AnySpace) → answer_meant result (files_are files.new fds.now ∷ []) ≡ lseek_effect files.old fds.now space fd offset }
+    ensures effect { (space : AnySpace)
+        → answer_meant result (files_are files.new fds.now ∷ []) ≡ lseek_effect files.old fds.now space fd offset }
     ensures files { OnErr result (files.new ≡ files.old) }
 {
     match files.seek(fds, fd, offset) {
@@ -72,7 +75,8 @@ pub fn open(
     at: u64,
     flags: u64,
 ) -> Result<u64, Refusal>
-    ensures effect { lacks_memory result ≡ false → answer_meant result (files_are files.new fds.new ∷ []) ≡ open_effect files.old fds.old space.now at flags }
+    ensures effect { lacks_memory result ≡ false
+        → answer_meant result (files_are files.new fds.new ∷ []) ≡ open_effect files.old fds.old space.now at flags }
     ensures memory { lacks_memory result ≡ true → may_lack_memory (open_effect files.old fds.old space.now at flags) ≡ true }
     ensures files { OnErr result (files.new ≡ files.old) }
     ensures fds { OnErr result (fds.new ≡ fds.old) }
@@ -100,7 +104,9 @@ pub fn pipe(
     space: &mut Space,
     at: u64,
 ) -> Result<u64, Refusal>
-    ensures effect { lacks_memory result ≡ false → answer_meant result (files_are files.new fds.new ∷ space_is space.new ∷ []) ≡ pipe_effect files.old fds.old space.old at }
+    ensures effect { lacks_memory result ≡ false
+        → answer_meant result (files_are files.new fds.new ∷ space_is space.new ∷ [])
+        ≡ pipe_effect files.old fds.old space.old at }
     ensures memory { lacks_memory result ≡ true → may_lack_memory (pipe_effect files.old fds.old space.old at) ≡ true }
     ensures files { OnErr result (files.new ≡ files.old) }
     ensures fds { OnErr result (fds.new ≡ fds.old) }
@@ -126,7 +132,8 @@ pub fn pipe(
 /// fstat(2) stores kind, size and offset as three words. EBADF, EFAULT. Memory runs out only where none of these comes.
 #[tactic(auto, using(crate::proofs::StatLemmas::describing))]
 pub fn fstat(files: &Files, fds: &Fds, space: &mut Space, fd: u64, at: u64) -> Result<u64, Refusal>
-    ensures effect { lacks_memory result ≡ false → answer_meant result (space_is space.new ∷ []) ≡ fstat_effect files.now fds.now space.old fd at }
+    ensures effect { lacks_memory result ≡ false
+        → answer_meant result (space_is space.new ∷ []) ≡ fstat_effect files.now fds.now space.old fd at }
     ensures memory { lacks_memory result ≡ true → may_lack_memory (fstat_effect files.now fds.now space.old fd at) ≡ true }
     ensures space { OnErr result (space.new ≡ space.old) }
 {

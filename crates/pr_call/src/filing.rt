@@ -17,7 +17,9 @@ use std::alloc::Global;
 #[tactic(auto, using(pr_proc::proofs::LifeLemmas::life_laws))]
 pub fn close(sys: &mut Sys, pid: u32, id: u32, fd: u64) -> Performed
     requires live { IsSome (live_process sys.old pid) }
-    ensures system { ForSome (live_process sys.old pid) (λ p. (l : TracedLwp) → sys.new ≡ after_effect pid p id l (close_effect sys.old.files p.fds p.space fd) sys.old) }
+    ensures system { ForSome (live_process sys.old pid)
+        (λ p. (l : TracedLwp)
+        → sys.new ≡ after_effect pid p id l (close_effect sys.old.files p.fds p.space fd) sys.old) }
     ensures outcome { ForSome (live_process sys.old pid) (λ p. result ≡ outcome_of (close_effect sys.old.files p.fds p.space fd)) }
 {
     let answer = files::close(&mut sys.files, &mut sys.processes.get_mut(pid).fds, fd);
@@ -29,7 +31,8 @@ pub fn close(sys: &mut Sys, pid: u32, id: u32, fd: u64) -> Performed
 pub fn dup(sys: &mut Sys, pid: u32, id: u32, fd: u64) -> Performed
     requires lawful { IsLawfulSystem sys.old }
     requires live { IsSome (live_process sys.old pid) }
-    ensures system { ForSome (live_process sys.old pid) (λ p. (l : TracedLwp) → sys.new ≡ after_effect pid p id l (dup_effect sys.old.files p.fds p.space fd) sys.old) }
+    ensures system { ForSome (live_process sys.old pid)
+        (λ p. (l : TracedLwp) → sys.new ≡ after_effect pid p id l (dup_effect sys.old.files p.fds p.space fd) sys.old) }
     ensures outcome { ForSome (live_process sys.old pid) (λ p. result ≡ outcome_of (dup_effect sys.old.files p.fds p.space fd)) }
 {
     let answer = files::dup(&mut sys.files, &mut sys.processes.get_mut(pid).fds, fd);
@@ -40,8 +43,11 @@ pub fn dup(sys: &mut Sys, pid: u32, id: u32, fd: u64) -> Performed
 #[tactic(auto, using(pr_proc::proofs::LifeLemmas::life_laws))]
 pub fn lseek(sys: &mut Sys, pid: u32, id: u32, fd: u64, offset: u64) -> Performed
     requires live { IsSome (live_process sys.old pid) }
-    ensures system { ForSome (live_process sys.old pid) (λ p. (l : TracedLwp) → sys.new ≡ after_effect pid p id l (lseek_effect sys.old.files p.fds p.space fd offset) sys.old) }
-    ensures outcome { ForSome (live_process sys.old pid) (λ p. result ≡ outcome_of (lseek_effect sys.old.files p.fds p.space fd offset)) }
+    ensures system { ForSome (live_process sys.old pid)
+        (λ p. (l : TracedLwp)
+        → sys.new ≡ after_effect pid p id l (lseek_effect sys.old.files p.fds p.space fd offset) sys.old) }
+    ensures outcome { ForSome (live_process sys.old pid)
+        (λ p. result ≡ outcome_of (lseek_effect sys.old.files p.fds p.space fd offset)) }
 {
     let process = sys.processes.get_mut(pid);
     let answer = files::lseek(&mut sys.files, &process.fds, fd, offset);
@@ -52,9 +58,18 @@ pub fn lseek(sys: &mut Sys, pid: u32, id: u32, fd: u64, offset: u64) -> Performe
 #[tactic(auto, using(pr_proc::proofs::LifeLemmas::life_laws))]
 pub fn fstat(sys: &mut Sys, pid: u32, id: u32, fd: u64, at: u64) -> Result<Performed, NoMemory>
     requires live { IsSome (live_process sys.old pid) }
-    ensures system { IfOk result (λ outcome. ForSome (live_process sys.old pid) (λ p. (l : TracedLwp) → sys.new ≡ after_effect pid p id l (fstat_effect sys.old.files p.fds p.space fd at) sys.old)) }
-    ensures outcome { IfOk result (λ outcome. ForSome (live_process sys.old pid) (λ p. outcome ≡ outcome_of (fstat_effect sys.old.files p.fds p.space fd at))) }
-    ensures memory { OnErr result (ForSome (live_process sys.old pid) (λ p. may_lack_memory (fstat_effect sys.old.files p.fds p.space fd at) ≡ true)) }
+    ensures system { IfOk result
+        (λ outcome.
+        ForSome (live_process sys.old pid)
+        (λ p. (l : TracedLwp)
+        → sys.new ≡ after_effect pid p id l (fstat_effect sys.old.files p.fds p.space fd at) sys.old)) }
+    ensures outcome { IfOk result
+        (λ outcome.
+        ForSome (live_process sys.old pid)
+        (λ p. outcome ≡ outcome_of (fstat_effect sys.old.files p.fds p.space fd at))) }
+    ensures memory { OnErr result
+        (ForSome (live_process sys.old pid)
+        (λ p. may_lack_memory (fstat_effect sys.old.files p.fds p.space fd at) ≡ true)) }
     ensures err { OnErr result (sys.new ≡ sys.old) }
 {
     let process = sys.processes.get_mut(pid);
@@ -63,7 +78,8 @@ pub fn fstat(sys: &mut Sys, pid: u32, id: u32, fd: u64, at: u64) -> Result<Perfo
     Ok(settle(sys, pid, id, answer))
 }
 
-/// open(2). EFAULT, EINVAL, ENOENT, EMFILE, ENFILE. Memory runs out only where none of these comes, and the system then stays as it is.
+/// open(2). EFAULT, EINVAL, ENOENT, EMFILE, ENFILE. Memory runs out only where none of these comes, and the system then
+/// stays as it is.
 #[tactic(auto, using(pr_proc::proofs::LifeLemmas::life_laws))]
 pub fn open(
     alloc: Global,
@@ -74,9 +90,18 @@ pub fn open(
     flags: u64,
 ) -> Result<Performed, NoMemory>
     requires live { IsSome (live_process sys.old pid) }
-    ensures system { IfOk result (λ outcome. ForSome (live_process sys.old pid) (λ p. (l : TracedLwp) → sys.new ≡ after_effect pid p id l (open_effect sys.old.files p.fds p.space at flags) sys.old)) }
-    ensures outcome { IfOk result (λ outcome. ForSome (live_process sys.old pid) (λ p. outcome ≡ outcome_of (open_effect sys.old.files p.fds p.space at flags))) }
-    ensures memory { OnErr result (ForSome (live_process sys.old pid) (λ p. may_lack_memory (open_effect sys.old.files p.fds p.space at flags) ≡ true)) }
+    ensures system { IfOk result
+        (λ outcome.
+        ForSome (live_process sys.old pid)
+        (λ p. (l : TracedLwp)
+        → sys.new ≡ after_effect pid p id l (open_effect sys.old.files p.fds p.space at flags) sys.old)) }
+    ensures outcome { IfOk result
+        (λ outcome.
+        ForSome (live_process sys.old pid)
+        (λ p. outcome ≡ outcome_of (open_effect sys.old.files p.fds p.space at flags))) }
+    ensures memory { OnErr result
+        (ForSome (live_process sys.old pid)
+        (λ p. may_lack_memory (open_effect sys.old.files p.fds p.space at flags) ≡ true)) }
     ensures err { OnErr result (sys.new ≡ sys.old) }
 {
     let process = sys.processes.get_mut(pid);
@@ -96,9 +121,17 @@ pub fn open(
 #[tactic(auto, using(pr_proc::proofs::LifeLemmas::life_laws))]
 pub fn pipe(alloc: Global, sys: &mut Sys, pid: u32, id: u32, at: u64) -> Result<Performed, NoMemory>
     requires live { IsSome (live_process sys.old pid) }
-    ensures system { IfOk result (λ outcome. ForSome (live_process sys.old pid) (λ p. (l : TracedLwp) → sys.new ≡ after_effect pid p id l (pipe_effect sys.old.files p.fds p.space at) sys.old)) }
-    ensures outcome { IfOk result (λ outcome. ForSome (live_process sys.old pid) (λ p. outcome ≡ outcome_of (pipe_effect sys.old.files p.fds p.space at))) }
-    ensures memory { OnErr result (ForSome (live_process sys.old pid) (λ p. may_lack_memory (pipe_effect sys.old.files p.fds p.space at) ≡ true)) }
+    ensures system { IfOk result
+        (λ outcome.
+        ForSome (live_process sys.old pid)
+        (λ p. (l : TracedLwp)
+        → sys.new ≡ after_effect pid p id l (pipe_effect sys.old.files p.fds p.space at) sys.old)) }
+    ensures outcome { IfOk result
+        (λ outcome.
+        ForSome (live_process sys.old pid) (λ p. outcome ≡ outcome_of (pipe_effect sys.old.files p.fds p.space at))) }
+    ensures memory { OnErr result
+        (ForSome (live_process sys.old pid)
+        (λ p. may_lack_memory (pipe_effect sys.old.files p.fds p.space at) ≡ true)) }
     ensures err { OnErr result (sys.new ≡ sys.old) }
 {
     let process = sys.processes.get_mut(pid);

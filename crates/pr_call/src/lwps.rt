@@ -65,15 +65,30 @@ fn is_full(process: &Proc) -> bool
 }
 
 /// lwp_create(2) by an lwp of a live process, with the pc, the sp and the r1 of the new one. ENOTSUP: by the agent;
-/// EAGAIN: 64 lwps stand, or no id is left. Memory runs out only where the call is granted, and the system then stays as
-/// it is.
+/// EAGAIN: 64 lwps stand, or no id is left. Memory runs out only where the call is granted, and the system then stays
+/// as it is.
 #[tactic(auto, using(crate::proofs::LwpCallLemmas::creating))]
 pub fn lwp_create(sys: &mut Sys, pid: u32, id: u32, args: [u64; 6]) -> Result<Performed, NoMemory>
     requires live { IsSome (live_process sys.old pid) }
     requires lwp { ForSome (live_process sys.old pid) (λ p. IsSome (lwp_of p id)) }
-    ensures system { IfOk result (λ outcome. ForSome (live_process sys.old pid) (λ p. ForSome (lwp_of p id) (λ l. sys.new ≡ after_effect pid p id l (lwp_create_effect p id l.held (slice_index args 0) (slice_index args 1) (slice_index args 2)) sys.old))) }
-    ensures outcome { IfOk result (λ outcome. ForSome (live_process sys.old pid) (λ p. ForSome (lwp_of p id) (λ l. outcome ≡ outcome_of (lwp_create_effect p id l.held (slice_index args 0) (slice_index args 1) (slice_index args 2))))) }
-    ensures memory { OnErr result (ForSome (live_process sys.old pid) (λ p. ForSome (lwp_of p id) (λ l. is_granted (lwp_create_effect p id l.held (slice_index args 0) (slice_index args 1) (slice_index args 2)) ≡ true))) }
+    ensures system { IfOk result
+        (λ outcome.
+        ForSome (live_process sys.old pid)
+        (λ p. ForSome (lwp_of p id)
+        (λ l. sys.new
+        ≡ after_effect pid p id l
+        (lwp_create_effect p id l.held (slice_index args 0) (slice_index args 1) (slice_index args 2)) sys.old))) }
+    ensures outcome { IfOk result
+        (λ outcome.
+        ForSome (live_process sys.old pid)
+        (λ p. ForSome (lwp_of p id)
+        (λ l. outcome
+        ≡ outcome_of (lwp_create_effect p id l.held (slice_index args 0) (slice_index args 1) (slice_index args 2))))) }
+    ensures memory { OnErr result
+        (ForSome (live_process sys.old pid)
+        (λ p. ForSome (lwp_of p id)
+        (λ l. is_granted (lwp_create_effect p id l.held (slice_index args 0) (slice_index args 1) (slice_index args 2))
+        ≡ true))) }
     ensures err { OnErr result (sys.new ≡ sys.old) }
 {
     if id == AGENT {

@@ -77,8 +77,10 @@ fn change_under(sys: &mut Sys, pid: u32, id: u32, change: Change)
 #[tactic(auto, using(crate::proofs::MakingLemmas::making_laws, pr_proc::proofs::LifeLemmas::life_laws))]
 pub fn make(sys: &mut Sys, pid: u32, id: u32, effect: Effect) -> Performed
     requires { IsSome (live_process sys.old pid) }
-    ensures system { ForSome (live_process sys.old pid) (λ p. ForSome (lwp_of p id) (λ l. sys.new ≡ after_effect pid p id l (effect_meant l effect) sys.old)) }
-    ensures outcome { ForSome (live_process sys.old pid) (λ p. ForSome (lwp_of p id) (λ l. result ≡ outcome_of (effect_meant l effect))) }
+    ensures system { ForSome (live_process sys.old pid)
+        (λ p. ForSome (lwp_of p id) (λ l. sys.new ≡ after_effect pid p id l (effect_meant l effect) sys.old)) }
+    ensures outcome { ForSome (live_process sys.old pid)
+        (λ p. ForSome (lwp_of p id) (λ l. result ≡ outcome_of (effect_meant l effect))) }
 {
     match effect {
         Effect::Does(answer, None) => Performed::Done(answer),

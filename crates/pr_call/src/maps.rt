@@ -84,8 +84,12 @@ pub fn mmap(
     prot: u64,
 ) -> Result<Performed, NoMemory>
     requires { IsSome (live_process sys.old pid) }
-    ensures system { IfOk result (λ outcome. ForSome (live_process sys.old pid) (λ p. (id : ℕ) (l : TracedLwp) → sys.new ≡ after_effect pid p id l (mmap_effect sys.old p len prot) sys.old)) }
-    ensures outcome { IfOk result (λ outcome. ForSome (live_process sys.old pid) (λ p. outcome ≡ outcome_of (mmap_effect sys.old p len prot))) }
+    ensures system { IfOk result
+        (λ outcome.
+        ForSome (live_process sys.old pid)
+        (λ p. (id : ℕ) (l : TracedLwp) → sys.new ≡ after_effect pid p id l (mmap_effect sys.old p len prot) sys.old)) }
+    ensures outcome { IfOk result
+        (λ outcome. ForSome (live_process sys.old pid) (λ p. outcome ≡ outcome_of (mmap_effect sys.old p len prot))) }
     ensures memory { OnErr result (ForSome (live_process sys.old pid) (λ p. is_granted (mmap_effect sys.old p len prot) ≡ true)) }
     ensures err { OnErr result (sys.new ≡ sys.old) }
 {

@@ -57,7 +57,8 @@ fn has_mapped_range(mappings: &[Mapping], at: u64, size: u64) -> bool
 /// munmap(2) of a range, which, rounded up, is one whole mapping that mmap made.
 #[tactic(auto, using(crate::proofs::MemoryLemmas::munmap_laws))]
 pub fn munmap(space: &mut Space, at: u64, len: u64) -> Result<u64, Errno>
-    ensures effect { (s : TracedSystem) (p : TracedProcess) → p.space ≡ space.old → memory_effect result space.new ≡ munmap_effect s p at len }
+    ensures effect { (s : TracedSystem) (p : TracedProcess) → p.space ≡ space.old
+        → memory_effect result space.new ≡ munmap_effect s p at len }
     ensures err { OnErr result (space.new ≡ space.old) }
 {
     let mappings = space.mappings();
@@ -76,7 +77,8 @@ pub fn munmap(space: &mut Space, at: u64, len: u64) -> Result<u64, Errno>
 /// mprotect(2) of a range, which, rounded up, is one whole mapping.
 #[tactic(auto, using(crate::proofs::MemoryLemmas::mprotect_laws))]
 pub fn mprotect(space: &mut Space, at: u64, len: u64, prot: u64) -> Result<u64, Errno>
-    ensures effect { (s : TracedSystem) (p : TracedProcess) → p.space ≡ space.old → memory_effect result space.new ≡ mprotect_effect s p at len prot }
+    ensures effect { (s : TracedSystem) (p : TracedProcess) → p.space ≡ space.old
+        → memory_effect result space.new ≡ mprotect_effect s p at len prot }
     ensures err { OnErr result (space.new ≡ space.old) }
 {
     let _mappings = space.mappings();
@@ -106,7 +108,8 @@ pub fn done(answer: Result<u64, Errno>) -> Performed
 #[tactic(auto, using(pr_proc::proofs::LifeLemmas::life_laws))]
 pub fn unmap(sys: &mut Sys, pid: u32, at: u64, len: u64) -> Performed
     requires { IsSome (live_process sys.old pid) }
-    ensures system { ForSome (live_process sys.old pid) (λ p. (id : ℕ) (l : TracedLwp) → sys.new ≡ after_effect pid p id l (munmap_effect sys.old p at len) sys.old) }
+    ensures system { ForSome (live_process sys.old pid)
+        (λ p. (id : ℕ) (l : TracedLwp) → sys.new ≡ after_effect pid p id l (munmap_effect sys.old p at len) sys.old) }
     ensures outcome { ForSome (live_process sys.old pid) (λ p. result ≡ outcome_of (munmap_effect sys.old p at len)) }
 {
     let answer = munmap(&mut sys.processes.get_mut(pid).space, at, len);
@@ -117,7 +120,9 @@ pub fn unmap(sys: &mut Sys, pid: u32, at: u64, len: u64) -> Performed
 #[tactic(auto, using(pr_proc::proofs::LifeLemmas::life_laws))]
 pub fn protect(sys: &mut Sys, pid: u32, at: u64, len: u64, prot: u64) -> Performed
     requires { IsSome (live_process sys.old pid) }
-    ensures system { ForSome (live_process sys.old pid) (λ p. (id : ℕ) (l : TracedLwp) → sys.new ≡ after_effect pid p id l (mprotect_effect sys.old p at len prot) sys.old) }
+    ensures system { ForSome (live_process sys.old pid)
+        (λ p. (id : ℕ) (l : TracedLwp)
+        → sys.new ≡ after_effect pid p id l (mprotect_effect sys.old p at len prot) sys.old) }
     ensures outcome { ForSome (live_process sys.old pid) (λ p. result ≡ outcome_of (mprotect_effect sys.old p at len prot)) }
 {
     let answer = mprotect(&mut sys.processes.get_mut(pid).space, at, len, prot);

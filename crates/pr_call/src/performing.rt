@@ -28,7 +28,8 @@ fn decide_now(sys: &Sys, request: &Request) -> Effect
     requires plain { is_plain request.now.call ≡ true }
     requires live { IsSome (live_process sys.now request.now.pid) }
     requires lwp { ForSome (live_process sys.now request.now.pid) (λ p. IsSome (lwp_of p request.now.lwp)) }
-    ensures { ForSome (live_process sys.now request.now.pid) (λ p. ForSome (lwp_of p request.now.lwp) (λ l. effect_meant l result ≡ effect_of sys.now p l request.now)) }
+    ensures { ForSome (live_process sys.now request.now.pid)
+        (λ p. ForSome (lwp_of p request.now.lwp) (λ l. effect_meant l result ≡ effect_of sys.now p l request.now)) }
 {
     let process = live(sys, request.pid).unwrap();
     let lwp = process.lwps.get(request.lwp).unwrap();
@@ -40,8 +41,11 @@ fn perform_plain(sys: &mut Sys, request: &Request) -> Performed
     requires plain { is_plain request.now.call ≡ true }
     requires live { IsSome (live_process sys.old request.now.pid) }
     requires lwp { ForSome (live_process sys.old request.now.pid) (λ p. IsSome (lwp_of p request.now.lwp)) }
-    ensures system { ForSome (live_process sys.old request.now.pid) (λ p. ForSome (lwp_of p request.now.lwp) (λ l. sys.new ≡ after_effect request.now.pid p request.now.lwp l (effect_of sys.old p l request.now) sys.old)) }
-    ensures outcome { ForSome (live_process sys.old request.now.pid) (λ p. ForSome (lwp_of p request.now.lwp) (λ l. result ≡ outcome_of (effect_of sys.old p l request.now))) }
+    ensures system { ForSome (live_process sys.old request.now.pid)
+        (λ p. ForSome (lwp_of p request.now.lwp)
+        (λ l. sys.new ≡ after_effect request.now.pid p request.now.lwp l (effect_of sys.old p l request.now) sys.old)) }
+    ensures outcome { ForSome (live_process sys.old request.now.pid)
+        (λ p. ForSome (lwp_of p request.now.lwp) (λ l. result ≡ outcome_of (effect_of sys.old p l request.now))) }
 {
     let effect = decide_now(sys, request);
     make(sys, request.pid, request.lwp, effect)
@@ -54,10 +58,20 @@ fn perform_request(alloc: Global, sys: &mut Sys, request: &Request) -> Result<Pe
     requires live { IsSome (live_process sys.old request.now.pid) }
     requires lwp { ForSome (live_process sys.old request.now.pid) (λ p. IsSome (lwp_of p request.now.lwp)) }
     requires asked { request_of sys.old request.now.pid request.now.lwp ≡ Some request.now }
-    ensures system { IfOk result (λ outcome. ForSome (live_process sys.old request.now.pid) (λ p. ForSome (lwp_of p request.now.lwp) (λ l. sys.new ≡ after_effect request.now.pid p request.now.lwp l (effect_of sys.old p l request.now) sys.old))) }
-    ensures outcome { IfOk result (λ outcome. ForSome (live_process sys.old request.now.pid) (λ p. ForSome (lwp_of p request.now.lwp) (λ l. outcome ≡ outcome_of (effect_of sys.old p l request.now)))) }
+    ensures system { IfOk result
+        (λ outcome.
+        ForSome (live_process sys.old request.now.pid)
+        (λ p. ForSome (lwp_of p request.now.lwp)
+        (λ l. sys.new
+        ≡ after_effect request.now.pid p request.now.lwp l (effect_of sys.old p l request.now) sys.old))) }
+    ensures outcome { IfOk result
+        (λ outcome.
+        ForSome (live_process sys.old request.now.pid)
+        (λ p. ForSome (lwp_of p request.now.lwp) (λ l. outcome ≡ outcome_of (effect_of sys.old p l request.now)))) }
     ensures sure { takes_memory request.now.call ≡ false → IsOk result }
-    ensures memory { OnErr result (ForSome (live_process sys.old request.now.pid) (λ p. ForSome (lwp_of p request.now.lwp) (λ l. may_lack_memory (effect_of sys.old p l request.now) ≡ true))) }
+    ensures memory { OnErr result
+        (ForSome (live_process sys.old request.now.pid)
+        (λ p. ForSome (lwp_of p request.now.lwp) (λ l. may_lack_memory (effect_of sys.old p l request.now) ≡ true))) }
     ensures err { OnErr result (sys.new ≡ sys.old) }
 {
     if is_plain(request.call) {
@@ -109,16 +123,31 @@ fn perform_request(alloc: Global, sys: &mut Sys, request: &Request) -> Result<Pe
 }
 
 /// Performs the call at whose entry an lwp of a live process is, or in which it sleeps: the system is as the effect of
-/// the call leaves it, and the answer is what comes of it. The result is not stored yet, and the lwp stays where it was.
-/// Memory runs out only in some calls, and there only where the call is granted or too much would be mapped; the system
-/// then stays as it is.
+/// the call leaves it, and the answer is what comes of it. The result is not stored yet, and the lwp stays where it
+/// was. Memory runs out only in some calls, and there only where the call is granted or too much would be mapped; the
+/// system then stays as it is.
 pub fn perform(alloc: Global, sys: &mut Sys, pid: u32, lwp: u32) -> Result<Performed, NoMemory>
     requires lawful { IsLawfulSystem sys.old }
     requires call { IsSome (request_of sys.old pid lwp) }
-    ensures system { IfOk result (λ outcome. ForSome (request_of sys.old pid lwp) (λ request. ForSome (live_process sys.old pid) (λ p. ForSome (lwp_of p lwp) (λ l. sys.new ≡ after_effect pid p lwp l (effect_of sys.old p l request) sys.old)))) }
-    ensures outcome { IfOk result (λ outcome. ForSome (request_of sys.old pid lwp) (λ request. ForSome (live_process sys.old pid) (λ p. ForSome (lwp_of p lwp) (λ l. outcome ≡ outcome_of (effect_of sys.old p l request))))) }
+    ensures system { IfOk result
+        (λ outcome.
+        ForSome (request_of sys.old pid lwp)
+        (λ request.
+        ForSome (live_process sys.old pid)
+        (λ p. ForSome (lwp_of p lwp)
+        (λ l. sys.new ≡ after_effect pid p lwp l (effect_of sys.old p l request) sys.old)))) }
+    ensures outcome { IfOk result
+        (λ outcome.
+        ForSome (request_of sys.old pid lwp)
+        (λ request.
+        ForSome (live_process sys.old pid)
+        (λ p. ForSome (lwp_of p lwp) (λ l. outcome ≡ outcome_of (effect_of sys.old p l request))))) }
     ensures sure { ForSome (request_of sys.old pid lwp) (λ request. takes_memory request.call ≡ false → IsOk result) }
-    ensures memory { OnErr result (ForSome (request_of sys.old pid lwp) (λ request. ForSome (live_process sys.old pid) (λ p. ForSome (lwp_of p lwp) (λ l. may_lack_memory (effect_of sys.old p l request) ≡ true)))) }
+    ensures memory { OnErr result
+        (ForSome (request_of sys.old pid lwp)
+        (λ request.
+        ForSome (live_process sys.old pid)
+        (λ p. ForSome (lwp_of p lwp) (λ l. may_lack_memory (effect_of sys.old p l request) ≡ true)))) }
     ensures err { OnErr result (sys.new ≡ sys.old) }
 {
     let request = request_of(sys, pid, lwp).unwrap();

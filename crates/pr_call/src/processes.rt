@@ -26,9 +26,20 @@ pub fn fork_by(alloc: Global, sys: &mut Sys, request: &Request) -> Result<Perfor
     requires live { IsSome (live_process sys.old request.now.pid) }
     requires lwp { ForSome (live_process sys.old request.now.pid) (λ p. IsSome (lwp_of p request.now.lwp)) }
     requires asked { request_of sys.old request.now.pid request.now.lwp ≡ Some request.now }
-    ensures system { IfOk result (λ outcome. ForSome (live_process sys.old request.now.pid) (λ p. ForSome (lwp_of p request.now.lwp) (λ l. sys.new ≡ after_effect request.now.pid p request.now.lwp l (fork_effect sys.old p request.now.lwp request.now.args) sys.old))) }
-    ensures outcome { IfOk result (λ outcome. ForSome (live_process sys.old request.now.pid) (λ p. outcome ≡ outcome_of (fork_effect sys.old p request.now.lwp request.now.args))) }
-    ensures memory { OnErr result (ForSome (live_process sys.old request.now.pid) (λ p. is_granted (fork_effect sys.old p request.now.lwp request.now.args) ≡ true)) }
+    ensures system { IfOk result
+        (λ outcome.
+        ForSome (live_process sys.old request.now.pid)
+        (λ p. ForSome (lwp_of p request.now.lwp)
+        (λ l. sys.new
+        ≡ after_effect request.now.pid p request.now.lwp l
+        (fork_effect sys.old p request.now.lwp request.now.args) sys.old))) }
+    ensures outcome { IfOk result
+        (λ outcome.
+        ForSome (live_process sys.old request.now.pid)
+        (λ p. outcome ≡ outcome_of (fork_effect sys.old p request.now.lwp request.now.args))) }
+    ensures memory { OnErr result
+        (ForSome (live_process sys.old request.now.pid)
+        (λ p. is_granted (fork_effect sys.old p request.now.lwp request.now.args) ≡ true)) }
     ensures err { OnErr result (sys.new ≡ sys.old) }
 {
     let pid = request.pid;
@@ -62,9 +73,20 @@ pub fn vfork_by(alloc: Global, sys: &mut Sys, request: &Request) -> Result<Perfo
     requires live { IsSome (live_process sys.old request.now.pid) }
     requires lwp { ForSome (live_process sys.old request.now.pid) (λ p. IsSome (lwp_of p request.now.lwp)) }
     requires asked { request_of sys.old request.now.pid request.now.lwp ≡ Some request.now }
-    ensures system { IfOk result (λ outcome. ForSome (live_process sys.old request.now.pid) (λ p. ForSome (lwp_of p request.now.lwp) (λ l. sys.new ≡ after_effect request.now.pid p request.now.lwp l (vfork_effect sys.old p request.now.lwp request.now.args) sys.old))) }
-    ensures outcome { IfOk result (λ outcome. ForSome (live_process sys.old request.now.pid) (λ p. outcome ≡ outcome_of (vfork_effect sys.old p request.now.lwp request.now.args))) }
-    ensures memory { OnErr result (ForSome (live_process sys.old request.now.pid) (λ p. is_granted (vfork_effect sys.old p request.now.lwp request.now.args) ≡ true)) }
+    ensures system { IfOk result
+        (λ outcome.
+        ForSome (live_process sys.old request.now.pid)
+        (λ p. ForSome (lwp_of p request.now.lwp)
+        (λ l. sys.new
+        ≡ after_effect request.now.pid p request.now.lwp l
+        (vfork_effect sys.old p request.now.lwp request.now.args) sys.old))) }
+    ensures outcome { IfOk result
+        (λ outcome.
+        ForSome (live_process sys.old request.now.pid)
+        (λ p. outcome ≡ outcome_of (vfork_effect sys.old p request.now.lwp request.now.args))) }
+    ensures memory { OnErr result
+        (ForSome (live_process sys.old request.now.pid)
+        (λ p. is_granted (vfork_effect sys.old p request.now.lwp request.now.args) ≡ true)) }
     ensures err { OnErr result (sys.new ≡ sys.old) }
 {
     let pid = request.pid;
@@ -113,9 +135,14 @@ pub fn exec_by(
 ) -> Result<Performed, NoMemory>
     requires live { IsSome (live_process sys.old pid) }
     requires lwp { ForSome (live_process sys.old pid) (λ p. IsSome (lwp_of p id)) }
-    ensures system { IfOk result (λ outcome. ForSome (live_process sys.old pid) (λ p. ForSome (lwp_of p id) (λ l. sys.new ≡ after_effect pid p id l (exec_effect sys.old p id at) sys.old))) }
-    ensures outcome { IfOk result (λ outcome. ForSome (live_process sys.old pid) (λ p. outcome ≡ outcome_of (exec_effect sys.old p id at))) }
-    ensures memory { OnErr result (ForSome (live_process sys.old pid) (λ p. may_lack_memory (exec_effect sys.old p id at) ≡ true)) }
+    ensures system { IfOk result
+        (λ outcome.
+        ForSome (live_process sys.old pid)
+        (λ p. ForSome (lwp_of p id) (λ l. sys.new ≡ after_effect pid p id l (exec_effect sys.old p id at) sys.old))) }
+    ensures outcome { IfOk result
+        (λ outcome. ForSome (live_process sys.old pid) (λ p. outcome ≡ outcome_of (exec_effect sys.old p id at))) }
+    ensures memory { OnErr result
+        (ForSome (live_process sys.old pid) (λ p. may_lack_memory (exec_effect sys.old p id at) ≡ true)) }
     ensures granted { OnErr result (ForSome (live_process sys.old pid) (λ p. is_granted (exec_effect sys.old p id at) ≡ true)) }
     ensures err { OnErr result (sys.new ≡ sys.old) }
 {

@@ -28,7 +28,9 @@ fn is_kill(signal: Sig) -> bool
 fn deliver(sys: &mut Sys, own: u32, id: u32, signal: Sig, info: Info) -> Performed
     requires live { IsSome (live_process sys.old own) }
     requires sent { IsSent sys.old id id signal }
-    ensures system { ForSome (live_process sys.old own) (λ p. (caller : ℕ) (l : TracedLwp) → sys.new ≡ after_effect own p caller l (sent_effect own id info (sends signal)) sys.old) }
+    ensures system { ForSome (live_process sys.old own)
+        (λ p. (caller : ℕ) (l : TracedLwp)
+        → sys.new ≡ after_effect own p caller l (sent_effect own id info (sends signal)) sys.old) }
     ensures outcome { result ≡ outcome_of (sent_effect own id info (sends signal)) }
 {
     if is_kill(signal) && id == own {
@@ -44,7 +46,9 @@ fn deliver(sys: &mut Sys, own: u32, id: u32, signal: Sig, info: Info) -> Perform
 #[tactic(auto, using(crate::proofs::SendingLemmas::send_laws))]
 pub fn send(sys: &mut Sys, own: u32, target: u64, number: u64, info: Info) -> Performed
     requires { IsSome (live_process sys.old own) }
-    ensures system { ForSome (live_process sys.old own) (λ p. (caller : ℕ) (l : TracedLwp) → sys.new ≡ after_effect own p caller l (send_effect own target number info (life_of sys.old target)) sys.old) }
+    ensures system { ForSome (live_process sys.old own)
+        (λ p. (caller : ℕ) (l : TracedLwp)
+        → sys.new ≡ after_effect own p caller l (send_effect own target number info (life_of sys.old target)) sys.old) }
     ensures outcome { result ≡ outcome_of (send_effect own target number info (life_of sys.old target)) }
 {
     match sending_of(sys, target, number) {

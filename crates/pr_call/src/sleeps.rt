@@ -45,7 +45,10 @@ fn is_slept(clock: u64, since: u64, time: u64) -> bool
 /// Whether a call in which an lwp of a process sleeps is ready: it would not sleep any more. Changes nothing.
 #[tactic(auto, unfolding(pr_model::specs::LwpTurns::is_ready, pr_model::specs::CallEffects::call_effect))]
 pub fn is_ready(sys: &Sys, process: &Proc, request: &Request) -> bool
-    ensures { (l : TracedLwp) → result ≡ is_ready sys.now request.now.pid process.now request.now.lwp l request.now.since request.now.call request.now.args }
+    ensures { (l : TracedLwp)
+        → result
+        ≡ is_ready sys.now request.now.pid process.now request.now.lwp l request.now.since request.now.call
+        request.now.args }
 {
     let args = request.args;
     match request.call {

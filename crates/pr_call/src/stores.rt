@@ -67,7 +67,8 @@ pub fn store_three(
     third: u64,
 ) -> Result<(), NoMemory>
     requires { can_write space.old at (3 * word_size) ≡ true }
-    ensures ok { OnOk result (space.new ≡ with_bytes at (word_bytes first ++ word_bytes second ++ word_bytes third) space.old) }
+    ensures ok { OnOk result
+        (space.new ≡ with_bytes at (word_bytes first ++ word_bytes second ++ word_bytes third) space.old) }
     ensures err { OnErr result (space.new ≡ space.old) }
 {
     let mut bytes = [0; 24];

@@ -103,8 +103,9 @@ pub fn is_written(files: &Files, fds: &Fds, space: &Space, fd: u64, at: u64, siz
     }
 }
 
-/// Reads through a descriptor that is open for reading, at most so many bytes as the buffer has, and stores them; memory
-/// can take as many. They are looked at and stored first, since memory can run out then: nothing is read in that case.
+/// Reads through a descriptor that is open for reading, at most so many bytes as the buffer has, and stores them;
+/// memory can take as many. They are looked at and stored first, since memory can run out then: nothing is read in that
+/// case.
 #[tactic(auto, using(crate::proofs::TransferLemmas::filling))]
 fn fill(
     files: &mut Files,
@@ -117,8 +118,11 @@ fn fill(
     requires readable { is_some (open_for_reading files.old fds.now fd) ≡ true }
     requires within { length buffer.old ≤ transfer_limit }
     requires can { can_write space.old at (length buffer.old) ≡ true }
-    ensures effect { lacks_memory result ≡ false → answer_meant result (files_are files.new fds.now ∷ space_is space.new ∷ []) ≡ read_effect files.old fds.now space.old fd at (length buffer.old) }
-    ensures memory { lacks_memory result ≡ true → may_lack_memory (read_effect files.old fds.now space.old fd at (length buffer.old)) ≡ true }
+    ensures effect { lacks_memory result ≡ false
+        → answer_meant result (files_are files.new fds.now ∷ space_is space.new ∷ [])
+        ≡ read_effect files.old fds.now space.old fd at (length buffer.old) }
+    ensures memory { lacks_memory result ≡ true
+        → may_lack_memory (read_effect files.old fds.now space.old fd at (length buffer.old)) ≡ true }
     ensures files { OnErr result (files.new ≡ files.old) }
     ensures space { OnErr result (space.new ≡ space.old) }
 {
@@ -142,7 +146,9 @@ fn read_into(
     at: u64,
     size: u64,
 ) -> Result<u64, Refusal>
-    ensures effect { lacks_memory result ≡ false → answer_meant result (files_are files.new fds.now ∷ space_is space.new ∷ []) ≡ read_effect files.old fds.now space.old fd at size }
+    ensures effect { lacks_memory result ≡ false
+        → answer_meant result (files_are files.new fds.now ∷ space_is space.new ∷ [])
+        ≡ read_effect files.old fds.now space.old fd at size }
     ensures memory { lacks_memory result ≡ true → may_lack_memory (read_effect files.old fds.now space.old fd at size) ≡ true }
     ensures files { OnErr result (files.new ≡ files.old) }
     ensures space { OnErr result (space.new ≡ space.old) }
@@ -161,7 +167,9 @@ fn read_into(
 /// Writes bytes through a descriptor.
 fn put(alloc: Global, files: &mut Files, fds: &Fds, fd: u64, bytes: &[u8]) -> Result<u64, Refusal>
     requires { length bytes.now ≤ transfer_limit }
-    ensures effect { lacks_memory result ≡ false → answer_meant result (files_are files.new fds.now ∷ []) ≡ file_effect (write_fd files.old fds.now fd bytes.now) }
+    ensures effect { lacks_memory result ≡ false
+        → answer_meant result (files_are files.new fds.now ∷ [])
+        ≡ file_effect (write_fd files.old fds.now fd bytes.now) }
     ensures memory { lacks_memory result ≡ true → may_lack_memory (file_effect (write_fd files.old fds.now fd bytes.now)) ≡ true }
     ensures files { OnErr result (files.new ≡ files.old) }
 {
@@ -183,8 +191,11 @@ fn drain(
 ) -> Result<u64, Refusal>
     requires writable { is_some (open_for_writing files.old fds.now fd) ≡ true }
     requires within { length buffer.old ≤ transfer_limit }
-    ensures effect { lacks_memory result ≡ false → answer_meant result (files_are files.new fds.now ∷ []) ≡ write_effect files.old fds.now space.now fd at (length buffer.old) }
-    ensures memory { lacks_memory result ≡ true → may_lack_memory (write_effect files.old fds.now space.now fd at (length buffer.old)) ≡ true }
+    ensures effect { lacks_memory result ≡ false
+        → answer_meant result (files_are files.new fds.now ∷ [])
+        ≡ write_effect files.old fds.now space.now fd at (length buffer.old) }
+    ensures memory { lacks_memory result ≡ true
+        → may_lack_memory (write_effect files.old fds.now space.now fd at (length buffer.old)) ≡ true }
     ensures files { OnErr result (files.new ≡ files.old) }
 {
     match space.read(at, buffer, PROT_READ) {
@@ -203,7 +214,8 @@ fn write_from(
     at: u64,
     size: u64,
 ) -> Result<u64, Refusal>
-    ensures effect { lacks_memory result ≡ false → answer_meant result (files_are files.new fds.now ∷ []) ≡ write_effect files.old fds.now space.now fd at size }
+    ensures effect { lacks_memory result ≡ false
+        → answer_meant result (files_are files.new fds.now ∷ []) ≡ write_effect files.old fds.now space.now fd at size }
     ensures memory { lacks_memory result ≡ true → may_lack_memory (write_effect files.old fds.now space.now fd at size) ≡ true }
     ensures files { OnErr result (files.new ≡ files.old) }
 {
@@ -247,9 +259,18 @@ pub fn read(
     size: u64,
 ) -> Result<Performed, NoMemory>
     requires { IsSome (live_process sys.old pid) }
-    ensures system { IfOk result (λ outcome. ForSome (live_process sys.old pid) (λ p. (l : TracedLwp) → sys.new ≡ after_effect pid p id l (read_effect sys.old.files p.fds p.space fd at size) sys.old)) }
-    ensures outcome { IfOk result (λ outcome. ForSome (live_process sys.old pid) (λ p. outcome ≡ outcome_of (read_effect sys.old.files p.fds p.space fd at size))) }
-    ensures memory { OnErr result (ForSome (live_process sys.old pid) (λ p. may_lack_memory (read_effect sys.old.files p.fds p.space fd at size) ≡ true)) }
+    ensures system { IfOk result
+        (λ outcome.
+        ForSome (live_process sys.old pid)
+        (λ p. (l : TracedLwp)
+        → sys.new ≡ after_effect pid p id l (read_effect sys.old.files p.fds p.space fd at size) sys.old)) }
+    ensures outcome { IfOk result
+        (λ outcome.
+        ForSome (live_process sys.old pid)
+        (λ p. outcome ≡ outcome_of (read_effect sys.old.files p.fds p.space fd at size))) }
+    ensures memory { OnErr result
+        (ForSome (live_process sys.old pid)
+        (λ p. may_lack_memory (read_effect sys.old.files p.fds p.space fd at size) ≡ true)) }
     ensures err { OnErr result (sys.new ≡ sys.old) }
 {
     let process = sys.processes.get_mut(pid);
@@ -279,9 +300,18 @@ pub fn write(
     size: u64,
 ) -> Result<Performed, NoMemory>
     requires { IsSome (live_process sys.old pid) }
-    ensures system { IfOk result (λ outcome. ForSome (live_process sys.old pid) (λ p. (l : TracedLwp) → sys.new ≡ after_effect pid p id l (write_effect sys.old.files p.fds p.space fd at size) sys.old)) }
-    ensures outcome { IfOk result (λ outcome. ForSome (live_process sys.old pid) (λ p. outcome ≡ outcome_of (write_effect sys.old.files p.fds p.space fd at size))) }
-    ensures memory { OnErr result (ForSome (live_process sys.old pid) (λ p. may_lack_memory (write_effect sys.old.files p.fds p.space fd at size) ≡ true)) }
+    ensures system { IfOk result
+        (λ outcome.
+        ForSome (live_process sys.old pid)
+        (λ p. (l : TracedLwp)
+        → sys.new ≡ after_effect pid p id l (write_effect sys.old.files p.fds p.space fd at size) sys.old)) }
+    ensures outcome { IfOk result
+        (λ outcome.
+        ForSome (live_process sys.old pid)
+        (λ p. outcome ≡ outcome_of (write_effect sys.old.files p.fds p.space fd at size))) }
+    ensures memory { OnErr result
+        (ForSome (live_process sys.old pid)
+        (λ p. may_lack_memory (write_effect sys.old.files p.fds p.space fd at size) ≡ true)) }
     ensures err { OnErr result (sys.new ≡ sys.old) }
 {
     let process = sys.processes.get_mut(pid);

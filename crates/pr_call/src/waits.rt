@@ -42,7 +42,11 @@ fn store_status(space: &mut Space, at: u64, status: u64) -> Result<bool, NoMemor
 fn store_in(sys: &mut Sys, pid: u32, at: u64, status: u64) -> Result<bool, NoMemory>
     requires { IsSome (live_process sys.old pid) }
     ensures can { IfOk result (λ done. ForSome (live_process sys.old pid) (λ p. done ≡ can_write p.space at word_size)) }
-    ensures stored { IfOk result (λ done. ForSome (live_process sys.old pid) (λ p. done ≡ true → sys.new ≡ with_process pid (with_space (with_bytes at (word_bytes status) p.space)) sys.old)) }
+    ensures stored { IfOk result
+        (λ done.
+        ForSome (live_process sys.old pid)
+        (λ p. done ≡ true
+        → sys.new ≡ with_process pid (with_space (with_bytes at (word_bytes status) p.space)) sys.old)) }
     ensures kept { IfOk result (λ done. done ≡ false → sys.new ≡ sys.old) }
     ensures lacks { OnErr result (ForSome (live_process sys.old pid) (λ p. can_write p.space at word_size ≡ true)) }
     ensures err { OnErr result (sys.new ≡ sys.old) }
@@ -65,9 +69,18 @@ fn reap_child(sys: &mut Sys, pid: u32, child: u32)
 #[tactic(auto, using(crate::proofs::WaitLemmas::giving))]
 fn give(sys: &mut Sys, pid: u32, child: u32, status: u64, at: u64) -> Result<Performed, NoMemory>
     requires { IsSome (live_process sys.old pid) }
-    ensures system { IfOk result (λ outcome. ForSome (live_process sys.old pid) (λ p. (id : ℕ) (l : TracedLwp) → sys.new ≡ after_effect pid p id l (wait_effect p.space (first_zombie child status) at) sys.old)) }
-    ensures outcome { IfOk result (λ outcome. ForSome (live_process sys.old pid) (λ p. outcome ≡ outcome_of (wait_effect p.space (first_zombie child status) at))) }
-    ensures memory { OnErr result (ForSome (live_process sys.old pid) (λ p. may_lack_memory (wait_effect p.space (first_zombie child status) at) ≡ true)) }
+    ensures system { IfOk result
+        (λ outcome.
+        ForSome (live_process sys.old pid)
+        (λ p. (id : ℕ) (l : TracedLwp)
+        → sys.new ≡ after_effect pid p id l (wait_effect p.space (first_zombie child status) at) sys.old)) }
+    ensures outcome { IfOk result
+        (λ outcome.
+        ForSome (live_process sys.old pid)
+        (λ p. outcome ≡ outcome_of (wait_effect p.space (first_zombie child status) at))) }
+    ensures memory { OnErr result
+        (ForSome (live_process sys.old pid)
+        (λ p. may_lack_memory (wait_effect p.space (first_zombie child status) at) ≡ true)) }
     ensures err { OnErr result (sys.new ≡ sys.old) }
 {
     if at != 0 && !store_in(sys, pid, at, status)? {
@@ -82,9 +95,18 @@ fn give(sys: &mut Sys, pid: u32, child: u32, status: u64, at: u64) -> Result<Per
 #[tactic(auto, using(crate::proofs::WaitLemmas::waiting))]
 pub fn wait(sys: &mut Sys, pid: u32, at: u64) -> Result<Performed, NoMemory>
     requires { IsSome (live_process sys.old pid) }
-    ensures system { IfOk result (λ outcome. ForSome (live_process sys.old pid) (λ p. (id : ℕ) (l : TracedLwp) → sys.new ≡ after_effect pid p id l (wait_effect p.space (children_of sys.old pid) at) sys.old)) }
-    ensures outcome { IfOk result (λ outcome. ForSome (live_process sys.old pid) (λ p. outcome ≡ outcome_of (wait_effect p.space (children_of sys.old pid) at))) }
-    ensures memory { OnErr result (ForSome (live_process sys.old pid) (λ p. may_lack_memory (wait_effect p.space (children_of sys.old pid) at) ≡ true)) }
+    ensures system { IfOk result
+        (λ outcome.
+        ForSome (live_process sys.old pid)
+        (λ p. (id : ℕ) (l : TracedLwp)
+        → sys.new ≡ after_effect pid p id l (wait_effect p.space (children_of sys.old pid) at) sys.old)) }
+    ensures outcome { IfOk result
+        (λ outcome.
+        ForSome (live_process sys.old pid)
+        (λ p. outcome ≡ outcome_of (wait_effect p.space (children_of sys.old pid) at))) }
+    ensures memory { OnErr result
+        (ForSome (live_process sys.old pid)
+        (λ p. may_lack_memory (wait_effect p.space (children_of sys.old pid) at) ≡ true)) }
     ensures err { OnErr result (sys.new ≡ sys.old) }
 {
     match children(sys, pid) {

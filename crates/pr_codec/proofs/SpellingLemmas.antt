@@ -22,33 +22,42 @@ record Stands (bytes : List ℕ) (code : ℕ) (m : Message) : Type 0 where
 
 -- The row of a code is the message of that code.
 module _ (bytes : List ℕ) where
-  stands : (code : ℕ) (m : Message) → code ≡ message_code m → operands m ≡ each_of (operand_count m) (λ k. nth_word bytes (suc k)) → Stands bytes code m
+  stands : (code : ℕ) (m : Message) → code ≡ message_code m
+      → operands m ≡ each_of (operand_count m) (λ k. nth_word bytes (suc k)) → Stands bytes code m
   stands code m same words = record { code_is = same; words_are = words }
 
-  row : (code k : ℕ) (here other : Result Message MsgFault) → IfOk here (Stands bytes k) → IfOk other (Stands bytes code) → IfOk (cond (eqb code k) here other) (Stands bytes code)
+  row : (code k : ℕ) (here other : Result Message MsgFault) → IfOk here (Stands bytes k)
+      → IfOk other (Stands bytes code) → IfOk (cond (eqb code k) here other) (Stands bytes code)
   row code k here other h o = by (eqb code k) refl
     where
       by : (b : Bool) → eqb code k ≡ b → IfOk (cond b here other) (Stands bytes code)
       by true e = subst (λ c. IfOk here (Stands bytes c)) (sym (eqb-true code k e)) h
       by false e = o
 
-  enough : {A : Type 0} (b : Bool) (words : A) (make : A → Message) (k : ℕ) → Stands bytes k (make words) → IfOk (cond b (Err Short) (Ok words) >>= λ w. Ok (make w)) (Stands bytes k)
+  enough : {A : Type 0} (b : Bool) (words : A) (make : A → Message) (k : ℕ) → Stands bytes k (make words)
+      → IfOk (cond b (Err Short) (Ok words) >>= λ w. Ok (make w)) (Stands bytes k)
   enough true words make k h = tt
   enough false words make k h = h
 
-  one : (k : ℕ) (make : ℕ → Message) → Stands bytes k (make (nth_word bytes 1)) → IfOk (one_word bytes >>= λ w. Ok (make w)) (Stands bytes k)
+  one : (k : ℕ) (make : ℕ → Message) → Stands bytes k (make (nth_word bytes 1))
+      → IfOk (one_word bytes >>= λ w. Ok (make w)) (Stands bytes k)
   unfolding one_word
   one k make = enough (ltb (length bytes) 16) (nth_word bytes 1) make k
 
-  two : (k : ℕ) (make : ℕ → ℕ → Message) → Stands bytes k (make (nth_word bytes 1) (nth_word bytes 2)) → IfOk (two_words bytes >>= λ w. Ok (make w.0 w.1)) (Stands bytes k)
+  two : (k : ℕ) (make : ℕ → ℕ → Message) → Stands bytes k (make (nth_word bytes 1) (nth_word bytes 2))
+      → IfOk (two_words bytes >>= λ w. Ok (make w.0 w.1)) (Stands bytes k)
   unfolding two_words
   two k make = enough (ltb (length bytes) 24) (nth_word bytes 1, nth_word bytes 2) (λ w. make w.0 w.1) k
 
-  three : (k : ℕ) (make : ℕ → ℕ → ℕ → Message) → Stands bytes k (make (nth_word bytes 1) (nth_word bytes 2) (nth_word bytes 3)) → IfOk (three_words bytes >>= λ w. Ok (make w.0 w.1 w.2)) (Stands bytes k)
+  three : (k : ℕ) (make : ℕ → ℕ → ℕ → Message)
+      → Stands bytes k (make (nth_word bytes 1) (nth_word bytes 2) (nth_word bytes 3))
+      → IfOk (three_words bytes >>= λ w. Ok (make w.0 w.1 w.2)) (Stands bytes k)
   unfolding three_words
-  three k make = enough (ltb (length bytes) 32) (nth_word bytes 1, nth_word bytes 2, nth_word bytes 3) (λ w. make w.0 w.1 w.2) k
+  three k make =
+      enough (ltb (length bytes) 32) (nth_word bytes 1, nth_word bytes 2, nth_word bytes 3) (λ w. make w.0 w.1 w.2) k
 
-  eleven : (k : ℕ) (make : List ℕ → Message) → Stands bytes k (make (each_of 11 (λ i. nth_word bytes (suc i)))) → IfOk (eleven_words bytes >>= λ regs. Ok (make regs)) (Stands bytes k)
+  eleven : (k : ℕ) (make : List ℕ → Message) → Stands bytes k (make (each_of 11 (λ i. nth_word bytes (suc i))))
+      → IfOk (eleven_words bytes >>= λ regs. Ok (make regs)) (Stands bytes k)
   unfolding eleven_words
   eleven k make = enough (ltb (length bytes) 96) (each_of 11 (λ i. nth_word bytes (suc i))) make k
 
@@ -96,19 +105,27 @@ module _ (bytes : List ℕ) where
   unfolding with_tail
   with_tail-was m stood columns = by (ltb (length bytes) (encoded_length m)) refl
     where
-      padded : (b : Bool) → list_all (λ x. x == 0) (slice_range bytes (unpadded_length m) (encoded_length m)) ≡ b → encoded_length m ≤ length bytes → IfRead (cond b (Ok (m, encoded_length m)) (Err (BadOperand (encoded_length m / 8 - 1))))
+      padded : (b : Bool) → list_all (λ x. x == 0) (slice_range bytes (unpadded_length m) (encoded_length m)) ≡ b
+          → encoded_length m ≤ length bytes
+          → IfRead (cond b (Ok (m, encoded_length m)) (Err (BadOperand (encoded_length m / 8 - 1))))
       padded true e enough = record { stood = stood; columns = columns; enough = enough; zeros = e; size = refl }
       padded false e enough = tt
 
-      by : (b : Bool) → ltb (length bytes) (encoded_length m) ≡ b → IfRead (cond b (Err Short) (cond (list_all (λ x. x == 0) (slice_range bytes (unpadded_length m) (encoded_length m))) (Ok (m, encoded_length m)) (Err (BadOperand (encoded_length m / 8 - 1)))))
+      by : (b : Bool) → ltb (length bytes) (encoded_length m) ≡ b
+          → IfRead
+          (cond b (Err Short)
+          (cond (list_all (λ x. x == 0) (slice_range bytes (unpadded_length m) (encoded_length m)))
+          (Ok (m, encoded_length m)) (Err (BadOperand (encoded_length m / 8 - 1)))))
       by true e = tt
       by false e = padded _ refl (ltb-false _ _ e)
 
-  columns-were : (m : Message) (bad : Option ℕ) → bad_operand m ≡ bad → Stands bytes (nth_word bytes 0) m → IfRead (unless_bad m bad >>= with_tail bytes)
+  columns-were : (m : Message) (bad : Option ℕ) → bad_operand m ≡ bad → Stands bytes (nth_word bytes 0) m
+      → IfRead (unless_bad m bad >>= with_tail bytes)
   columns-were m None e stood = with_tail-was m stood e
   columns-were m (Some word) e stood = tt
 
-  message-was : (r : Result Message MsgFault) → IfOk r (Stands bytes (nth_word bytes 0)) → IfRead (r >>= in_columns >>= with_tail bytes)
+  message-was : (r : Result Message MsgFault) → IfOk r (Stands bytes (nth_word bytes 0))
+      → IfRead (r >>= in_columns >>= with_tail bytes)
   unfolding in_columns
   message-was (Ok m) stood = columns-were m (bad_operand m) refl stood
   message-was (Err fault) _ = tt
@@ -117,7 +134,8 @@ module _ (bytes : List ℕ) where
   unfolding first_message
   first_message-was = by (ltb (length bytes) 8)
     where
-      by : (b : Bool) → IfRead (cond b (Err Short) (message_read (nth_word bytes 0) bytes >>= in_columns >>= with_tail bytes))
+      by : (b : Bool)
+          → IfRead (cond b (Err Short) (message_read (nth_word bytes 0) bytes >>= in_columns >>= with_tail bytes))
       by true = tt
       by false = message-was _ (message_read-stands bytes (nth_word bytes 0))
 
@@ -132,11 +150,14 @@ get_or-each_of (suc n) f (suc k) inside = get_or-each_of n (λ i. f (suc i)) k (
 
 All-each_of : (P : ℕ → Type 0) (n : ℕ) (f : ℕ → ℕ) → ((k : ℕ) → P (f k)) → All P (each_of n f)
 All-each_of P zero f each = All-nil P
-All-each_of P (suc n) f each = All-cons P (f 0) (each_of n (λ k. f (suc k))) (each 0) (All-each_of P n (λ k. f (suc k)) (λ k. each (suc k)))
+All-each_of P (suc n) f each =
+    All-cons P (f 0) (each_of n (λ k. f (suc k))) (each 0) (All-each_of P n (λ k. f (suc k)) (λ k. each (suc k)))
 
 nth_word-word : (bytes : List ℕ) (k : ℕ) → All IsByte bytes → IsWord (nth_word bytes k)
 unfolding nth_word
-nth_word-word bytes k small = word_of-below (take 8 (drop (8 * k) bytes)) (All-take IsByte 8 (drop (8 * k) bytes) (All-drop IsByte (8 * k) bytes small))
+nth_word-word bytes k small =
+    word_of-below (take 8 (drop (8 * k) bytes))
+    (All-take IsByte 8 (drop (8 * k) bytes) (All-drop IsByte (8 * k) bytes small))
 
 -- the word at a place among the first words
 word_at-take : (bytes : List ℕ) (n k : ℕ) → k < n → word_at (take (8 * n) bytes) (8 * k) ≡ nth_word bytes k
@@ -147,9 +168,14 @@ word_at-take bytes n k inside =
     ap word_of (ap (take 8) along ∙ take-take 8 (8 * n - 8 * k) (drop (8 * k) bytes) (omega arith))
 
 -- the first words of bytes have the bytes that stand there
-words_bytes-front : (bytes : List ℕ) (n : ℕ) → All IsByte bytes → 8 * n ≤ length bytes → words_bytes (each_of n (nth_word bytes)) ≡ take (8 * n) bytes
+words_bytes-front : (bytes : List ℕ) (n : ℕ) → All IsByte bytes → 8 * n ≤ length bytes
+    → words_bytes (each_of n (nth_word bytes)) ≡ take (8 * n) bytes
 words_bytes-front bytes n small enough =
-    words_bytes-read (each_of n (nth_word bytes)) (take (8 * n) bytes) (omega (arith, length-each_of n (nth_word bytes), length-take (8 * n) bytes)) (All-take IsByte (8 * n) bytes small) (λ k inside. let below : k < n = omega (arith, length-each_of n (nth_word bytes)) in get_or-each_of n (nth_word bytes) k below ∙ sym (word_at-take bytes n k below))
+    words_bytes-read (each_of n (nth_word bytes)) (take (8 * n) bytes)
+    (omega (arith, length-each_of n (nth_word bytes), length-take (8 * n) bytes))
+    (All-take IsByte (8 * n) bytes small)
+    (λ k inside. let below : k < n = omega (arith, length-each_of n (nth_word bytes)) in
+    get_or-each_of n (nth_word bytes) k below ∙ sym (word_at-take bytes n k below))
 
 all_zeros : (xs : List ℕ) → list_all (λ b. b == 0) xs ≡ true → xs ≡ replicate (length xs) 0
 all_zeros [] e = refl
@@ -167,7 +193,12 @@ module _ (bytes : List ℕ) (m : Message) (n : ℕ) (small : All IsByte bytes) (
   length-tail_of : length tail_of ≡ tail_length m
   unfolding tail_of encoded_length unpadded_length
   length-tail_of =
-      omega (arith, was.enough, length-take (tail_length m) (drop (8 * (1 + operand_count m)) bytes), length-drop (8 * (1 + operand_count m)) bytes)
+      omega (
+        arith,
+        was.enough,
+        length-take (tail_length m) (drop (8 * (1 + operand_count m)) bytes),
+        length-drop (8 * (1 + operand_count m)) bytes,
+      )
 
   words-front : words_bytes (message_code m ∷ operands m) ≡ take (8 * (1 + operand_count m)) bytes
   unfolding encoded_length unpadded_length
@@ -176,39 +207,52 @@ module _ (bytes : List ℕ) (m : Message) (n : ℕ) (small : All IsByte bytes) (
       let words : message_code m ∷ operands m ≡ each_of (suc (operand_count m)) (nth_word bytes) =
       ap (λ code. code ∷ operands m) (sym stood.code_is) ∙ ap (λ ws. nth_word bytes 0 ∷ ws) stood.words_are in
       let count : suc (operand_count m) ≡ 1 + operand_count m = omega arith in
-      ap words_bytes words ∙ words_bytes-front bytes (suc (operand_count m)) small (omega (arith, was.enough)) ∙ ap (λ k. take (8 * k) bytes) count
+      ap words_bytes words ∙ words_bytes-front bytes (suc (operand_count m)) small (omega (arith, was.enough))
+      ∙ ap (λ k. take (8 * k) bytes) count
 
-  padding-zeros : take (padding (tail_length m)) (drop (unpadded_length m) bytes) ≡ replicate (padding (tail_length m)) 0
+  padding-zeros : take (padding (tail_length m)) (drop (unpadded_length m) bytes)
+      ≡ replicate (padding (tail_length m)) 0
   unfolding encoded_length
   padding-zeros =
       let p : encoded_length m - unpadded_length m ≡ padding (tail_length m) = omega arith in
       let zeros : list_all (λ b. b == 0) (take (padding (tail_length m)) (drop (unpadded_length m) bytes)) ≡ true =
       ap (λ k. list_all (λ b. b == 0) (take k (drop (unpadded_length m) bytes))) (sym p) ∙ was.zeros in
       let size : length (take (padding (tail_length m)) (drop (unpadded_length m) bytes)) ≡ padding (tail_length m) =
-      omega (arith, was.enough, length-take (padding (tail_length m)) (drop (unpadded_length m) bytes), length-drop (unpadded_length m) bytes) in
+      omega (
+        arith,
+        was.enough,
+        length-take (padding (tail_length m)) (drop (unpadded_length m) bytes),
+        length-drop (unpadded_length m) bytes,
+      ) in
       all_zeros (take (padding (tail_length m)) (drop (unpadded_length m) bytes)) zeros ∙ ap (λ k. replicate k 0) size
 
   spelt-here : take n bytes ≡ spelling m tail_of
   unfolding tail_of encoded_length unpadded_length
   spelt-here =
       let front : List ℕ = take (8 * (1 + operand_count m)) bytes in
-      let parts : take n bytes ≡ take (unpadded_length m) bytes ++ take (padding (tail_length m)) (drop (unpadded_length m) bytes) =
+      let parts : take n bytes
+      ≡ take (unpadded_length m) bytes ++ take (padding (tail_length m)) (drop (unpadded_length m) bytes) =
       ap (λ k. take k bytes) was.size ∙ take-add (unpadded_length m) (padding (tail_length m)) bytes in
       let unpadded : take (unpadded_length m) bytes ≡ words_bytes (message_code m ∷ operands m) ++ tail_of =
       take-add (8 * (1 + operand_count m)) (tail_length m) bytes ∙ ap (λ words. words ++ tail_of) (sym words-front) in
-      let pad : take (padding (tail_length m)) (drop (unpadded_length m) bytes) ≡ replicate (padding (length tail_of)) 0 =
+      let pad : take (padding (tail_length m)) (drop (unpadded_length m) bytes)
+      ≡ replicate (padding (length tail_of)) 0 =
       padding-zeros ∙ ap (λ (k : ℕ). replicate (padding k) 0) (sym length-tail_of) in
-      parts ∙ ap (λ front. front ++ take (padding (tail_length m)) (drop (unpadded_length m) bytes)) unpadded ∙ ap (λ zeros. words_bytes (message_code m ∷ operands m) ++ tail_of ++ zeros) pad
+      parts ∙ ap (λ front. front ++ take (padding (tail_length m)) (drop (unpadded_length m) bytes)) unpadded
+      ∙ ap (λ zeros. words_bytes (message_code m ∷ operands m) ++ tail_of ++ zeros) pad
 
   spells-here : Spells (take n bytes) m tail_of
   unfolding tail_of
   spells-here =
       let stood = was.stood in
       record {
-        words = subst (All IsWord) (sym stood.words_are) (All-each_of IsWord (operand_count m) _ (λ k. nth_word-word bytes (suc k) small));
+        words = subst (All IsWord) (sym stood.words_are)
+            (All-each_of IsWord (operand_count m) _ (λ k. nth_word-word bytes (suc k) small));
         count = ap length stood.words_are ∙ length-each_of (operand_count m) _;
         columns = was.columns;
-        tail_bytes = All-take IsByte (tail_length m) (drop (8 * (1 + operand_count m)) bytes) (All-drop IsByte (8 * (1 + operand_count m)) bytes small);
+        tail_bytes =
+            All-take IsByte (tail_length m) (drop (8 * (1 + operand_count m)) bytes)
+            (All-drop IsByte (8 * (1 + operand_count m)) bytes small);
         tail_fits = length-tail_of;
         spelt = spelt-here;
       }
@@ -216,7 +260,8 @@ module _ (bytes : List ℕ) (m : Message) (n : ℕ) (small : All IsByte bytes) (
   read-here : (n ≤ length bytes) × ((tail : List ℕ) × Spells (take n bytes) m tail)
   read-here = (omega (arith, was.enough, was.size), (tail_of, spells-here))
 
-pub read_is_spelt : (bytes : List ℕ) (m : Message) (n : ℕ) → All IsByte bytes → first_message bytes ≡ Ok (m, n) → (n ≤ length bytes) × ((tail : List ℕ) × Spells (take n bytes) m tail)
+pub read_is_spelt : (bytes : List ℕ) (m : Message) (n : ℕ) → All IsByte bytes → first_message bytes ≡ Ok (m, n)
+    → (n ≤ length bytes) × ((tail : List ℕ) × Spells (take n bytes) m tail)
 read_is_spelt bytes m n small read =
     let was : WasRead bytes m n = subst (λ r. IfOk r (λ x. WasRead bytes x.0 x.1)) read (first_message-was bytes) in
     read-here bytes m n small was

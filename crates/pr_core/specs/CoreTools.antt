@@ -27,8 +27,8 @@ space_with (m ∷ ms) (bytes ∷ memory) = mapping_with m bytes ∷ space_with m
 unfoldable pub core_space : CoreState → Space
 core_space c = space_with c.maps c.memory
 
--- the bytes of the record of a core that a tool shows, a row a tool; pstack shows more than a record, and what the others
--- show is no part of a core
+-- the bytes of the record of a core that a tool shows, a row a tool; pstack shows more than a record, and what the
+-- others show is no part of a core
 unfoldable pub record_of : ToolKind → CoreState → List ℕ
 record_of Pflags c = lstatus_bytes c.lwps
 record_of Psig c = sigact_bytes c.sigact

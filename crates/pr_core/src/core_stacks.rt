@@ -58,7 +58,8 @@ fn push_stack(
     space: &CoreSpace<'_>,
     lwp: &LwpStatus,
 ) -> Result<(), NoMemory>
-    ensures { OnOk result (text.new ≡ text.old ++ lwp_stack (option_copied program.entry) (space_in space.now) lwp.now) }
+    ensures { OnOk result
+        (text.new ≡ text.old ++ lwp_stack (option_copied program.entry) (space_in space.now) lwp.now) }
 {
     push_label(text, u64::from(lwp.id))?;
     end_line(text)?;

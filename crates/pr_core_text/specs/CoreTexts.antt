@@ -1,6 +1,6 @@
--- Reading the text of a core, as gcore(1) prints it: a line `core N`, N the number of bytes in decimal, and the bytes in
--- lines of hex of 1,024 bytes each, the last with the rest. Lines count from a number, and one that is damaged is told by
--- its number. What follows the text is not looked at.
+-- Reading the text of a core, as gcore(1) prints it: a line `core N`, N the number of bytes in decimal, and the bytes
+-- in lines of hex of 1,024 bytes each, the last with the rest. Lines count from a number, and one that is damaged is
+-- told by its number. What follows the text is not looked at.
 use Rattle.std.specs.Prelude.{◌≡◌, ◌==◌, ℕ, ◌+◌, ◌-◌, ◌/◌, ◌++◌, List, [], ◌∷◌, Option, Some, None, Result, Ok, Err, codes, decimal, drop, length, min, nat_lt, if◌then◌else◌}
 use Rattle.std.specs.List.{starts_with}
 use Rattle.std.specs.Str.{bytes_eq}

@@ -57,10 +57,11 @@ fn read_lines(alloc: Global, number: u32, lines: &[&[u8]]) -> Result<Core, CoreT
     core_of_bytes(alloc, number + 1, read)
 }
 
-/// The core whose text a text begins with: a line `core N`, N the number of bytes, and the bytes in lines of hex of 1,024
-/// bytes each, the last with the rest. Or the first line that is damaged, where the lines count from `first_line`; where
-/// the lines end too early that is the line behind the last. Or the line with the byte at which reading the core stops,
-/// which is the line behind the text where a byte is wanted there. What follows the text is not looked at.
+/// The core whose text a text begins with: a line `core N`, N the number of bytes, and the bytes in lines of hex of
+/// 1,024 bytes each, the last with the rest. Or the first line that is damaged, where the lines count from
+/// `first_line`; where the lines end too early that is the line behind the last. Or the line with the byte at which
+/// reading the core stops, which is the line behind the text where a byte is wanted there. What follows the text is not
+/// looked at.
 #[tactic(auto, unfolding(crate::specs::CoreTexts::core_of))]
 pub fn read_core(alloc: Global, text: &[u8], first_line: u32) -> Result<Core, CoreTextRefusal>
     requires { first_line + length text.now + 1 < 2 ^ 32 }

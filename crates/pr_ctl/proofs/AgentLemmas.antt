@@ -42,18 +42,23 @@ left true a b c h = absurd (cc)
 left false true b c h = absurd (cc)
 left false false b c h = refl
 
-module _ (s : TracedSystem) (pid : ℕ) (p : TracedProcess) (lwp : Option ℕ) (regs : List ℕ) (tail : List ℕ) (len : ℕ) where
+module _ (s : TracedSystem) (pid : ℕ) (p : TracedProcess) (lwp : Option ℕ) (regs : List ℕ) (tail : List ℕ)
+    (len : ℕ) where
   unstopped : Bool
   unstopped = has_agent p || not (list_all (lets_agent p.job_stop) p.lwps)
 
   full : Bool
   full = nat_le lwp_limit (length p.lwps)
 
-  pub agent-refused : (e : Errno) → agent_refusal p ≡ Some e → (let c : Controlled = record { system = s; reply = Fail e } in c) ≡ message_answer s pid p (aim_at lwp) (Agent regs) tail len
+  pub agent-refused : (e : Errno) → agent_refusal p ≡ Some e
+      → (let c : Controlled = record { system = s; reply = Fail e } in c)
+      ≡ message_answer s pid p (aim_at lwp) (Agent regs) tail len
   unfolding agent_refusal message_answer agent_answer unstopped full
   agent-refused e h = refused_with (has_lent p) unstopped full _ s e h
 
-  pub agent-made : agent_refusal p ≡ None → (let c : Controlled = record { system = with_process pid (with_agent regs) s; reply = Used len } in c) ≡ message_answer s pid p (aim_at lwp) (Agent regs) tail len
+  pub agent-made : agent_refusal p ≡ None
+      → (let c : Controlled = record { system = with_process pid (with_agent regs) s; reply = Used len } in c)
+      ≡ message_answer s pid p (aim_at lwp) (Agent regs) tail len
   unfolding agent_refusal message_answer agent_answer unstopped full
   agent-made h = granted (has_lent p) unstopped full _ s h
 

@@ -11,7 +11,8 @@ use Rattle.pr_ctl.proofs.ProcessLemmas.{lent-same, put-found, used}
 use Rattle.pr_ctl.specs.Memory.{memory_reply}
 
 -- PCREAD changes nothing.
-pub read-reply : (s : TracedSystem) (pid : ℕ) (p : TracedProcess) (r : Result (List ℕ) BadByte) → (let c : Controlled = record { system = s; reply = memory_reply r } in c) ≡ read_of s pid p r
+pub read-reply : (s : TracedSystem) (pid : ℕ) (p : TracedProcess) (r : Result (List ℕ) BadByte)
+    → (let c : Controlled = record { system = s; reply = memory_reply r } in c) ≡ read_of s pid p r
 read-reply s pid p (Ok bytes) = refl
 read-reply s pid p (Err bad) = refl
 

@@ -10,7 +10,8 @@ use Rattle.pr_msg.specs.Beginnings.{BeginsWith}
 
 -- ---- the operands of the message with which bytes begin lie in their columns
 
-pub columns : (bytes : List ℕ) (r : Result (Message × ℕ) MsgFault) → ((m : Message) (n : ℕ) → (r ≡ Ok (m, n)) ↔ BeginsWith bytes m n) → IfOk r (λ first. bad_operand first.0 ≡ None)
+pub columns : (bytes : List ℕ) (r : Result (Message × ℕ) MsgFault)
+    → ((m : Message) (n : ℕ) → (r ≡ Ok (m, n)) ↔ BeginsWith bytes m n) → IfOk r (λ first. bad_operand first.0 ≡ None)
 columns bytes (Ok (m, n)) begins = ((begins m n).0 refl).spelt.columns
 columns bytes (Err fault) begins = tt
 
@@ -31,23 +32,29 @@ same_first a b m n e =
     same_Ok : (x y : Message × ℕ) → (let r : Read = Ok x in r) ≡ Ok y → x ≡ y
     same_Ok x y e = cc
 
-with_tail-fits : (bytes : List ℕ) (k m : Message) (n : ℕ) → with_tail bytes k ≡ first m n → unpadded_length m ≤ length bytes
+with_tail-fits : (bytes : List ℕ) (k m : Message) (n : ℕ) → with_tail bytes k ≡ first m n
+    → unpadded_length m ≤ length bytes
 unfolding with_tail encoded_length
 with_tail-fits bytes k m n e =
-    of (ltb (length bytes) (encoded_length k)) refl (list_all (λ b. b == 0) (slice_range bytes (unpadded_length k) (encoded_length k))) (encoded_length k / 8 - 1) e
+    of (ltb (length bytes) (encoded_length k)) refl
+    (list_all (λ b. b == 0) (slice_range bytes (unpadded_length k) (encoded_length k))) (encoded_length k / 8 - 1) e
   where
-    fits : (r : Bool) (word : ℕ) → ltb (length bytes) (encoded_length k) ≡ false → cond r (first k (encoded_length k)) (Err (BadOperand word)) ≡ first m n → unpadded_length m ≤ length bytes
+    fits : (r : Bool) (word : ℕ) → ltb (length bytes) (encoded_length k) ≡ false
+        → cond r (first k (encoded_length k)) (Err (BadOperand word)) ≡ first m n → unpadded_length m ≤ length bytes
     fits true word long e =
         let enough = ltb-false (length bytes) (encoded_length k) long in
         let less : unpadded_length k ≤ length bytes = omega arith in
         subst (λ j. unpadded_length j ≤ length bytes) (same_first k m (encoded_length k) n e) less
     fits false word long e = absurd (cc)
 
-    of : (b : Bool) → ltb (length bytes) (encoded_length k) ≡ b → (r : Bool) (word : ℕ) → cond b (Err Short) (cond r (first k (encoded_length k)) (Err (BadOperand word))) ≡ first m n → unpadded_length m ≤ length bytes
+    of : (b : Bool) → ltb (length bytes) (encoded_length k) ≡ b → (r : Bool) (word : ℕ)
+        → cond b (Err Short) (cond r (first k (encoded_length k)) (Err (BadOperand word))) ≡ first m n
+        → unpadded_length m ≤ length bytes
     of true short r word e = absurd (cc)
     of false long r word e = fits r word long e
 
-then_fits : (bytes : List ℕ) (q : Result Message MsgFault) (m : Message) (n : ℕ) → (q >>= with_tail bytes) ≡ Ok (m, n) → unpadded_length m ≤ length bytes
+then_fits : (bytes : List ℕ) (q : Result Message MsgFault) (m : Message) (n : ℕ) → (q >>= with_tail bytes) ≡ Ok (m, n)
+    → unpadded_length m ≤ length bytes
 then_fits bytes (Ok k) m n e = with_tail-fits bytes k m n e
 then_fits bytes (Err fault) m n e = absurd (cc)
 
@@ -55,10 +62,13 @@ fits : (bytes : List ℕ) (m : Message) (n : ℕ) → first_message bytes ≡ Ok
 unfolding first_message
 fits bytes m n = of (ltb (length bytes) 8)
   where
-    of : (b : Bool) → cond b (Err Short) ((message_read (nth_word bytes 0) bytes >>= in_columns) >>= with_tail bytes) ≡ Ok (m, n) → unpadded_length m ≤ length bytes
+    of : (b : Bool)
+        → cond b (Err Short) ((message_read (nth_word bytes 0) bytes >>= in_columns) >>= with_tail bytes) ≡ Ok (m, n)
+        → unpadded_length m ≤ length bytes
     of true e = absurd (cc)
     of false e = then_fits bytes (message_read (nth_word bytes 0) bytes >>= in_columns) m n e
 
-pub tail_fits : (bytes : List ℕ) (r : Result (Message × ℕ) MsgFault) → r ≡ first_message bytes → IfOk r (λ first. unpadded_length first.0 ≤ length bytes)
+pub tail_fits : (bytes : List ℕ) (r : Result (Message × ℕ) MsgFault) → r ≡ first_message bytes
+    → IfOk r (λ first. unpadded_length first.0 ≤ length bytes)
 tail_fits bytes (Ok (m, n)) e = fits bytes m n (sym e)
 tail_fits bytes (Err fault) e = tt

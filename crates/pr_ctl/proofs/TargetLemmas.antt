@@ -15,11 +15,13 @@ live : (h : Held) (o : Option TracedProcess) (p : TracedProcess) → still_there
 live h None p e = absurd (cc)
 live h (Some q) p e = ap Some (kept (not (is_of_lwp h.file) || is_some (lwp_of q h.lwp)) q p e)
 
-pub target-live : (s : TracedSystem) (h : Held) (p : TracedProcess) → target_of s h ≡ Some p → live_process s h.pid ≡ Some p
+pub target-live : (s : TracedSystem) (h : Held) (p : TracedProcess) → target_of s h ≡ Some p
+    → live_process s h.pid ≡ Some p
 unfolding target_of
 target-live s h p e = live h (live_process s h.pid) p e
 
-some : (s : TracedSystem) (h : Held) (o : Option TracedProcess) → target_of s h ≡ o → IsSome o → IsSome (live_process s h.pid)
+some : (s : TracedSystem) (h : Held) (o : Option TracedProcess) → target_of s h ≡ o → IsSome o
+    → IsSome (live_process s h.pid)
 some s h None e is = absurd (cc)
 some s h (Some p) e is = ap is_some (target-live s h p e)
 

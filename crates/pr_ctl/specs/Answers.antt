@@ -12,4 +12,6 @@ use Rattle.pr_ctl.specs.Aims.{aim_at}
 -- of an id, or where none is named through its own. So many bytes encode it, and these stand after its operands.
 abbrev pub Answers : TracedSystem → ℕ → Option ℕ → Message → List ℕ → ℕ → TracedSystem → Reply → Type 0
 Answers s pid lwp m tail len new reply =
-    ForSome (live_process s pid) (λ p. (let c : Controlled = record { system = new; reply = reply } in c) ≡ message_answer s pid p (aim_at lwp) m tail len)
+    ForSome (live_process s pid)
+    (λ p. (let c : Controlled = record { system = new; reply = reply } in c)
+    ≡ message_answer s pid p (aim_at lwp) m tail len)

@@ -47,7 +47,8 @@ aimed_by p None = option_map aimed_of (representative p)
 aimed_by p (Some id) = aimed_found id (lwp_of p id)
 
 -- it changed, if there is one
-unfoldable pub aimed_changed : TracedSystem → ℕ → TracedProcess → ℕ → (TracedLwp → TracedLwp) → Option Aimed → Controlled
+unfoldable pub aimed_changed : TracedSystem → ℕ → TracedProcess → ℕ → (TracedLwp → TracedLwp) → Option Aimed
+    → Controlled
 aimed_changed s pid p len change None = record { system = s; reply = Used len }
 aimed_changed s pid p len change (Some a) = with_process_changed s pid p len (with_lwp a.id change)
 
@@ -56,6 +57,7 @@ abbrev pub changed_if : TracedSystem → ℕ → TracedProcess → ℕ → (Trac
 changed_if s pid p len change id on_event =
     if on_event then with_process_changed s pid p len (with_lwp id change) else refused s Busy
 
-unfoldable pub stopped_changed : TracedSystem → ℕ → TracedProcess → ℕ → (TracedLwp → TracedLwp) → Option Aimed → Controlled
+unfoldable pub stopped_changed : TracedSystem → ℕ → TracedProcess → ℕ → (TracedLwp → TracedLwp) → Option Aimed
+    → Controlled
 stopped_changed s pid p len change None = refused s Busy
 stopped_changed s pid p len change (Some a) = changed_if s pid p len change a.id a.on_event

@@ -23,7 +23,8 @@ pending_for p (Some id) = pending_found p (lwp_of p id)
 -- the answer to PCKILL
 unfoldable pub kill_by_id : TracedSystem → ℕ → TracedProcess → Option ℕ → ℕ → Sig → Controlled
 kill_by_id s pid p id len g =
-    if has_room g (pending_for p id) then record { system = generated traced pid id g by_controller s; reply = Used len }
+    if has_room g
+    (pending_for p id) then record { system = generated traced pid id g by_controller s; reply = Used len }
     else refused s Again
 
 -- what PCUNKILL makes of the process

@@ -164,7 +164,8 @@ fn errno_of(reason: AgentNo) -> Result<Errno, NoMemory>
 #[tactic(auto, using(crate::proofs::AgentLemmas::agent_laws))]
 pub fn agent(sys: &mut Sys, pid: u32, regs: [u64; 11], length: u64) -> Result<Reply, NoMemory>
     requires { IsSome (live_process sys.old pid) }
-    ensures ok { (lwp : Option ℕ) (tail : List ℕ) → IfOk result (λ reply. Answers sys.old pid lwp (message.Agent regs) tail length sys.new reply) }
+    ensures ok { (lwp : Option ℕ) (tail : List ℕ)
+        → IfOk result (λ reply. Answers sys.old pid lwp (message.Agent regs) tail length sys.new reply) }
     ensures err { OnErr result (sys.new ≡ sys.old) }
 {
     match add_agent(sys, pid, regs) {

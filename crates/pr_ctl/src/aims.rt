@@ -58,7 +58,9 @@ fn lwp_of_aim(process: &Proc, lwp: Option<u32>) -> Option<Aimed>
 #[tactic(auto, unfolding(crate::specs::Changes::aimed_changed))]
 fn change_aimed(sys: &mut Sys, pid: u32, lwp: Option<u32>, change: LwpChange, length: u64) -> Reply
     requires { IsSome (live_process sys.old pid) }
-    ensures { ForSome (live_process sys.old pid) (λ p. (record { system = sys.new; reply = result }) ≡ aimed_changed sys.old pid p length (lwp_changed change) (aimed_by p lwp)) }
+    ensures { ForSome (live_process sys.old pid)
+        (λ p. (record { system = sys.new; reply = result })
+        ≡ aimed_changed sys.old pid p length (lwp_changed change) (aimed_by p lwp)) }
 {
     let Some(found) = lwp_of_aim(live(sys, pid).unwrap(), lwp) else {
         return Reply::Used(length);
@@ -77,7 +79,9 @@ fn change_stopped(
     length: u64,
 ) -> Reply
     requires { IsSome (live_process sys.old pid) }
-    ensures { ForSome (live_process sys.old pid) (λ p. (record { system = sys.new; reply = result }) ≡ stopped_changed sys.old pid p length (lwp_changed change) (aimed_by p lwp)) }
+    ensures { ForSome (live_process sys.old pid)
+        (λ p. (record { system = sys.new; reply = result })
+        ≡ stopped_changed sys.old pid p length (lwp_changed change) (aimed_by p lwp)) }
 {
     let Some(found) = lwp_of_aim(live(sys, pid).unwrap(), lwp) else {
         return Reply::Fail(Errno::Busy);
@@ -151,7 +155,9 @@ pub fn set_signal(
     length: u64,
 ) -> Reply
     requires { IsSome (live_process sys.old pid) }
-    ensures { ForSome (live_process sys.old pid) (λ p. (record { system = sys.new; reply = result }) ≡ aimed_changed sys.old pid p length (with_signal_set signal) (aimed_by p lwp)) }
+    ensures { ForSome (live_process sys.old pid)
+        (λ p. (record { system = sys.new; reply = result })
+        ≡ aimed_changed sys.old pid p length (with_signal_set signal) (aimed_by p lwp)) }
 {
     change_aimed(sys, pid, lwp, LwpChange::SetSignal(signal), length)
 }

@@ -58,7 +58,8 @@ fn wait_end(clock: u64, ms: u64) -> u64
 pub fn twstop(sys: &Sys, pid: u32, ms: u64) -> Reply
     requires clock { sys.now.clock ≤ clock_limit }
     requires columns { bad_operand (message.Twstop ms) ≡ None }
-    ensures { (lwp : Option ℕ) (tail : List ℕ) (used : ℕ) → Answers sys.now pid lwp (message.Twstop ms) tail used sys.now result }
+    ensures { (lwp : Option ℕ) (tail : List ℕ) (used : ℕ)
+        → Answers sys.now pid lwp (message.Twstop ms) tail used sys.now result }
 {
     Reply::Half(wait_end(sys.clock, ms))
 }
@@ -77,7 +78,8 @@ fn run_target(sys: &mut Sys, pid: u32, lwp: Option<u32>, flags: RunFlags)
 #[tactic(auto, using(crate::proofs::RunLemmas::run_laws), unfolding(crate::specs::Runs::run_by_id))]
 fn run_with(sys: &mut Sys, pid: u32, lwp: Option<u32>, flags: RunFlags, length: u64) -> Reply
     requires { IsSome (live_process sys.old pid) }
-    ensures { ForSome (live_process sys.old pid) (λ p. (record { system = sys.new; reply = result }) ≡ run_by_id sys.old pid p lwp flags length) }
+    ensures { ForSome (live_process sys.old pid)
+        (λ p. (record { system = sys.new; reply = result }) ≡ run_by_id sys.old pid p lwp flags length) }
 {
     if process_runs::run_refused(live(sys, pid).unwrap(), lwp) {
         return Reply::Fail(Errno::Busy);

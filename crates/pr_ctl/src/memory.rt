@@ -36,7 +36,8 @@ fn read_space(alloc: Global, space: &Space, at: u64, size: u64) -> Result<Reply,
 pub fn read(alloc: Global, sys: &Sys, pid: u32, at: u64, size: u64) -> Result<Reply, NoMemory>
     requires live { IsSome (live_process sys.now pid) }
     requires columns { bad_operand (message.Read at size) ≡ None }
-    ensures { (lwp : Option ℕ) (tail : List ℕ) (used : ℕ) → IfOk result (λ reply. Answers sys.now pid lwp (message.Read at size) tail used sys.now reply) }
+    ensures { (lwp : Option ℕ) (tail : List ℕ) (used : ℕ)
+        → IfOk result (λ reply. Answers sys.now pid lwp (message.Read at size) tail used sys.now reply) }
 {
     let process = live(sys, pid).unwrap();
     read_space(alloc, seen(sys, process), at, size)
@@ -47,7 +48,8 @@ pub fn read(alloc: Global, sys: &Sys, pid: u32, at: u64, size: u64) -> Result<Re
 #[tactic(auto, unfolding(pr_model::specs::Changes::with_space))]
 fn write_in(process: &mut Proc, at: u64, bytes: &[u8]) -> Result<bool, NoMemory>
     ensures value { IfOk result (λ done. done ≡ is_ok (bytes_for 0 process.old.space at (length bytes.now))) }
-    ensures written { IfOk result (λ done. done ≡ true → process.new ≡ with_space (with_bytes at bytes.now process.old.space) process.old) }
+    ensures written { IfOk result
+        (λ done. done ≡ true → process.new ≡ with_space (with_bytes at bytes.now process.old.space) process.old) }
     ensures refused { IfOk result (λ done. done ≡ false → process.new ≡ process.old) }
     ensures err { OnErr result (process.new ≡ process.old) }
 {
@@ -63,7 +65,10 @@ fn write_in(process: &mut Proc, at: u64, bytes: &[u8]) -> Result<bool, NoMemory>
 #[tactic(auto, using(pr_num::proofs::ByIdLaws::by_id_laws, pr_proc::proofs::LifeLemmas::life_laws), unfolding(pr_model::specs::Messages::write_answer, pr_model::specs::State::with_process))]
 fn write_own(sys: &mut Sys, pid: u32, at: u64, bytes: &[u8], used: u64) -> Result<Reply, NoMemory>
     requires { IsSome (live_process sys.old pid) }
-    ensures ok { IfOk result (λ reply. ForSome (live_process sys.old pid) (λ p. (record { system = sys.new; reply = reply }) ≡ write_answer sys.old pid p at bytes.now used)) }
+    ensures ok { IfOk result
+        (λ reply.
+        ForSome (live_process sys.old pid)
+        (λ p. (record { system = sys.new; reply = reply }) ≡ write_answer sys.old pid p at bytes.now used)) }
     ensures err { OnErr result (sys.new ≡ sys.old) }
 {
     let done = write_in(sys.processes.get_mut(pid), at, bytes)?;
@@ -79,7 +84,8 @@ fn write_own(sys: &mut Sys, pid: u32, at: u64, bytes: &[u8], used: u64) -> Resul
 #[tactic(auto, unfolding(pr_model::specs::Messages::message_answer))]
 pub fn write(sys: &mut Sys, pid: u32, at: u64, bytes: &[u8], used: u64) -> Result<Reply, NoMemory>
     requires { IsSome (live_process sys.old pid) }
-    ensures ok { (lwp : Option ℕ) (size : ℕ) → IfOk result (λ reply. Answers sys.old pid lwp (message.Write at size) bytes.now used sys.new reply) }
+    ensures ok { (lwp : Option ℕ) (size : ℕ)
+        → IfOk result (λ reply. Answers sys.old pid lwp (message.Write at size) bytes.now used sys.new reply) }
     ensures err { OnErr result (sys.new ≡ sys.old) }
 {
     if has_lent(sys, pid) {

@@ -56,7 +56,8 @@ pub fn tail(bytes: &[u8], message: Message) -> &[u8]
 }
 
 /// What a message of so many bytes does that a live process takes, through the file of the lwp of an id or of the
-/// process, a row a message. PCREAD, PCWRITE and PCAGENT alone take memory; where it runs out, the system stays as it is.
+/// process, a row a message. PCREAD, PCWRITE and PCAGENT alone take memory; where it runs out, the system stays as it
+/// is.
 #[tactic(auto, unfolding(pr_model::specs::Messages::message_answer))]
 fn handle(
     alloc: Global,
@@ -107,7 +108,11 @@ fn handle(
 fn handle_first(alloc: Global, sys: &mut Sys, held: Held, bytes: &[u8]) -> Result<Reply, NoMemory>
     requires there { IsSome (target_of sys.old held) }
     requires clock { sys.old.clock ≤ clock_limit }
-    ensures ok { IfOk result (λ reply. ForSome (target_of sys.old held) (λ p. (record { system = sys.new; reply = reply }) ≡ decoded_answer sys.old held p bytes.now (first_message bytes.now))) }
+    ensures ok { IfOk result
+        (λ reply.
+        ForSome (target_of sys.old held)
+        (λ p. (record { system = sys.new; reply = reply })
+        ≡ decoded_answer sys.old held p bytes.now (first_message bytes.now))) }
     ensures err { OnErr result (sys.new ≡ sys.old) }
     ensures sure { begins_in_place (first_message bytes.now) ≡ true → IsOk result }
 {
@@ -142,7 +147,8 @@ pub fn control(
     bytes: &[u8],
 ) -> Result<Reply, NoMemory>
     requires clock { sys.old.clock ≤ clock_limit }
-    ensures ok { IfOk result (λ reply. (record { system = sys.new; reply = reply }) ≡ control_answer sys.old opens.now by handle bytes.now) }
+    ensures ok { IfOk result
+        (λ reply. (record { system = sys.new; reply = reply }) ≡ control_answer sys.old opens.now by handle bytes.now) }
     ensures err { OnErr result (sys.new ≡ sys.old) }
     ensures sure { begins_in_place (first_message bytes.now) ≡ true → IsOk result }
 {

@@ -145,8 +145,8 @@ pub fn stops_or_will(lwp: Option<&Lwp>) -> bool
     }
 }
 
-/// Whether PCRUN is refused on an lwp, with its id: an agent that it is not exists, or it is neither stopped on an event
-/// of interest nor directed to stop.
+/// Whether PCRUN is refused on an lwp, with its id: an agent that it is not exists, or it is neither stopped on an
+/// event of interest nor directed to stop.
 #[tactic(auto, unfolding(pr_model::specs::Running::lwp_run_refused))]
 pub fn lwp_run_refused(process: &Proc, id: u32, lwp: &Lwp) -> bool
     ensures { result ≡ lwp_run_refused process.now id lwp.now }

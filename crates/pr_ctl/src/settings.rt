@@ -65,7 +65,8 @@ fn set(sys: &mut Sys, pid: u32, setting: Setting)
 #[tactic(auto, unfolding(pr_model::specs::Messages::message_answer, pr_num::specs::Messages::bad_operand, crate::specs::Changes::set_by))]
 pub fn strace(sys: &mut Sys, pid: u32, signals: u64, length: u64) -> Reply
     requires { bad_operand (message.Strace signals) ≡ None }
-    ensures { (tail : List ℕ) (lwp : Option ℕ) → Answers sys.old pid lwp (message.Strace signals) tail length sys.new result }
+    ensures { (tail : List ℕ) (lwp : Option ℕ)
+        → Answers sys.old pid lwp (message.Strace signals) tail length sys.new result }
 {
     set(sys, pid, Setting::Signals(SigSet::of_word(signals)));
     Reply::Used(length)
@@ -75,7 +76,8 @@ pub fn strace(sys: &mut Sys, pid: u32, signals: u64, length: u64) -> Reply
 #[tactic(auto, unfolding(pr_model::specs::Messages::message_answer, pr_num::specs::Messages::bad_operand, crate::specs::Changes::set_by))]
 pub fn sfault(sys: &mut Sys, pid: u32, faults: u64, length: u64) -> Reply
     requires { bad_operand (message.Sfault faults) ≡ None }
-    ensures { (tail : List ℕ) (lwp : Option ℕ) → Answers sys.old pid lwp (message.Sfault faults) tail length sys.new result }
+    ensures { (tail : List ℕ) (lwp : Option ℕ)
+        → Answers sys.old pid lwp (message.Sfault faults) tail length sys.new result }
 {
     set(sys, pid, Setting::Faults(FltSet::of_word(faults)));
     Reply::Used(length)
@@ -85,7 +87,8 @@ pub fn sfault(sys: &mut Sys, pid: u32, faults: u64, length: u64) -> Reply
 #[tactic(auto, unfolding(pr_model::specs::Messages::message_answer, pr_num::specs::Messages::bad_operand, crate::specs::Changes::set_by))]
 pub fn sentry(sys: &mut Sys, pid: u32, calls: u64, length: u64) -> Reply
     requires { bad_operand (message.Sentry calls) ≡ None }
-    ensures { (tail : List ℕ) (lwp : Option ℕ) → Answers sys.old pid lwp (message.Sentry calls) tail length sys.new result }
+    ensures { (tail : List ℕ) (lwp : Option ℕ)
+        → Answers sys.old pid lwp (message.Sentry calls) tail length sys.new result }
 {
     set(sys, pid, Setting::Entries(SysSet::of_word(calls)));
     Reply::Used(length)
@@ -95,7 +98,8 @@ pub fn sentry(sys: &mut Sys, pid: u32, calls: u64, length: u64) -> Reply
 #[tactic(auto, unfolding(pr_model::specs::Messages::message_answer, pr_num::specs::Messages::bad_operand, crate::specs::Changes::set_by))]
 pub fn sexit(sys: &mut Sys, pid: u32, calls: u64, length: u64) -> Reply
     requires { bad_operand (message.Sexit calls) ≡ None }
-    ensures { (tail : List ℕ) (lwp : Option ℕ) → Answers sys.old pid lwp (message.Sexit calls) tail length sys.new result }
+    ensures { (tail : List ℕ) (lwp : Option ℕ)
+        → Answers sys.old pid lwp (message.Sexit calls) tail length sys.new result }
 {
     set(sys, pid, Setting::Exits(SysSet::of_word(calls)));
     Reply::Used(length)
@@ -105,7 +109,8 @@ pub fn sexit(sys: &mut Sys, pid: u32, calls: u64, length: u64) -> Reply
 #[tactic(auto, unfolding(pr_model::specs::Messages::message_answer, pr_num::specs::Messages::bad_operand, crate::specs::Changes::set_by))]
 pub fn set_mode(sys: &mut Sys, pid: u32, modes: u64, length: u64) -> Reply
     requires { bad_operand (message.Set modes) ≡ None }
-    ensures { (tail : List ℕ) (lwp : Option ℕ) → Answers sys.old pid lwp (message.Set modes) tail length sys.new result }
+    ensures { (tail : List ℕ) (lwp : Option ℕ)
+        → Answers sys.old pid lwp (message.Set modes) tail length sys.new result }
 {
     set(sys, pid, Setting::Set(Modes::of_word(modes)));
     Reply::Used(length)
@@ -115,7 +120,8 @@ pub fn set_mode(sys: &mut Sys, pid: u32, modes: u64, length: u64) -> Reply
 #[tactic(auto, unfolding(pr_model::specs::Messages::message_answer, pr_num::specs::Messages::bad_operand, crate::specs::Changes::set_by))]
 pub fn unset_mode(sys: &mut Sys, pid: u32, modes: u64, length: u64) -> Reply
     requires { bad_operand (message.Unset modes) ≡ None }
-    ensures { (tail : List ℕ) (lwp : Option ℕ) → Answers sys.old pid lwp (message.Unset modes) tail length sys.new result }
+    ensures { (tail : List ℕ) (lwp : Option ℕ)
+        → Answers sys.old pid lwp (message.Unset modes) tail length sys.new result }
 {
     set(sys, pid, Setting::Unset(Modes::of_word(modes)));
     Reply::Used(length)

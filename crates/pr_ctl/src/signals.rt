@@ -28,7 +28,8 @@ fn is_kill(signal: Option<Sig>) -> bool
 #[tactic(auto, using(crate::proofs::CloseLemmas::close_laws), unfolding(pr_model::specs::Messages::killed))]
 fn kill_process(sys: &mut Sys, pid: u32, length: u64) -> Reply
     requires { IsSome (live_process sys.old pid) }
-    ensures { ForSome (live_process sys.old pid) (λ p. (record { system = sys.new; reply = result }) ≡ killed sys.old pid p length) }
+    ensures { ForSome (live_process sys.old pid)
+        (λ p. (record { system = sys.new; reply = result }) ≡ killed sys.old pid p length) }
 {
     end(sys, pid, Sig::Kill.number());
     Reply::Used(length)
@@ -64,7 +65,8 @@ fn room(process: &Proc, lwp: Option<u32>, signal: Sig) -> bool
 #[tactic(auto, using(crate::proofs::SignalLemmas::signal_laws), unfolding(crate::specs::Signals::kill_by_id))]
 fn kill_by_id(sys: &mut Sys, pid: u32, lwp: Option<u32>, signal: Sig, length: u64) -> Reply
     requires { IsSome (live_process sys.old pid) }
-    ensures { ForSome (live_process sys.old pid) (λ p. (record { system = sys.new; reply = result }) ≡ kill_by_id sys.old pid p lwp length signal) }
+    ensures { ForSome (live_process sys.old pid)
+        (λ p. (record { system = sys.new; reply = result }) ≡ kill_by_id sys.old pid p lwp length signal) }
 {
     if !room(live(sys, pid).unwrap(), lwp, signal) {
         return Reply::Fail(Errno::Again);
@@ -88,14 +90,16 @@ pub fn kill(sys: &mut Sys, pid: u32, lwp: Option<u32>, number: u64, length: u64)
 /// A signal pends for a process no more; of one that queues, the first that came.
 #[tactic(auto, unfolding(pr_model::specs::Messages::process_without_one))]
 fn take_back(process: &mut Proc, signal: Sig)
-    ensures { (s : TracedSystem) (pid : ℕ) (p : TracedProcess) → process.new ≡ process_without_one s pid p signal process.old }
+    ensures { (s : TracedSystem) (pid : ℕ) (p : TracedProcess)
+        → process.new ≡ process_without_one s pid p signal process.old }
 {
     process.pending.delete_one(signal);
 }
 
 #[tactic(auto, using(pr_num::proofs::ByIdLaws::by_id_laws), unfolding(pr_model::specs::State::with_process))]
 fn take_back_from(sys: &mut Sys, pid: u32, signal: Sig)
-    ensures { (s : TracedSystem) (p : TracedProcess) → sys.new ≡ with_process pid (process_without_one s pid p signal) sys.old }
+    ensures { (s : TracedSystem) (p : TracedProcess)
+        → sys.new ≡ with_process pid (process_without_one s pid p signal) sys.old }
 {
     if let Some(process) = sys.processes.find_mut(pid) {
         take_back(process, signal);
@@ -104,7 +108,8 @@ fn take_back_from(sys: &mut Sys, pid: u32, signal: Sig)
 
 #[tactic(auto, unfolding(crate::specs::Signals::unkilled, crate::specs::Changes::lwp_changed))]
 fn unkill_by_id(sys: &mut Sys, pid: u32, lwp: Option<u32>, signal: Sig)
-    ensures { (s : TracedSystem) (p : TracedProcess) → sys.new ≡ with_process pid (unkilled s pid p signal lwp) sys.old }
+    ensures { (s : TracedSystem) (p : TracedProcess)
+        → sys.new ≡ with_process pid (unkilled s pid p signal lwp) sys.old }
 {
     match lwp {
         None => take_back_from(sys, pid, signal),

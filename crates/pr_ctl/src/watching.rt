@@ -37,7 +37,9 @@ fn clear(control: &mut Control<Areas>, at: u64)
 fn set(control: &mut Control<Areas>, at: u64, size: u64, flags: u8) -> Result<(), WatchFault>
     requires { 0 < flags }
     ensures answer { result ≡ done_unless (set_refusal at size flags control.old.areas) }
-    ensures ok { OnOk result (control.new ≡ with_areas (with_area (record { at = at; size = size; flags = flags }) control.old.areas) control.old) }
+    ensures ok { OnOk result
+        (control.new
+        ≡ with_areas (with_area (record { at = at; size = size; flags = flags }) control.old.areas) control.old) }
     ensures err { OnErr result (control.new ≡ control.old) }
 {
     control.areas.set(at, size, flags)
@@ -54,7 +56,11 @@ fn clear_in(process: &mut Proc, at: u64)
 fn set_in(process: &mut Proc, at: u64, size: u64, flags: u8) -> Result<(), WatchFault>
     requires { 0 < flags }
     ensures answer { result ≡ done_unless (set_refusal at size flags process.old.control.areas) }
-    ensures ok { OnOk result (process.new ≡ with_control (with_areas (with_area (record { at = at; size = size; flags = flags }) process.old.control.areas)) process.old) }
+    ensures ok { OnOk result
+        (process.new
+        ≡ with_control
+        (with_areas (with_area (record { at = at; size = size; flags = flags }) process.old.control.areas))
+        process.old) }
     ensures err { OnErr result (process.new ≡ process.old) }
 {
     set(&mut process.control, at, size, flags)
@@ -64,7 +70,9 @@ fn set_in(process: &mut Proc, at: u64, size: u64, flags: u8) -> Result<(), Watch
 #[tactic(auto, using(pr_num::proofs::ByIdLaws::by_id_laws, pr_proc::proofs::LifeLemmas::life_laws), unfolding(pr_model::specs::Messages::watch_answer, pr_model::specs::State::with_process))]
 fn unwatch(sys: &mut Sys, pid: u32, at: u64, length: u64) -> Reply
     requires { IsSome (live_process sys.old pid) }
-    ensures { (size : ℕ) → ForSome (live_process sys.old pid) (λ p. (record { system = sys.new; reply = result }) ≡ watch_answer sys.old pid p at size 0 length) }
+    ensures { (size : ℕ)
+        → ForSome (live_process sys.old pid)
+        (λ p. (record { system = sys.new; reply = result }) ≡ watch_answer sys.old pid p at size 0 length) }
 {
     clear_in(sys.processes.get_mut(pid), at);
     Reply::Used(length)
@@ -76,7 +84,8 @@ fn watch_area(sys: &mut Sys, pid: u32, at: u64, size: u64, flags: u8, length: u6
     requires live { IsSome (live_process sys.old pid) }
     requires some { 0 < flags }
     requires columns { bad_operand (message.Watch at size flags) ≡ None }
-    ensures { ForSome (live_process sys.old pid) (λ p. (record { system = sys.new; reply = result }) ≡ watch_answer sys.old pid p at size flags length) }
+    ensures { ForSome (live_process sys.old pid)
+        (λ p. (record { system = sys.new; reply = result }) ≡ watch_answer sys.old pid p at size flags length) }
 {
     match set_in(sys.processes.get_mut(pid), at, size, flags) {
         Ok(()) => Reply::Used(length),
@@ -90,7 +99,8 @@ fn watch_area(sys: &mut Sys, pid: u32, at: u64, size: u64, flags: u8, length: u6
 pub fn watch(sys: &mut Sys, pid: u32, at: u64, size: u64, flags: u64, length: u64) -> Reply
     requires live { IsSome (live_process sys.old pid) }
     requires columns { bad_operand (message.Watch at size flags) ≡ None }
-    ensures { (lwp : Option ℕ) (tail : List ℕ) → Answers sys.old pid lwp (message.Watch at size flags) tail length sys.new result }
+    ensures { (lwp : Option ℕ) (tail : List ℕ)
+        → Answers sys.old pid lwp (message.Watch at size flags) tail length sys.new result }
 {
     if has_lent(sys, pid) {
         return Reply::Fail(Errno::Busy);

@@ -450,7 +450,8 @@ until-rest polls ready a b c all is fails far rest = stopped-at a b c far rest (
 
 pub until-full : (a b : RoundsState) → UnreadySoFar a b → b.seats.kernel.places ≤ length b.seats.kernel.history
     → GoesUntil a b
-until-full a b far full = stopped-at a b b far (full-rest 0 b full) (inl (le-ltb (length b.seats.kernel.history) b.seats.kernel.places full))
+until-full a b far full =
+    stopped-at a b b far (full-rest 0 b full) (inl (le-ltb (length b.seats.kernel.history) b.seats.kernel.places full))
 
 pub unready-places : (a b : RoundsState) → UnreadySoFar a b → b.seats.kernel.places ≡ a.seats.kernel.places
 unready-places a b far =

@@ -20,5 +20,6 @@ pub fn stopping_and_running_are_hidden()
 /// An lwp that stops because it was directed to leaves everything that programs can see.
 #[tactic(auto, using(crate::proofs::SeenHistories::HiddenLemmas::stops))]
 pub fn directed_stop_is_hidden()
-    ensures { (s : TracedSystem) (pid id : ℕ) (t : LwpTurn) → turn_of s pid id ≡ Some t → t.turned.did ≡ Stopped → erased_system t.system ≡ erased_system s }
+    ensures { (s : TracedSystem) (pid id : ℕ) (t : LwpTurn) → turn_of s pid id ≡ Some t → t.turned.did ≡ Stopped
+        → erased_system t.system ≡ erased_system s }
 {}

@@ -15,7 +15,8 @@ ghost use Rattle.pr_erasure.specs.Untouched.{IsUntouched};
 #[tactic(auto, using(crate::proofs::SeenHistories::HistoryLemmas::transparency))]
 pub fn tracing_is_transparent()
     ensures first { (n : ℕ) (programs : List Program) (files : List StoredFile) (spawns : List ℕ) (h : List Entry)
-        → IsLegal n (first_state programs files spawns) h → IsPassive h → IsTransparent (first_state programs files spawns) h }
+        → IsLegal n (first_state programs files spawns) h → IsPassive h
+        → IsTransparent (first_state programs files spawns) h }
     ensures later { (n : ℕ) (s : TracedState) (h : List Entry)
         → IsUntouched s.system → IsLegal n s h → IsPassive h → IsTransparent s h }
     ensures untouched { (n : ℕ) (s : TracedState) (h : List Entry)

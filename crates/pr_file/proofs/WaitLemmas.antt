@@ -21,7 +21,8 @@ module _ (t : FileTable) (pipe most : ℕ) where
   pub reads-empty : (length (pipe_bytes t pipe) == 0) ≡ true → has_writer t pipe ≡ waits (read_pipe t pipe most).bytes
   unfolding read_pipe
   reads-empty none =
-      rw none (elim (cases_Bool (has_writer t pipe)) [ inl written ↦ rw written refl | inr unwritten ↦ rw unwritten refl ])
+      rw none (elim (cases_Bool (has_writer t pipe))
+      [ inl written ↦ rw written refl | inr unwritten ↦ rw unwritten refl ])
 
 pub ruleset reading_pipes = (reads-some, reads-empty)
 
@@ -30,11 +31,14 @@ module _ (t : FileTable) (fds : Descriptors) (fd most : ℕ) where
   unfolding read_fd
   reads-closed closed = rw closed refl
 
-  pub reads-file : (found : ℕ × OpenFile) (file : ℕ) → open_for_reading t fds fd ≡ Some found → found.1.target ≡ File file → false ≡ waits (read_fd t fds fd most).bytes
+  pub reads-file : (found : ℕ × OpenFile) (file : ℕ) → open_for_reading t fds fd ≡ Some found
+      → found.1.target ≡ File file → false ≡ waits (read_fd t fds fd most).bytes
   unfolding read_fd read_file
   reads-file found file is of = rw is (rw of refl)
 
-  pub reads-pipe : (found : ℕ × OpenFile) (pipe : ℕ) → open_for_reading t fds fd ≡ Some found → (found.1.target ≡ PipeReader pipe) ⊎ (found.1.target ≡ PipeWriter pipe) → waits (read_pipe t pipe most).bytes ≡ waits (read_fd t fds fd most).bytes
+  pub reads-pipe : (found : ℕ × OpenFile) (pipe : ℕ) → open_for_reading t fds fd ≡ Some found
+      → (found.1.target ≡ PipeReader pipe) ⊎ (found.1.target ≡ PipeWriter pipe)
+      → waits (read_pipe t pipe most).bytes ≡ waits (read_fd t fds fd most).bytes
   unfolding read_fd
   reads-pipe found pipe is (inl of) = rw is (rw of refl)
   reads-pipe found pipe is (inr of) = rw is (rw of refl)
@@ -48,21 +52,28 @@ module _ (t : FileTable) (fds : Descriptors) (bytes : List ℕ) where
   unfolding write_pipe
   writes-broken pipe unread = rw unread refl
 
-  pub writes-read : (pipe : ℕ) → has_reader t pipe ≡ true → nat_lt pipe_size_limit (length (pipe_bytes t pipe) + length bytes) ≡ waits (write_pipe t fds pipe bytes).answer
+  pub writes-read : (pipe : ℕ) → has_reader t pipe ≡ true
+      → nat_lt pipe_size_limit (length (pipe_bytes t pipe) + length bytes) ≡ waits (write_pipe t fds pipe bytes).answer
   unfolding write_pipe
   writes-read pipe read =
-      rw read (elim (cases_Bool (nat_lt pipe_size_limit (length (pipe_bytes t pipe) + length bytes))) [ inl full ↦ rw full refl | inr room ↦ rw room refl ])
+      rw read (elim (cases_Bool (nat_lt pipe_size_limit (length (pipe_bytes t pipe) + length bytes)))
+      [ inl full ↦ rw full refl | inr room ↦ rw room refl ])
 
   pub writes-closed : (fd : ℕ) → open_for_writing t fds fd ≡ None → false ≡ waits (write_fd t fds fd bytes).answer
   unfolding write_fd
   writes-closed fd closed = rw closed refl
 
-  pub writes-file : (fd : ℕ) (found : ℕ × OpenFile) (file : ℕ) → open_for_writing t fds fd ≡ Some found → found.1.target ≡ File file → false ≡ waits (write_fd t fds fd bytes).answer
+  pub writes-file : (fd : ℕ) (found : ℕ × OpenFile) (file : ℕ) → open_for_writing t fds fd ≡ Some found
+      → found.1.target ≡ File file → false ≡ waits (write_fd t fds fd bytes).answer
   unfolding write_fd write_file
   writes-file fd found file is of =
-      rw is (rw of (elim (cases_Bool (nat_lt file_size_limit (found.1.offset + length bytes))) [ inl long ↦ rw long refl | inr short ↦ rw short refl ]))
+      rw is (rw of
+      (elim (cases_Bool (nat_lt file_size_limit (found.1.offset + length bytes)))
+      [ inl long ↦ rw long refl | inr short ↦ rw short refl ]))
 
-  pub writes-pipe : (fd : ℕ) (found : ℕ × OpenFile) (pipe : ℕ) → open_for_writing t fds fd ≡ Some found → (found.1.target ≡ PipeReader pipe) ⊎ (found.1.target ≡ PipeWriter pipe) → waits (write_pipe t fds pipe bytes).answer ≡ waits (write_fd t fds fd bytes).answer
+  pub writes-pipe : (fd : ℕ) (found : ℕ × OpenFile) (pipe : ℕ) → open_for_writing t fds fd ≡ Some found
+      → (found.1.target ≡ PipeReader pipe) ⊎ (found.1.target ≡ PipeWriter pipe)
+      → waits (write_pipe t fds pipe bytes).answer ≡ waits (write_fd t fds fd bytes).answer
   unfolding write_fd
   writes-pipe fd found pipe is (inl of) = rw is (rw of refl)
   writes-pipe fd found pipe is (inr of) = rw is (rw of refl)

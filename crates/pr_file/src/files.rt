@@ -173,7 +173,8 @@ impl Files {
         requires flags { are_open_flags flags ≡ true }
         requires fd { fd < descriptor_limit }
         requires file { file < length self.old.files }
-        ensures { (record { files = self.new; fds = fds.new; answer = result }) ≡ unless_no_memory self.old fds.old result (opened_file self.old fds.old fd file flags) }
+        ensures { (record { files = self.new; fds = fds.new; answer = result })
+            ≡ unless_no_memory self.old fds.old result (opened_file self.old fds.old fd file flags) }
     {
         let place = self.tables.open_file(file as u32, access_of(flags))?;
         fds.set(fd, Some(place));
@@ -193,7 +194,8 @@ impl Files {
         requires flags { are_open_flags flags ≡ true }
         requires fd { fd < descriptor_limit }
         requires new_name { file_named self.old name ≡ None }
-        ensures { (record { files = self.new; fds = fds.new; answer = result }) ≡ unless_no_memory self.old fds.old result (created_file self.old fds.old fd name flags) }
+        ensures { (record { files = self.new; fds = fds.new; answer = result })
+            ≡ unless_no_memory self.old fds.old result (created_file self.old fds.old fd name flags) }
     {
         if self.tables.file_count() >= FILE_LIMIT {
             return Err(FileNo::TableFull);
@@ -216,7 +218,8 @@ impl Files {
         flags: u64,
     ) -> Result<u64, FileNo>
         requires { are_open_flags flags ≡ true }
-        ensures { (record { files = self.new; fds = fds.new; answer = result }) ≡ unless_no_memory self.old fds.old result (opened self.old fds.old name flags) }
+        ensures { (record { files = self.new; fds = fds.new; answer = result })
+            ≡ unless_no_memory self.old fds.old result (opened self.old fds.old name flags) }
     {
         let file = self.tables.file_named(&name);
         if file.is_none() && flags < CREATE {
@@ -236,7 +239,8 @@ impl Files {
     /// stand.
     #[tactic(auto, unfolding(pr_parts::specs::FileCalls::piped, pr_parts::specs::FileCalls::made_pipe))]
     pub fn pipe(&mut self, alloc: Global, fds: &mut Fds) -> Result<(u64, u64), FileNo>
-        ensures { (record { files = self.new; fds = fds.new; answer = result }) ≡ unless_no_memory self.old fds.old result (piped self.old fds.old) }
+        ensures { (record { files = self.new; fds = fds.new; answer = result })
+            ≡ unless_no_memory self.old fds.old result (piped self.old fds.old) }
     {
         let Some(reader) = fds.free() else {
             return Err(FileNo::NoPlace);

@@ -208,7 +208,9 @@ impl Tables {
         access: Access,
     ) -> Result<usize, NoMemory>
         requires { length self.old.files < file_limit }
-        ensures ok { OnOk result (self.new ≡ with_open (with_file self.old name []) (first_open (Target.File (length self.old.files)) access)) }
+        ensures ok { OnOk result
+            (self.new
+            ≡ with_open (with_file self.old name []) (first_open (Target.File (length self.old.files)) access)) }
         ensures place { IfOk result (λ place. place ≡ free_place self.old.opens) }
         ensures err { OnErr result (self.new ≡ self.old) }
     {
@@ -347,7 +349,9 @@ impl Tables {
     ) -> Result<(), NoMemory>
         requires stands { place < length self.old.files }
         requires room { offset + length bytes.now ≤ file_size_limit }
-        ensures ok { OnOk result (self.new ≡ with_file_bytes self.old place (after_write (contents self.old (Target.File place)) offset bytes.now)) }
+        ensures ok { OnOk result
+            (self.new
+            ≡ with_file_bytes self.old place (after_write (contents self.old (Target.File place)) offset bytes.now)) }
         ensures opens { self.new.opens ≡ self.old.opens }
         ensures err { OnErr result (self.new ≡ self.old) }
     {

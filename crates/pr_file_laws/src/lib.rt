@@ -1,5 +1,5 @@
-//! Laws of file tables: what each call on files keeps of them. Each public function carries laws in its contract, and does
-//! nothing.
+//! Laws of file tables: what each call on files keeps of them. Each public function carries laws in its contract, and
+//! does nothing.
 #![tactic(auto)]
 
 mod laws;

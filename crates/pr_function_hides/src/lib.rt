@@ -1,8 +1,8 @@
 //! Laws of what truss with calls of functions (`-u`) hides from programs: the breakpoints that stand are those that it
 //! has marked, its writes are tidy, none is left in a process that lives, nor a fault of its own, it alone steps lwps,
 //! it clears faults as it runs a process, its own alone, and posts none of its own, and so programs see nothing of it.
-//! Beside these stand laws of its marks: which function it steps, and which turns are calls, its calls and their replies
-//! tell. Each public function carries one law in its contract, and does nothing.
+//! Beside these stand laws of its marks: which function it steps, and which turns are calls, its calls and their
+//! replies tell. Each public function carries one law in its contract, and does nothing.
 //!
 //! Most of them are of a run of trusses that are undisturbed (`IsRunOfTrusses`): a legal history from a state that the
 //! machine reaches, with no lwp asleep in a fork, a vfork or an exec, in which controllers write bytes and these make

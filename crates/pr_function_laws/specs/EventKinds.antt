@@ -28,8 +28,8 @@ copying_calls = Fork ∷ Vfork ∷ Exec ∷ []
 -- lifted before a call that copies, lends or replaces the memory; the process has its memory still after fork, and
 -- after vfork or exec that failed, and has another, or a child has it too, after those that were granted. FLTBPT is a
 -- breakpoint of truss where the first function at that address is planted, or lifted for the step of an lwp; and
--- FLTTRACE completes a step where it is of the lwp that is stepped. Every other event, the entry and the exit of another
--- call, a signal, another fault, is nothing to them. A function is at an address where it begins there.
+-- FLTTRACE completes a step where it is of the lwp that is stepped. Every other event, the entry and the exit of
+-- another call, a signal, another fault, is nothing to them. A function is at an address where it begins there.
 pub record AreEventKinds (o : Options) (m : Marks) (id : ℕ) : Type 0 where
   pub entered : All (λ (call : Sysno). (arguments : List ℕ)
       → function_event o m id (Entered call arguments) ≡ BeforeCopy) copying_calls
@@ -60,7 +60,7 @@ pub record AreEventKinds (o : Options) (m : Marks) (id : ℕ) : Type 0 where
       → function_event o m id (Incurred fault pc) ≡ Other
   pub begins : (pc : ℕ) (f : Function) → begins_at pc f ≡ (f.at == pc)
 
--- Where no stop is left that stood before truss came, and truss has not looked at the stop yet, the event at which an lwp
--- stands is the one that it looks at.
+-- Where no stop is left that stood before truss came, and truss has not looked at the stop yet, the event at which an
+-- lwp stands is the one that it looks at.
 pub record LooksAtEachEvent (t : Traced) : Type 0 where
   pub fresh : (l : LwpStatus) → t.old ≡ 0 → t.seen ≡ false → fresh_event t l ≡ event_of l

@@ -1,5 +1,5 @@
--- What an interrupt leaves of a step: an lwp that truss met at a breakpoint moves alone, also where truss is interrupted
--- before it has planted the breakpoint again, until truss closes the control file of the process.
+-- What an interrupt leaves of a step: an lwp that truss met at a breakpoint moves alone, also where truss is
+-- interrupted before it has planted the breakpoint again, until truss closes the control file of the process.
 use Rattle.std.specs.Prelude.{◌≡◌, ◌++◌, ℕ, All, List, [], ◌∷◌, Some}
 use Rattle.pr_line.specs.declared.options.Options.{Options}
 use Rattle.pr_model.specs.Legal.{state_after}

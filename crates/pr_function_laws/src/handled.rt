@@ -17,9 +17,9 @@ pub fn beside_its_breakpoints_it_handles_what_it_was_given()
 {}
 
 /// In each legal history of truss with functions: of the processes that it was given, and of no others, it gets hold in
-/// an entry or says in one that it cannot trace them, one after another in their order. Once it has polled for the first
-/// time, or has finished, it has done so with each of them, unless a call of it was interrupted before. Of one that it
-/// was given once it never does both.
+/// an entry or says in one that it cannot trace them, one after another in their order. Once it has polled for the
+/// first time, or has finished, it has done so with each of them, unless a call of it was interrupted before. Of one
+/// that it was given once it never does both.
 #[tactic(auto, using(crate::proofs::Holding::HoldGiven::given_holds))]
 pub fn each_given_process_is_held_or_refused()
     ensures { (n k : ℕ) (o : Options) (s : TracedState) (h : List Entry) → IsFunctionRun n k o s h

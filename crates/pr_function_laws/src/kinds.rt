@@ -5,7 +5,8 @@ ghost use Rattle.pr_truss.specs.declared.processes.Traced.{Traced};
 ghost use Rattle.pr_function_laws.specs.EventKinds.{AreEventKinds, LooksAtEachEvent};
 
 /// What each event is to the breakpoints of truss in a process, a row a kind: the entry and the exit of fork(2),
-/// vfork(2) and exec(2), a breakpoint, and a trace trap; every other event is nothing to them. What truss plants and lifts for each, another law says.
+/// vfork(2) and exec(2), a breakpoint, and a trace trap; every other event is nothing to them. What truss plants and
+/// lifts for each, another law says.
 pub fn what_each_event_is_to_breakpoints()
     ensures { (o : Options) (m : Marks) (id : ℕ) → AreEventKinds o m id }
 {}

@@ -41,36 +41,50 @@ module _ (agents : BTreeSet ℕ) (patches : BTreeMap ℕ (List Patch)) where
 
   module _ (who : Hiders) (s : TracedState) (pid id : ℕ) (did : Did) where
     -- a cover of one process that is as bare as the other one
-    alike : (x y : Cover) → x ≡ bare_cover y → with_cover pid x (covers_in agents patches) ≡ bare (with_cover pid y (covers_in agents patches))
+    alike : (x y : Cover) → x ≡ bare_cover y
+        → with_cover pid x (covers_in agents patches) ≡ bare (with_cover pid y (covers_in agents patches))
     unfolding covers_in
     alike x y e = fun_ext (λ q. by q (q == pid))
       where
-        by : (q : ℕ) (b : Bool) → cond b x (covers_in agents patches q) ≡ bare_cover (cond b y (covers_in agents patches q))
+        by : (q : ℕ) (b : Bool)
+            → cond b x (covers_in agents patches q) ≡ bare_cover (cond b y (covers_in agents patches q))
         by q true = e
         by q false = refl
 
     left-out : (c : Cover) (kept out directed own : Bool) → kept ≡ false → out ≡ true
-        → with_own_agent false (bare_cover c) ≡ bare_cover (cond (not kept) (cond out (with_own_agent false c) c) (without_replaced did (cond directed c (with_fault id own c))))
+        → with_own_agent false (bare_cover c)
+        ≡ bare_cover
+        (cond (not kept) (cond out (with_own_agent false c) c)
+        (without_replaced did (cond directed c (with_fault id own c))))
     left-out c false true directed own k o = refl
     left-out c true out directed own k o = cc
     left-out c false false directed own k o = cc
 
     stays-so : (c : Cover) (kept out directed own : Bool) → kept ≡ true → replaces_memory did ≡ false
-        → bare_cover c ≡ bare_cover (cond (not kept) (cond out (with_own_agent false c) c) (without_replaced did (cond directed c (with_fault id own c))))
+        → bare_cover c
+        ≡ bare_cover
+        (cond (not kept) (cond out (with_own_agent false c) c)
+        (without_replaced did (cond directed c (with_fault id own c))))
     stays-so c true out true own k r = ap (λ b. bare_cover (cond b (with_patches [] c) c)) (sym r)
     stays-so c true out false own k r =
         ap (λ b. bare_cover (cond b (with_patches [] (with_fault id own c)) (with_fault id own c))) (sym r)
     stays-so c false out directed own k r = cc
 
     replaced-so : (c : Cover) (kept out directed own : Bool) → kept ≡ true → replaces_memory did ≡ true
-        → finished c ≡ bare_cover (cond (not kept) (cond out (with_own_agent false c) c) (without_replaced did (cond directed c (with_fault id own c))))
+        → finished c
+        ≡ bare_cover
+        (cond (not kept) (cond out (with_own_agent false c) c)
+        (without_replaced did (cond directed c (with_fault id own c))))
     replaced-so c true out true own k r = ap (λ b. bare_cover (cond b (with_patches [] c) c)) (sym r)
     replaced-so c true out false own k r =
         ap (λ b. bare_cover (cond b (with_patches [] (with_fault id own c)) (with_fault id own c))) (sym r)
     replaced-so c false out directed own k r = cc
 
     goes-on : (c : Cover) (kept out directed own : Bool) → kept ≡ false → out ≡ false
-        → bare_cover c ≡ bare_cover (cond (not kept) (cond out (with_own_agent false c) c) (without_replaced did (cond directed c (with_fault id own c))))
+        → bare_cover c
+        ≡ bare_cover
+        (cond (not kept) (cond out (with_own_agent false c) c)
+        (without_replaced did (cond directed c (with_fault id own c))))
     goes-on c false false directed own k o = refl
     goes-on c true out directed own k o = cc
     goes-on c false true directed own k o = cc
@@ -120,19 +134,23 @@ pub ruleset entries = (is-bare, still-bare)
 
 module _ (who : Hiders) (covers : Covers) (s : TracedState) where
   pub steps-bare : (m : Memory) (actor : Actor) (it : Act)
-      → hidden_steps_of who (bare covers) s m (record { actor = actor; act = it }) ≡ hidden_steps_of who covers s m (record { actor = actor; act = it })
+      → hidden_steps_of who (bare covers) s m (record { actor = actor; act = it })
+      ≡ hidden_steps_of who covers s m (record { actor = actor; act = it })
   unfolding hidden_steps_of turn_seen is_own
   steps-bare m (Lwp pid id) (act.Turn t) = refl
   steps-bare m _ _ = refl
 
-  both : (pid : ℕ) (x y : Cover) → bare_cover x ≡ bare_cover y → bare (with_cover pid x (bare covers)) ≡ bare (with_cover pid y covers)
+  both : (pid : ℕ) (x y : Cover) → bare_cover x ≡ bare_cover y
+      → bare (with_cover pid x (bare covers)) ≡ bare (with_cover pid y covers)
   both pid x y e = fun_ext (λ q. by q (q == pid))
     where
       by : (q : ℕ) (b : Bool) → bare_cover (cond b x (bare covers q)) ≡ bare_cover (cond b y (covers q))
       by q true = e
       by q false = refl
 
-  owned : (b : Bool) (c : Cover) → bare_cover (cond b (with_own_agent true (bare_cover c)) (bare_cover c)) ≡ bare_cover (cond b (with_own_agent true c) c)
+  owned : (b : Bool) (c : Cover)
+      → bare_cover (cond b (with_own_agent true (bare_cover c)) (bare_cover c))
+      ≡ bare_cover (cond b (with_own_agent true c) c)
   owned true c = refl
   owned false c = refl
 
@@ -154,19 +172,24 @@ module _ (who : Hiders) (covers : Covers) (s : TracedState) where
   targeted-bare k h (Some p) bytes = sent-bare k h.pid p bytes (first_message bytes)
 
   controlled-bare : (k : ℕ) (o : Option Held) (bytes : List ℕ)
-      → bare (covers_controlled who k s.system o bytes (bare covers)) ≡ bare (covers_controlled who k s.system o bytes covers)
+      → bare (covers_controlled who k s.system o bytes (bare covers))
+      ≡ bare (covers_controlled who k s.system o bytes covers)
   controlled-bare k None bytes = refl
   controlled-bare k (Some h) bytes = targeted-bare k h (target_of s.system h) bytes
 
-  closed-bare : (k : ℕ) (o : Option Held) → bare (covers_closed who k o (bare covers)) ≡ bare (covers_closed who k o covers)
+  closed-bare : (k : ℕ) (o : Option Held)
+      → bare (covers_closed who k o (bare covers)) ≡ bare (covers_closed who k o covers)
   closed-bare k None = refl
   closed-bare k (Some h) = by (hides who k && is_ctl h.file)
     where
-      by : (b : Bool) → bare (cond b (with_cover h.pid (finished (bare covers h.pid)) (bare covers)) (bare covers)) ≡ bare (cond b (with_cover h.pid (finished (covers h.pid)) covers) covers)
+      by : (b : Bool)
+          → bare (cond b (with_cover h.pid (finished (bare covers h.pid)) (bare covers)) (bare covers))
+          ≡ bare (cond b (with_cover h.pid (finished (covers h.pid)) covers) covers)
       by true = both h.pid _ _ refl
       by false = refl
 
-  called-bare : (k : ℕ) (c : calls.Call) (r : Reply) → bare (covers_called who (bare covers) s k c r) ≡ bare (covers_called who covers s k c r)
+  called-bare : (k : ℕ) (c : calls.Call) (r : Reply)
+      → bare (covers_called who (bare covers) s k c r) ≡ bare (covers_called who covers s k c r)
   unfolding covers_called
   called-bare k (call.Ctl handle bytes) (reply.Used used) = controlled-bare k (handle_of s.opens k handle) bytes
   called-bare k (call.Close handle) reply.Done = closed-bare k (handle_of s.opens k handle)
@@ -178,21 +201,29 @@ module _ (who : Hiders) (covers : Covers) (s : TracedState) where
   replaced-alike false x y e = e
 
   turned-alike : (id : ℕ) (did : Did) (c : Cover) (kept out directed own : Bool)
-      → bare_cover (cond (not kept) (cond out (with_own_agent false (bare_cover c)) (bare_cover c)) (without_replaced did (cond directed (bare_cover c) (with_fault id own (bare_cover c)))))
-      ≡ bare_cover (cond (not kept) (cond out (with_own_agent false c) c) (without_replaced did (cond directed c (with_fault id own c))))
+      → bare_cover
+      (cond (not kept) (cond out (with_own_agent false (bare_cover c)) (bare_cover c))
+      (without_replaced did (cond directed (bare_cover c) (with_fault id own (bare_cover c)))))
+      ≡ bare_cover
+      (cond (not kept) (cond out (with_own_agent false c) c)
+      (without_replaced did (cond directed c (with_fault id own c))))
   turned-alike id did c false true directed own = refl
   turned-alike id did c false false directed own = refl
   turned-alike id did c true out true own = replaced-alike (replaces_memory did) (bare_cover c) c refl
   turned-alike id did c true out false own =
       replaced-alike (replaces_memory did) (with_fault id own (bare_cover c)) (with_fault id own c) refl
 
-  turned-bare : (pid id : ℕ) (did : Did) → bare (covers_turned who (bare covers) s pid id did) ≡ bare (covers_turned who covers s pid id did)
+  turned-bare : (pid id : ℕ) (did : Did)
+      → bare (covers_turned who (bare covers) s pid id did) ≡ bare (covers_turned who covers s pid id did)
   unfolding covers_turned is_own
   turned-bare pid id did =
-      both pid _ _ (turned-alike id did (covers pid) (keeps_lwp (covers pid) id) (exits did) (is_directed (lwp_at s.system pid id)) (is_own who covers s pid id did))
+      both pid _ _
+      (turned-alike id did (covers pid) (keeps_lwp (covers pid) id) (exits did)
+      (is_directed (lwp_at s.system pid id)) (is_own who covers s pid id did))
 
   pub after-bare : (actor : Actor) (it : Act)
-      → bare (covers_after who (bare covers) s (record { actor = actor; act = it })) ≡ bare (covers_after who covers s (record { actor = actor; act = it }))
+      → bare (covers_after who (bare covers) s (record { actor = actor; act = it }))
+      ≡ bare (covers_after who covers s (record { actor = actor; act = it }))
   unfolding covers_after
   after-bare (Controller k) (act.Call c r) = called-bare k c r
   after-bare (Lwp pid id) (act.Turn t) = turned-bare pid id t.did

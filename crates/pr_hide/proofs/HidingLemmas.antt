@@ -29,8 +29,10 @@ no-probe (Probe ∷ who) k all = cc
 pub nobody-hides : (who : List Hider) → list_all is_nothing who ≡ true → hiders_of who ≡ nobody
 unfolding hiders_of
 nobody-hides who all =
-    ap (λ (f : ℕ → List Patch). let h : Hiders = record { functions = f; probes = λ k. is_probe (slice_get who k) } in h)
+    ap (λ (f : ℕ → List Patch). let h : Hiders =
+    record { functions = f; probes = λ k. is_probe (slice_get who k) } in h)
     (fun_ext (λ k. no-functions who k all))
-    ∙ ap (λ (p : ℕ → Bool). let h : Hiders = record { functions = λ k. []; probes = p } in h) (fun_ext (λ k. no-probe who k all))
+    ∙ ap (λ (p : ℕ → Bool). let h : Hiders = record { functions = λ k. []; probes = p } in h)
+    (fun_ext (λ k. no-probe who k all))
 
 pub ruleset nothing = (nobody-hides)

@@ -17,7 +17,8 @@ use Rattle.pr_hide.specs.Bare.{bare}
 use Rattle.pr_hide.specs.Walks.{HasHidden}
 use Rattle.pr_hide.proofs.BareLemmas.{after-bare, steps-bare}
 
-remembered-push : (m : Memory) (h : List Entry) (e : Entry) → remembered_all m (h ++ e ∷ []) ≡ remembered (remembered_all m h) e
+remembered-push : (m : Memory) (h : List Entry) (e : Entry)
+    → remembered_all m (h ++ e ∷ []) ≡ remembered (remembered_all m h) e
 remembered-push m [] e = refl
 remembered-push m (x ∷ h) e = remembered-push (remembered m x) h e
 
@@ -28,12 +29,14 @@ covers-push who covers s (x ∷ h) e = covers-push who (covers_after who covers 
 
 steps-push : (who : Hiders) (covers : Covers) (s : TracedState) (m : Memory) (h : List Entry) (e : Entry)
     → hidden_steps_from who covers s m (h ++ e ∷ [])
-    ≡ hidden_steps_from who covers s m h ++ hidden_steps_of who (covers_from who covers s h) (state_after s h) (remembered_all m h) e
+    ≡ hidden_steps_from who covers s m h
+    ++ hidden_steps_of who (covers_from who covers s h) (state_after s h) (remembered_all m h) e
 steps-push who covers s m [] e = append-nil (hidden_steps_of who covers s m e)
 steps-push who covers s m (x ∷ h) e =
     ap (λ (steps : List Step). hidden_steps_of who covers s m x ++ steps)
     (steps-push who (covers_after who covers s x) (after s x) (remembered m x) h e)
-    ∙ sym (append_assoc (hidden_steps_of who covers s m x) (hidden_steps_from who (covers_after who covers s x) (after s x) (remembered m x) h)
+    ∙ sym (append_assoc (hidden_steps_of who covers s m x)
+    (hidden_steps_from who (covers_after who covers s x) (after s x) (remembered m x) h)
     (hidden_steps_of who (covers_from who (covers_after who covers s x) (after s x) h) (state_after (after s x) h)
     (remembered_all (remembered m x) h) e))
 
@@ -45,7 +48,8 @@ module _ (who : Hiders) (s : TracedState) where
 
   pub walk-goes : (h : List Entry) (e : Entry) (steps : List Step) (m : Memory) (covers : Covers) (now : TracedState)
       → HasHidden who s h steps m covers now
-      → HasHidden who s (h ++ e ∷ []) (steps ++ hidden_steps_of who covers now m e) (remembered m e) (bare (covers_after who covers now e)) (after now e)
+      → HasHidden who s (h ++ e ∷ []) (steps ++ hidden_steps_of who covers now m e) (remembered m e)
+      (bare (covers_after who covers now e)) (after now e)
   unfolding hidden_steps
   walk-goes h e steps m covers now so_far =
       let at = covers_at who s h in
@@ -78,7 +82,8 @@ module _ (who : Hiders) (s : TracedState) where
       → found ≡ now → covers' ≡ bare (covers_after who covers found e)
       → m' ≡ remembered m e → now' ≡ after now e
       → HasHidden who s (take (i + 1) full) steps' m' covers' now'
-  walk-on full i e there steps steps' m m' covers covers' now seen found now' so_far seen_is steps_are found_is covers_are m_is now_is =
+  walk-on full i e there steps steps' m m' covers covers' now seen found now' so_far seen_is steps_are found_is
+      covers_are m_is now_is =
       let on = walk-goes (take i full) e steps m covers now so_far in
       let long = take-next i full e there in
       record {

@@ -15,7 +15,8 @@ without_patch-first at [] = refl
 without_patch-first at (p ∷ ps) =
     ap (λ (rest : List Patch). cond (begins_at at p) ps (p ∷ rest)) (without_patch-first at ps)
 
-pub removed-patch : (at : ℕ) (ps : List Patch) (i : ℕ) → position (begins_at at) ps ≡ Some i → remove ps i ≡ without_patch at ps
+pub removed-patch : (at : ℕ) (ps : List Patch) (i : ℕ) → position (begins_at at) ps ≡ Some i
+    → remove ps i ≡ without_patch at ps
 removed-patch at ps i there = remove-without_first (begins_at at) ps i there ∙ without_patch-first at ps
 
 pub no-patch : (at : ℕ) (ps : List Patch) → position (begins_at at) ps ≡ None → without_patch at ps ≡ ps

@@ -11,7 +11,8 @@ use Rattle.pr_model.specs.declared.steps.Step.{Step}
 
 -- What a walk over a history has come to: the steps that are not hidden, what is remembered, what is hidden but for
 -- faults, and the state.
-pub record HasHidden (who : Hiders) (s : TracedState) (h : List Entry) (steps : List Step) (m : Memory) (covers : Covers)
+pub record HasHidden (who : Hiders) (s : TracedState) (h : List Entry) (steps : List Step) (m : Memory)
+    (covers : Covers)
     (now : TracedState) : Type 0 where
   pub steps_are : steps ≡ hidden_steps who s h
   pub remembers : m ≡ remembered_all nothing_yet h

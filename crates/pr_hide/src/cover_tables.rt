@@ -68,7 +68,8 @@ impl CoverTable {
     /// The agent of a process is a controller's.
     #[tactic(auto, using(crate::proofs::CoverTableLemmas::covers))]
     pub(crate) fn add_agent(&mut self, pid: u32) -> Result<(), NoMemory>
-        ensures { OnOk result (covers_of self.new ≡ with_cover pid (with_own_agent true (covers_of self.old pid)) (covers_of self.old)) }
+        ensures { OnOk result
+            (covers_of self.new ≡ with_cover pid (with_own_agent true (covers_of self.old pid)) (covers_of self.old)) }
     {
         self.agents.insert(pid)?;
         Ok(())
@@ -77,7 +78,8 @@ impl CoverTable {
     /// The agent of a process is nobody's, if there is one. Takes no memory.
     #[tactic(auto, using(crate::proofs::CoverTableLemmas::covers))]
     pub(crate) fn remove_agent(&mut self, pid: u32)
-        ensures { covers_of self.new ≡ with_cover pid (with_own_agent false (covers_of self.old pid)) (covers_of self.old) }
+        ensures { covers_of self.new
+            ≡ with_cover pid (with_own_agent false (covers_of self.old pid)) (covers_of self.old) }
     {
         self.agents.remove(&pid);
     }

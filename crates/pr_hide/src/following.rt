@@ -30,7 +30,8 @@ fn follow_message(
     bytes: &[u8],
 ) -> Result<(), NoMemory>
     ensures { OnOk result (covers_of table.new
-        ≡ covers_sent (hiders_of who.now) by pid process.now bytes.now (first_message bytes.now) (covers_of table.old)) }
+        ≡ covers_sent (hiders_of who.now) by pid process.now bytes.now (first_message bytes.now)
+        (covers_of table.old)) }
 {
     let Ok((message, _)) = first_message(bytes) else {
         return Ok(());
@@ -63,7 +64,8 @@ fn follow_control(
     bytes: &[u8],
 ) -> Result<(), NoMemory>
     ensures { OnOk result (covers_of table.new
-        ≡ covers_controlled (hiders_of who.now) by machine.now.system (handle_of machine.now.opens by handle) bytes.now (covers_of table.old)) }
+        ≡ covers_controlled (hiders_of who.now) by machine.now.system (handle_of machine.now.opens by handle) bytes.now
+        (covers_of table.old)) }
 {
     let Some(held) = own(&machine.opens, by, handle) else {
         return Ok(());

@@ -25,7 +25,8 @@ fn write_function(
     bytes: &[u8],
     patches: &mut Vec<Patch>,
 ) -> Result<(), NoMemory>
-    ensures { OnOk result (patches.new.items ≡ function_written (patch_at at functions.now) bytes.now patches.old.items) }
+    ensures { OnOk result
+        (patches.new.items ≡ function_written (patch_at at functions.now) bytes.now patches.old.items) }
 {
     let Some(function) = patch_at(at, functions) else {
         return Ok(());
@@ -74,7 +75,8 @@ fn write_probe(
     bytes: &[u8],
     patches: &mut Vec<Patch>,
 ) -> Result<(), NoMemory>
-    ensures { OnOk result (patches.new.items ≡ probe_written (patch_at at patches.old.items) space.now at bytes.now patches.old.items) }
+    ensures { OnOk result
+        (patches.new.items ≡ probe_written (patch_at at patches.old.items) space.now at bytes.now patches.old.items) }
 {
     let Some(patch) = patch_at(at, patches.as_slice()) else {
         return save_all(alloc, space, patches);
@@ -118,7 +120,8 @@ pub(crate) fn write_patches(
     bytes: &[u8],
     patches: &mut Vec<Patch>,
 ) -> Result<(), NoMemory>
-    ensures { OnOk result (patches.new.items ≡ patches_written (hiders_of who.now) by space.now at bytes.now patches.old.items) }
+    ensures { OnOk result
+        (patches.new.items ≡ patches_written (hiders_of who.now) by space.now at bytes.now patches.old.items) }
 {
     write_as(alloc, who.get(by as usize), space, at, bytes, patches)
 }

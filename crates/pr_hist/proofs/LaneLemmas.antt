@@ -57,7 +57,8 @@ rows_from-done s i row names h all past is = ap (rows_from s i row names) (sym (
 
 -- ---- rows
 
-rows_text-more : (c : Chart) (s : Selection) (i row : ℕ) (names : Names) (lanes : List Lane) (h : List Entry) (e : Entry)
+rows_text-more : (c : Chart) (s : Selection) (i row : ℕ) (names : Names) (lanes : List Lane) (h : List Entry)
+    (e : Entry)
     → slice_get h i ≡ Some e
     → rows_text c s i row names lanes (drop i h)
     ≡ drawn_row c s i row names (lanes_after e lanes) e
@@ -73,7 +74,8 @@ pub rows_text-next : (c : Chart) (s : Selection) (i row further : ℕ) (names be
     → next ++ rows_text c s (i + 1) further beyond moved (drop (i + 1) h) ≡ all
 rows_text-next c s i row further names beyond lanes moved h e now next all here counted noted moves is before =
     ap (λ t. t ++ rows_text c s (i + 1) further beyond moved (drop (i + 1) h)) is
-    ∙ ap (λ r. (now ++ drawn_row c s i row names moved e) ++ rows_text c s (i + 1) r beyond moved (drop (i + 1) h)) counted
+    ∙ ap (λ r. (now ++ drawn_row c s i row names moved e) ++ rows_text c s (i + 1) r beyond moved (drop (i + 1) h))
+    counted
     ∙ ap (λ ns. (now ++ drawn_row c s i row names moved e)
     ++ rows_text c s (i + 1) (row_after s i row names e) ns moved (drop (i + 1) h)) noted
     ∙ ap (λ ls. (now ++ drawn_row c s i row names ls e)

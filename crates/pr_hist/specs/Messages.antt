@@ -88,7 +88,8 @@ general_text regs = register_text (codes "r0") (slice_index regs 0) ++ register_
     ++ register_text (codes "r6") (slice_index regs 6) ++ register_text (codes "r7") (slice_index regs 7)
 
 unfoldable pub pointers_text : Option Listing → List ℕ → List ℕ
-pointers_text l regs = register_text (codes "sp") (slice_index regs 8) ++ register_text (codes "fp") (slice_index regs 9)
+pointers_text l regs =
+    register_text (codes "sp") (slice_index regs 8) ++ register_text (codes "fp") (slice_index regs 9)
     ++ register_text (codes "pc") (slice_index regs 10) ++ place_text l (slice_index regs 10)
 
 unfoldable pub registers_text : Option Listing → List ℕ → List ℕ

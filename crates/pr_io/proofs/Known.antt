@@ -10,7 +10,8 @@ unfolding with_front
 with_front-nil None = refl
 with_front-nil (Some left) = refl
 
-pub with_front-with_front : (a b : List ℕ) (known : Option (List ℕ)) → with_front a (with_front b known) ≡ with_front (a ++ b) known
+pub with_front-with_front : (a b : List ℕ) (known : Option (List ℕ))
+    → with_front a (with_front b known) ≡ with_front (a ++ b) known
 unfolding with_front
 with_front-with_front a b None = refl
 with_front-with_front a b (Some left) = ap Some (sym (append_assoc a b left))
@@ -20,7 +21,8 @@ unfolding with_end
 with_end-nil None = refl
 with_end-nil (Some written) = ap Some (append-nil written)
 
-pub with_end-with_end : (known : Option (List ℕ)) (a b : List ℕ) → with_end (with_end known a) b ≡ with_end known (a ++ b)
+pub with_end-with_end : (known : Option (List ℕ)) (a b : List ℕ)
+    → with_end (with_end known a) b ≡ with_end known (a ++ b)
 unfolding with_end
 with_end-with_end None a b = refl
 with_end-with_end (Some written) a b = ap Some (append_assoc written a b)
@@ -30,7 +32,8 @@ unfolding with_end
 with_end-Some written part = refl
 
 -- what came before the end is all that was left
-pub ReadsAll-at_end : (old mid new : Option (List ℕ)) (bytes : List ℕ) → old ≡ with_front bytes mid → mid ≡ with_front [] new → IsAtEnd new → ReadsAll old new bytes
+pub ReadsAll-at_end : (old mid new : Option (List ℕ)) (bytes : List ℕ) → old ≡ with_front bytes mid
+    → mid ≡ with_front [] new → IsAtEnd new → ReadsAll old new bytes
 unfolding with_front
 ReadsAll-at_end None mid new bytes h k e = record { all = tt; end = tt }
 ReadsAll-at_end (Some left) None new bytes h k e = record { all = cc; end = cc }
@@ -41,12 +44,14 @@ ReadsAll-at_end (Some left) (Some more) (Some rest) bytes h k e =
     record { all = sym (all ∙ ap (λ xs. bytes ++ xs) (none ∙ e) ∙ append-nil bytes); end = ap Some e }
 
 -- what holds of the bytes that came holds of those that were left
-pub IfSome-ReadsAll : (P : List ℕ → Type 0) (old new : Option (List ℕ)) (bytes : List ℕ) → ReadsAll old new bytes → P bytes → IfSome old P
+pub IfSome-ReadsAll : (P : List ℕ → Type 0) (old new : Option (List ℕ)) (bytes : List ℕ) → ReadsAll old new bytes
+    → P bytes → IfSome old P
 IfSome-ReadsAll P None new bytes h p = tt
 IfSome-ReadsAll P (Some left) new bytes h p = subst P h.all p
 
 -- the front of a part, and then more of it
-pub with_end-more : (known : Option (List ℕ)) (part : List ℕ) (at n : ℕ) → with_end (with_end known (take at part)) (take n (drop at part)) ≡ with_end known (take (at + n) part)
+pub with_end-more : (known : Option (List ℕ)) (part : List ℕ) (at n : ℕ)
+    → with_end (with_end known (take at part)) (take n (drop at part)) ≡ with_end known (take (at + n) part)
 with_end-more known part at n =
     with_end-with_end known (take at part) (take n (drop at part)) ∙ ap (with_end known) (sym (take-add at n part))
 

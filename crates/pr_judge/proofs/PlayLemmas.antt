@@ -27,7 +27,8 @@ if_found None P f = tt
 if_found (Some x) P f = f x refl
 
 -- the same where something is known of it
-pub told-more : {X : Type 0} (o : Option X) (A P : X → Type 0) → IfSome o A → ((x : X) → o ≡ Some x → A x → P x) → IfSome o P
+pub told-more : {X : Type 0} (o : Option X) (A P : X → Type 0) → IfSome o A → ((x : X) → o ≡ Some x → A x → P x)
+    → IfSome o P
 told-more None A P a f = tt
 told-more (Some x) A P a f = f x refl a
 
@@ -55,17 +56,22 @@ module _ (k : KernelView) (s : TracedState) (is : k ≡ kernel_of s k.history k.
 module _ (n : ℕ) (old new : KernelView) where
   pub no-controller : (by : ℕ) (c : Call) (r : Reply) → n ≤ by → Plays n (call_entry by c r) old new false
   unfolding IsLegalEntry
-  no-controller by c r h = if_found old.machine (λ s. IsIllegalEntry n s (call_entry by c r)) (λ s is legal. omega (arith, h, legal.0))
+  no-controller by c r h =
+      if_found old.machine (λ s. IsIllegalEntry n s (call_entry by c r)) (λ s is legal. omega (arith, h, legal.0))
 
-  pub not-ready : IsLawful old → (by : ℕ) (c : Call) (r : Reply) → old.is_ready by c ≡ false → Plays n (call_entry by c r) old new false
+  pub not-ready : IsLawful old → (by : ℕ) (c : Call) (r : Reply) → old.is_ready by c ≡ false
+      → Plays n (call_entry by c r) old new false
   unfolding IsLegalEntry
   not-ready lawful by c r h = if_found old.machine (λ s. IsIllegalEntry n s (call_entry by c r)) (λ s is legal.
-      some≢none (answer_to s by c) (record { state = legal.1.0; reply = r }) legal.1.1 (sym (ready-is old s (lawful.told s is) by c) ∙ h))
+      some≢none (answer_to s by c) (record { state = legal.1.0; reply = r }) legal.1.1
+      (sym (ready-is old s (lawful.told s is) by c) ∙ h))
 
-  pub not-movable : IsLawful old → (pid id : ℕ) (t : Turned) → old.can_turn pid id ≡ false → Plays n (turn_entry pid id t) old new false
+  pub not-movable : IsLawful old → (pid id : ℕ) (t : Turned) → old.can_turn pid id ≡ false
+      → Plays n (turn_entry pid id t) old new false
   unfolding IsLegalEntry
   not-movable lawful pid id t h = if_found old.machine (λ s. IsIllegalEntry n s (turn_entry pid id t)) (λ s is legal.
-      some≢none (turn_of s.system pid id) (record { system = legal.0; turned = t }) legal.1 (turns-move s.system pid id ∙ sym (turn-is old s (lawful.told s is) pid id) ∙ h))
+      some≢none (turn_of s.system pid id) (record { system = legal.0; turned = t }) legal.1
+      (turns-move s.system pid id ∙ sym (turn-is old s (lawful.told s is) pid id) ∙ h))
 
   pub clock-ended : IsLawful old → (m : ℕ) → clock_limit ≤ old.clock → Plays n (tick_entry m) old new false
   unfolding IsLegalEntry
@@ -73,15 +79,18 @@ module _ (n : ℕ) (old new : KernelView) where
       omega (arith, h, legal.0, clock-is old s (lawful.told s is)))
 
 -- an entry whose actor does no such thing is not legal
-misfit : (n : ℕ) (s : TracedState) (actor : Actor) (it : Act) → fits actor it ≡ false → IsIllegalEntry n s (record { actor = actor; act = it })
+misfit : (n : ℕ) (s : TracedState) (actor : Actor) (it : Act) → fits actor it ≡ false
+    → IsIllegalEntry n s (record { actor = actor; act = it })
 unfolding fits IsLegalEntry
 misfit n s (Controller k) (Called c r) h = cc
 misfit n s (Lwp p l) (Turn t) h = cc
 misfit n s Clock (Tick m) h = cc
 misfit n s _ _ h = λ legal. legal
 
-pub unfitting : (n : ℕ) (o : Option TracedState) (actor : Actor) (it : Act) → fits actor it ≡ false → IfSome o (λ s. IsIllegalEntry n s (record { actor = actor; act = it }))
-unfitting n o actor it h = if_found o (λ s. IsIllegalEntry n s (record { actor = actor; act = it })) (λ s is. misfit n s actor it h)
+pub unfitting : (n : ℕ) (o : Option TracedState) (actor : Actor) (it : Act) → fits actor it ≡ false
+    → IfSome o (λ s. IsIllegalEntry n s (record { actor = actor; act = it }))
+unfitting n o actor it h =
+    if_found o (λ s. IsIllegalEntry n s (record { actor = actor; act = it })) (λ s is. misfit n s actor it h)
 
 pub ruleset unfit = (unfitting)
 
@@ -97,7 +106,8 @@ module _ (n : ℕ) (old new : KernelView) (by : ℕ) (c : Call) (r : Reply) (cal
     history = called.history ∙ ap (λ (x : Reply). old.history ++ call_entry by c x ∷ []) same;
     places = called.places;
     machine = told-more old.machine (IsAnswer by c called.reply new.machine) _ called.machine (λ s is a.
-        let answers : answer_to s by c ≡ Some (record { state = a.0; reply = r }) = a.1 ∙ ap (λ (x : Reply). let y : Answer = record { state = a.0; reply = x } in Some y) same in
+        let answers : answer_to s by c ≡ Some (record { state = a.0; reply = r }) =
+        a.1 ∙ ap (λ (x : Reply). let y : Answer = record { state = a.0; reply = x } in Some y) same in
         ((within, (a.0, answers)), a.2 ∙ ap Some (sym (ap (after_call s) answers))));
   }
 
@@ -106,7 +116,8 @@ module _ (n : ℕ) (old new : KernelView) (by : ℕ) (c : Call) (r : Reply) (cal
   otherwise differ = told-more old.machine (IsAnswer by c called.reply new.machine) _ called.machine (λ s is a legal.
       differ (ap (λ (x : Answer). x.reply) (same_Some _ _ (sym a.1 ∙ legal.1.1))))
 
-  pub called-so : by < n → (legal : Bool) → (legal ≡ true → last_reply_of new.history ≡ Some r) → (legal ≡ false → last_reply_of new.history ≢ Some r) → Plays n (call_entry by c r) old new legal
+  pub called-so : by < n → (legal : Bool) → (legal ≡ true → last_reply_of new.history ≡ Some r)
+      → (legal ≡ false → last_reply_of new.history ≢ Some r) → Plays n (call_entry by c r) old new legal
   called-so within true same differ = as-said within (same_Some _ _ (sym reply-is ∙ same refl))
   called-so within false same differ = otherwise (λ e. differ refl (reply-is ∙ ap Some e))
 
@@ -117,7 +128,8 @@ module _ (n : ℕ) (old new : KernelView) (pid id : ℕ) (did t : Turned) (turne
     history = turned.history ∙ ap (λ (x : Turned). old.history ++ turn_entry pid id x ∷ []) same;
     places = turned.places;
     machine = told-more old.machine (IsTurnOf pid id did new.machine) _ turned.machine (λ s is a.
-        let turns : turn_of s.system pid id ≡ Some (record { system = a.0; turned = t }) = a.1 ∙ ap (λ (x : Turned). let y : LwpTurn = record { system = a.0; turned = x } in Some y) same in
+        let turns : turn_of s.system pid id ≡ Some (record { system = a.0; turned = t }) =
+        a.1 ∙ ap (λ (x : Turned). let y : LwpTurn = record { system = a.0; turned = x } in Some y) same in
         ((a.0, turns), a.2 ∙ ap Some (sym (ap (after_turn s) turns))));
   }
 
@@ -126,11 +138,13 @@ module _ (n : ℕ) (old new : KernelView) (pid id : ℕ) (did t : Turned) (turne
   done-otherwise differ = told-more old.machine (IsTurnOf pid id did new.machine) _ turned.machine (λ s is a legal.
       differ (ap (λ (x : LwpTurn). x.turned) (same_Some _ _ (sym a.1 ∙ legal.1))))
 
-  pub turned-so : (legal : Bool) → (legal ≡ true → did ≡ t) → (legal ≡ false → did ≢ t) → Plays n (turn_entry pid id t) old new legal
+  pub turned-so : (legal : Bool) → (legal ≡ true → did ≡ t) → (legal ≡ false → did ≢ t)
+      → Plays n (turn_entry pid id t) old new legal
   turned-so true same differ = done-so (same refl)
   turned-so false same differ = done-otherwise (differ refl)
 
-module _ (n : ℕ) (old new : KernelView) (lawful : IsLawful old) (below : old.clock < clock_limit) (m : ℕ) (it : IsTicked old new) where
+module _ (n : ℕ) (old new : KernelView) (lawful : IsLawful old) (below : old.clock < clock_limit) (m : ℕ)
+    (it : IsTicked old new) where
   came-to : new.clock ≡ m → IsPlayed n (tick_entry m) old new
   unfolding IsLegalEntry after
   came-to same = record {

@@ -35,11 +35,13 @@ same-self (Ready a) = equal-self a
 same-self (Fail a) = equal-self (errno_number a)
 
 -- the reply that stands last is this one, or another
-pub replied-same : (o : Option (Bor Reply)) (last : Bor Reply) (there : Option Reply) (r : Reply) (b : Bool) → o ≡ Some last → option_copied o ≡ there → b ≡ same_reply last.now r → b ≡ true → there ≡ Some r
+pub replied-same : (o : Option (Bor Reply)) (last : Bor Reply) (there : Option Reply) (r : Reply) (b : Bool)
+    → o ≡ Some last → option_copied o ≡ there → b ≡ same_reply last.now r → b ≡ true → there ≡ Some r
 replied-same o last there r b is gives same holds =
     sym gives ∙ ap option_copied is ∙ ap Some (same-is last.now r (sym same ∙ holds))
 
-pub replied-other : (o : Option (Bor Reply)) (last : Bor Reply) (there : Option Reply) (r : Reply) (b : Bool) → o ≡ Some last → option_copied o ≡ there → b ≡ same_reply last.now r → b ≡ false → there ≢ Some r
+pub replied-other : (o : Option (Bor Reply)) (last : Bor Reply) (there : Option Reply) (r : Reply) (b : Bool)
+    → o ≡ Some last → option_copied o ≡ there → b ≡ same_reply last.now r → b ≡ false → there ≢ Some r
 replied-other o last there r b is gives same fails e =
     let equal : last.now ≡ r = same_Some _ _ (sym (ap option_copied is) ∙ gives ∙ e) in
     let both : true ≡ false = sym (same-self r) ∙ ap (λ (x : Reply). same_reply x r) (sym equal) ∙ sym same ∙ fails in

@@ -23,16 +23,21 @@ use Rattle.pr_judge.specs.Turns.{same_did, same_how, same_result}
 -- ---- what has the number of another one is that one
 
 pub errno-is : (a b : Errno) → (errno_number a == errno_number b) ≡ true → a ≡ b
-errno-is a b h = same_Some a b (sym (errno_of_number-number a) ∙ ap errno_of_number (eqb-true _ _ h) ∙ errno_of_number-number b)
+errno-is a b h =
+    same_Some a b (sym (errno_of_number-number a) ∙ ap errno_of_number (eqb-true _ _ h) ∙ errno_of_number-number b)
 
 fault-is : (a b : Flt) → (fault_number a == fault_number b) ≡ true → a ≡ b
-fault-is a b h = same_Some a b (sym (fault_of_number-number a) ∙ ap fault_of_number (eqb-true _ _ h) ∙ fault_of_number-number b)
+fault-is a b h =
+    same_Some a b (sym (fault_of_number-number a) ∙ ap fault_of_number (eqb-true _ _ h) ∙ fault_of_number-number b)
 
 signal-is : (a b : Sig) → (signal_number a == signal_number b) ≡ true → a ≡ b
-signal-is a b h = same_Some a b (sym (signal_of_number-number a) ∙ ap signal_of_number (eqb-true _ _ h) ∙ signal_of_number-number b)
+signal-is a b h =
+    same_Some a b (sym (signal_of_number-number a) ∙ ap signal_of_number (eqb-true _ _ h) ∙ signal_of_number-number b)
 
 syscall-is : (a b : Sysno) → (syscall_number a == syscall_number b) ≡ true → a ≡ b
-syscall-is a b h = same_Some a b (sym (syscall_of_number-number a) ∙ ap syscall_of_number (eqb-true _ _ h) ∙ syscall_of_number-number b)
+syscall-is a b h =
+    same_Some a b
+    (sym (syscall_of_number-number a) ∙ ap syscall_of_number (eqb-true _ _ h) ∙ syscall_of_number-number b)
 
 -- ---- both of two
 
@@ -61,14 +66,17 @@ unfolding same_did
 did-is Stopped Stopped h = refl
 did-is Ran Ran h = refl
 did-is (Entered a) (Entered b) h = ap Entered (syscall-is a b h)
-did-is (Made a r) (Made b q) h = ap (λ c. Made c r) (syscall-is a b (and_parts _ _ h).0) ∙ ap (Made b) (result-is r q (and_parts _ _ h).1)
+did-is (Made a r) (Made b q) h =
+    ap (λ c. Made c r) (syscall-is a b (and_parts _ _ h).0) ∙ ap (Made b) (result-is r q (and_parts _ _ h).1)
 did-is (Slept a) (Slept b) h = ap Slept (syscall-is a b h)
-did-is (Woke a r) (Woke b q) h = ap (λ c. Woke c r) (syscall-is a b (and_parts _ _ h).0) ∙ ap (Woke b) (result-is r q (and_parts _ _ h).1)
+did-is (Woke a r) (Woke b q) h =
+    ap (λ c. Woke c r) (syscall-is a b (and_parts _ _ h).0) ∙ ap (Woke b) (result-is r q (and_parts _ _ h).1)
 did-is (Returned a) (Returned b) h = ap Returned (syscall-is a b h)
 did-is (Faulted a) (Faulted b) h = ap Faulted (fault-is a b h)
 did-is (Posted a) (Posted b) h = ap Posted (fault-is a b h)
 did-is (Took a) (Took b) h = ap Took (signal-is a b h)
-did-is (Acted a how) (Acted b other) h = ap (λ s. Acted s how) (signal-is a b (and_parts _ _ h).0) ∙ ap (Acted b) (how-is how other (and_parts _ _ h).1)
+did-is (Acted a how) (Acted b other) h =
+    ap (λ s. Acted s how) (signal-is a b (and_parts _ _ h).0) ∙ ap (Acted b) (how-is how other (and_parts _ _ h).1)
 did-is _ _ h = cc
 
 -- ---- what is equal is the same

@@ -34,7 +34,8 @@ IsIllegalEntry controllers s e = IsLegalEntry controllers s e → ⊥
 pub record IsFirstIllegal (controllers : ℕ) (s : TracedState) (history : List Entry) (place : ℕ) : Type 0 where
   pub within : place < length history
   pub before : IsLegal controllers s (take place history)
-  pub illegal : ForSome (slice_get history place) (λ e. IsIllegalEntry controllers (state_after s (take place history)) e)
+  pub illegal : ForSome (slice_get history place)
+      (λ e. IsIllegalEntry controllers (state_after s (take place history)) e)
 
 -- The judgement of a history: it is legal, or this entry is the first that is not.
 abbrev pub Judges : ℕ → TracedState → List Entry → Option ℕ → Type 0
@@ -66,7 +67,8 @@ is_legal_entry controllers s e = by e.actor e.act
 unfoldable pub first_illegal : ℕ → TracedState → List Entry → Option ℕ
 first_illegal controllers s [] = None
 first_illegal controllers s (e ∷ es) =
-    if is_legal_entry controllers s e then option_map (λ place. suc place) (first_illegal controllers (after s e) es) else Some 0
+    if is_legal_entry controllers s e then option_map (λ place. suc place)
+    (first_illegal controllers (after s e) es) else Some 0
 
 -- ---- entries that a kernel is made to play
 

@@ -15,9 +15,9 @@ use pr_num::{Bytes, Name, NoMemory};
 use std::alloc::Global;
 use std::marker::Model;
 
-/// Who says of a history whether it is legal, or which entry is the first that is not, while it is heard entry by entry;
-/// no entry is kept. Contracts see how many controllers there are, the state of the machine that plays the entries, how
-/// many were heard, and the place of the first that was not legal.
+/// Who says of a history whether it is legal, or which entry is the first that is not, while it is heard entry by
+/// entry; no entry is kept. Contracts see how many controllers there are, the state of the machine that plays the
+/// entries, how many were heard, and the place of the first that was not legal.
 #[derive(Drop)]
 pub struct Judge {
     player: Player,
@@ -79,7 +79,9 @@ impl Judge {
     /// out, nothing was heard.
     pub fn hear(&mut self, alloc: Global, entry: &Entry) -> Result<(), NoMemory>
         requires { self.old.heard + 1 < 2 ^ 32 }
-        ensures heard { OnOk result ((s : TracedState) → (entries : List AnyEntry) → HasHeard s entries self.old → HasHeard s (entries ++ entry.now ∷ []) self.new) }
+        ensures heard { OnOk result
+            ((s : TracedState) → (entries : List AnyEntry) → HasHeard s entries self.old
+            → HasHeard s (entries ++ entry.now ∷ []) self.new) }
         ensures controllers { self.new.controllers ≡ self.old.controllers }
         ensures count { OnOk result (self.new.heard ≡ self.old.heard + 1) }
         ensures err { OnErr result (self.new ≡ self.old) }

@@ -18,7 +18,8 @@ use pr_turn::{movable, turn};
 use std::alloc::Global;
 use std::marker::Model;
 
-/// A machine that is made to play entries. Contracts see the state that it is in, and how many steps it has made at most.
+/// A machine that is made to play entries. Contracts see the state that it is in, and how many steps it has made at
+/// most.
 #[derive(Drop)]
 pub struct Player {
     machine: Machine,
@@ -69,7 +70,8 @@ impl Player {
         reply: &Reply,
     ) -> Result<bool, NoMemory>
         requires { controllers ≤ controller_limit }
-        ensures tried { IfOk result (λ legal. HasTried controllers (call_entry by call.now reply.now) self.old.state self.new.state legal) }
+        ensures tried { IfOk result
+            (λ legal. HasTried controllers (call_entry by call.now reply.now) self.old.state self.new.state legal) }
         ensures steps { self.new.steps ≡ self.old.steps }
         ensures err { OnErr result (self.new ≡ self.old) }
     {
@@ -93,7 +95,8 @@ impl Player {
         turned: Turned,
     ) -> Result<bool, NoMemory>
         requires { self.old.steps + 1 < 2 ^ 32 }
-        ensures tried { IfOk result (λ legal. HasTried controllers (turn_entry pid lwp turned) self.old.state self.new.state legal) }
+        ensures tried { IfOk result
+            (λ legal. HasTried controllers (turn_entry pid lwp turned) self.old.state self.new.state legal) }
         ensures steps { self.new.steps ≤ self.old.steps + 1 }
         ensures err { OnErr result (self.new ≡ self.old) }
     {

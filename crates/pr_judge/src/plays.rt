@@ -34,7 +34,8 @@ fn play_call<Q: Kernel>(
 ) -> Result<bool, NoMemory>
     requires controllers { controllers ≤ controller_limit }
     requires place { length (Q.view kernel.old).history < (Q.view kernel.old).places }
-    ensures { IfOk result (λ legal. Plays controllers (call_entry by call.now reply.now) (Q.view kernel.old) (Q.view kernel.new) legal) }
+    ensures { IfOk result
+        (λ legal. Plays controllers (call_entry by call.now reply.now) (Q.view kernel.old) (Q.view kernel.new) legal) }
 {
     if by >= controllers {
         return Ok(false);
@@ -55,7 +56,8 @@ fn play_turn<Q: Kernel>(
     turned: Turned,
 ) -> Result<bool, NoMemory>
     requires place { length (Q.view kernel.old).history < (Q.view kernel.old).places }
-    ensures { IfOk result (λ legal. Plays controllers (turn_entry pid lwp turned) (Q.view kernel.old) (Q.view kernel.new) legal) }
+    ensures { IfOk result
+        (λ legal. Plays controllers (turn_entry pid lwp turned) (Q.view kernel.old) (Q.view kernel.new) legal) }
 {
     if !kernel.lwp_movable(pid, lwp) {
         return Ok(false);
@@ -86,7 +88,10 @@ fn play_controller<Q: Kernel>(
 ) -> Result<bool, NoMemory>
     requires controllers { controllers ≤ controller_limit }
     requires place { length (Q.view kernel.old).history < (Q.view kernel.old).places }
-    ensures { IfOk result (λ legal. Plays controllers (record { actor = Actor.Controller by; act = act.now }) (Q.view kernel.old) (Q.view kernel.new) legal) }
+    ensures { IfOk result
+        (λ legal.
+        Plays controllers (record { actor = Actor.Controller by; act = act.now }) (Q.view kernel.old)
+        (Q.view kernel.new) legal) }
 {
     match act {
         Act::Call(call, reply) => play_call(alloc, kernel, controllers, by, call, reply),
@@ -104,7 +109,10 @@ fn play_lwp<Q: Kernel>(
     act: &Act,
 ) -> Result<bool, NoMemory>
     requires place { length (Q.view kernel.old).history < (Q.view kernel.old).places }
-    ensures { IfOk result (λ legal. Plays controllers (record { actor = Actor.Lwp pid lwp; act = act.now }) (Q.view kernel.old) (Q.view kernel.new) legal) }
+    ensures { IfOk result
+        (λ legal.
+        Plays controllers (record { actor = Actor.Lwp pid lwp; act = act.now }) (Q.view kernel.old)
+        (Q.view kernel.new) legal) }
 {
     match act {
         Act::Turn(turned) => play_turn(kernel, controllers, pid, lwp, *turned),
@@ -116,7 +124,8 @@ fn play_lwp<Q: Kernel>(
 #[tactic(auto, using(crate::proofs::PlayLemmas::unfit), unfolding(crate::specs::Judgements::fits))]
 fn play_clock<Q: Kernel>(kernel: &mut Q, controllers: u32, act: &Act) -> bool
     requires place { length (Q.view kernel.old).history < (Q.view kernel.old).places }
-    ensures { Plays controllers (record { actor = Actor.Clock; act = act.now }) (Q.view kernel.old) (Q.view kernel.new) result }
+    ensures { Plays controllers (record { actor = Actor.Clock; act = act.now }) (Q.view kernel.old)
+        (Q.view kernel.new) result }
 {
     match act {
         Act::Tick(clock) => play_tick(kernel, controllers, *clock),

@@ -7,12 +7,14 @@ ghost use Rattle.pr_model.specs.State.{TracedLwp, TracedProcess, TracedSystem};
 
 /// Whatever a turn of an lwp does is one of the rows.
 pub fn turns_are_rows()
-    ensures { (s : TracedSystem) (pid : ℕ) (p : TracedProcess) (id : ℕ) (l : TracedLwp) → RowKind s pid p id l (row_for s pid p id l) }
+    ensures { (s : TracedSystem) (pid : ℕ) (p : TracedProcess) (id : ℕ) (l : TracedLwp)
+        → RowKind s pid p id l (row_for s pid p id l) }
 {}
 
 /// An lwp of a process that has lent its memory has no turn but to stop as it is directed to (vfork(2)).
 pub fn lenders_only_stop()
-    ensures { (s : TracedSystem) (pid : ℕ) (p : TracedProcess) (id : ℕ) (l : TracedLwp) → is_held_back p id l ≡ false → (row_for s pid p id l ≡ requested_row) ⊎ (p.borrower ≡ None) }
+    ensures { (s : TracedSystem) (pid : ℕ) (p : TracedProcess) (id : ℕ) (l : TracedLwp) → is_held_back p id l ≡ false
+        → (row_for s pid p id l ≡ requested_row) ⊎ (p.borrower ≡ None) }
 {}
 
 /// But that turn it has: an lwp that is directed to stop is not held back since its process has lent its memory.

@@ -38,7 +38,8 @@ edit-sound n s pid p m tail t (a_process f edits) found sound =
       };
     }
 edit-sound n s pid p m tail t an_end found sound = sound-with_this_ended n pid p (signal_number Kill) s sound
-edit-sound n s pid p m tail t (a_signal target g is room) found sound = sound-generated n pid target g by_controller s sound
+edit-sound n s pid p m tail t (a_signal target g is room) found sound =
+    sound-generated n pid target g by_controller s sound
 
 released-keeps : KeepsUsage released
 unfolding KeepsUsage released released_control

@@ -14,7 +14,10 @@ pub no_controller : (word by : ℕ) → word < 2 ^ 64 → 64 ≤ by → eqb (bit
 no_controller word by small past = ap (λ n. eqb n 1) (bit_at_above word 64 by small past)
 
 -- A controller's bit is set.
-pub interrupted : (s : TracedState) (controller : ℕ) → controller < 64 → (let a : Answer = record { state = record s { interrupted = bit_or s.interrupted ((1 * 2 ^ controller) % 2 ^ 64) }; reply = Done } in a) ≡ interrupt_answer s controller
+pub interrupted : (s : TracedState) (controller : ℕ) → controller < 64
+    → (let a : Answer =
+    record { state = record s { interrupted = bit_or s.interrupted ((1 * 2 ^ controller) % 2 ^ 64) }; reply = Done } in
+    a) ≡ interrupt_answer s controller
 unfolding interrupt_answer with_number union_word
 interrupted s controller below =
     let word : (1 * 2 ^ controller) % 2 ^ 64 ≡ 2 ^ controller = one_shl controller 64 below in

@@ -60,7 +60,8 @@ ready-dozing s r h ready = record {
 }
 
 -- The sets after a call and after a turn, where what these may touch was noted before.
-pub call-follows : (s : TracedState) (by : ℕ) (c : Call) (a : Answer) (around : Around) (files : Bool) (old new : ReadySets)
+pub call-follows : (s : TracedState) (by : ℕ) (c : Call) (a : Answer) (around : Around) (files : Bool)
+    (old new : ReadySets)
     → IsLawful s → answer_to s by c ≡ Some a → around ≡ around_call s by c → files ≡ call_changes_files c
     → KeepsUp (is_around around) files false (is_movable a.state.system) a.state.system old new → AreReady s.system old
     → AreReady a.state.system new
@@ -69,7 +70,8 @@ call-follows s by c a around files old new h answer noted said follows before =
     subst (λ (x : Around). KeepsUp (is_around x) files false (is_movable a.state.system) a.state.system old new) noted
     follows in
     call-ready s by c a old new h answer
-    (subst (λ (b : Bool). KeepsUp (is_around (around_call s by c)) b false (is_movable a.state.system) a.state.system old new)
+    (subst (λ (b : Bool).
+    KeepsUp (is_around (around_call s by c)) b false (is_movable a.state.system) a.state.system old new)
     said whom) before
 
 pub turn-follows : (s : TracedSystem) (pid id : ℕ) (t : LwpTurn) (around : Around) (old new : ReadySets)
@@ -79,7 +81,8 @@ pub turn-follows : (s : TracedSystem) (pid id : ℕ) (t : LwpTurn) (around : Aro
     → AreReady t.system new
 turn-follows s pid id t around old new h turn noted follows before =
     turn-ready s pid id t old new h turn
-    (subst (λ (x : Around). KeepsUp (λ other. eqb pid other || (reaches_around (reach_of t.turned.did) && is_around x other))
+    (subst (λ (x : Around).
+    KeepsUp (λ other. eqb pid other || (reaches_around (reach_of t.turned.did) && is_around x other))
     (changes_files (reach_of t.turned.did)) false (is_movable t.system) t.system old new) noted follows)
     before
 

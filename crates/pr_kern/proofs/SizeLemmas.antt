@@ -17,5 +17,6 @@ first-size p h =
     subst (λ (s : Space). mapped_size s ≤ mapping_limit) (sym (first_space-mappings p)) space.limit
 
 -- what one process of one program maps can be mapped
-pub one-maps : (p : Program) → IsLawfulProgram p → sum_by (λ place. size_at_start (slice_get (p ∷ []) place)) (0 ∷ []) ≤ all_mappings_limit
+pub one-maps : (p : Program) → IsLawfulProgram p
+    → sum_by (λ place. size_at_start (slice_get (p ∷ []) place)) (0 ∷ []) ≤ all_mappings_limit
 one-maps p h = omega (arith, sum_by-cons (λ place. size_at_start (slice_get (p ∷ []) place)) 0 [], first-size p h)

@@ -20,23 +20,28 @@ IsSound-more n m s more h = record { clock = omega (arith, h.clock); counts = Al
 unfoldable pub KeepsUsage : (TracedProcess → TracedProcess) → Type 0
 KeepsUsage f = (p : TracedProcess) → (f p).control.usage ≡ p.control.usage
 
-pub sound-with_process : (n pid : ℕ) (f : TracedProcess → TracedProcess) (s : TracedSystem) → KeepsUsage f → IsSound n s → IsSound n (with_process pid f s)
+pub sound-with_process : (n pid : ℕ) (f : TracedProcess → TracedProcess) (s : TracedSystem) → KeepsUsage f → IsSound n s
+    → IsSound n (with_process pid f s)
 unfolding with_process KeepsUsage
-sound-with_process n pid f s h sound = record { clock = sound.clock; counts = AllUsedAtMost-with_process n pid f s h sound.counts }
+sound-with_process n pid f s h sound =
+    record { clock = sound.clock; counts = AllUsedAtMost-with_process n pid f s h sound.counts }
 
 -- a process more, and one that ends
-pub sound-with_made : (n : ℕ) (p : TracedProcess) (s : TracedSystem) → p.control.usage ≡ nothing_used → IsSound n s → IsSound n (with_made p s)
+pub sound-with_made : (n : ℕ) (p : TracedProcess) (s : TracedSystem) → p.control.usage ≡ nothing_used → IsSound n s
+    → IsSound n (with_made p s)
 unfolding with_made
 sound-with_made n p s none sound = record { clock = sound.clock; counts = AllUsedAtMost-made n p s none sound.counts }
 
-pub sound-with_this_ended : (n pid : ℕ) (p : TracedProcess) (status : ℕ) (s : TracedSystem) → IsSound n s → IsSound n (with_this_ended traced pid p status s)
+pub sound-with_this_ended : (n pid : ℕ) (p : TracedProcess) (status : ℕ) (s : TracedSystem) → IsSound n s
+    → IsSound n (with_this_ended traced pid p status s)
 sound-with_this_ended n pid p status s sound = record {
   clock = subst (λ clock. clock ≤ n) (sym (this_ended-clock pid p status s)) sound.clock;
   counts = AllUsedAtMost-ended n pid p status s sound.counts;
 }
 
 -- a signal
-pub sound-generated : (n pid : ℕ) (target : Option ℕ) (g : Sig) (info : Info) (s : TracedSystem) → IsSound n s → IsSound n (generated traced pid target g info s)
+pub sound-generated : (n pid : ℕ) (target : Option ℕ) (g : Sig) (info : Info) (s : TracedSystem) → IsSound n s
+    → IsSound n (generated traced pid target g info s)
 sound-generated n pid target g info s sound = record {
   clock = subst (λ clock. clock ≤ n) (sym (generated-clock pid target g info s)) sound.clock;
   counts = AllUsedAtMost-generated n pid target g info s sound.counts;

@@ -37,14 +37,20 @@ unfolding with_spawns
 spawns-sound [] s sound = sound
 spawns-sound (place ∷ places) s sound = spawns-sound places _ (spawned-sound s (slice_get s.programs place) sound)
 
-pub first-sound : (programs : List Program) (files : List StoredFile) (spawns : List ℕ) → IsSound 0 (first_system programs files spawns)
+pub first-sound : (programs : List Program) (files : List StoredFile) (spawns : List ℕ)
+    → IsSound 0 (first_system programs files spawns)
 first-sound programs files spawns = spawns-sound spawns (bare_system programs files) (bare-sound programs files)
 
-short-stored : (files : List (List ℕ × List ℕ)) → All (λ f. length f.1 ≤ file_size_limit) files → All IsShortFile (stored files)
+short-stored : (files : List (List ℕ × List ℕ)) → All (λ f. length f.1 ≤ file_size_limit) files
+    → All IsShortFile (stored files)
 short-stored files short = All-map IsShortFile stored_file files short
 
-pub start-lawful : (programs : List Program) (files : List (List ℕ × List ℕ)) (spawns : List ℕ) → All IsLawfulProgram programs → length files ≤ file_limit → All (λ f. length f.1 ≤ file_size_limit) files → names_differ (stored files) ≡ true
-    → length spawns + 1 ≤ process_limit → sum_by (λ place. size_at_start (slice_get programs place)) spawns ≤ all_mappings_limit → IsLawful (first_state programs (stored files) spawns)
+pub start-lawful : (programs : List Program) (files : List (List ℕ × List ℕ)) (spawns : List ℕ)
+    → All IsLawfulProgram programs → length files ≤ file_limit → All (λ f. length f.1 ≤ file_size_limit) files
+    → names_differ (stored files) ≡ true
+    → length spawns + 1 ≤ process_limit
+    → sum_by (λ place. size_at_start (slice_get programs place)) spawns ≤ all_mappings_limit
+    → IsLawful (first_state programs (stored files) spawns)
 start-lawful programs files spawns within few short own_names room mapped =
     first-lawful programs (stored files) spawns
     (record {
@@ -57,7 +63,12 @@ start-lawful programs files spawns within few short own_names room mapped =
     })
 
 -- the state that a kernel begins with is lawful
-pub started-lawful : (m : TracedState) (slice programs : List Program) (files : List (List ℕ × List ℕ)) (spawns : List ℕ) → All IsLawfulProgram slice → slice ≡ programs → length files ≤ file_limit → All (λ f. length f.1 ≤ file_size_limit) files → names_differ (stored files) ≡ true
-    → length spawns + 1 ≤ process_limit → sum_by (λ place. size_at_start (slice_get programs place)) spawns ≤ all_mappings_limit → m ≡ first_state programs (stored files) spawns → IsLawful m
+pub started-lawful : (m : TracedState) (slice programs : List Program) (files : List (List ℕ × List ℕ))
+    (spawns : List ℕ) → All IsLawfulProgram slice → slice ≡ programs → length files ≤ file_limit
+    → All (λ f. length f.1 ≤ file_size_limit) files → names_differ (stored files) ≡ true
+    → length spawns + 1 ≤ process_limit
+    → sum_by (λ place. size_at_start (slice_get programs place)) spawns ≤ all_mappings_limit
+    → m ≡ first_state programs (stored files) spawns → IsLawful m
 started-lawful m slice programs files spawns within same few short own_names room mapped is =
-    subst IsLawful (sym is) (start-lawful programs files spawns (subst (All IsLawfulProgram) same within) few short own_names room mapped)
+    subst IsLawful (sym is)
+    (start-lawful programs files spawns (subst (All IsLawfulProgram) same within) few short own_names room mapped)

@@ -11,7 +11,8 @@ use Rattle.pr_kern.specs.Steps.{Adds}
 
 -- The entries of the kernel's steps are legal.
 
-answered : (n by : ℕ) (c : Call) (k : Kernel) (a : Answer) → by < n → answer_to k.state by c ≡ Some a → Adds n k (after_answer by c k a)
+answered : (n by : ℕ) (c : Call) (k : Kernel) (a : Answer) → by < n → answer_to k.state by c ≡ Some a
+    → Adds n k (after_answer by c k a)
 unfolding IsLegalEntry after
 answered n by c k a here made = record {
   entry = call_entry by c a.reply;
@@ -27,9 +28,11 @@ call-adds n by c k new here made = of (answer_to k.state by c) refl made
   where
     of : (o : Option Answer) → answer_to k.state by c ≡ o → option_map (after_answer by c k) o ≡ Some new → Adds n k new
     of None none e = absurd (cc)
-    of (Some a) some e = let Q : Kernel → Type 0 = Adds n k in subst Q (same_Some _ new e) (answered n by c k a here some)
+    of (Some a) some e = let Q : Kernel → Type 0 = Adds n k in
+        subst Q (same_Some _ new e) (answered n by c k a here some)
 
-turned : (n pid id : ℕ) (k : Kernel) (t : LwpTurn) → turn_of k.state.system pid id ≡ Some t → Adds n k (after_lwp_turn pid id k t).kernel
+turned : (n pid id : ℕ) (k : Kernel) (t : LwpTurn) → turn_of k.state.system pid id ≡ Some t
+    → Adds n k (after_lwp_turn pid id k t).kernel
 unfolding IsLegalEntry after
 turned n pid id k t made = record {
   entry = turn_entry pid id t.turned;
@@ -43,9 +46,11 @@ pub turn-adds : (n pid id : ℕ) (k : Kernel) (new : TurnedKernel) → after_tur
 unfolding after_turn
 turn-adds n pid id k new made = of (turn_of k.state.system pid id) refl made
   where
-    of : (o : Option LwpTurn) → turn_of k.state.system pid id ≡ o → option_map (after_lwp_turn pid id k) o ≡ Some new → Adds n k new.kernel
+    of : (o : Option LwpTurn) → turn_of k.state.system pid id ≡ o → option_map (after_lwp_turn pid id k) o ≡ Some new
+        → Adds n k new.kernel
     of None none e = absurd (cc)
-    of (Some t) some e = let Q : TurnedKernel → Type 0 = λ m. Adds n k m.kernel in subst Q (same_Some _ new e) (turned n pid id k t some)
+    of (Some t) some e = let Q : TurnedKernel → Type 0 = λ m. Adds n k m.kernel in
+        subst Q (same_Some _ new e) (turned n pid id k t some)
 
 pub tick-adds : (n : ℕ) (k : Kernel) → k.state.system.clock < clock_limit → Adds n k (after_tick k)
 unfolding IsLegalEntry after after_tick

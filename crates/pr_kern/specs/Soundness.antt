@@ -21,8 +21,8 @@ pub record IsSoundKernel (s : TracedState) (history : HistoryView) (places : ℕ
   pub lawful : IsLawful s
   pub room : HasRoom history places
 
--- So the kernel is, and its sets have every process that is looked at for a turn. So the lwps that are asked for a turn are
--- a queue: sorted, without repeats, of live lwps, with every one that can have a turn.
+-- So the kernel is, and its sets have every process that is looked at for a turn. So the lwps that are asked for a turn
+-- are a queue: sorted, without repeats, of live lwps, with every one that can have a turn.
 pub record IsReadyKernel (s : TracedState) (history : HistoryView) (places : ℕ) (ready : ReadySets) : Type 0 where
   pub kept : IsSoundKernel s history places
   pub looks : AreReady s.system ready

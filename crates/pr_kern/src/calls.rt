@@ -32,7 +32,9 @@ fn write(
     bytes: &[u8],
 ) -> Result<Reply, NoMemory>
     requires clock { state.old.system.clock ≤ clock_limit }
-    ensures ok { IfOk result (λ reply. (record { state = state.new; reply = reply }) ≡ controlled state.old (control_answer state.old.system state.old.opens by handle bytes.now)) }
+    ensures ok { IfOk result
+        (λ reply. (record { state = state.new; reply = reply })
+        ≡ controlled state.old (control_answer state.old.system state.old.opens by handle bytes.now)) }
     ensures err { OnErr result (state.new ≡ state.old) }
     ensures sure { begins_in_place (first_message bytes.now) ≡ true → IsOk result }
 {
@@ -41,7 +43,8 @@ fn write(
 
 /// The reply to the wait of a controller for a stop; `None`: the wait goes on.
 fn wait_reply(state: &Machine, by: u32, handle: u32, until: u64, bytes: &[u8]) -> Option<Reply>
-    ensures { result ≡ wait_reply state.now.system state.now.opens by handle until (is_interrupted state.now by) bytes.now }
+    ensures { result
+        ≡ wait_reply state.now.system state.now.opens by handle until (is_interrupted state.now by) bytes.now }
 {
     let interrupted = is_interrupted(state, by);
     control_wait(

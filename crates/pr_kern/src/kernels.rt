@@ -52,9 +52,9 @@ impl Model for Kern {
 }
 
 impl Kern {
-    /// A kernel with these programs, at most 256, and files, in the state before the first step, with a process of each program that
-    /// is spawned, by its place among the programs: 4,095 at most, which together map 64 MiB at most. That state is
-    /// lawful. It has places for so many entries.
+    /// A kernel with these programs, at most 256, and files, in the state before the first step, with a process of each
+    /// program that is spawned, by its place among the programs: 4,095 at most, which together map 64 MiB at most. That
+    /// state is lawful. It has places for so many entries.
     pub fn new(
         alloc: Global,
         programs: Vec<Program>,
@@ -157,7 +157,8 @@ impl Kern {
     pub fn lwp_turn(&mut self, pid: u32, lwp: u32) -> Result<Turned, NoMemory>
         requires movable { can_move self.old.state.system pid lwp ≡ true }
         requires place { length self.old.history < self.old.places }
-        ensures ok { IfOk result (λ turned. after_turn pid lwp self.old ≡ Some (record { kernel = self.new; turned = turned })) }
+        ensures ok { IfOk result
+            (λ turned. after_turn pid lwp self.old ≡ Some (record { kernel = self.new; turned = turned })) }
         ensures err { OnErr result (self.new ≡ self.old) }
         ensures sure { may_take_memory self.old.state.system pid lwp ≡ false → IsOk result }
     {
@@ -202,8 +203,8 @@ impl Kern {
         some_sleeper(&self.state.system, &self.ready.dozing)
     }
 
-    /// The pc of a live lwp that incurred a fault whose signal is not posted yet; `None` exactly for any other. Takes no
-    /// memory.
+    /// The pc of a live lwp that incurred a fault whose signal is not posted yet; `None` exactly for any other. Takes
+    /// no memory.
     pub fn fault_pc(&self, pid: u32, lwp: u32) -> Option<u64>
         ensures { result ≡ fault_pc self.now.state.system pid lwp }
     {

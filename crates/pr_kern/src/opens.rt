@@ -48,7 +48,8 @@ fn errno_of(refusal: OpenNo) -> Errno
 /// order). Takes no memory.
 #[tactic(auto, unfolding(pr_model::specs::Calls::open_answer, pr_model::specs::Handles::open_refusal, pr_model::specs::Handles::with_opened, pr_open::specs::Opening::open_answer))]
 pub fn open(state: &mut Machine, held: Held) -> Reply
-    ensures { (record { state = state.new; reply = result }) ≡ open_answer state.old held.controller held.pid held.lwp held.file held.mode }
+    ensures { (record { state = state.new; reply = result })
+        ≡ open_answer state.old held.controller held.pid held.lwp held.file held.mode }
 {
     if !fits_file(held.file, held.mode, held.lwp) {
         return Reply::Fail(Errno::Inval);

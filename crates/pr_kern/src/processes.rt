@@ -20,8 +20,11 @@ use std::alloc::Global;
 fn spawn_at(state: &mut Machine, alloc: Global, place: u32, held: bool) -> Result<Reply, NoMemory>
     requires lawful { IsLawfulSystem state.old.system }
     requires program { place < length state.old.system.programs }
-    ensures ok { IfOk result (λ reply. (record { state = state.new; reply = reply }) ≡ spawn_found state.old held (slice_get state.old.system.programs place)) }
-    ensures memory { OnErr result (may_lack_for_process (spawn_found state.old held (slice_get state.old.system.programs place)).reply ≡ true) }
+    ensures ok { IfOk result
+        (λ reply. (record { state = state.new; reply = reply })
+        ≡ spawn_found state.old held (slice_get state.old.system.programs place)) }
+    ensures memory { OnErr result
+        (may_lack_for_process (spawn_found state.old held (slice_get state.old.system.programs place)).reply ≡ true) }
     ensures err { OnErr result (state.new ≡ state.old) }
 {
     match make_process(alloc, &mut state.system, place, held) {
@@ -34,8 +37,8 @@ fn spawn_at(state: &mut Machine, alloc: Global, place: u32, held: bool) -> Resul
 }
 
 /// Makes a process of the program of a name, under the next id, which is the reply; `held`: it is directed to stop
-/// before it runs (ENOENT for no such program, EAGAIN, ENOMEM, in this order). Memory runs out only where neither ENOENT
-/// nor EAGAIN comes; then, and where it is refused, the state is as it was.
+/// before it runs (ENOENT for no such program, EAGAIN, ENOMEM, in this order). Memory runs out only where neither
+/// ENOENT nor EAGAIN comes; then, and where it is refused, the state is as it was.
 #[tactic(auto, unfolding(pr_model::specs::Calls::spawn_answer))]
 pub fn spawn(
     state: &mut Machine,
@@ -44,7 +47,8 @@ pub fn spawn(
     held: bool,
 ) -> Result<Reply, NoMemory>
     requires lawful { IsLawfulSystem state.old.system }
-    ensures ok { IfOk result (λ reply. (record { state = state.new; reply = reply }) ≡ spawn_answer state.old program.now held) }
+    ensures ok { IfOk result
+        (λ reply. (record { state = state.new; reply = reply }) ≡ spawn_answer state.old program.now held) }
     ensures memory { OnErr result (may_lack_for_process (spawn_answer state.old program.now held).reply ≡ true) }
     ensures err { OnErr result (state.new ≡ state.old) }
 {

@@ -94,8 +94,8 @@ fn any_turn(
     Ok(turned)
 }
 
-/// Gives an lwp a turn, and the sets follow it. Most turns run an instruction: these touch nothing but their process, and
-/// nothing has to be noted. Where memory runs out all stays as it is.
+/// Gives an lwp a turn, and the sets follow it. Most turns run an instruction: these touch nothing but their process,
+/// and nothing has to be noted. Where memory runs out all stays as it is.
 pub fn make_turn(
     alloc: Global,
     sys: &mut Sys,

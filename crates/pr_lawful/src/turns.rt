@@ -5,5 +5,6 @@ ghost use Rattle.pr_model.specs.State.{TracedSystem};
 
 /// Whatever a turn of an lwp does, and whatever system call it makes, a lawful system stays lawful.
 pub fn turns_keep_systems_lawful()
-    ensures { (s : TracedSystem) (pid id : ℕ) (t : LwpTurn) → IsLawfulSystem s → turn_of s pid id ≡ Some t → IsLawfulSystem t.system }
+    ensures { (s : TracedSystem) (pid id : ℕ) (t : LwpTurn) → IsLawfulSystem s → turn_of s pid id ≡ Some t
+        → IsLawfulSystem t.system }
 {}

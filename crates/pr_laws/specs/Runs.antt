@@ -17,7 +17,8 @@ pub record IsFree (e : ℕ × TracedLwp) : Type 0 where
   pub no_stop : has_event_stop e.1 ≡ false
   pub no_directive : e.1.control.directed ≡ false
 
--- an lwp that stays where it stands and is no longer directed to stop: of the representative the stop is a requested one
+-- an lwp that stays where it stands and is no longer directed to stop: of the representative the stop is a requested
+-- one
 abbrev pub with_stop_kept : ℕ → ℕ → TracedLwp → TracedLwp
 with_stop_kept representative id l = record l {
   control = record l.control {

@@ -7,5 +7,6 @@ ghost use Rattle.pr_laws.specs.Refusals.{LeavesIfRefused};
 /// A refused call changes nothing, but that a controller whose wait was interrupted is interrupted no longer.
 #[tactic(auto, using(crate::proofs::RefusalLemmas::refusals))]
 pub fn refused_call_leaves_state()
-    ensures { (s : TracedState) (by : ℕ) (call : calls.Call) (a : Answer) → answer_to s by call ≡ Some a → LeavesIfRefused s by a }
+    ensures { (s : TracedState) (by : ℕ) (call : calls.Call) (a : Answer) → answer_to s by call ≡ Some a
+        → LeavesIfRefused s by a }
 {}

@@ -10,7 +10,8 @@ ghost use Rattle.pr_model.specs.declared.handles.Held.{Held};
 #[tactic(auto, using(crate::proofs::CloseLemmas::last_closes))]
 pub fn nothing_is_left_after_the_last_close()
     ensures writers { (s : TracedState) (h : Held) (number : ℕ)
-        → was_last_writer h (slice_set s.opens number None) ≡ true → has_writer h.pid (with_closed h number s).opens ≡ false }
+        → was_last_writer h (slice_set s.opens number None) ≡ true
+        → has_writer h.pid (with_closed h number s).opens ≡ false }
     ensures released { (s : TracedState) (h : Held) (number : ℕ) (p : TracedProcess)
         → was_last_writer h (slice_set s.opens number None) ≡ true → live_process s.system h.pid ≡ Some p
         → has_flags p.control.modes rlc_mode ≡ true → has_flags p.control.modes klc_mode ≡ false

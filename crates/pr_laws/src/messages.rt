@@ -7,7 +7,8 @@ ghost use Rattle.pr_num.specs.declared.messages.Message.{Message};
 /// Bytes that encode a message are read as that message, whatever follows them, and as so many bytes.
 #[tactic(auto, using(pr_codec::proofs::MessageLemmas::readings))]
 pub fn encoded_message_is_read()
-    ensures { (bytes rest : List ℕ) (m : Message) (tail : List ℕ) → Spells bytes m tail → first_message (bytes ++ rest) ≡ Ok (m, length bytes) }
+    ensures { (bytes rest : List ℕ) (m : Message) (tail : List ℕ) → Spells bytes m tail
+        → first_message (bytes ++ rest) ≡ Ok (m, length bytes) }
 {}
 
 /// What bytes are read as, their first bytes encode, as many as were read.
@@ -24,5 +25,6 @@ pub fn one_encoding_one_message()
 
 /// No encoding of a message begins the encoding of another: messages that stand one after the other are told apart.
 pub fn no_encoding_begins_another()
-    ensures { (a b rest : List ℕ) (m n : Message) (s t : List ℕ) → Spells a m s → Spells b n t → a ++ rest ≡ b → (a ≡ b) × (m ≡ n) }
+    ensures { (a b rest : List ℕ) (m n : Message) (s t : List ℕ) → Spells a m s → Spells b n t → a ++ rest ≡ b
+        → (a ≡ b) × (m ≡ n) }
 {}

@@ -13,11 +13,16 @@ ghost use Rattle.pr_model.specs.Stops.{has_event_stop, representative};
 /// is directed to stop.
 #[tactic(auto, using(crate::proofs::RunLemmas::running))]
 pub fn running_a_process_stopped_on_an_event()
-    ensures granted { (p : TracedProcess) (r : ℕ × TracedLwp) → has_agent p ≡ false → representative p ≡ Some r → has_event_stop r.1 ≡ true → run_refused p ≡ false }
-    ensures all_go_on { (p : TracedProcess) (r : ℕ × TracedLwp) → IsRising p.lwps → representative p ≡ Some r → has_event_stop r.1 ≡ true
+    ensures granted { (p : TracedProcess) (r : ℕ × TracedLwp) → has_agent p ≡ false → representative p ≡ Some r
+        → has_event_stop r.1 ≡ true → run_refused p ≡ false }
+    ensures all_go_on { (p : TracedProcess) (r : ℕ × TracedLwp) → IsRising p.lwps → representative p ≡ Some r
+        → has_event_stop r.1 ≡ true
         → others_let_run p r.0 ≡ true → (id : ℕ) → lwp_of (with_run 0 p) id ≡ option_map let_go (lwp_of p id) }
-    ensures all_are_free { (p : TracedProcess) (r : ℕ × TracedLwp) → IsRising p.lwps → representative p ≡ Some r → has_event_stop r.1 ≡ true
+    ensures all_are_free { (p : TracedProcess) (r : ℕ × TracedLwp) → IsRising p.lwps → representative p ≡ Some r
+        → has_event_stop r.1 ≡ true
         → others_let_run p r.0 ≡ true → All IsFree (with_run 0 p).lwps }
-    ensures each_stays { (p : TracedProcess) (r : ℕ × TracedLwp) → IsRising p.lwps → representative p ≡ Some r → has_event_stop r.1 ≡ true
-        → others_let_run p r.0 ≡ false → (id : ℕ) → lwp_of (with_run 0 p) id ≡ option_map (with_stop_kept r.0 id) (lwp_of p id) }
+    ensures each_stays { (p : TracedProcess) (r : ℕ × TracedLwp) → IsRising p.lwps → representative p ≡ Some r
+        → has_event_stop r.1 ≡ true
+        → others_let_run p r.0 ≡ false → (id : ℕ)
+        → lwp_of (with_run 0 p) id ≡ option_map (with_stop_kept r.0 id) (lwp_of p id) }
 {}

@@ -4,8 +4,8 @@ use Rattle.pr_model.specs.State.{TracedSystem, live_process}
 
 -- Lent memory (vfork(2)), in every state that the machine reaches.
 
--- Who lends to whom is one relation: a process has lent its memory to another one exactly where it is the lender of that
--- one. Both are live, and the borrower is younger, so that no chain comes back. Who has lent its memory has none.
+-- Who lends to whom is one relation: a process has lent its memory to another one exactly where it is the lender of
+-- that one. Both are live, and the borrower is younger, so that no chain comes back. Who has lent its memory has none.
 pub record AreLending (s : TracedSystem) : Type 0 where
   pub lent : (a b : ℕ) → borrower_at s a ≡ Some b → lender_at s b ≡ Some a
   pub borrowed : (a b : ℕ) → lender_at s b ≡ Some a → borrower_at s a ≡ Some b

@@ -26,18 +26,22 @@ pub fn owners_show_their_own_space()
 pub fn lenders_show_the_space_of_their_borrowers()
     ensures lawful { (s : TracedSystem) (a b : ℕ) (p q : TracedProcess) → IsLawfulSystem s → AreLending s → HasLentTo s a p b q
         → space_seen s p ≡ space_seen s q }
-    ensures reached { (n : ℕ) (programs : List Program) (files : List StoredFile) (spawns : List ℕ) (h : List Entry) (a b : ℕ) (p q : TracedProcess)
+    ensures reached { (n : ℕ) (programs : List Program) (files : List StoredFile) (spawns : List ℕ) (h : List Entry) (a b : ℕ)
+        (p q : TracedProcess)
         → IsStart programs files spawns → IsLegal n (first_state programs files spawns) h
         → HasLentTo (state_after (first_state programs files spawns) h).system a p b q
-        → space_seen (state_after (first_state programs files spawns) h).system p ≡ space_seen (state_after (first_state programs files spawns) h).system q }
+        → space_seen (state_after (first_state programs files spawns) h).system p
+        ≡ space_seen (state_after (first_state programs files spawns) h).system q }
 {}
 
 /// So controllers read of it what they read of its borrower: by "as" and by PCREAD the same bytes, in "map" the same
 /// mappings, under the name of its own program, and in "psinfo" and "status" the same sizes.
 pub fn lenders_are_read_as_their_borrowers()
-    ensures bytes { (s : TracedSystem) (a b : ℕ) (p q : TracedProcess) (id other from len : ℕ) → IsLawfulSystem s → AreLending s → HasLentTo s a p b q
+    ensures bytes { (s : TracedSystem) (a b : ℕ) (p q : TracedProcess) (id other from len : ℕ) → IsLawfulSystem s → AreLending s
+        → HasLentTo s a p b q
         → file_reply s a p id from len file.Mem ≡ file_reply s b q other from len file.Mem }
-    ensures message { (s : TracedSystem) (a b : ℕ) (p q : TracedProcess) (at size : ℕ) → IsLawfulSystem s → AreLending s → HasLentTo s a p b q
+    ensures message { (s : TracedSystem) (a b : ℕ) (p q : TracedProcess) (at size : ℕ) → IsLawfulSystem s → AreLending s
+        → HasLentTo s a p b q
         → read_answer s a p at size ≡ read_answer s b q at size }
     ensures mappings { (s : TracedSystem) (a b : ℕ) (p q : TracedProcess) → IsLawfulSystem s → AreLending s → HasLentTo s a p b q
         → map_of s p ≡ map (map_entry_of p.program) (space_seen s q) }

@@ -14,17 +14,20 @@ ghost use Rattle.pr_lawful.specs.Starts.{IsStart};
 
 /// In the first state nothing is lent, and so memory is lent in order.
 pub fn the_first_state_lends_in_order()
-    ensures { (programs : List Program) (files : List StoredFile) (spawns : List ℕ) → AreLending (first_state programs files spawns).system }
+    ensures { (programs : List Program) (files : List StoredFile) (spawns : List ℕ)
+        → AreLending (first_state programs files spawns).system }
 {}
 
 /// Whatever a turn of an lwp does, and whatever system call it makes, memory stays lent in order.
 pub fn turns_keep_lending_in_order()
-    ensures { (s : TracedSystem) (pid id : ℕ) (t : LwpTurn) → IsLawfulSystem s → AreLending s → turn_of s pid id ≡ Some t → AreLending t.system }
+    ensures { (s : TracedSystem) (pid id : ℕ) (t : LwpTurn) → IsLawfulSystem s → AreLending s
+        → turn_of s pid id ≡ Some t → AreLending t.system }
 {}
 
 /// Whatever a controller calls, and whatever control message it writes, memory stays lent in order.
 pub fn calls_keep_lending_in_order()
-    ensures { (s : TracedState) (by : ℕ) (c : Call) (a : Answer) → IsLawfulSystem s.system → AreLending s.system → answer_to s by c ≡ Some a
+    ensures { (s : TracedState) (by : ℕ) (c : Call) (a : Answer) → IsLawfulSystem s.system → AreLending s.system
+        → answer_to s by c ≡ Some a
         → AreLending a.state.system }
 {}
 
@@ -33,10 +36,11 @@ pub fn ticks_keep_lending_in_order()
     ensures { (s : TracedSystem) → AreLending s → AreLending (ticked s) }
 {}
 
-/// Memory is lent in order in every state that is reached: after each legal history from a lawful state where it is, and
-/// so from a first state.
+/// Memory is lent in order in every state that is reached: after each legal history from a lawful state where it is,
+/// and so from a first state.
 pub fn legal_histories_lend_in_order()
-    ensures later { (n : ℕ) (s : TracedState) (h : List Entry) → IsLawful s → AreLending s.system → IsLegal n s h → AreLending (state_after s h).system }
+    ensures later { (n : ℕ) (s : TracedState) (h : List Entry) → IsLawful s → AreLending s.system → IsLegal n s h
+        → AreLending (state_after s h).system }
     ensures first { (n : ℕ) (programs : List Program) (files : List StoredFile) (spawns : List ℕ) (h : List Entry)
         → IsStart programs files spawns → IsLegal n (first_state programs files spawns) h
         → AreLending (state_after (first_state programs files spawns) h).system }

@@ -112,13 +112,16 @@ length-choice : (b : Bool) (xs ys : List ℕ) (n : ℕ) → length xs ≤ n → 
 length-choice true xs ys n p q = p
 length-choice false xs ys n p q = q
 
-length-buffer_argument : (size : Option ℕ) (text : Came) (address : ℕ) → address < 2 ^ 64 → length (buffer_argument size text address) ≤ 260
+length-buffer_argument : (size : Option ℕ) (text : Came) (address : ℕ) → address < 2 ^ 64
+    → length (buffer_argument size text address) ≤ 260
 unfolding buffer_argument
 length-buffer_argument None text address fits = omega (arith, length-hex_text address fits)
 length-buffer_argument (Some size) text address fits =
-    length-choice (eqb size 0) (quoted_text [] false) (bytes_argument text address) 260 (length-quoted_text [] false) (length-bytes_argument text address fits)
+    length-choice (eqb size 0) (quoted_text [] false) (bytes_argument text address) 260 (length-quoted_text [] false)
+    (length-bytes_argument text address fits)
 
-length-argument_text : (size : Option ℕ) (text : Came) (kind : ArgKind) (value : ℕ) → value < 2 ^ 64 → length (argument_text size text kind value) ≤ 260
+length-argument_text : (size : Option ℕ) (text : Came) (kind : ArgKind) (value : ℕ) → value < 2 ^ 64
+    → length (argument_text size text kind value) ≤ 260
 unfolding argument_text
 length-argument_text size text Dec value fits = omega (arith, length-decimal value fits)
 length-argument_text size text Hex value fits = omega (arith, length-hex_text value fits)
@@ -132,7 +135,8 @@ length-separator place = length-choice (eqb place 0) [] (44 ∷ 32 ∷ []) 2 (li
 abbrev pub AreWords : List ℕ → Type 0
 AreWords values = (k : ℕ) → get_or values k 0 < 2 ^ 64
 
-length-arguments_text : (size : Option ℕ) (text : Came) (values : List ℕ) (kinds : List ArgKind) (place : ℕ) → AreWords values → length (arguments_text size text values kinds place) ≤ 262 * length kinds
+length-arguments_text : (size : Option ℕ) (text : Came) (values : List ℕ) (kinds : List ArgKind) (place : ℕ)
+    → AreWords values → length (arguments_text size text values kinds place) ≤ 262 * length kinds
 unfolding arguments_text
 length-arguments_text size text values [] place fit = omega arith
 length-arguments_text size text values (kind ∷ kinds) place fit =
@@ -142,14 +146,19 @@ length-arguments_text size text values (kind ∷ kinds) place fit =
     simp length-append (omega (arith, first, before, others))
 
 -- the arguments from a place on are that one and those after it
-pub arguments_text-more : (size : Option ℕ) (text : Came) (values : List ℕ) (kinds : List ArgKind) (place : ℕ) (d : ArgKind) → place < length kinds → arguments_text size text values (drop place kinds) place ≡ separator place ++ argument_text size text (get_or kinds place d) (get_or values place 0) ++ arguments_text size text values (drop (place + 1) kinds) (place + 1)
+pub arguments_text-more : (size : Option ℕ) (text : Came) (values : List ℕ) (kinds : List ArgKind) (place : ℕ)
+    (d : ArgKind) → place < length kinds
+    → arguments_text size text values (drop place kinds) place
+    ≡ separator place ++ argument_text size text (get_or kinds place d) (get_or values place 0)
+    ++ arguments_text size text values (drop (place + 1) kinds) (place + 1)
 unfolding arguments_text
 arguments_text-more size text values kinds place d inside =
     ap (λ rest. arguments_text size text values rest place) (drop_more kinds place d inside)
 
 -- ---- events
 
-pub length-call_text : (call : Sysno) (values : List ℕ) (size : Option ℕ) (text : Came) → AreWords values → length (call_text call values size text) ≤ 800
+pub length-call_text : (call : Sysno) (values : List ℕ) (size : Option ℕ) (text : Came) → AreWords values
+    → length (call_text call values size text) ≤ 800
 unfolding call_text
 length-call_text call values size text fit =
     let name = length-syscall_name call in
@@ -184,7 +193,8 @@ length-fault_text fault pc fits =
     let at = length-hex_text pc fits in
     simp length-append (omega (arith, number, name, at))
 
-pub length-prefix : (follow lwps : Bool) (pid id : ℕ) → pid < 2 ^ 64 → id < 2 ^ 64 → length (prefix follow lwps pid id) ≤ 50
+pub length-prefix : (follow lwps : Bool) (pid id : ℕ) → pid < 2 ^ 64 → id < 2 ^ 64
+    → length (prefix follow lwps pid id) ≤ 50
 unfolding prefix
 length-prefix false false pid id pid_fits id_fits = lit≤ tt
 length-prefix true false pid id pid_fits id_fits = simp length-append (omega (arith, length-decimal pid pid_fits))

@@ -43,7 +43,8 @@ with_entry entry set part = option_map (with_number set) (entry part)
 -- A set with the entries of more parts. None: a part stands for no entry.
 unfoldable pub with_entries : (List ℕ → Option ℕ) → ℕ → List (List ℕ) → Option ℕ
 with_entries entry set [] = Some set
-with_entries entry set (part ∷ parts) = option_and_then (λ more. with_entries entry more parts) (with_entry entry set part)
+with_entries entry set (part ∷ parts) =
+    option_and_then (λ more. with_entries entry more parts) (with_entry entry set part)
 
 -- the entry of a number, or of a name where there is no number
 abbrev pub number_or_name : (List ℕ → Option ℕ) → (ℕ → Option ℕ) → List ℕ → Option ℕ → Option ℕ
@@ -61,8 +62,8 @@ list_from entry every (b ∷ bs) =
     if b == 33 then option_map (minus_word every) (with_entries entry 0 (parts_of bs))
     else with_entries entry 0 (parts_of (b ∷ bs))
 
--- The set that a list of truss(1) stands for: `all`, or entries joined by +, which a leading ! excludes from all. None: a
--- part stands for no entry.
+-- The set that a list of truss(1) stands for: `all`, or entries joined by +, which a leading ! excludes from all. None:
+-- a part stands for no entry.
 unfoldable pub list_of : (List ℕ → Option ℕ) → (ℕ → Option ℕ) → ℕ → List ℕ → Option ℕ
 list_of named numbered every word =
     if bytes_eq word (codes "all") then Some every else list_from (entry_of named numbered) every word

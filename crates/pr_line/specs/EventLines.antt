@@ -50,7 +50,8 @@ disposition_text Caught = codes "caught"
 
 -- where a signal came from (siginfo.h(3HEAD))
 unfoldable pub info_text : Info → List ℕ
-info_text info = codes " code " ++ decimal info.code ++ codes " pid " ++ decimal info.pid ++ codes " value " ++ decimal info.value
+info_text info =
+    codes " code " ++ decimal info.code ++ codes " pid " ++ decimal info.pid ++ codes " value " ++ decimal info.value
 
 -- a signal that was taken
 unfoldable pub signal_text : Sig → Disposition → List ℕ
@@ -61,12 +62,14 @@ signal_text signal disposition =
 -- a fault that was incurred
 unfoldable pub fault_text : Flt → ℕ → List ℕ
 fault_text fault pc =
-    entry_text (codes "Incurred fault #") (fault_number fault) (codes ", ") (fault_name fault) ++ codes ", pc = " ++ hex_text pc
+    entry_text (codes "Incurred fault #") (fault_number fault) (codes ", ") (fault_name fault) ++ codes ", pc = "
+    ++ hex_text pc
 
 -- What happened, a row an event. Memory is read only for a call that has ended: one that is entered has numbers alone.
 unfoldable pub happening_text : Event → Came → List ℕ
 happening_text (Entered call arguments) text = call_text call arguments None None
-happening_text (Left call arguments result) text = call_text call arguments (buffer_size call arguments (result_ok result)) text ++ result_text result
+happening_text (Left call arguments result) text =
+    call_text call arguments (buffer_size call arguments (result_ok result)) text ++ result_text result
 happening_text (Received signal disposition info) text = signal_text signal disposition ++ info_text info
 happening_text (Incurred fault pc) text = fault_text fault pc
 

@@ -16,7 +16,18 @@ use Rattle.pr_num.specs.Limits.{all_calls, all_faults, all_signals}
 
 -- nothing asked: all calls, signals and faults, of no process yet
 abbrev pub no_options : Options
-no_options = record { follow = false; lwps = false; count = false; calls = all_calls; signals = all_signals; faults = all_faults; pids = []; program = None; functions = [] }
+no_options =
+    record {
+      follow = false;
+      lwps = false;
+      count = false;
+      calls = all_calls;
+      signals = all_signals;
+      faults = all_faults;
+      pids = [];
+      program = None;
+      functions = [];
+    }
 
 -- the options so far, the functions that are named, the option whose list comes next, if one does, and whether -f or -c
 -- stands among the words
@@ -40,9 +51,14 @@ with_functions n d None = Err (BadOption n)
 -- Word n is the list of an option, a row an option: -t, -s, -m, -p and -u. A later list takes the place of an earlier
 -- one.
 unfoldable pub list_taken : Bool → ℕ → Draft → List ℕ → ListOption → Result Draft WordFault
-list_taken lenient n d word Calls = with_list lenient n d (λ set. record d.options { calls = set }) (list_of call_named call_numbered all_calls word)
-list_taken lenient n d word Signals = with_list lenient n d (λ set. record d.options { signals = set }) (list_of signal_named signal_numbered all_signals word)
-list_taken lenient n d word Faults = with_list lenient n d (λ set. record d.options { faults = set }) (list_of fault_named fault_numbered all_faults word)
+list_taken lenient n d word Calls =
+    with_list lenient n d (λ set. record d.options { calls = set }) (list_of call_named call_numbered all_calls word)
+list_taken lenient n d word Signals =
+    with_list lenient n d (λ set. record d.options { signals = set })
+    (list_of signal_named signal_numbered all_signals word)
+list_taken lenient n d word Faults =
+    with_list lenient n d (λ set. record d.options { faults = set })
+    (list_of fault_named fault_numbered all_faults word)
 list_taken lenient n d word Processes = with_pids n d (pids_of word)
 list_taken lenient n d word Functions = with_functions n d (function_names_of word)
 
@@ -82,7 +98,8 @@ word_taken lenient n d word =
 -- whether the word after an option is its list
 unfoldable pub takes_list : List ℕ → Bool
 takes_list word =
-    bytes_eq word (codes "-t") || bytes_eq word (codes "-s") || bytes_eq word (codes "-m") || bytes_eq word (codes "-p") || bytes_eq word (codes "-u")
+    bytes_eq word (codes "-t") || bytes_eq word (codes "-s") || bytes_eq word (codes "-m") || bytes_eq word (codes "-p")
+    || bytes_eq word (codes "-u")
 
 -- whether -f or -c is an option among words, the first of which is a list or is none
 unfoldable pub follows_or_counts : Bool → List (List ℕ) → Bool

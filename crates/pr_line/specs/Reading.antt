@@ -8,8 +8,8 @@ use Rattle.pr_line.specs.declared.reading.Asked.{Asked}
 use Rattle.pr_line.specs.declared.reading.Draft.{Draft}
 use Rattle.pr_text.specs.Steps.{◌>>=◌, folded}
 
--- What words make of a draft, from the first of this number on, or the first of them at fault. Where bad names are passed
--- over, the list that has one changes nothing.
+-- What words make of a draft, from the first of this number on, or the first of them at fault. Where bad names are
+-- passed over, the list that has one changes nothing.
 abbrev pub words_taken : Bool → ℕ → Draft → List (List ℕ) → Result Draft WordFault
 words_taken lenient n d words = folded (word_taken lenient) n d words
 

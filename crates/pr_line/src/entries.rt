@@ -10,7 +10,8 @@ use std::alloc::Global;
 /// The entry that a part stands for, by its name or its number.
 #[tactic(auto, unfolding(crate::specs::Entries::entry_of))]
 fn entry_of<T: Numbered>(part: &[u8]) -> Option<T>
-    ensures { option_map T.number_of result ≡ entry_of (number_named T.number_of T.of_name) (number_numbered T.number_of T.of_number) part.now }
+    ensures { option_map T.number_of result
+        ≡ entry_of (number_named T.number_of T.of_name) (number_numbered T.number_of T.of_number) part.now }
 {
     match number_of(part) {
         Some(n) => T::from_number(n),
@@ -21,7 +22,9 @@ fn entry_of<T: Numbered>(part: &[u8]) -> Option<T>
 /// The entries that parts stand for, each by its name or its number.
 #[tactic(auto, unfolding(crate::specs::Entries::with_entries))]
 fn listed_entries<T: Numbered>(parts: &[&[u8]]) -> Option<SetOf<T>>
-    ensures { result ≡ with_entries (entry_of (number_named T.number_of T.of_name) (number_numbered T.number_of T.of_number)) 0 (map (λ part. part.now) parts.now) }
+    ensures { result
+        ≡ with_entries (entry_of (number_named T.number_of T.of_name) (number_numbered T.number_of T.of_number)) 0
+        (map (λ part. part.now) parts.now) }
 {
     let mut set = SetOf::empty();
     for part in parts {
@@ -53,7 +56,10 @@ fn all_but<T: Numbered>(list: Option<SetOf<T>>) -> Option<SetOf<T>>
 /// A list that begins with `!`, or one that does not.
 #[tactic(auto, unfolding(crate::specs::Entries::list_from))]
 fn list_from<T: Numbered>(alloc: Global, word: &[u8]) -> Result<Option<SetOf<T>>, NoMemory>
-    ensures { IfOk result (λ set. set ≡ list_from (entry_of (number_named T.number_of T.of_name) (number_numbered T.number_of T.of_number)) (2 ^ T.COUNT - 1) word.now) }
+    ensures { IfOk result
+        (λ set. set
+        ≡ list_from (entry_of (number_named T.number_of T.of_name) (number_numbered T.number_of T.of_number))
+        (2 ^ T.COUNT - 1) word.now) }
 {
     match word.split_first() {
         Some((b'!', list)) => Ok(all_but(listed_entries(&parts_of(alloc, list)?))),
@@ -65,7 +71,10 @@ fn list_from<T: Numbered>(alloc: Global, word: &[u8]) -> Result<Option<SetOf<T>>
 /// `None` exactly where a part stands for no entry.
 #[tactic(auto, unfolding(crate::specs::Entries::list_of))]
 pub fn list_of<T: Numbered>(alloc: Global, word: &[u8]) -> Result<Option<SetOf<T>>, NoMemory>
-    ensures { IfOk result (λ set. set ≡ list_of (number_named T.number_of T.of_name) (number_numbered T.number_of T.of_number) (2 ^ T.COUNT - 1) word.now) }
+    ensures { IfOk result
+        (λ set. set
+        ≡ list_of (number_named T.number_of T.of_name) (number_numbered T.number_of T.of_number)
+        (2 ^ T.COUNT - 1) word.now) }
 {
     if word == b"all".as_slice() {
         return Ok(Some(SetOf::all()));

@@ -19,7 +19,8 @@ one_if b = if b then 1 else 0
 
 -- the first seat of a lock, which has no share yet
 abbrev pub newcomer : {V I : Type 0} → Origin V → View V I
-newcomer made = record { origin = Some made; fresh = true; seen = []; own = []; entered = None; over = false; shares = 0 }
+newcomer made =
+    record { origin = Some made; fresh = true; seen = []; own = []; entered = None; over = false; shares = 0 }
 
 module _ {V I : Type 0} where
   -- what a seat knows is true of the lock, its history, and whether its value is over
@@ -59,7 +60,8 @@ module _ {V I : Type 0} where
       -- some seat has seen the whole history
       pub whole : (seat : ℕ) × (v : View V I) × (get_elem? s.views seat ≡ some v) × (v.seen ≡ log)
       -- each place of the history is some one seat's own
-      pub once : (place : ℕ) → sum_by (λ (v : View V I). times_at place v.own) s.views ≡ one_if (nat_lt place (length log))
+      pub once : (place : ℕ)
+          → sum_by (λ (v : View V I). times_at place v.own) s.views ≡ one_if (nat_lt place (length log))
       -- word 1 is 1 once no seat is fresh
       pub opened : sum_by (λ (v : View V I). one_if v.fresh) s.views + begun ≡ 1
       pub before : begun ≡ 0 → sum_by (λ (v : View V I). v.shares) s.views ≡ 0

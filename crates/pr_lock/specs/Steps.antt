@@ -40,11 +40,14 @@ module _ {V I : Type 0} where
 
   -- the seat that gets it
   abbrev pub offspring : View V I → View V I
-  offspring v = record { origin = v.origin; fresh = false; seen = v.seen; own = []; entered = None; over = v.over; shares = 1 }
+  offspring v =
+      record { origin = v.origin; fresh = false; seen = v.seen; own = []; entered = None; over = v.over; shares = 1 }
 
   -- a seat that takes in another
   abbrev pub joined : View V I → View V I → View V I
-  joined v w = record v { seen = longer v.seen w.seen; own = v.own ++ w.own; over = v.over || w.over; shares = v.shares + w.shares }
+  joined v w =
+      record v
+      { seen = longer v.seen w.seen; own = v.own ++ w.own; over = v.over || w.over; shares = v.shares + w.shares }
 
   -- what is left of the other
   abbrev pub spent : View V I
@@ -56,7 +59,8 @@ module _ {V I : Type 0} where
 
   -- the seat has taken the value: it stands for a history that begins with all that the seat had seen, in which the
   -- seat's own entries stand, and is over where the seat had seen that
-  pub record HasTaken (entries : V → List I) (over : V → Bool) (comes : V → V → Type 0) (before after : Me (Option V) (View V I)) : Type 0 where
+  pub record HasTaken (entries : V → List I) (over : V → Bool) (comes : V → V → Type 0)
+      (before after : Me (Option V) (View V I)) : Type 0 where
     pub value : V
     pub is : after ≡ (holding before.0 (entries value) (over value), (0, Some value) ∷ before.1)
     pub begins : StartsWith (entries value) before.0.seen
@@ -65,7 +69,8 @@ module _ {V I : Type 0} where
     pub source : IfSome before.0.origin (λ made. comes value made.first.value)
 
   -- a seat that tries: it has the value where it found the lock free, and else it is as it was
-  pub record Tries (entries : V → List I) (over : V → Bool) (comes : V → V → Type 0) (before : Me (Option V) (View V I)) (found : ℕ) (after : Me (Option V) (View V I)) : Type 0 where
+  pub record Tries (entries : V → List I) (over : V → Bool) (comes : V → V → Type 0) (before : Me (Option V) (View V I))
+      (found : ℕ) (after : Me (Option V) (View V I)) : Type 0 where
     pub free : found ≡ 0 → HasTaken entries over comes before after
     pub taken : found ≢ 0 → after ≡ before
 
@@ -79,6 +84,7 @@ module _ {V I : Type 0} where
       entries_in (Some value) = entries value
 
   -- a seat that gives the value back: what it added stands behind all that it had added before
-  pub record Leaves (entries : V → List I) (over : V → Bool) (before : Me (Option V) (View V I)) (found : ℕ) (after : Me (Option V) (View V I)) : Type 0 where
+  pub record Leaves (entries : V → List I) (over : V → Bool) (before : Me (Option V) (View V I)) (found : ℕ)
+      (after : Me (Option V) (View V I)) : Type 0 where
     pub is : after ≡ (departed before.0 (carried_entries entries before.1) (carried_over over before.1), rest before.1)
     pub order : IsInOrder before.0.own → IsInOrder after.0.own

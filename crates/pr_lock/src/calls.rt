@@ -60,7 +60,8 @@ impl<V: Logged + Send> Shared<V> {
         ensures stays { saw_over seat.old ≡ true → V.over result ≡ true }
         ensures over { saw_over seat.new ≡ V.over result }
         ensures source { V.comes result (first_of self.now) }
-        ensures kept { (seen_of seat.new ≡ seen_of seat.old) × (own_of seat.new ≡ own_of seat.old) × (shares_of seat.new ≡ shares_of seat.old) }
+        ensures kept { (seen_of seat.new ≡ seen_of seat.old) × (own_of seat.new ≡ own_of seat.old)
+            × (shares_of seat.new ≡ shares_of seat.old) }
     {
         let table = &self.table.shared;
         for _ in rt.forever() {
@@ -99,8 +100,10 @@ impl<V: Logged + Send> Shared<V> {
     pub fn split(&self, seat: &mut Seat<V>) -> Seat<V>
         requires lock { IsOutside seat.old self.now }
         requires shares { 2 ≤ shares_of seat.old }
-        ensures kept { IsOutside seat.new self.now × (seen_of seat.new ≡ seen_of seat.old) × (own_of seat.new ≡ own_of seat.old) × (shares_of seat.new + 1 ≡ shares_of seat.old) }
-        ensures given { IsOutside result self.now × (seen_of result ≡ seen_of seat.old) × (own_of result ≡ []) × (shares_of result ≡ 1) }
+        ensures kept { IsOutside seat.new self.now × (seen_of seat.new ≡ seen_of seat.old) × (own_of seat.new ≡ own_of seat.old)
+            × (shares_of seat.new + 1 ≡ shares_of seat.old) }
+        ensures given { IsOutside result self.now × (seen_of result ≡ seen_of seat.old) × (own_of result ≡ [])
+            × (shares_of result ≡ 1) }
         ensures over { (saw_over seat.new ≡ saw_over seat.old) × (saw_over result ≡ saw_over seat.old) }
     {
         Seat {

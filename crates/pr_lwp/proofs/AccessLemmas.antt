@@ -17,7 +17,8 @@ access-names (Err (Hole at)) f e = cc
 access-names (Err (NotAllowed at)) f e = cc
 
 -- and it is the one at which the access fails
-pub access-fails : (r : Result (List ℕ) BadByte) (f : MemFault) (bad : BadByte) → Err f ≡ access_answer r → bad_byte_of f ≡ Some bad → Err bad ≡ r
+pub access-fails : (r : Result (List ℕ) BadByte) (f : MemFault) (bad : BadByte) → Err f ≡ access_answer r
+    → bad_byte_of f ≡ Some bad → Err bad ≡ r
 access-fails (Ok bytes) f bad e named = absurd (cc)
 access-fails (Err (Hole at)) f bad e named = cc
 access-fails (Err (NotAllowed at)) f bad e named = cc

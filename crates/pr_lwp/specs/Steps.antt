@@ -31,10 +31,11 @@ module _ {P : Type 0} where
       if l.control.step then record { lwp = with_step_taken (with_regs regs l); effect = Fault Trace (pc_of regs) }
       else record { lwp = with_regs regs l; effect = Ran }
 
-  -- A row an outcome. A fault leaves the registers, but FLTWATCH of an area that traps after the access, which uses up a
-  -- step mark too.
+  -- A row an outcome. A fault leaves the registers, but FLTWATCH of an area that traps after the access, which uses up
+  -- a step mark too.
   unfoldable pub stepped : Outcome → lwp.LwpOf P Phase LwpControl → Stepped P
   stepped (Runs regs) l = ran regs l
   stepped (Calls call regs) l = record { lwp = with_regs regs l; effect = Sys call }
   stepped (Faults f address) l = record { lwp = l; effect = Fault f address }
-  stepped (RunsIntoWatch address regs) l = record { lwp = with_step_taken (with_regs regs l); effect = Fault Watch address }
+  stepped (RunsIntoWatch address regs) l =
+      record { lwp = with_step_taken (with_regs regs l); effect = Fault Watch address }

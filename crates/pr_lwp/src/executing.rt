@@ -1,5 +1,5 @@
-//! What the instruction at pc does. It is tried in this order: its fetch, areas watched for execution, its decoding, its
-//! own faults, areas watched for the data that it reads or writes, and its effect.
+//! What the instruction at pc does. It is tried in this order: its fetch, areas watched for execution, its decoding,
+//! its own faults, areas watched for the data that it reads or writes, and its effect.
 ghost use Rattle.std.specs.Prelude.{◌≡◌, true, false, length, None, Some, IfOk, OnOk, OnErr};
 ghost use Rattle.pr_num.specs.Control.{prot_read, watch_exec, watch_write};
 ghost use Rattle.pr_num.specs.Instructions.{instruction_in};
@@ -155,7 +155,8 @@ fn load_effect(
     at: u64,
 ) -> Outcome
     ensures outcome { result ≡ outcome_of (load_effect space.now areas.now exec_hit regs.now (load_of load) at (size_of load)) }
-    ensures space { space_after (load_effect space.now areas.now exec_hit regs.now (load_of load) at (size_of load)) space.now ≡ space.now }
+    ensures space { space_after (load_effect space.now areas.now exec_hit regs.now (load_of load) at (size_of load)) space.now
+        ≡ space.now }
 {
     let new = match loaded(space, load, at, regs) {
         Ok(new) => new,
@@ -178,8 +179,10 @@ fn store_effect(
     regs: [u64; 11],
     store: Store,
 ) -> Result<Outcome, NoMemory>
-    ensures outcome { IfOk result (λ outcome. outcome ≡ outcome_of (store_effect space.old areas.now exec_hit stack regs (store_of store))) }
-    ensures space { OnOk result (space.new ≡ space_after (store_effect space.old areas.now exec_hit stack regs (store_of store)) space.old) }
+    ensures outcome { IfOk result
+        (λ outcome. outcome ≡ outcome_of (store_effect space.old areas.now exec_hit stack regs (store_of store))) }
+    ensures space { OnOk result
+        (space.new ≡ space_after (store_effect space.old areas.now exec_hit stack regs (store_of store)) space.old) }
     ensures memory { OnErr result (stores_bytes (store_effect space.old areas.now exec_hit stack regs (store_of store)) ≡ true) }
     ensures err { OnErr result (space.new ≡ space.old) }
 {

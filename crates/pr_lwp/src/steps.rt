@@ -65,7 +65,9 @@ fn finish<P>(lwp: &mut Lwp<P>, outcome: Outcome) -> Effect
 /// access, and FLTTRACE, for which the lwp's step mark is used up. Only what stores bytes takes memory; where that runs
 /// out nothing is changed.
 pub fn step<P>(lwp: &mut Lwp<P>, space: &mut Space, areas: &Areas) -> Result<Effect, NoMemory>
-    ensures lwp { IfOk result (λ effect. (record { lwp = lwp.new; effect = effect }) ≡ stepped (outcome_of (instruction_effect space.old areas.now lwp.old.regs)) lwp.old) }
+    ensures lwp { IfOk result
+        (λ effect. (record { lwp = lwp.new; effect = effect })
+        ≡ stepped (outcome_of (instruction_effect space.old areas.now lwp.old.regs)) lwp.old) }
     ensures space { OnOk result (space.new ≡ space_after (instruction_effect space.old areas.now lwp.old.regs) space.old) }
     ensures memory { OnErr result (stores_bytes (instruction_effect space.old areas.now lwp.old.regs) ≡ true) }
     ensures kept_lwp { OnErr result (lwp.new ≡ lwp.old) }

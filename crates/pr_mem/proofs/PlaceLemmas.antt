@@ -12,7 +12,8 @@ use Rattle.pr_mem.specs.Places.{IsPlace, ends_before}
 -- ---- the search for the first
 
 -- the mapping before another ends before it begins
-pub ends_first : (space : Space) (i j : ℕ) (d : Mapping) → IsSpace space → i < j → j < length space → (get_or space i d).at + length (get_or space i d).bytes ≤ (get_or space j d).at
+pub ends_first : (space : Space) (i j : ℕ) (d : Mapping) → IsSpace space → i < j → j < length space
+    → (get_or space i d).at + length (get_or space i d).bytes ≤ (get_or space j d).at
 ends_first space i j d kept order within = kept.apart i j d order within
 
 pub are_partitioned : (space : Space) (address : ℕ) → IsSpace space → IsPartitionedBy (ends_before address) space
@@ -25,7 +26,9 @@ are_partitioned space address kept i j d order within ends =
     same : j ≤ i → ends_before address (get_or space i d) ≡ true
     same more = let e : j ≡ i = omega arith in ap (λ k. ends_before address (get_or space k d)) (sym e) ∙ ends
 
-pub IsPlace-searched : (space : Space) (address place : ℕ) → place ≤ length space → IsPartitionPoint (λ m. ends_before address m ≡ true) (λ m. ends_before address m ≡ false) space place → IsPlace space address place
+pub IsPlace-searched : (space : Space) (address place : ℕ) → place ≤ length space
+    → IsPartitionPoint (λ m. ends_before address m ≡ true) (λ m. ends_before address m ≡ false) space place
+    → IsPlace space address place
 IsPlace-searched space address place within point = record {
   within = within;
   before = λ k d low high. leb-true _ _ (point.0 k d low high);
@@ -35,25 +38,31 @@ IsPlace-searched space address place within point = record {
 -- ---- what stands in a place
 
 -- the mapping in a place ends behind the address
-pub place-end : (space : Space) (a i : ℕ) (m : Mapping) → IsPlace space a i → slice_get space i ≡ Some m → a < m.at + length m.bytes
+pub place-end : (space : Space) (a i : ℕ) (m : Mapping) → IsPlace space a i → slice_get space i ≡ Some m
+    → a < m.at + length m.bytes
 place-end space a i m place is =
-    subst (λ (n : Mapping). a < n.at + length n.bytes) (get_or_from_slice_get space i m m is) (place.behind i m (omega arith) (slice_get_within space i m is))
+    subst (λ (n : Mapping). a < n.at + length n.bytes) (get_or_from_slice_get space i m m is)
+    (place.behind i m (omega arith) (slice_get_within space i m is))
 
 -- an address that is not in a mapping
 past : (a : ℕ) (m : Mapping) → m.at + length m.bytes ≤ a → covers a m ≡ false
-past a m ends = elim (cases_Bool (covers a m)) [ inl t ↦ let high = covers-end a m t in absurd (omega arith) | inr f ↦ f ]
+past a m ends =
+    elim (cases_Bool (covers a m)) [ inl t ↦ let high = covers-end a m t in absurd (omega arith) | inr f ↦ f ]
 
 ahead : (a : ℕ) (m : Mapping) → a < m.at → covers a m ≡ false
-ahead a m begins = elim (cases_Bool (covers a m)) [ inl t ↦ let low = covers-at a m t in absurd (omega arith) | inr f ↦ f ]
+ahead a m begins =
+    elim (cases_Bool (covers a m)) [ inl t ↦ let low = covers-at a m t in absurd (omega arith) | inr f ↦ f ]
 
-find_first : (p : Mapping → Bool) (xs : Space) (i : ℕ) (x : Mapping) → slice_get xs i ≡ Some x → p x ≡ true → AllWithin (λ y. p y ≡ false) xs 0 i → find p xs ≡ Some x
+find_first : (p : Mapping → Bool) (xs : Space) (i : ℕ) (x : Mapping) → slice_get xs i ≡ Some x → p x ≡ true
+    → AllWithin (λ y. p y ≡ false) xs 0 i → find p xs ≡ Some x
 find_first p [] i x is passes fails = absurd (cc)
 find_first p (y ∷ ys) zero x is passes fails =
     let same = same_Some y x is in
     let here : p y ≡ true = ap p same ∙ passes in
     rw here is
 find_first p (y ∷ ys) (suc i) x is passes fails =
-    rw (fails 0 y (omega arith) (omega arith)) (find_first p ys i x is passes (λ k d low high. fails (suc k) d (omega arith) (omega arith)))
+    rw (fails 0 y (omega arith) (omega arith))
+    (find_first p ys i x is passes (λ k d low high. fails (suc k) d (omega arith) (omega arith)))
 
 find_nowhere : (p : Mapping → Bool) (xs : Space) → All (λ y. p y ≡ false) xs → find p xs ≡ None
 find_nowhere p [] fails = refl
@@ -61,15 +70,19 @@ find_nowhere p (y ∷ ys) fails =
     rw (fails 0 y (omega arith)) (find_nowhere p ys (λ k d within. fails (suc k) d (omega arith)))
 
 -- the byte at the address is in the mapping in its place, or in none
-pub find-there : (space : Space) (a i : ℕ) (m : Mapping) → IsPlace space a i → slice_get space i ≡ Some m → m.at ≤ a → find (covers a) space ≡ Some m
+pub find-there : (space : Space) (a i : ℕ) (m : Mapping) → IsPlace space a i → slice_get space i ≡ Some m → m.at ≤ a
+    → find (covers a) space ≡ Some m
 find-there space a i m place is low =
-    find_first (covers a) space i m is (covers-from a m low (place-end space a i m place is)) (λ k d from near. past a (get_or space k d) (place.before k d from near))
+    find_first (covers a) space i m is (covers-from a m low (place-end space a i m place is))
+    (λ k d from near. past a (get_or space k d) (place.before k d from near))
 
 pub find-behind_all : (space : Space) (a i : ℕ) → IsPlace space a i → length space ≤ i → find (covers a) space ≡ None
 find-behind_all space a i place all =
-    find_nowhere (covers a) space (λ k d within. past a (get_or space k d) (place.before k d (omega arith) (omega arith)))
+    find_nowhere (covers a) space
+    (λ k d within. past a (get_or space k d) (place.before k d (omega arith) (omega arith)))
 
-pub find-between : (space : Space) (a i : ℕ) (m : Mapping) → IsSpace space → IsPlace space a i → slice_get space i ≡ Some m → a < m.at → find (covers a) space ≡ None
+pub find-between : (space : Space) (a i : ℕ) (m : Mapping) → IsSpace space → IsPlace space a i
+    → slice_get space i ≡ Some m → a < m.at → find (covers a) space ≡ None
 find-between space a i m kept place is begins = find_nowhere (covers a) space out
   where
     starts : (d : Mapping) → a < (get_or space i d).at
@@ -80,11 +93,19 @@ find-between space a i m kept place is begins = find_nowhere (covers a) space ou
 
     here : (k : ℕ) (d : Mapping) → k < length space → i ≤ k → covers a (get_or space k d) ≡ false
     here k d within from =
-        elim (cases_Bool (ltb i k)) [ inl t ↦ ahead a (get_or space k d) (later k d (ltb-true i k t) within) | inr f ↦ let order = ltb-false i k f in let e : i ≡ k = omega arith in ahead a (get_or space k d) (subst (λ (n : ℕ). a < (get_or space n d).at) e (starts d)) ]
+        elim (cases_Bool (ltb i k)) [
+          | inl t ↦ ahead a (get_or space k d) (later k d (ltb-true i k t) within)
+          | inr f ↦ let order =
+              ltb-false i k f in let e : i ≡ k = omega arith in
+              ahead a (get_or space k d) (subst (λ (n : ℕ). a < (get_or space n d).at) e (starts d))
+        ]
 
     out : (k : ℕ) (d : Mapping) → k < length space → covers a (get_or space k d) ≡ false
     out k d within =
-        elim (cases_Bool (ltb k i)) [ inl t ↦ past a (get_or space k d) (place.before k d (omega arith) (ltb-true k i t)) | inr f ↦ here k d within (ltb-false k i f) ]
+        elim (cases_Bool (ltb k i)) [
+          | inl t ↦ past a (get_or space k d) (place.before k d (omega arith) (ltb-true k i t))
+          | inr f ↦ here k d within (ltb-false k i f)
+        ]
 
 -- ---- an access under way
 

@@ -10,12 +10,16 @@ use Rattle.pr_parts.specs.AddressSpaces.{is_free, with_bytes, written_byte}
 -- accessed still cannot.
 abbrev pub WritesEachByte : Space → Type 0
 WritesEachByte space =
-    (at : ℕ) (bytes : List ℕ) (need address : ℕ) → byte_for need (with_bytes at bytes space) address ≡ byte_after_write at bytes address (byte_for need space address)
+    (at : ℕ) (bytes : List ℕ) (need address : ℕ)
+    → byte_for need (with_bytes at bytes space) address
+    ≡ byte_after_write at bytes address (byte_for need space address)
 
 -- what was written where it can be read is read back
 abbrev pub IsReadBack : Space → Type 0
 IsReadBack space =
-    (at : ℕ) (bytes : List ℕ) (need : ℕ) → at + length bytes < 2 ^ 64 → checked (bytes_for need space at (length bytes)) ≡ Ok tt → bytes_for need (with_bytes at bytes space) at (length bytes) ≡ Ok bytes
+    (at : ℕ) (bytes : List ℕ) (need : ℕ) → at + length bytes < 2 ^ 64
+    → checked (bytes_for need space at (length bytes)) ≡ Ok tt
+    → bytes_for need (with_bytes at bytes space) at (length bytes) ≡ Ok bytes
 
 -- an address is a multiple of 4,096 in the region of mmap(2), from which a range of this size ends in it
 pub record IsGapPlace (size at : ℕ) : Type 0 where

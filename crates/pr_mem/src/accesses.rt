@@ -8,8 +8,8 @@ use crate::mappings::Mapping;
 use crate::ranges;
 use pr_num::BadByte;
 
-// The bytes that an access gets. Each step takes those that one page has, and the next step goes on behind them. The place
-// of the first is passed in, since the steps of a call share it.
+// The bytes that an access gets. Each step takes those that one page has, and the next step goes on behind them. The
+// place of the first is passed in, since the steps of a call share it.
 
 /// Bytes from an address on, of which this is the place, that one page has, at least one and at most `most`; or why the
 /// first of them cannot be accessed.
@@ -85,8 +85,8 @@ pub fn fill(
     Ok(())
 }
 
-/// The bytes of an access from an address on, of which `place` is the place, where one page has all of them. `None` also
-/// where the access fails.
+/// The bytes of an access from an address on, of which `place` is the place, where one page has all of them. `None`
+/// also where the access fails.
 fn whole_run(mappings: &[Mapping], place: usize, need: u8, at: u64, len: usize) -> Option<&[u8]>
     requires space { IsSpace mappings.now }
     requires place { IsPlace mappings.now at place }

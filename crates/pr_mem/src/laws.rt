@@ -3,8 +3,8 @@ ghost use Rattle.pr_num.specs.Spaces.{Space};
 ghost use Rattle.pr_parts.specs.AddressSpaces.{gap_in};
 ghost use Rattle.pr_mem.specs.Laws.{WritesEachByte, IsReadBack, IsLeastGap, HasNoGap};
 
-// What shows that the definitions of writing and of gaps say what they mean. Each function carries laws in its contract, and
-// does nothing.
+// What shows that the definitions of writing and of gaps say what they mean. Each function carries laws in its
+// contract, and does nothing.
 
 /// What was written is read back, and bytes outside stay.
 pub fn what_is_written_is_read()

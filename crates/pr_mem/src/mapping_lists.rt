@@ -81,7 +81,8 @@ pub fn put(mappings: &mut Vec<Mapping>, place: usize, mapping: Mapping) -> Resul
     Ok(())
 }
 
-/// Cuts the mapping in a place off, or lets it grow by zeros, to so many bytes; where memory runs out it stays as it is.
+/// Cuts the mapping in a place off, or lets it grow by zeros, to so many bytes; where memory runs out it stays as it
+/// is.
 pub fn resize_at(
     mappings: &mut Vec<Mapping>,
     alloc: Global,

@@ -116,7 +116,8 @@ impl Mapping {
     pub fn run(&self, address: u64) -> &[u8]
         requires low { self.now.at ≤ address }
         requires high { address < self.now.at + length self.now.bytes }
-        ensures { result.now ≡ take (page_size - (address - self.now.at) % page_size) (drop (address - self.now.at) self.now.bytes) }
+        ensures { result.now
+            ≡ take (page_size - (address - self.now.at) % page_size) (drop (address - self.now.at) self.now.bytes) }
     {
         self.pages.run((address - self.at) as usize)
     }

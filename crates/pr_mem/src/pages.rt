@@ -73,7 +73,8 @@ fn write_from(
 ) -> Result<(), NoMemory>
     requires end { at + length bytes.now < 2 ^ 64 }
     requires whole { AreWhole (map arc_value pages.old.items) }
-    ensures ok { OnOk result (map arc_value pages.new.items ≡ written_pages at bytes.now first (map arc_value pages.old.items)) }
+    ensures ok { OnOk result
+        (map arc_value pages.new.items ≡ written_pages at bytes.now first (map arc_value pages.old.items)) }
     ensures err { OnErr result (map arc_value pages.new.items ≡ map arc_value pages.old.items) }
 {
     write_behind(pages, alloc, first, at, bytes)
@@ -85,7 +86,10 @@ fn clear_from(pages: &mut Vec<Page>, alloc: Global, from: usize) -> Result<(), N
     requires within { from ≤ length pages.old.items * page_size }
     requires last { length pages.old.items * page_size < from + page_size }
     requires limit { from ≤ mapping_limit }
-    ensures ok { OnOk result (map arc_value pages.new.items ≡ written_pages from (replicate (length pages.old.items * page_size - from) 0) 0 (map arc_value pages.old.items)) }
+    ensures ok { OnOk result
+        (map arc_value pages.new.items
+        ≡ written_pages from (replicate (length pages.old.items * page_size - from) 0) 0
+        (map arc_value pages.old.items)) }
     ensures err { OnErr result (map arc_value pages.new.items ≡ map arc_value pages.old.items) }
 {
     let count = pages.len() * PAGE - from;
@@ -96,7 +100,9 @@ fn clear_from(pages: &mut Vec<Page>, alloc: Global, from: usize) -> Result<(), N
 /// Puts pages of zeros behind these, so that there are so many.
 fn grow(pages: &mut Vec<Page>, alloc: Global, count: usize) -> Result<(), NoMemory>
     requires { length pages.old.items ≤ count }
-    ensures ok { OnOk result (map arc_value pages.new.items ≡ map arc_value pages.old.items ++ replicate (count - length pages.old.items) (replicate page_size 0)) }
+    ensures ok { OnOk result
+        (map arc_value pages.new.items
+        ≡ map arc_value pages.old.items ++ replicate (count - length pages.old.items) (replicate page_size 0)) }
     ensures err { OnErr result (map arc_value pages.new.items ≡ map arc_value pages.old.items) }
 {
     let mut zeros = zero_pages(alloc, count - pages.len())?;
@@ -114,8 +120,8 @@ fn run_in(pages: &[Page], from: usize) -> &[u8]
     &page[from % PAGE..]
 }
 
-/// Bytes in pages of 4,096, seen by contracts as the list of the bytes. A copy shares the pages, until one of the two is
-/// written to.
+/// Bytes in pages of 4,096, seen by contracts as the list of the bytes. A copy shares the pages, until one of the two
+/// is written to.
 #[derive(Drop)]
 pub struct Pages {
     pages: Vec<Page>,

@@ -108,7 +108,8 @@ impl Space {
     /// is named. Then, and where memory runs out, the space stays as it is.
     pub fn write(&mut self, at: u64, bytes: &[u8], need: u8) -> Result<(), MemFault>
         ensures refused { IfErr (access_answer (bytes_for need self.old at (length bytes.now))) (λ fault. result ≡ Err fault) }
-        ensures granted { OnOk (access_answer (bytes_for need self.old at (length bytes.now))) (IsOkUnless result MemFault.NoMemory) }
+        ensures granted { OnOk (access_answer (bytes_for need self.old at (length bytes.now)))
+            (IsOkUnless result MemFault.NoMemory) }
         ensures ok { OnOk result (self.new ≡ with_bytes at bytes.now self.old) }
         ensures err { OnErr result (self.new ≡ self.old) }
         ensures heap_place { All LeavesHeapPlace self.old → All LeavesHeapPlace self.new }
@@ -173,7 +174,9 @@ impl Space {
         requires kind { IsSome (kind_of_number m.kind) }
         ensures refused { IfSome (map_refusal m.at m.size self.old) (λ fault. result ≡ Err fault) }
         ensures granted { map_refusal m.at m.size self.old ≡ None → IsOkUnless result MemFault.NoMemory }
-        ensures ok { OnOk result (IfSome (kind_of_number m.kind) (λ kind. self.new ≡ with_mapping (zeros_at m.at m.size m.prot kind) self.old)) }
+        ensures ok { OnOk result
+            (IfSome (kind_of_number m.kind)
+            (λ kind. self.new ≡ with_mapping (zeros_at m.at m.size m.prot kind) self.old)) }
         ensures err { OnErr result (self.new ≡ self.old) }
         ensures heap_place { IsTrue (is_outside_heap_place m.at m.size) → All LeavesHeapPlace self.old → All LeavesHeapPlace self.new }
     {
@@ -252,7 +255,8 @@ impl Space {
         Ok(())
     }
 
-    /// The least address of a page from `GAP_BASE` on at which a mapping of this size meets none and ends before the stack.
+    /// The least address of a page from `GAP_BASE` on at which a mapping of this size meets none and ends before the
+    /// stack.
     pub fn gap(&self, size: u64) -> Option<u64>
         ensures { result ≡ gap_in size self.now }
     {

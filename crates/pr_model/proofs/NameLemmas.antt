@@ -37,4 +37,5 @@ mode_name-of_name bytes m e = (bytes_eq-Decides bytes (mode_name m)).0 (find-pas
 pub mode_name-none : (bytes : List ℕ) (m : Mode) → mode_of_name bytes ≡ None → bytes ≢ mode_name m
 mode_name-none bytes m none same = none-some m (sym none ∙ ap mode_of_name same ∙ mode_of_name-name m)
 
-pub ruleset names_of_files = (file_of_name-name, file_name-of_name, file_name-none, mode_of_name-name, mode_name-of_name, mode_name-none)
+pub ruleset names_of_files =
+    (file_of_name-name, file_name-of_name, file_name-none, mode_of_name-name, mode_name-of_name, mode_name-none)

@@ -19,7 +19,9 @@ pub turn-taken : (s : TracedSystem) (pid id : ℕ) (t : LwpTurn) → turn_of s p
 unfolding turn_of may_turn
 turn-taken s pid id t turn = by_process (live_process s pid) refl turn
   where
-    by_test : (p : TracedProcess) (l : TracedLwp) → live_process s pid ≡ Some p → lwp_of p id ≡ Some l → (b : Bool) → may_turn s pid p id l ≡ b → cond b (Some (settled s pid p id l (row_for s pid p id l))) None ≡ Some t → TakesTurn s pid id t
+    by_test : (p : TracedProcess) (l : TracedLwp) → live_process s pid ≡ Some p → lwp_of p id ≡ Some l → (b : Bool)
+        → may_turn s pid p id l ≡ b → cond b (Some (settled s pid p id l (row_for s pid p id l))) None ≡ Some t
+        → TakesTurn s pid id t
     by_test p l live there true may is = record {
       process = p;
       lwp = l;
@@ -31,10 +33,12 @@ turn-taken s pid id t turn = by_process (live_process s pid) refl turn
     }
     by_test p l live there false may is = absurd (none-some t is)
 
-    by_lwp : (p : TracedProcess) → live_process s pid ≡ Some p → (o : Option TracedLwp) → lwp_of p id ≡ o → turn_of_lwp s pid id p o ≡ Some t → TakesTurn s pid id t
+    by_lwp : (p : TracedProcess) → live_process s pid ≡ Some p → (o : Option TracedLwp) → lwp_of p id ≡ o
+        → turn_of_lwp s pid id p o ≡ Some t → TakesTurn s pid id t
     by_lwp p live None there is = absurd (none-some t is)
     by_lwp p live (Some l) there is = by_test p l live there (may_turn s pid p id l) refl is
 
-    by_process : (o : Option TracedProcess) → live_process s pid ≡ o → turn_of_process s pid id o ≡ Some t → TakesTurn s pid id t
+    by_process : (o : Option TracedProcess) → live_process s pid ≡ o → turn_of_process s pid id o ≡ Some t
+        → TakesTurn s pid id t
     by_process None live is = absurd (none-some t is)
     by_process (Some p) live is = by_lwp p live (lwp_of p id) refl is

@@ -18,8 +18,10 @@ module _ {C H K : Type 0} (s : SystemOf C H K) (pid : ℕ) (p : ProcessOf C H K)
   unfoldable pub call_effect : ℕ → Sysno → List ℕ → Effect
   call_effect since Exit args = exit_effect (slice_index args 0)
   call_effect since Fork args = fork_effect s p id args
-  call_effect since Read args = read_effect s.files p.fds p.space (slice_index args 0) (slice_index args 1) (slice_index args 2)
-  call_effect since Write args = write_effect s.files p.fds p.space (slice_index args 0) (slice_index args 1) (slice_index args 2)
+  call_effect since Read args =
+      read_effect s.files p.fds p.space (slice_index args 0) (slice_index args 1) (slice_index args 2)
+  call_effect since Write args =
+      write_effect s.files p.fds p.space (slice_index args 0) (slice_index args 1) (slice_index args 2)
   call_effect since Open args = open_effect s.files p.fds p.space (slice_index args 0) (slice_index args 1)
   call_effect since Close args = close_effect s.files p.fds p.space (slice_index args 0)
   call_effect since Wait args = wait_effect p.space (children_of s pid) (slice_index args 0)
@@ -50,5 +52,6 @@ module _ {C H K : Type 0} (s : SystemOf C H K) (pid : ℕ) (p : ProcessOf C H K)
   call_effect since LwpContinue args = lwp_continue_effect p (slice_index args 0)
   call_effect since Fstat args = fstat_effect s.files p.fds p.space (slice_index args 0) (slice_index args 1)
   call_effect since Sigqueue args =
-      send_effect pid (slice_index args 0) (slice_index args 1) (queued_by pid (slice_index args 2)) (life_of s (slice_index args 0))
+      send_effect pid (slice_index args 0) (slice_index args 1) (queued_by pid (slice_index args 2))
+      (life_of s (slice_index args 0))
   call_effect since Vfork args = vfork_effect s p id args

@@ -52,7 +52,8 @@ open_unless s h None = opened s h (position is_none s.opens)
 
 unfoldable pub open_answer : TracedState → ℕ → ℕ → ℕ → File → Mode → Answer
 open_answer s by pid id file mode =
-    open_unless s (record { controller = by; pid = pid; lwp = id; file = file; mode = mode }) (open_refusal s pid id file mode)
+    open_unless s (record { controller = by; pid = pid; lwp = id; file = file; mode = mode })
+    (open_refusal s pid id file mode)
 
 abbrev pub close_held : TracedState → ℕ → Option Held → Answer
 close_held s handle None = refused s Badf

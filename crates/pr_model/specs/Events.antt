@@ -116,7 +116,13 @@ event_between (Some found) new did = event_of found.0 found.1 new did
 abbrev pub logged : TracedState → ℕ → ℕ → Option Event → List Logged
 logged new pid id None = []
 logged new pid id (Some e) =
-    record { pid = pid; id = id; event = e; text = text_of_process new.system (live_process new.system pid) (text_asked e) } ∷ []
+    record {
+      pid = pid;
+      id = id;
+      event = e;
+      text =
+          text_of_process new.system (live_process new.system pid) (text_asked e);
+    } ∷ []
 
 -- the events of an entry, in the state that it finds
 unfoldable pub events_of : TracedState → Entry → List Logged
@@ -124,7 +130,8 @@ events_of s e = by e.actor e.act
   where
     by : Actor → Act → List Logged
     by (actor.Lwp pid id) (act.Turn t) =
-        logged (after s e) pid id (event_between (lwp_in_state s pid id) (lwp_alone (lwp_in_state (after s e) pid id)) t.did)
+        logged (after s e) pid id
+        (event_between (lwp_in_state s pid id) (lwp_alone (lwp_in_state (after s e) pid id)) t.did)
     by _ _ = []
 
 -- the event log of a history from a state

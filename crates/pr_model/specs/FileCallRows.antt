@@ -108,7 +108,8 @@ module _ (t : FileTable) (fds : Descriptors) (space : Space) where
     where
       answered : FileTable → Descriptors → Result (ℕ × ℕ) FileNo → Effect
       answered files descriptors (Ok ends) =
-          gives 0 (files_are files descriptors ∷ space_is (with_bytes at (word_bytes ends.0 ++ word_bytes ends.1) space) ∷ [])
+          gives 0 (files_are files descriptors ∷ space_is (with_bytes at (word_bytes ends.0 ++ word_bytes ends.1) space)
+          ∷ [])
       answered files descriptors (Err why) = refusal_effect why
 
       of : FileEffect (ℕ × ℕ) → Effect

@@ -54,4 +54,5 @@ first_system programs files spawns = with_spawns spawns (bare_system programs fi
 
 -- nothing is open, and no controller was interrupted
 unfoldable pub first_state : List Program → List StoredFile → List ℕ → TracedState
-first_state programs files spawns = record { system = first_system programs files spawns; opens = nothing_open; interrupted = 0 }
+first_state programs files spawns =
+    record { system = first_system programs files spawns; opens = nothing_open; interrupted = 0 }

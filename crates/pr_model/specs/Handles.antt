@@ -49,7 +49,9 @@ is_exclusive _ = false
 -- Control files are opened for writing and all others for reading; an lwp is named for a file of one lwp and for no
 -- other.
 abbrev pub fits_file : File → Mode → ℕ → Bool
-fits_file file mode id = ((is_control file && is_writable mode) || (not (is_control file) && not (is_writable mode))) && ((is_of_lwp file && not (id == 0)) || (not (is_of_lwp file) && (id == 0)))
+fits_file file mode id =
+    ((is_control file && is_writable mode) || (not (is_control file) && not (is_writable mode)))
+    && ((is_of_lwp file && not (id == 0)) || (not (is_of_lwp file) && (id == 0)))
 
 -- whether a place holds a handle of this process for writing; for writing exclusively
 abbrev pub is_writer : ℕ → Option Held → Bool
@@ -69,7 +71,8 @@ has_exclusive_writer pid opens = list_any (is_exclusive_writer pid) opens
 
 -- An exclusive open wants no writer beside it, and a writer no exclusive one.
 abbrev pub conflicts : ℕ → Mode → Places → Bool
-conflicts pid mode opens = (is_exclusive mode && has_writer pid opens) || (is_writable mode && has_exclusive_writer pid opens)
+conflicts pid mode opens =
+    (is_exclusive mode && has_writer pid opens) || (is_writable mode && has_exclusive_writer pid opens)
 
 -- whether a process, if there is one, has the file that is asked for
 abbrev pub has_file : Option TracedProcess → File → ℕ → Bool
@@ -132,7 +135,8 @@ was_last_writer h others = is_writable h.mode && not (has_writer h.pid others)
 unfoldable pub with_closed : Held → ℕ → TracedState → TracedState
 with_closed h number s = record s {
   system =
-      if was_last_writer h (slice_set s.opens number None) then after_last_close h.pid (live_process s.system h.pid) s.system
+      if was_last_writer h (slice_set s.opens number None) then after_last_close h.pid
+      (live_process s.system h.pid) s.system
       else s.system;
   opens = slice_set s.opens number None;
 }

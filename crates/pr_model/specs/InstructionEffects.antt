@@ -111,21 +111,27 @@ decoded Bpt regs = faults_itself Breakpoint
 decoded Nop regs = leaves (moved_on regs)
 decoded (Set to imm) regs = leaves (moved_on (with_register to imm regs))
 decoded (Mov to from) regs = leaves (moved_on (with_register to (in_register from regs) regs))
-decoded (Add to from) regs = leaves (moved_on (with_register to (wrapped (in_register to regs + in_register from regs)) regs))
-decoded (Sub to from) regs = leaves (moved_on (with_register to (wrapped (in_register to regs + (2 ^ 64 - in_register from regs))) regs))
-decoded (Mul to from) regs = leaves (moved_on (with_register to (wrapped (in_register to regs * in_register from regs)) regs))
+decoded (Add to from) regs =
+    leaves (moved_on (with_register to (wrapped (in_register to regs + in_register from regs)) regs))
+decoded (Sub to from) regs =
+    leaves (moved_on (with_register to (wrapped (in_register to regs + (2 ^ 64 - in_register from regs))) regs))
+decoded (Mul to from) regs =
+    leaves (moved_on (with_register to (wrapped (in_register to regs * in_register from regs)) regs))
 decoded (Div to from) regs = divided to from regs
 decoded (Ld to base offset) regs = loads (a_word to) (access_at base offset regs) 8
 decoded (St from base offset) regs =
-    stores false (moved_on regs) (record { at = access_at base offset regs; bytes = word_bytes (in_register from regs) })
+    stores false (moved_on regs)
+    (record { at = access_at base offset regs; bytes = word_bytes (in_register from regs) })
 decoded (Ldb to base offset) regs = loads (a_byte to) (access_at base offset regs) 1
 decoded (Stb from base offset) regs =
     stores false (moved_on regs) (record { at = access_at base offset regs; bytes = in_register from regs % 256 ∷ [] })
 decoded (Jmp target) regs = leaves (with_pc target regs)
 decoded (Jz test target) regs = leaves (jumped_if (in_register test regs == 0) target regs)
 decoded (Jnz test target) regs = leaves (jumped_if (not (in_register test regs == 0)) target regs)
-decoded (Jlt left right target) regs = leaves (jumped_if (nat_lt (in_register left regs) (in_register right regs)) target regs)
-decoded (Call target) regs = stores true (after_call target regs) (record { at = call_sp regs; bytes = call_frame regs })
+decoded (Jlt left right target) regs =
+    leaves (jumped_if (nat_lt (in_register left regs) (in_register right regs)) target regs)
+decoded (Call target) regs =
+    stores true (after_call target regs) (record { at = call_sp regs; bytes = call_frame regs })
 decoded Ret regs = loads a_frame (fp_of regs) 16
 decoded (Sys call) regs = enters_call call
 

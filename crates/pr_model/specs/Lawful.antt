@@ -179,8 +179,10 @@ pub record IsUntraced (c : TracedControl) : Type 0 where
 -- watched, and no lwp of it stands on an event, is directed or is marked to step.
 pub record IsReleased (opens : Places) (e : ℕ × TracedProcess) : Type 0 where
   pub no_kill : e.1.ended ≡ None → has_writer e.0 opens ≡ false → has_flags e.1.control.modes klc_mode ≡ false
-  pub untraced : e.1.ended ≡ None → has_writer e.0 opens ≡ false → has_flags e.1.control.modes rlc_mode ≡ true → IsUntraced e.1.control
-  pub runs : e.1.ended ≡ None → has_writer e.0 opens ≡ false → has_flags e.1.control.modes rlc_mode ≡ true → All IsReleasedLwp e.1.lwps
+  pub untraced : e.1.ended ≡ None → has_writer e.0 opens ≡ false → has_flags e.1.control.modes rlc_mode ≡ true
+      → IsUntraced e.1.control
+  pub runs : e.1.ended ≡ None → has_writer e.0 opens ≡ false → has_flags e.1.control.modes rlc_mode ≡ true
+      → All IsReleasedLwp e.1.lwps
 
 -- ---- the state
 

@@ -40,8 +40,10 @@ unfoldable pub IsLegalEntry : ℕ → TracedState → Entry → Type 0
 IsLegalEntry controllers s e = by e.actor e.act
   where
     by : Actor → Act → Type 0
-    by (Controller k) (Call c r) = (k < controllers) × ((state : TracedState) × (answer_to s k c ≡ Some (record { state = state; reply = r })))
-    by (Lwp p l) (Turn t) = (system : TracedSystem) × (turn_of s.system p l ≡ Some (record { system = system; turned = t }))
+    by (Controller k) (Call c r) =
+        (k < controllers) × ((state : TracedState) × (answer_to s k c ≡ Some (record { state = state; reply = r })))
+    by (Lwp p l) (Turn t) =
+        (system : TracedSystem) × (turn_of s.system p l ≡ Some (record { system = system; turned = t }))
     by Clock (Tick n) = (s.system.clock < clock_limit) × (n ≡ s.system.clock + 1)
     by _ _ = ⊥
 

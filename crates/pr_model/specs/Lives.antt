@@ -134,13 +134,14 @@ module _ {C H K : Type 0} (m : Machine C H K) where
   -- a new process of a program, whose parent is process 0
   unfoldable pub new_process : Program → ℕ → Bool → ProcessOf C H K
   new_process program clock held =
-      record (bare_process 0 program.name clock) { space = first_space program; next_lwp = 2; lwps = (1, first_lwp held) ∷ [] }
+      record (bare_process 0 program.name clock)
+      { space = first_space program; next_lwp = 2; lwps = (1, first_lwp held) ∷ [] }
 
   unfoldable pub with_spawned : Program → Bool → SystemOf C H K → SystemOf C H K
   with_spawned program held s = with_made (new_process program s.clock held) s
 
-  -- The lwp of a forked child: it is on its way out of the call that made it, with 0 as its result. It has the held set,
-  -- the frames and the registers of the lwp that made the call, and nothing pending (fork(2)).
+  -- The lwp of a forked child: it is on its way out of the call that made it, with 0 as its result. It has the held
+  -- set, the frames and the registers of the lwp that made the call, and nothing pending (fork(2)).
   unfoldable pub forked_lwp : Birth → List ℕ → C → LwpOf H K → LwpOf H K
   forked_lwp birth args set l = record {
     regs = with_result (Value 0) l.regs;
@@ -153,8 +154,8 @@ module _ {C H K : Type 0} (m : Machine C H K) where
     control = m.at_birth (call_of birth) set;
   }
 
-  -- A forked child: a copy of its parent with that lwp alone, with nothing pending and no job stop. It has the memory as
-  -- its own, or as a loan.
+  -- A forked child: a copy of its parent with that lwp alone, with nothing pending and no job stop. It has the memory
+  -- as its own, or as a loan.
   unfoldable pub forked : Birth → ℕ → ProcessOf C H K → LwpOf H K → List ℕ → ℕ → ProcessOf C H K
   forked birth pid p l args clock = record {
     parent = pid;
@@ -183,8 +184,8 @@ module _ {C H K : Type 0} (m : Machine C H K) where
   unfoldable pub started : LwpOf H K → LwpOf H K
   started l = record l { regs = first_registers; frames = [] }
 
-  -- A process that runs another program, with the lwp of this id alone: its space is the program's, and no loan; it keeps
-  -- its descriptors, the signals that it ignores, and those that are pending.
+  -- A process that runs another program, with the lwp of this id alone: its space is the program's, and no loan; it
+  -- keeps its descriptors, the signals that it ignores, and those that are pending.
   unfoldable pub with_program : ℕ → LwpOf H K → Program → ProcessOf C H K → ProcessOf C H K
   with_program id l program p = record p {
     program = program.name;
@@ -206,7 +207,8 @@ module _ {C H K : Type 0} (m : Machine C H K) where
   -- What is left of a process that has ended: it waits to be reaped under its id, parent and program name, with its
   -- wait status (wait(3C)).
   unfoldable pub zombie : ℕ → ProcessOf C H K → ProcessOf C H K
-  zombie status p = record (bare_process p.parent p.program p.made_at) { ended = Some status; control = m.of_zombie p.control }
+  zombie status p =
+      record (bare_process p.parent p.program p.made_at) { ended = Some status; control = m.of_zombie p.control }
 
   -- A live process ends with a wait status: it loses its lwps, its descriptors and its memory, what it borrowed or lent
   -- is passed on, its children get process 0 as their parent, and its own parent gets SIGCLD.

@@ -27,7 +27,8 @@ module _ {C H K : Type 0} (p : ProcessOf C H K) where
   -- lwp_suspend(2). ESRCH: no such lwp, or the agent; EINVAL: itself.
   unfoldable pub lwp_suspend_effect : ℕ → ℕ → Effect
   lwp_suspend_effect id other =
-      if can_be_named other then (if other == id then fails Inval else gives 0 (suspends other true ∷ [])) else fails Srch
+      if can_be_named other then
+      (if other == id then fails Inval else gives 0 (suspends other true ∷ [])) else fails Srch
 
   -- lwp_continue(2). ESRCH: no such lwp, or the agent.
   unfoldable pub lwp_continue_effect : ℕ → Effect

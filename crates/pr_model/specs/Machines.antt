@@ -28,8 +28,8 @@ pub record Machine (C H K : Type 0) : Type 0 where
   -- what is set on a new process, and on a new lwp, which is directed to stop or not
   pub unset : C
   pub marks : Bool → K
-  -- what stays set on a process when it ends and when it runs another program, and what a child takes over, and its lwp,
-  -- which is on its way out of a call
+  -- what stays set on a process when it ends and when it runs another program, and what a child takes over, and its
+  -- lwp, which is on its way out of a call
   pub of_zombie : C → C
   pub of_exec : C → C
   pub of_child : C → C
@@ -74,12 +74,15 @@ exec_control c = record c { areas = [] }
 
 -- Under PR_FORK a child takes over the traced sets and that mode, and else nothing (proc(4), "PR_FORK").
 unfoldable pub child_control : TracedControl → TracedControl
-child_control c = if has_flags c.modes fork_mode then record c { modes = fork_mode; areas = []; usage = nothing_used } else nothing_set
+child_control c =
+    if has_flags c.modes fork_mode then record c { modes = fork_mode; areas = []; usage = nothing_used } else
+    nothing_set
 
 -- the stop of a child at its birth, on its exit from the call that made it, where that is traced
 unfoldable pub birth_stop : Sysno → TracedControl → Option Stop
 birth_stop call c =
-    if has_flags c.modes fork_mode then (if has_number c.traced_exits (syscall_number call) then Some (SysExit call) else None)
+    if has_flags c.modes fork_mode then
+    (if has_number c.traced_exits (syscall_number call) then Some (SysExit call) else None)
     else None
 
 unfoldable pub birth_marks : Sysno → TracedControl → LwpControl

@@ -78,7 +78,8 @@ module _ {C H K : Type 0} (s : SystemOf C H K) (p : ProcessOf C H K) where
   -- munmap(2). EINVAL: the range, rounded up, is not one whole mapping that mmap made.
   unfoldable pub munmap_effect : ℕ → ℕ → Effect
   munmap_effect at len =
-      if list_any (is_mapped_range at (rounded len)) p.space then gives 0 (space_is (without_range at (rounded len) p.space) ∷ [])
+      if list_any (is_mapped_range at (rounded len)) p.space then gives 0
+      (space_is (without_range at (rounded len) p.space) ∷ [])
       else fails Inval
 
   -- mprotect(2). EINVAL: the range, rounded up, is not one whole mapping, or no protection.

@@ -180,7 +180,8 @@ module _ (s : TracedSystem) (pid : ℕ) (p : TracedProcess) where
 
   unfoldable pub ssig_answer : Aim → ℕ → ℕ → Controlled
   ssig_answer aim number len =
-      if is_kill_of (signal_of_number number) then killed len else on_lwp aim len (with_signal_set (signal_of_number number))
+      if is_kill_of (signal_of_number number) then killed len else on_lwp aim len
+      (with_signal_set (signal_of_number number))
 
   -- PCKILL: EAGAIN where the signal has no room in the queue of the process, or of the lwp
   abbrev pub target_of_aim : Aim → Option ℕ
@@ -247,7 +248,8 @@ module _ (s : TracedSystem) (pid : ℕ) (p : TracedProcess) where
   -- PCWRITE, whatever the protection. EIO: not all of the range is mapped.
   unfoldable pub write_answer : ℕ → List ℕ → ℕ → Controlled
   write_answer at bytes len =
-      if is_ok (bytes_for 0 p.space at (length bytes)) then with_process_changed len (with_space (with_bytes at bytes p.space))
+      if is_ok (bytes_for 0 p.space at (length bytes)) then with_process_changed len
+      (with_space (with_bytes at bytes p.space))
       else refused s Io
 
   -- EBUSY: the process has lent its memory (vfork(2)). Nobody writes, watches or gets an agent there until it is back.

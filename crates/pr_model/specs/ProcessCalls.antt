@@ -38,7 +38,8 @@ wait_effect space children at = of children
     reaped : ℕ → ℕ → Effect
     reaped child status =
         if at == 0 then gives child (reaps child ∷ [])
-        else (if can_write space at word_size then gives child (reaps child ∷ space_is (with_bytes at (word_bytes status) space) ∷ [])
+        else (if can_write space at word_size then gives child
+        (reaps child ∷ space_is (with_bytes at (word_bytes status) space) ∷ [])
         else fails Fault)
 
     of : Children → Effect
@@ -60,8 +61,8 @@ module _ {C H K : Type 0} (s : SystemOf C H K) (p : ProcessOf C H K) (id : ℕ) 
       else (if nat_le process_limit s.made then fails Again
       else (if total_has_room s (size_of p) 0 then gives s.made (forks by_fork args ∷ []) else fails Nomem))
 
-  -- vfork(2): gives the child's id; the child has the memory of the process, as a loan. ENOTSUP: by the agent, or beside
-  -- another lwp; EAGAIN: as many processes were made as can be. No memory is mapped.
+  -- vfork(2): gives the child's id; the child has the memory of the process, as a loan. ENOTSUP: by the agent, or
+  -- beside another lwp; EAGAIN: as many processes were made as can be. No memory is mapped.
   unfoldable pub vfork_effect : List ℕ → Effect
   vfork_effect args =
       if (id == agent_id) || not (length p.lwps == 1) then fails Notsup
@@ -79,7 +80,8 @@ module _ {C H K : Type 0} (s : SystemOf C H K) (p : ProcessOf C H K) (id : ℕ) 
       found : Option Program → Effect
       found None = fails Noent
       found (Some program) =
-          if total_has_room s (mapped_size (first_space program)) given_up then gives 0 (becomes program ∷ []) else fails Nomem
+          if total_has_room s (mapped_size (first_space program)) given_up then gives 0
+          (becomes program ∷ []) else fails Nomem
 
       of : Result (List ℕ) Errno → Effect
       of (Err e) = fails e

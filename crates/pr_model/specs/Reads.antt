@@ -74,7 +74,8 @@ of_process s pid id from len file (Some p) = file_reply s pid p id from len file
 -- what a read of a file gives, with a length of 1 to 20,480 bytes. EINVAL: another length.
 unfoldable pub file_read : TracedSystem → ℕ → ℕ → ℕ → ℕ → File → Reply
 file_read s pid id from len file =
-    if (len == 0) || nat_lt read_limit len then Fail Inval else of_process s pid id from len file (read_process s pid file)
+    if (len == 0)
+    || nat_lt read_limit len then Fail Inval else of_process s pid id from len file (read_process s pid file)
 
 -- a handle that can be read
 abbrev pub readable : Option Held → Option Held

@@ -70,7 +70,8 @@ unfoldable pub performed_row : Bool → Sysno → List ℕ → ℕ → Effect �
 performed_row woken call args since (does result changes) =
     point_row (finished woken call result) (Exit call) (performed call args since (does result changes))
 performed_row woken call args since sleeps = quiet_row (Slept call) (performed call args since sleeps)
-performed_row woken call args since (ends how) = quiet_row (finished woken call Ended) (performed call args since (ends how))
+performed_row woken call args since (ends how) =
+    quiet_row (finished woken call Ended) (performed call args since (ends how))
 
 -- ---- a signal that is taken, from those of the lwp alone, and from those of its process
 
@@ -116,7 +117,8 @@ returned_row p l call =
 
 unfoldable pub ran_row : TracedProcess → TracedLwp → List ℕ → Option Store → Row
 ran_row p l regs store =
-    if l.control.step then instruction_row (Faulted Trace) (Some (Fault Trace)) (trapped Trace (pc_of regs) p.space regs store)
+    if l.control.step then instruction_row (Faulted Trace) (Some (Fault Trace))
+    (trapped Trace (pc_of regs) p.space regs store)
     else instruction_row Ran None (ran p.space regs store)
 
 unfoldable pub entered_row : Sysno → List ℕ → Row
@@ -127,7 +129,8 @@ incurred_row f address = instruction_row (Faulted f) (Some (Fault f)) (incurred 
 
 -- a watched area that traps after the access prevails over a step mark, which it uses up too
 unfoldable pub watched_row : ℕ → TracedProcess → List ℕ → Option Store → Row
-watched_row address p regs store = instruction_row (Faulted Watch) (Some (Fault Watch)) (trapped Watch address p.space regs store)
+watched_row address p regs store =
+    instruction_row (Faulted Watch) (Some (Fault Watch)) (trapped Watch address p.space regs store)
 
 unfoldable pub executed_row : TracedProcess → TracedLwp → InstructionEffect → Row
 executed_row p l (runs regs store) = ran_row p l regs store

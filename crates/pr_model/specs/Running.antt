@@ -146,7 +146,8 @@ with_representative_run flags (Some r) lwps =
 
 -- without PRSTEP and PRSTOP
 unfoldable pub with_all_run : ℕ → TracedProcess → TracedProcess
-with_all_run flags p = record p { lwps = if_all_requested p.job_stop (with_representative_run flags (representative p) p.lwps) }
+with_all_run flags p =
+    record p { lwps = if_all_requested p.job_stop (with_representative_run flags (representative p) p.lwps) }
 
 -- with one of them it is PCRUN on the representative
 abbrev pub with_one_run : ℕ → Option (ℕ × TracedLwp) → TracedProcess → TracedProcess

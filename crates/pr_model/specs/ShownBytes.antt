@@ -11,9 +11,9 @@ use Rattle.pr_num.specs.declared.syscalls.Sysno.TheVariants.{Read, Write}
 abbrev pub transferable : ℕ → Option ℕ
 transferable size = if nat_le size transfer_limit then Some size else None
 
--- How many bytes of its buffer a call shows that gave a value, or none where it failed; a row a call that has a buffer: as
--- many as were read into it; as many as were to be written from it. None: the buffer is shown as an address, since read
--- failed, or more were to be written than one call can write.
+-- How many bytes of its buffer a call shows that gave a value, or none where it failed; a row a call that has a buffer:
+-- as many as were read into it; as many as were to be written from it. None: the buffer is shown as an address, since
+-- read failed, or more were to be written than one call can write.
 unfoldable pub buffer_size : Sysno → List ℕ → Option ℕ → Option ℕ
 buffer_size Read arguments value = value
 buffer_size Write arguments value = transferable (slice_index arguments 2)

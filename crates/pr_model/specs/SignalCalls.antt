@@ -67,11 +67,14 @@ sigaction_effect dispositions number disposition = of (signal_of_number number)
   where
     of : Option Sig → Effect
     of None = fails Inval
-    of (Some s) = if can_be_caught s then gives (disposition_of dispositions s) (disposition_is s disposition ∷ []) else fails Inval
+    of (Some s) =
+        if can_be_caught s then gives (disposition_of dispositions s)
+        (disposition_is s disposition ∷ []) else fails Inval
 
 -- sigprocmask(2): gives the old held set. EINVAL: a bit beyond the signals. SIGKILL and SIGSTOP are never held.
 unfoldable pub sigmask_effect : ℕ → ℕ → Effect
-sigmask_effect held word = if nat_lt word (2 ^ signal_count) then gives held (held_is (holdable_word word) ∷ []) else fails Inval
+sigmask_effect held word =
+    if nat_lt word (2 ^ signal_count) then gives held (held_is (holdable_word word) ∷ []) else fails Inval
 
 -- the return from a handler: the last frame's registers and held set come back. EINVAL: no handler runs.
 unfoldable pub sigreturn_effect : List Frame → Effect

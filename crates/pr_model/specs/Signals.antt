@@ -77,7 +77,8 @@ with_frame regs held frames = frames ++ record { regs = regs; held = held } ∷ 
 unfoldable pub handler_registers : Current → ℕ → List ℕ → List ℕ
 handler_registers c handler regs =
     with_pc handler
-    (slice_set (slice_set (slice_set (slice_set regs 1 (signal_number c.signal)) 2 c.info.code) 3 c.info.pid) 4 c.info.value)
+    (slice_set
+    (slice_set (slice_set (slice_set regs 1 (signal_number c.signal)) 2 c.info.code) 3 c.info.pid) 4 c.info.value)
 
 -- a handler runs with its signal held beside those that are held already
 unfoldable pub handler_held : Current → ℕ → ℕ

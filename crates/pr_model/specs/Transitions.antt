@@ -74,7 +74,8 @@ shared_taken p s = changing (takes_shared s ∷ []) (takes (current_of s p.pendi
 unfoldable pub handled : {H K : Type 0} → LwpOf H K → Current → ℕ → Transition
 handled l c handler =
     if nat_lt (length l.frames) frame_limit
-    then moving (catches (with_frame l.regs l.held l.frames) (handler_registers c handler l.regs) (handler_held c l.held))
+    then moving
+    (catches (with_frame l.regs l.held l.frames) (handler_registers c handler l.regs) (handler_held c l.held))
     else ending (ends_process (signal_number Segv))
 
 -- a signal is dropped; it stops the process by job control; it ends the process

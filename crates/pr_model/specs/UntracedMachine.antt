@@ -39,7 +39,8 @@ pub record MayStep (u : UntracedSystem) (pid id : ℕ) (p : UntracedProcess) (l 
   pub not_suspended : l.suspended ≡ false
 
 -- a step of the lwp of an id, which makes this transition
-pub record MakesStep (u : UntracedSystem) (pid id : ℕ) (p : UntracedProcess) (l : UntracedLwp) (t : Transition) (new : UntracedSystem) : Type 0 where
+pub record MakesStep (u : UntracedSystem) (pid id : ℕ) (p : UntracedProcess) (l : UntracedLwp) (t : Transition)
+    (new : UntracedSystem) : Type 0 where
   pub may_step : MayStep u pid id p l
   pub state : new ≡ after_transition untraced pid p id l t u
 
@@ -106,7 +107,8 @@ result_of_effect sleeps = Ended
 result_of_effect (ends how) = Ended
 
 -- the call is performed, and does not sleep
-pub record Performs (u : UntracedSystem) (pid id : ℕ) (process : UntracedProcess) (lwp : UntracedLwp) (call : Sysno) (args : List ℕ) (since : ℕ) (result : Res) (new : UntracedSystem) : Type 0 where
+pub record Performs (u : UntracedSystem) (pid id : ℕ) (process : UntracedProcess) (lwp : UntracedLwp) (call : Sysno)
+    (args : List ℕ) (since : ℕ) (result : Res) (new : UntracedSystem) : Type 0 where
   pub effect : Effect
   pub does_it : call_effect u pid process id lwp since call args ≡ effect
   pub over : is_over effect ≡ true
@@ -114,7 +116,8 @@ pub record Performs (u : UntracedSystem) (pid id : ℕ) (process : UntracedProce
   pub makes : MakesStep u pid id process lwp (performed call args since effect) new
 
 -- a call was made
-pub record MakesCall (u : UntracedSystem) (pid id : ℕ) (call : Sysno) (result : Res) (new : UntracedSystem) : Type 0 where
+pub record MakesCall (u : UntracedSystem) (pid id : ℕ) (call : Sysno) (result : Res)
+    (new : UntracedSystem) : Type 0 where
   pub process : UntracedProcess
   pub lwp : UntracedLwp
   pub at : lwp.phase ≡ at_call call
@@ -145,7 +148,8 @@ pub data IsIn (l : UntracedLwp) (call : Sysno) : List ℕ → Bool → Type 0 wh
   asleep_in_it : {args : List ℕ} {since : ℕ} → l.phase ≡ sleeping call args since → IsIn l call args true
 
 -- a call ends with EINTR, since the current signal is caught, and the signal stays
-pub record IsInterrupted (u : UntracedSystem) (pid id : ℕ) (call : Sysno) (asleep : Bool) (new : UntracedSystem) : Type 0 where
+pub record IsInterrupted (u : UntracedSystem) (pid id : ℕ) (call : Sysno) (asleep : Bool)
+    (new : UntracedSystem) : Type 0 where
   pub process : UntracedProcess
   pub lwp : UntracedLwp
   pub args : List ℕ
@@ -186,7 +190,8 @@ pub data Acting (p : UntracedProcess) (l : UntracedLwp) (c : Current) : Transiti
   ignores : action_for p.dispositions c.signal ≡ act.Ignore → Acting p l c dropped
   stops : action_for p.dispositions c.signal ≡ act.Stop → Acting p l c (job_stopped c.signal)
   kills : action_for p.dispositions c.signal ≡ act.Die → Acting p l c (died c.signal)
-  handles : {handler : ℕ} → action_for p.dispositions c.signal ≡ act.Catch handler → l.phase ≡ in_program → Acting p l c (handled l c handler)
+  handles : {handler : ℕ} → action_for p.dispositions c.signal ≡ act.Catch handler → l.phase ≡ in_program
+      → Acting p l c (handled l c handler)
 
 pub record ActsOn (u : UntracedSystem) (pid id : ℕ) (s : Sig) (new : UntracedSystem) : Type 0 where
   pub process : UntracedProcess
@@ -222,23 +227,33 @@ pub record Sends (u : UntracedSystem) (pid number : ℕ) (new : UntracedSystem) 
 pub data UntracedStep : UntracedSystem → Step → UntracedSystem → Type 0 where
   executes : {u new : UntracedSystem} {pid id : ℕ} → Executes u pid id new → UntracedStep u (Exec pid id) new
   incurs : {u new : UntracedSystem} {pid id : ℕ} {f : Flt} → Incurs u pid id f new → UntracedStep u (Fault pid id f) new
-  makes_call : {u new : UntracedSystem} {pid id : ℕ} {call : Sysno} {result : Res} → MakesCall u pid id call result new → UntracedStep u (Call pid id call result) new
-  interrupts_call : {u new : UntracedSystem} {pid id : ℕ} {call : Sysno} → IsInterrupted u pid id call false new → UntracedStep u (Call pid id call (Error Intr)) new
-  falls_asleep : {u new : UntracedSystem} {pid id : ℕ} {call : Sysno} → FallsAsleep u pid id call new → UntracedStep u (Sleep pid id call) new
-  wakes : {u new : UntracedSystem} {pid id : ℕ} {call : Sysno} {result : Res} → Wakes u pid id call result new → UntracedStep u (Finish pid id call result) new
-  interrupts_sleep : {u new : UntracedSystem} {pid id : ℕ} {call : Sysno} → IsInterrupted u pid id call true new → UntracedStep u (Finish pid id call (Error Intr)) new
-  takes_own : {u new : UntracedSystem} {pid id : ℕ} {s : Sig} → TakesOwn u pid id s new → UntracedStep u (Take pid id s) new
-  takes_shared : {u new : UntracedSystem} {pid id : ℕ} {s : Sig} → TakesShared u pid id s new → UntracedStep u (Take pid id s) new
+  makes_call : {u new : UntracedSystem} {pid id : ℕ} {call : Sysno} {result : Res} → MakesCall u pid id call result new
+      → UntracedStep u (Call pid id call result) new
+  interrupts_call : {u new : UntracedSystem} {pid id : ℕ} {call : Sysno} → IsInterrupted u pid id call false new
+      → UntracedStep u (Call pid id call (Error Intr)) new
+  falls_asleep : {u new : UntracedSystem} {pid id : ℕ} {call : Sysno} → FallsAsleep u pid id call new
+      → UntracedStep u (Sleep pid id call) new
+  wakes : {u new : UntracedSystem} {pid id : ℕ} {call : Sysno} {result : Res} → Wakes u pid id call result new
+      → UntracedStep u (Finish pid id call result) new
+  interrupts_sleep : {u new : UntracedSystem} {pid id : ℕ} {call : Sysno} → IsInterrupted u pid id call true new
+      → UntracedStep u (Finish pid id call (Error Intr)) new
+  takes_own : {u new : UntracedSystem} {pid id : ℕ} {s : Sig} → TakesOwn u pid id s new
+      → UntracedStep u (Take pid id s) new
+  takes_shared : {u new : UntracedSystem} {pid id : ℕ} {s : Sig} → TakesShared u pid id s new
+      → UntracedStep u (Take pid id s) new
   acts_on : {u new : UntracedSystem} {pid id : ℕ} {s : Sig} → ActsOn u pid id s new → UntracedStep u (Act pid id s) new
   spawns : {u new : UntracedSystem} {name : List ℕ} → Spawns u name new → UntracedStep u (Spawn name) new
-  sends_signal : {u new : UntracedSystem} {pid number : ℕ} → Sends u pid number new → UntracedStep u (Kill pid number) new
+  sends_signal : {u new : UntracedSystem} {pid number : ℕ} → Sends u pid number new
+      → UntracedStep u (Kill pid number) new
   ticks : {u : UntracedSystem} → UntracedStep u Tick (record u { clock = u.clock + 1 })
 
 -- From a state, these steps lead to another, with any number of call entries before each of them and after the last.
 pub data UntracedRun : UntracedSystem → List Step → UntracedSystem → Type 0 where
   ends_here : {u : UntracedSystem} → UntracedRun u [] u
-  by_call_entry : {u mid new : UntracedSystem} {steps : List Step} → ComesToCall u mid → UntracedRun mid steps new → UntracedRun u steps new
-  step_by : {u mid new : UntracedSystem} {step : Step} {steps : List Step} → UntracedStep u step mid → UntracedRun mid steps new → UntracedRun u (step ∷ steps) new
+  by_call_entry : {u mid new : UntracedSystem} {steps : List Step} → ComesToCall u mid → UntracedRun mid steps new
+      → UntracedRun u steps new
+  step_by : {u mid new : UntracedSystem} {step : Step} {steps : List Step} → UntracedStep u step mid
+      → UntracedRun mid steps new → UntracedRun u (step ∷ steps) new
 
 -- what of a step stands in a trace: the call that was made or that is over, the fault incurred, the signal taken
 abbrev pub traced_step : Step → List Step

@@ -14,10 +14,13 @@ ghost use Rattle.pr_model.specs.declared.events.Entry.{Entry};
 #[tactic(auto, using(crate::proofs::HistoryLemmas::one_longer))]
 pub fn history_grows_at_its_end()
     ensures state { (s : TracedState) (h : List Entry) (e : Entry) → state_after s (h ++ e ∷ []) ≡ after (state_after s h) e }
-    ensures legal { (n : ℕ) (s : TracedState) (h : List Entry) (e : Entry) → IsLegal n s h → IsLegalEntry n (state_after s h) e → IsLegal n s (h ++ e ∷ []) }
+    ensures legal { (n : ℕ) (s : TracedState) (h : List Entry) (e : Entry) → IsLegal n s h → IsLegalEntry n (state_after s h) e
+        → IsLegal n s (h ++ e ∷ []) }
     ensures front { (n : ℕ) (s : TracedState) (h : List Entry) (e : Entry) → IsLegal n s (h ++ e ∷ []) → IsLegal n s h }
-    ensures last { (n : ℕ) (s : TracedState) (h : List Entry) (e : Entry) → IsLegal n s (h ++ e ∷ []) → IsLegalEntry n (state_after s h) e }
-    ensures steps { (h : List Entry) (e : Entry) → untraced_steps (h ++ e ∷ []) ≡ untraced_steps h ++ steps_of (remembered_all nothing_yet h) e }
+    ensures last { (n : ℕ) (s : TracedState) (h : List Entry) (e : Entry) → IsLegal n s (h ++ e ∷ [])
+        → IsLegalEntry n (state_after s h) e }
+    ensures steps { (h : List Entry) (e : Entry)
+        → untraced_steps (h ++ e ∷ []) ≡ untraced_steps h ++ steps_of (remembered_all nothing_yet h) e }
 {}
 
 /// The trace of a history is the trace of its untraced steps.

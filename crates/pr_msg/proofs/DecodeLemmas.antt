@@ -8,7 +8,8 @@ use Rattle.pr_codec.proofs.SpellingLemmas.{read_is_spelt}
 use Rattle.pr_msg.specs.Beginnings.{BeginsWith}
 
 -- A message is read exactly where the bytes begin with it.
-pub read-begins : (bytes : List ℕ) (r : Result (Message × ℕ) MsgFault) → All IsByte bytes → r ≡ first_message bytes → (m : Message) (n : ℕ) → (r ≡ Ok (m, n)) ↔ BeginsWith bytes m n
+pub read-begins : (bytes : List ℕ) (r : Result (Message × ℕ) MsgFault) → All IsByte bytes → r ≡ first_message bytes
+    → (m : Message) (n : ℕ) → (r ≡ Ok (m, n)) ↔ BeginsWith bytes m n
 read-begins bytes r small is m n = (to, from)
   where
     to : r ≡ Ok (m, n) → BeginsWith bytes m n
@@ -19,4 +20,5 @@ read-begins bytes r small is m n = (to, from)
     from : BeginsWith bytes m n → r ≡ Ok (m, n)
     from b =
         let size : length (take n bytes) ≡ n = omega (arith, length-take n bytes, b.enough) in
-        is ∙ ap first_message (sym (take-append-drop n bytes)) ∙ spelt_is_read (take n bytes) (drop n bytes) m b.tail b.spelt ∙ ap (λ (k : ℕ). Ok (m, k)) size
+        is ∙ ap first_message (sym (take-append-drop n bytes))
+        ∙ spelt_is_read (take n bytes) (drop n bytes) m b.tail b.spelt ∙ ap (λ (k : ℕ). Ok (m, k)) size

@@ -11,9 +11,9 @@ use std::alloc::{AllocError, Global};
 /// As many zeros as a message can be padded with.
 const ZEROS: [u8; 7] = [0; 7];
 
-/// The bytes that encode a message: its code, its operand words and `tail`, padded with zeros to a multiple of 8. The tail
-/// has as many bytes as `tail_length` says. Operands may lie outside their columns: then the bytes encode no message, and
-/// `decode_one` refuses the first such operand.
+/// The bytes that encode a message: its code, its operand words and `tail`, padded with zeros to a multiple of 8. The
+/// tail has as many bytes as `tail_length` says. Operands may lie outside their columns: then the bytes encode no
+/// message, and `decode_one` refuses the first such operand.
 pub fn encode(alloc: Global, message: &Message, tail: &[u8]) -> Result<Bytes, NoMemory>
     requires { length tail.now ≡ tail_length message.now }
     ensures bytes { IfOk result (λ b. b ≡ spelling message.now tail.now) }

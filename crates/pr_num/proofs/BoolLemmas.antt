@@ -17,7 +17,10 @@ and_false false = refl
 
 pub eqb_comm : (m n : ℕ) → eqb m n ≡ eqb n m
 eqb_comm m n =
-    elim (cases_eq m n) [ inl e ↦ eq-eqb m n e ∙ sym (eq-eqb n m (sym e)) | inr ne ↦ ne_eqb m n ne ∙ sym (ne_eqb n m (λ e. ne (sym e))) ]
+    elim (cases_eq m n) [
+      | inl e ↦ eq-eqb m n e ∙ sym (eq-eqb n m (sym e))
+      | inr ne ↦ ne_eqb m n ne ∙ sym (ne_eqb n m (λ e. ne (sym e)))
+    ]
 
 -- a choice between a thing and itself
 pub cond-same : {X : Type 0} (b : Bool) (x : X) → cond b x x ≡ x

@@ -57,15 +57,21 @@ unfolding signal_of_name signal_name
 signal_of_name-short Hup = refl
 signal_of_name-short _ = refl
 
-pub signal_name-of_name : (bytes : List ℕ) (found : Sig) → signal_of_name bytes ≡ Some found → (bytes ≡ signal_name found) ⊎ (bytes ≡ drop 3 (signal_name found))
+pub signal_name-of_name : (bytes : List ℕ) (found : Sig) → signal_of_name bytes ≡ Some found
+    → (bytes ≡ signal_name found) ⊎ (bytes ≡ drop 3 (signal_name found))
 unfolding signal_of_name
 signal_name-of_name bytes found e =
-    elim (or_cases _ _ (find-passes (is_signal_named bytes) signals found e)) [ inl whole ↦ inl (same_bytes _ _ whole) | inr short ↦ inr (same_bytes _ _ short) ]
+    elim (or_cases _ _ (find-passes (is_signal_named bytes) signals found e))
+    [ inl whole ↦ inl (same_bytes _ _ whole) | inr short ↦ inr (same_bytes _ _ short) ]
 
-pub signal_name-none : (bytes : List ℕ) (other : Sig) → signal_of_name bytes ≡ None → (bytes ≢ signal_name other) × (bytes ≢ drop 3 (signal_name other))
+pub signal_name-none : (bytes : List ℕ) (other : Sig) → signal_of_name bytes ≡ None
+    → (bytes ≢ signal_name other) × (bytes ≢ drop 3 (signal_name other))
 unfolding signal_of_name
 signal_name-none bytes other none =
-    let fails = or_parts _ _ (none-passes (is_signal_named bytes) (is_signal_named (signal_name other)) signals other (signal_of_name-name other) none) in
+    let fails =
+    or_parts _ _
+    (none-passes (is_signal_named bytes) (is_signal_named (signal_name other)) signals other
+    (signal_of_name-name other) none) in
     (other_bytes _ _ fails.0, other_bytes _ _ fails.1)
 
 -- ---- faults
@@ -95,7 +101,9 @@ fault_name-of_name bytes found e = same_bytes _ _ (find-passes (is_fault_named b
 pub fault_name-none : (bytes : List ℕ) (other : Flt) → fault_of_name bytes ≡ None → bytes ≢ fault_name other
 unfolding fault_of_name
 fault_name-none bytes other none =
-    other_bytes _ _ (none-passes (is_fault_named bytes) (is_fault_named (fault_name other)) faults other (fault_of_name-name other) none)
+    other_bytes _ _
+    (none-passes (is_fault_named bytes) (is_fault_named (fault_name other)) faults other
+    (fault_of_name-name other) none)
 
 -- ---- errnos
 
@@ -111,7 +119,9 @@ errno_number-of_number n found e = eqb-true _ n (find-passes (is_numbered n) err
 pub errno_number-none : (n : ℕ) (other : Errno) → errno_of_number n ≡ None → errno_number other ≢ n
 unfolding errno_of_number
 errno_number-none n other none =
-    eqb-false _ n (none-passes (is_numbered n) (is_numbered (errno_number other)) errnos other (errno_of_number-number other) none)
+    eqb-false _ n
+    (none-passes (is_numbered n) (is_numbered (errno_number other)) errnos other
+    (errno_of_number-number other) none)
 
 pub errno_of_name-name : (errno : Errno) → errno_of_name (errno_name errno) ≡ Some errno
 unfolding errno_of_name errno_name
@@ -125,7 +135,9 @@ errno_name-of_name bytes found e = same_bytes _ _ (find-passes (is_errno_named b
 pub errno_name-none : (bytes : List ℕ) (other : Errno) → errno_of_name bytes ≡ None → bytes ≢ errno_name other
 unfolding errno_of_name
 errno_name-none bytes other none =
-    other_bytes _ _ (none-passes (is_errno_named bytes) (is_errno_named (errno_name other)) errnos other (errno_of_name-name other) none)
+    other_bytes _ _
+    (none-passes (is_errno_named bytes) (is_errno_named (errno_name other)) errnos other
+    (errno_of_name-name other) none)
 
 -- ---- calls
 
@@ -147,14 +159,17 @@ unfolding syscall_of_name syscall_name
 syscall_of_name-name Exit = refl
 syscall_of_name-name _ = refl
 
-pub syscall_name-of_name : (bytes : List ℕ) (found : Sysno) → syscall_of_name bytes ≡ Some found → bytes ≡ syscall_name found
+pub syscall_name-of_name : (bytes : List ℕ) (found : Sysno) → syscall_of_name bytes ≡ Some found
+    → bytes ≡ syscall_name found
 unfolding syscall_of_name
 syscall_name-of_name bytes found e = same_bytes _ _ (find-passes (is_syscall_named bytes) syscalls found e)
 
 pub syscall_name-none : (bytes : List ℕ) (other : Sysno) → syscall_of_name bytes ≡ None → bytes ≢ syscall_name other
 unfolding syscall_of_name
 syscall_name-none bytes other none =
-    other_bytes _ _ (none-passes (is_syscall_named bytes) (is_syscall_named (syscall_name other)) syscalls other (syscall_of_name-name other) none)
+    other_bytes _ _
+    (none-passes (is_syscall_named bytes) (is_syscall_named (syscall_name other)) syscalls other
+    (syscall_of_name-name other) none)
 
 -- ---- stop reasons
 
@@ -167,7 +182,8 @@ unfolding entry_at reason_number
 reason_of_number-number Requested = refl
 reason_of_number-number _ = refl
 
-pub reason_number-of_number : (n : ℕ) (found : StopReason) → entry_at stop_reasons n ≡ Some found → reason_number found ≡ n
+pub reason_number-of_number : (n : ℕ) (found : StopReason) → entry_at stop_reasons n ≡ Some found
+    → reason_number found ≡ n
 reason_number-of_number n found e = number-entry_at reason_number stop_reasons reasons_counted n found e
 
 pub reason_numbers-range : (n : ℕ) → IsSome (entry_at stop_reasons n) ↔ ((1 ≤ n) × (n ≤ 7))
@@ -178,9 +194,13 @@ unfolding reason_name
 reason_of_name-name Requested = refl
 reason_of_name-name _ = refl
 
-pub reason_name-of_name : (bytes : List ℕ) (found : StopReason) → find (is_reason_named bytes) stop_reasons ≡ Some found → bytes ≡ reason_name found
+pub reason_name-of_name : (bytes : List ℕ) (found : StopReason) → find (is_reason_named bytes) stop_reasons ≡ Some found
+    → bytes ≡ reason_name found
 reason_name-of_name bytes found e = same_bytes _ _ (find-passes (is_reason_named bytes) stop_reasons found e)
 
-pub reason_name-none : (bytes : List ℕ) (other : StopReason) → find (is_reason_named bytes) stop_reasons ≡ None → bytes ≢ reason_name other
+pub reason_name-none : (bytes : List ℕ) (other : StopReason) → find (is_reason_named bytes) stop_reasons ≡ None
+    → bytes ≢ reason_name other
 reason_name-none bytes other none =
-    other_bytes _ _ (none-passes (is_reason_named bytes) (is_reason_named (reason_name other)) stop_reasons other (reason_of_name-name other) none)
+    other_bytes _ _
+    (none-passes (is_reason_named bytes) (is_reason_named (reason_name other)) stop_reasons other
+    (reason_of_name-name other) none)

@@ -19,4 +19,7 @@ lt-known k w within = and_mask w k ∙ mod-eq_of_lt within
 -- the word of unknown flags is none
 pub unknown-none : (k known w : ℕ) → known ≡ 2 ^ k - 1 → (bit_and w known ≢ w) → set_of_word k w ≡ None
 unknown-none k known w lowest other =
-    elim (cases_lt w (2 ^ k)) [ inl below ↦ absurd (other (rw lowest (lt-known k w below))) | inr above ↦ ap (λ b. cond b (Some w) None) (le-ltb w (2 ^ k) above) ]
+    elim (cases_lt w (2 ^ k)) [
+      | inl below ↦ absurd (other (rw lowest (lt-known k w below)))
+      | inr above ↦ ap (λ b. cond b (Some w) None) (le-ltb w (2 ^ k) above)
+    ]

@@ -20,15 +20,22 @@ use Rattle.pr_num.specs.Tables.{counts_from}
 use Rattle.pr_num.proofs.NumberedLemmas.{number-slice_get}
 
 -- fields laid out over 16 zeros
-pub laid_out : (i : Instruction) (f : Fields) (immediate : List ℕ) → f ≡ fields_of i → immediate ≡ word_bytes f.immediate → f.op ∷ f.a ∷ f.b ∷ 0 ∷ 0 ∷ 0 ∷ 0 ∷ 0 ∷ (immediate ++ []) ≡ instruction_bytes i
+pub laid_out : (i : Instruction) (f : Fields) (immediate : List ℕ) → f ≡ fields_of i
+    → immediate ≡ word_bytes f.immediate
+    → f.op ∷ f.a ∷ f.b ∷ 0 ∷ 0 ∷ 0 ∷ 0 ∷ 0 ∷ (immediate ++ []) ≡ instruction_bytes i
 laid_out i f immediate same spelled =
     ap (λ w. f.op ∷ f.a ∷ f.b ∷ 0 ∷ 0 ∷ 0 ∷ 0 ∷ 0 ∷ w) (append-nil immediate ∙ spelled) ∙ ap fields_bytes same
 
 -- what is read from the fields in 16 bytes
-pub decoded : (bytes immediate : List ℕ) (w : ℕ) (zeros : Bool) (r : Option Instruction) → zeros ≡ true → zeros ≡ list_all (λ b. eqb b 0) (take 5 (drop 3 bytes)) → immediate ≡ take 8 (drop 8 bytes) → w ≡ word_of immediate → r ≡ instruction_with (fields (get_or bytes 0 0) (get_or bytes 1 0) (get_or bytes 2 0) w) → r ≡ instruction_in bytes
+pub decoded : (bytes immediate : List ℕ) (w : ℕ) (zeros : Bool) (r : Option Instruction) → zeros ≡ true
+    → zeros ≡ list_all (λ b. eqb b 0) (take 5 (drop 3 bytes)) → immediate ≡ take 8 (drop 8 bytes)
+    → w ≡ word_of immediate → r ≡ instruction_with (fields (get_or bytes 0 0) (get_or bytes 1 0) (get_or bytes 2 0) w)
+    → r ≡ instruction_in bytes
 unfolding instruction_in
 decoded bytes immediate w zeros r all tested laid spelled read =
-    read ∙ ap (λ n. instruction_with (fields (get_or bytes 0 0) (get_or bytes 1 0) (get_or bytes 2 0) n)) (spelled ∙ ap word_of laid) ∙ sym (ap (λ b. cond b (instruction_with (fields_in bytes)) None) (sym tested ∙ all))
+    read ∙ ap (λ n. instruction_with (fields (get_or bytes 0 0) (get_or bytes 1 0) (get_or bytes 2 0) n))
+    (spelled ∙ ap word_of laid)
+    ∙ sym (ap (λ b. cond b (instruction_with (fields_in bytes)) None) (sym tested ∙ all))
 
 -- ---- an instruction's bytes spell it
 
@@ -44,9 +51,11 @@ register_back R5 = refl
 register_back R6 = refl
 register_back R7 = refl
 
-registers_back : (a b : Reg) (op w : ℕ) → two_registers (fields op (register_number a) (register_number b) w) ≡ Some (a, b)
+registers_back : (a b : Reg) (op w : ℕ)
+    → two_registers (fields op (register_number a) (register_number b) w) ≡ Some (a, b)
 registers_back a b op w =
-    ap (λ o. option_and_then (λ x. option_map (λ y. (x, y)) (register_of (register_number b))) o) (register_back a) ∙ ap (λ o. option_map (λ y. (a, y)) o) (register_back b)
+    ap (λ o. option_and_then (λ x. option_map (λ y. (x, y)) (register_of (register_number b))) o) (register_back a)
+    ∙ ap (λ o. option_map (λ y. (a, y)) o) (register_back b)
 
 -- the fields of an instruction are fields of that instruction
 fields_back : (i : Instruction) → instruction_with (fields_of i) ≡ Some i
@@ -74,29 +83,35 @@ fields_back (Sys call) = ap (λ o. option_map Sys o) (syscall_of_number-number c
 pub spelled-read : (i : Instruction) → HasImmediate i → instruction_in (instruction_bytes i) ≡ Some i
 unfolding instruction_in HasImmediate word_bytes word_of
 spelled-read i fits =
-    ap (λ w. instruction_with (fields (fields_of i).op (fields_of i).a (fields_of i).b w)) (from_le_bytes-to_le_bytes_8 (fields_of i).immediate fits) ∙ fields_back i
+    ap (λ w. instruction_with (fields (fields_of i).op (fields_of i).a (fields_of i).b w))
+    (from_le_bytes-to_le_bytes_8 (fields_of i).immediate fits) ∙ fields_back i
 
 -- ---- bytes that spell an instruction are its bytes
 
 -- what the row of an operation code gives, or the rows below it
-row : (b : Bool) (here rest : Option Instruction) (i : Instruction) (P : Type 0) → cond b here rest ≡ Some i → (b ≡ true → here ≡ Some i → P) → (rest ≡ Some i → P) → P
+row : (b : Bool) (here rest : Option Instruction) (i : Instruction) (P : Type 0) → cond b here rest ≡ Some i
+    → (b ≡ true → here ≡ Some i → P) → (rest ≡ Some i → P) → P
 row true here rest i P e this others = this refl e
 row false here rest i P e this others = others e
 
 -- what an option was mapped from
-mapped : {X Y : Type 0} (f : X → Y) (o : Option X) (y : Y) (P : Type 0) → option_map f o ≡ Some y → ((x : X) → o ≡ Some x → f x ≡ y → P) → P
+mapped : {X Y : Type 0} (f : X → Y) (o : Option X) (y : Y) (P : Type 0) → option_map f o ≡ Some y
+    → ((x : X) → o ≡ Some x → f x ≡ y → P) → P
 mapped f None y P e found = absurd (none-some y e)
 mapped f (Some x) y P e found = found x refl cc
 
 -- what is there only under a condition
-guarded : {X : Type 0} (b : Bool) (o : Option X) (x : X) (P : Type 0) → cond b o None ≡ Some x → (b ≡ true → o ≡ Some x → P) → P
+guarded : {X : Type 0} (b : Bool) (o : Option X) (x : X) (P : Type 0) → cond b o None ≡ Some x
+    → (b ≡ true → o ≡ Some x → P) → P
 guarded true o x P e found = found refl e
 guarded false o x P e found = absurd (none-some x e)
 
 -- fields from their parts
-same_fields : (f : Fields) (op a b w : ℕ) → eqb f.op op ≡ true → a ≡ f.a → b ≡ f.b → w ≡ f.immediate → fields op a b w ≡ f
+same_fields : (f : Fields) (op a b w : ℕ) → eqb f.op op ≡ true → a ≡ f.a → b ≡ f.b → w ≡ f.immediate
+    → fields op a b w ≡ f
 same_fields f op a b w this at_a at_b at_w =
-    ap (λ x. fields x a b w) (sym (eqb-true _ _ this)) ∙ ap (λ x. fields f.op x b w) at_a ∙ ap (λ x. fields f.op f.a x w) at_b ∙ ap (λ x. fields f.op f.a f.b x) at_w
+    ap (λ x. fields x a b w) (sym (eqb-true _ _ this)) ∙ ap (λ x. fields f.op x b w) at_a
+    ∙ ap (λ x. fields f.op f.a x w) at_b ∙ ap (λ x. fields f.op f.a f.b x) at_w
 
 zero_byte : (n : ℕ) → eqb n 0 ≡ true → 0 ≡ n
 zero_byte n e = sym (eqb-true _ _ e)
@@ -112,38 +127,61 @@ module _ (f : Fields) (op : ℕ) (this : eqb f.op op ≡ true) (i : Instruction)
   no_field_form : (one : Instruction) → fields_of one ≡ fields op 0 0 0 → with_no_field f one ≡ Some i → fields_of i ≡ f
   no_field_form one laid e =
       guarded _ (Some one) i _ e (λ unused same. let all = and_parts _ _ unused in let both = and_parts _ _ all.0 in
-      let it : i ≡ one = cc in ap fields_of it ∙ laid ∙ same_fields f op 0 0 0 this (zero_byte _ both.0) (zero_byte _ both.1) (zero_byte _ all.1))
+      let it : i ≡ one = cc in
+      ap fields_of it ∙ laid
+      ∙ same_fields f op 0 0 0 this (zero_byte _ both.0) (zero_byte _ both.1) (zero_byte _ all.1))
 
-  immediate_form : (make : ℕ → Instruction) → ((w : ℕ) → fields_of (make w) ≡ fields op 0 0 w) → option_map make (immediate_alone f) ≡ Some i → fields_of i ≡ f
+  immediate_form : (make : ℕ → Instruction) → ((w : ℕ) → fields_of (make w) ≡ fields op 0 0 w)
+      → option_map make (immediate_alone f) ≡ Some i → fields_of i ≡ f
   immediate_form make laid e =
-      mapped make _ i _ e (λ w alone made. guarded _ (Some f.immediate) w _ alone (λ unused same. let both = and_parts _ _ unused in
-      let it : w ≡ f.immediate = cc in ap fields_of (sym made) ∙ laid w ∙ same_fields f op 0 0 w this (zero_byte _ both.0) (zero_byte _ both.1) it))
+      mapped make _ i _ e
+      (λ w alone made. guarded _ (Some f.immediate) w _ alone (λ unused same. let both = and_parts _ _ unused in
+      let it : w ≡ f.immediate = cc in
+      ap fields_of (sym made) ∙ laid w ∙ same_fields f op 0 0 w this (zero_byte _ both.0) (zero_byte _ both.1) it))
 
-  register_form : (make : Reg → ℕ → Instruction) → ((a : Reg) (w : ℕ) → fields_of (make a w) ≡ fields op (register_number a) 0 w) → option_map (λ a. make a f.immediate) (one_register f) ≡ Some i → fields_of i ≡ f
+  register_form : (make : Reg → ℕ → Instruction)
+      → ((a : Reg) (w : ℕ) → fields_of (make a w) ≡ fields op (register_number a) 0 w)
+      → option_map (λ a. make a f.immediate) (one_register f) ≡ Some i → fields_of i ≡ f
   register_form make laid e =
       mapped (λ a. make a f.immediate) _ i _ e (λ a alone made. guarded _ (register_of f.a) a _ alone (λ unused found.
-      ap fields_of (sym made) ∙ laid a f.immediate ∙ same_fields f op (register_number a) 0 f.immediate this (number-register_of _ a found) (zero_byte _ unused) refl))
+      ap fields_of (sym made) ∙ laid a f.immediate
+      ∙ same_fields f op (register_number a) 0 f.immediate this (number-register_of _ a found)
+      (zero_byte _ unused) refl))
 
-  pair_form : (r : Reg × Reg) (P : Type 0) → two_registers f ≡ Some r → ((register_number r.0 ≡ f.a) → (register_number r.1 ≡ f.b) → P) → P
+  pair_form : (r : Reg × Reg) (P : Type 0) → two_registers f ≡ Some r
+      → ((register_number r.0 ≡ f.a) → (register_number r.1 ≡ f.b) → P) → P
   pair_form r P e found =
       option_and_then_some (λ a. option_map (λ b. (a, b)) (register_of f.b)) (register_of f.a) r e (λ a at_a second.
       mapped (λ b. (a, b)) (register_of f.b) r _ second (λ b at_b made.
-      found (ap (λ x. register_number x.0) (sym made) ∙ number-register_of _ a at_a) (ap (λ x. register_number x.1) (sym made) ∙ number-register_of _ b at_b)))
+      found (ap (λ x. register_number x.0) (sym made) ∙ number-register_of _ a at_a)
+      (ap (λ x. register_number x.1) (sym made) ∙ number-register_of _ b at_b)))
 
-  all_form : (make : Reg → Reg → ℕ → Instruction) → ((a b : Reg) (w : ℕ) → fields_of (make a b w) ≡ fields op (register_number a) (register_number b) w) → option_map (λ r. make r.0 r.1 f.immediate) (two_registers f) ≡ Some i → fields_of i ≡ f
+  all_form : (make : Reg → Reg → ℕ → Instruction)
+      → ((a b : Reg) (w : ℕ) → fields_of (make a b w) ≡ fields op (register_number a) (register_number b) w)
+      → option_map (λ r. make r.0 r.1 f.immediate) (two_registers f) ≡ Some i → fields_of i ≡ f
   all_form make laid e =
       mapped (λ r. make r.0 r.1 f.immediate) _ i _ e (λ r pair made. pair_form r _ pair (λ at_a at_b.
       ap fields_of (sym made) ∙ laid r.0 r.1 f.immediate ∙ same_fields f op _ _ f.immediate this at_a at_b refl))
 
-  registers_form : (make : Reg → Reg → Instruction) → ((a b : Reg) → fields_of (make a b) ≡ fields op (register_number a) (register_number b) 0) → option_map (λ r. make r.0 r.1) (registers_alone f) ≡ Some i → fields_of i ≡ f
+  registers_form : (make : Reg → Reg → Instruction)
+      → ((a b : Reg) → fields_of (make a b) ≡ fields op (register_number a) (register_number b) 0)
+      → option_map (λ r. make r.0 r.1) (registers_alone f) ≡ Some i → fields_of i ≡ f
   registers_form make laid e =
-      mapped (λ r. make r.0 r.1) _ i _ e (λ r alone made. guarded _ (two_registers f) r _ alone (λ unused pair. pair_form r _ pair (λ at_a at_b.
+      mapped (λ r. make r.0 r.1) _ i _ e
+      (λ r alone made. guarded _ (two_registers f) r _ alone (λ unused pair. pair_form r _ pair (λ at_a at_b.
       ap fields_of (sym made) ∙ laid r.0 r.1 ∙ same_fields f op _ _ 0 this at_a at_b (zero_byte _ unused))))
 
-  call_form : ((c : Sysno) → fields_of (Sys c) ≡ fields op 0 0 (syscall_number c)) → option_map Sys (option_and_then syscall_of_number (immediate_alone f)) ≡ Some i → fields_of i ≡ f
+  call_form : ((c : Sysno) → fields_of (Sys c) ≡ fields op 0 0 (syscall_number c))
+      → option_map Sys (option_and_then syscall_of_number (immediate_alone f)) ≡ Some i → fields_of i ≡ f
   call_form laid e =
-      mapped Sys _ i _ e (λ c named made. option_and_then_some syscall_of_number (immediate_alone f) c named (λ w alone at_w. guarded _ (Some f.immediate) w _ alone (λ unused same. let both = and_parts _ _ unused in
-      let it : w ≡ f.immediate = cc in ap fields_of (sym made) ∙ laid c ∙ same_fields f op 0 0 _ this (zero_byte _ both.0) (zero_byte _ both.1) (syscall_number-of_number w c at_w ∙ it))))
+      mapped Sys _ i _ e
+      (λ c named made.
+      option_and_then_some syscall_of_number (immediate_alone f) c named
+      (λ w alone at_w. guarded _ (Some f.immediate) w _ alone (λ unused same. let both = and_parts _ _ unused in
+      let it : w ≡ f.immediate = cc in
+      ap fields_of (sym made) ∙ laid c
+      ∙ same_fields f op 0 0 _ this (zero_byte _ both.0) (zero_byte _ both.1)
+      (syscall_number-of_number w c at_w ∙ it))))
 
 -- fields that are those of an instruction
 fields_unique : (f : Fields) (i : Instruction) → instruction_with f ≡ Some i → fields_of i ≡ f
@@ -170,7 +208,8 @@ fields_unique f i e =
     row (eqb f.op 19) _ _ i _ e18 (λ this here. call_form f 19 this i (λ c. refl) here) (λ e19.
     absurd (none-some i e19))))))))))))))))))))
 
-five_zeros : (d e f g h : ℕ) (rest : List ℕ) → list_all (λ b. eqb b 0) (d ∷ e ∷ f ∷ g ∷ h ∷ []) ≡ true → 0 ∷ 0 ∷ 0 ∷ 0 ∷ 0 ∷ rest ≡ d ∷ e ∷ f ∷ g ∷ h ∷ rest
+five_zeros : (d e f g h : ℕ) (rest : List ℕ) → list_all (λ b. eqb b 0) (d ∷ e ∷ f ∷ g ∷ h ∷ []) ≡ true
+    → 0 ∷ 0 ∷ 0 ∷ 0 ∷ 0 ∷ rest ≡ d ∷ e ∷ f ∷ g ∷ h ∷ rest
 five_zeros d e f g h rest all =
     let p = and_parts (eqb d 0) _ all in
     let q = and_parts (eqb e 0) _ p.1 in
@@ -188,16 +227,21 @@ five_zeros d e f g h rest all =
 eight_bytes : (bytes : List ℕ) → length bytes ≡ 8 → All (λ b. b < 256) bytes → word_bytes (word_of bytes) ≡ bytes
 unfolding word_bytes word_of
 eight_bytes bytes eight small =
-    le_bytes_8 bytes _ eight (λ i. ⊎_elim (λ inside. All-get_or (λ b. b < 256) bytes i 0 inside small) (λ past. rw (get_or_past bytes i 0 past) (omega arith)) (cases_lt i (length bytes))) refl
+    le_bytes_8 bytes _ eight
+    (λ i. ⊎_elim (λ inside. All-get_or (λ b. b < 256) bytes i 0 inside small)
+    (λ past. rw (get_or_past bytes i 0 past) (omega arith)) (cases_lt i (length bytes))) refl
 
-pub read-spelled : (bytes : List ℕ) (i : Instruction) → length bytes ≡ 16 → All (λ b. b < 256) bytes → instruction_in bytes ≡ Some i → bytes ≡ instruction_bytes i
+pub read-spelled : (bytes : List ℕ) (i : Instruction) → length bytes ≡ 16 → All (λ b. b < 256) bytes
+    → instruction_in bytes ≡ Some i → bytes ≡ instruction_bytes i
 unfolding instruction_in
 read-spelled (a ∷ b ∷ c ∷ d ∷ e ∷ f ∷ g ∷ h ∷ rest) i whole small read =
     let eight : length rest ≡ 8 = omega arith in
     let front : take 8 rest ≡ rest = take_all 8 rest (omega arith) in
-    guarded (list_all (λ x. eqb x 0) (d ∷ e ∷ f ∷ g ∷ h ∷ [])) (instruction_with (fields a b c (word_of (take 8 rest)))) i _ read (λ zeros found.
+    guarded (list_all (λ x. eqb x 0) (d ∷ e ∷ f ∷ g ∷ h ∷ []))
+    (instruction_with (fields a b c (word_of (take 8 rest)))) i _ read (λ zeros found.
     sym (ap fields_bytes (fields_unique (fields a b c (word_of (take 8 rest))) i found)
     ∙ ap (λ w. a ∷ b ∷ c ∷ 0 ∷ 0 ∷ 0 ∷ 0 ∷ 0 ∷ word_bytes (word_of w)) front
-    ∙ ap (λ w. a ∷ b ∷ c ∷ 0 ∷ 0 ∷ 0 ∷ 0 ∷ 0 ∷ w) (eight_bytes rest eight (All-drop (λ x. x < 256) 8 (a ∷ b ∷ c ∷ d ∷ e ∷ f ∷ g ∷ h ∷ rest) small))
+    ∙ ap (λ w. a ∷ b ∷ c ∷ 0 ∷ 0 ∷ 0 ∷ 0 ∷ 0 ∷ w)
+    (eight_bytes rest eight (All-drop (λ x. x < 256) 8 (a ∷ b ∷ c ∷ d ∷ e ∷ f ∷ g ∷ h ∷ rest) small))
     ∙ ap (λ w. a ∷ b ∷ c ∷ w) (five_zeros d e f g h rest zeros)))
 read-spelled bytes i whole small read = absurd (omega arith)

@@ -30,7 +30,8 @@ past zero (x ∷ xs) is = cc
 past (suc i) (x ∷ xs) is = ap (λ zs. x ∷ zs) (past i xs is)
 
 -- what stands before the next place is one more where something stands at this place, and else as much
-pub take-next : {X : Type 0} (i : ℕ) (xs : List X) (x : X) → slice_get xs i ≡ Some x → take (i + 1) xs ≡ take i xs ++ x ∷ []
+pub take-next : {X : Type 0} (i : ℕ) (xs : List X) (x : X) → slice_get xs i ≡ Some x
+    → take (i + 1) xs ≡ take i xs ++ x ∷ []
 take-next i xs x is = ap (λ k. take k xs) (add-one i) ∙ next i xs x is
 
 pub take-past : {X : Type 0} (i : ℕ) (xs : List X) → slice_get xs i ≡ None → take (i + 1) xs ≡ take i xs
@@ -50,7 +51,12 @@ length-instruction i = refl
 pub length-text : (code : List Instruction) → length (flat_map instruction_bytes code) ≡ 16 * length code
 length-text [] = refl
 length-text (i ∷ code) =
-    omega (arith, length-append (instruction_bytes i) (flat_map instruction_bytes code), length-instruction i, length-text code)
+    omega (
+      arith,
+      length-append (instruction_bytes i) (flat_map instruction_bytes code),
+      length-instruction i,
+      length-text code,
+    )
 
 -- ---- bytes
 

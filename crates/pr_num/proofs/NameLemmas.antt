@@ -8,6 +8,7 @@ pub named : (s : List ℕ) → 1 ≤ length s → length s ≤ 31 → IsName (s 
 named s some fits = record {
   some = some;
   fits = fits;
-  whole = length-append s _ ∙ ap (λ m. length s + length m) (drop-replicate (length s) 31 0) ∙ ap (λ m. length s + m) (length-replicate (31 - length s) 0) ∙ omega arith;
+  whole = length-append s _ ∙ ap (λ m. length s + length m) (drop-replicate (length s) 31 0)
+      ∙ ap (λ m. length s + m) (length-replicate (31 - length s) 0) ∙ omega arith;
   front = ap (padded 31) (take-front s _) ∙ ap (λ zs. s ++ zs) (sym (drop-replicate (length s) 31 0));
 }

@@ -46,26 +46,37 @@ unfolding has_number common_word
 has_number-common a b n =
     ap (λ x. eqb x 1) (bit_at_and a b (n - 1)) ∙ test-min _ _ (bit_at-lt a (n - 1)) (bit_at-lt b (n - 1))
 
-pub has_number-minus : (a b n : ℕ) → b < 2 ^ 64 → 1 ≤ n → n ≤ 64 → has_number (minus_word a b) n ≡ (has_number a n && not (has_number b n))
+pub has_number-minus : (a b n : ℕ) → b < 2 ^ 64 → 1 ≤ n → n ≤ 64
+    → has_number (minus_word a b) n ≡ (has_number a n && not (has_number b n))
 unfolding has_number minus_word
 has_number-minus a b n small least most =
-    ap (λ x. eqb x 1) (bit_at_and a (2 ^ 64 - 1 - b) (n - 1)) ∙ test-min _ _ (bit_at-lt a (n - 1)) (bit_at-lt (2 ^ 64 - 1 - b) (n - 1)) ∙ ap (λ x. eqb (bit_at a (n - 1)) 1 && x) (ap (λ x. eqb x 1) (bit_at_not w64 b (n - 1) small (omega arith)) ∙ test-not _ (bit_at-lt b (n - 1)))
+    ap (λ x. eqb x 1) (bit_at_and a (2 ^ 64 - 1 - b) (n - 1))
+    ∙ test-min _ _ (bit_at-lt a (n - 1)) (bit_at-lt (2 ^ 64 - 1 - b) (n - 1))
+    ∙ ap (λ x. eqb (bit_at a (n - 1)) 1 && x)
+    (ap (λ x. eqb x 1) (bit_at_not w64 b (n - 1) small (omega arith)) ∙ test-not _ (bit_at-lt b (n - 1)))
 
 -- the word of one entry has that entry alone
 has_number-pow : (n m : ℕ) → 1 ≤ n → 1 ≤ m → has_number (2 ^ (n - 1)) m ≡ eqb m n
 unfolding has_number
 has_number-pow n m p q =
-    elim (cases_eq m n) [ inl e ↦ ap (λ k. eqb (bit_at (2 ^ (n - 1)) (k - 1)) 1) e ∙ ap (λ x. eqb x 1) (bit_at-pow_same (n - 1)) ∙ sym (eq-eqb m n e) | inr ne ↦ let other : m - 1 ≢ n - 1 = λ e. ne (omega arith) in ap (λ x. eqb x 1) (bit_at-pow_other (n - 1) (m - 1) other) ∙ sym (ne_eqb m n ne) ]
+    elim (cases_eq m n) [
+      | inl e ↦ ap (λ k. eqb (bit_at (2 ^ (n - 1)) (k - 1)) 1) e ∙ ap (λ x. eqb x 1) (bit_at-pow_same (n - 1))
+          ∙ sym (eq-eqb m n e)
+      | inr ne ↦ let other : m - 1 ≢ n - 1 = λ e. ne (omega arith) in
+          ap (λ x. eqb x 1) (bit_at-pow_other (n - 1) (m - 1) other) ∙ sym (ne_eqb m n ne)
+    ]
 
 pub has_number-with : (w n m : ℕ) → 1 ≤ n → 1 ≤ m → has_number (with_number w n) m ≡ (has_number w m || eqb m n)
 unfolding with_number
 has_number-with w n m p q =
     has_number-union w _ m ∙ ap (λ x. has_number w m || x) (has_number-pow n m p q)
 
-pub has_number-without : (w n m : ℕ) → 1 ≤ n → n ≤ 64 → 1 ≤ m → m ≤ 64 → has_number (without_number w n) m ≡ (has_number w m && not (eqb m n))
+pub has_number-without : (w n m : ℕ) → 1 ≤ n → n ≤ 64 → 1 ≤ m → m ≤ 64
+    → has_number (without_number w n) m ≡ (has_number w m && not (eqb m n))
 unfolding without_number
 has_number-without w n m p p' q q' =
-    has_number-minus w _ m (pow_below (n - 1) 64 (omega arith)) q q' ∙ ap (λ x. has_number w m && not x) (has_number-pow n m p q)
+    has_number-minus w _ m (pow_below (n - 1) 64 (omega arith)) q q'
+    ∙ ap (λ x. has_number w m && not x) (has_number-pow n m p q)
 
 -- ---- a set is what it has
 
@@ -81,12 +92,17 @@ same_bit x (suc (suc y)) p q e = absurd (omega arith)
 pub same_set : (k a b : ℕ) → a < 2 ^ k → b < 2 ^ k → ((n : ℕ) → 1 ≤ n → n ≤ k → has_number a n ≡ has_number b n) → a ≡ b
 unfolding has_number
 same_set k a b p q same =
-    same_from_bits_below k a b p q (λ i within. same_bit _ _ (bit_at-lt a i) (bit_at-lt b i) (let e : (i + 1) - 1 ≡ i = omega arith in rw e at (same (i + 1) (omega arith) (omega arith))))
+    same_from_bits_below k a b p q
+    (λ i within.
+    same_bit _ _ (bit_at-lt a i) (bit_at-lt b i)
+    (let e : (i + 1) - 1 ≡ i = omega arith in rw e at (same (i + 1) (omega arith) (omega arith))))
 
-pub has_number-holdable : (w n : ℕ) → 1 ≤ n → n ≤ 64 → has_number (holdable_word w) n ≡ (has_number w n && not (eqb n 9) && not (eqb n 23))
+pub has_number-holdable : (w n : ℕ) → 1 ≤ n → n ≤ 64
+    → has_number (holdable_word w) n ≡ (has_number w n && not (eqb n 9) && not (eqb n 23))
 unfolding holdable_word signal_number
 has_number-holdable w n least most =
-    has_number-without (without_number w 9) 23 n (lit≤ tt) (lit≤ tt) least most ∙ ap (λ b. b && not (eqb n 23)) (has_number-without w 9 n (lit≤ tt) (lit≤ tt) least most)
+    has_number-without (without_number w 9) 23 n (lit≤ tt) (lit≤ tt) least most
+    ∙ ap (λ b. b && not (eqb n 23)) (has_number-without w 9 n (lit≤ tt) (lit≤ tt) least most)
 
 -- ---- words that are sets
 
@@ -105,23 +121,29 @@ clear (suc (suc b)) p e = absurd (omega arith)
 -- a word with no bit from a place on is small
 small_word : (k w : ℕ) → ((i : ℕ) → k ≤ i → bit_at w i ≡ 0) → w < 2 ^ k
 small_word k w none =
-    let high : w / 2 ^ k ≡ 0 = same_from_bits (w / 2 ^ k) 0 (λ i. bit_at-shifted w k i ∙ none (k + i) (omega arith) ∙ sym (bit_at-zero i)) in
+    let high : w / 2 ^ k ≡ 0 =
+    same_from_bits (w / 2 ^ k) 0 (λ i. bit_at-shifted w k i ∙ none (k + i) (omega arith) ∙ sym (bit_at-zero i)) in
     let parts = shr_split w k in
     let low : w % 2 ^ k < 2 ^ k = mod_below w (2 ^ k) (pow_pos k) in
     let whole = rw high at parts in
     omega arith
 
-pub accepted-set_of_word : (entries w : ℕ) → IsSome (set_of_word entries w) ↔ ((n : ℕ) → entries < n → has_number w n ≡ false)
+pub accepted-set_of_word : (entries w : ℕ)
+    → IsSome (set_of_word entries w) ↔ ((n : ℕ) → entries < n → has_number w n ≡ false)
 unfolding has_number
 accepted-set_of_word entries w = (λ e. beyond (cases_lt w (2 ^ entries)) e, λ none. within none) where
-  beyond : (w < 2 ^ entries) ⊎ (2 ^ entries ≤ w) → IsSome (set_of_word entries w) → (n : ℕ) → entries < n → has_number w n ≡ false
+  beyond : (w < 2 ^ entries) ⊎ (2 ^ entries ≤ w) → IsSome (set_of_word entries w) → (n : ℕ) → entries < n
+      → has_number w n ≡ false
   beyond (inl below) e n past = ap (λ b. eqb b 1) (bit_at_above w entries (n - 1) below (omega arith))
   beyond (inr above) e n past =
       absurd (false≢true (sym (ap (λ b. is_some (cond b (Some w) None)) (le-ltb w (2 ^ entries) above)) ∙ e))
 
   within : ((n : ℕ) → entries < n → has_number w n ≡ false) → IsSome (set_of_word entries w)
   within none =
-      let bits : (i : ℕ) → entries ≤ i → bit_at w i ≡ 0 = λ i past. clear (bit_at w i) (bit_at-lt w i) (let place : (i + 1) - 1 ≡ i = omega arith in rw place at (none (i + 1) (omega arith))) in
+      let bits : (i : ℕ) → entries ≤ i → bit_at w i ≡ 0 =
+      λ i past.
+      clear (bit_at w i) (bit_at-lt w i)
+      (let place : (i + 1) - 1 ≡ i = omega arith in rw place at (none (i + 1) (omega arith))) in
       ap (λ b. is_some (cond b (Some w) None)) (lt-ltb w (2 ^ entries) (small_word entries w bits))
 
 -- ---- a set stays within its table

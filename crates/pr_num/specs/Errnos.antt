@@ -5,7 +5,9 @@ use Rattle.pr_num.specs.declared.errnos.Errno.TheVariants.{Perm, Noent, Srch, In
 
 -- every errno, in the order of its number
 abbrev pub errnos : List Errno
-errnos = Perm ∷ Noent ∷ Srch ∷ Intr ∷ Io ∷ Badf ∷ Child ∷ Again ∷ Nomem ∷ Fault ∷ Busy ∷ Inval ∷ Nfile ∷ Mfile ∷ Nospc ∷ Spipe ∷ Pipe ∷ Notsup ∷ []
+errnos =
+    Perm ∷ Noent ∷ Srch ∷ Intr ∷ Io ∷ Badf ∷ Child ∷ Again ∷ Nomem ∷ Fault ∷ Busy ∷ Inval ∷ Nfile ∷ Mfile ∷ Nospc
+    ∷ Spipe ∷ Pipe ∷ Notsup ∷ []
 
 -- the number of an errno (Intro(2))
 unfoldable pub errno_number : Errno → ℕ

@@ -60,7 +60,8 @@ is_end_of pipe (Some o) = is_this (pipe_of o.target)
 -- without a pipe of which no open file is an end any more: a pipe stands while one of its ends is open
 unfoldable pub without_idle_pipe : Option ℕ → FileTable → FileTable
 without_idle_pipe None t = t
-without_idle_pipe (Some pipe) t = if list_any (is_end_of pipe) t.opens then t else record t { pipes = slice_set t.pipes pipe None }
+without_idle_pipe (Some pipe) t =
+    if list_any (is_end_of pipe) t.opens then t else record t { pipes = slice_set t.pipes pipe None }
 
 -- one descriptor fewer stands for the open file at a place; with the last one it is closed
 unfoldable pub with_user_gone : FileTable → ℕ → FileTable

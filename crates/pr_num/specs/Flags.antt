@@ -14,6 +14,7 @@ pub known_bits-five : (a b c d e : List ℕ) → known_bits ((a, 1) ∷ (b, 2) �
 unfolding known_from
 known_bits-five a b c d e = refl
 
-pub known_bits-six : (a b c d e f : List ℕ) → known_bits ((a, 1) ∷ (b, 2) ∷ (c, 4) ∷ (d, 8) ∷ (e, 16) ∷ (f, 32) ∷ []) ≡ 2 ^ 6 - 1
+pub known_bits-six : (a b c d e f : List ℕ)
+    → known_bits ((a, 1) ∷ (b, 2) ∷ (c, 4) ∷ (d, 8) ∷ (e, 16) ∷ (f, 32) ∷ []) ≡ 2 ^ 6 - 1
 unfolding known_from
 known_bits-six a b c d e f = refl

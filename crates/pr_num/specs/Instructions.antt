@@ -121,8 +121,10 @@ instruction_with f =
 
 -- the fields that lie in 16 bytes
 abbrev pub fields_in : List ℕ → Fields
-fields_in bytes = fields (slice_index bytes 0) (slice_index bytes 1) (slice_index bytes 2) (word_of (take 8 (drop 8 bytes)))
+fields_in bytes =
+    fields (slice_index bytes 0) (slice_index bytes 1) (slice_index bytes 2) (word_of (take 8 (drop 8 bytes)))
 
 -- the instruction that 16 bytes spell, if they spell one
 unfoldable pub instruction_in : List ℕ → Option Instruction
-instruction_in bytes = if list_all (λ b. b == 0) (take 5 (drop 3 bytes)) then instruction_with (fields_in bytes) else None
+instruction_in bytes =
+    if list_all (λ b. b == 0) (take 5 (drop 3 bytes)) then instruction_with (fields_in bytes) else None

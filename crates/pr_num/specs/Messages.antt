@@ -75,7 +75,8 @@ bad_operand Csig = None
 bad_operand Cfault = None
 bad_operand (Ssig signal) = if nat_le signal signal_count then None else Some 1
 bad_operand (Kill signal) = if nat_le 1 signal && nat_le signal signal_count then None else Some 1
-bad_operand (Unkill signal) = if (nat_le 1 signal && nat_le signal signal_count) && not (signal == 9) then None else Some 1
+bad_operand (Unkill signal) =
+    if (nat_le 1 signal && nat_le signal signal_count) && not (signal == 9) then None else Some 1
 bad_operand (Shold signals) = if nat_lt signals (2 ^ signal_count) then None else Some 1
 bad_operand (Strace signals) = if nat_lt signals (2 ^ signal_count) then None else Some 1
 bad_operand (Sfault faults) = if nat_lt faults (2 ^ fault_count) then None else Some 1
@@ -161,13 +162,15 @@ unfoldable pub two_words : List ℕ → Result (ℕ × ℕ) MsgFault
 two_words bytes = if nat_lt (length bytes) 24 then Err Short else Ok (nth_word bytes 1, nth_word bytes 2)
 
 unfoldable pub three_words : List ℕ → Result (ℕ × ℕ × ℕ) MsgFault
-three_words bytes = if nat_lt (length bytes) 32 then Err Short else Ok (nth_word bytes 1, nth_word bytes 2, nth_word bytes 3)
+three_words bytes =
+    if nat_lt (length bytes) 32 then Err Short else Ok (nth_word bytes 1, nth_word bytes 2, nth_word bytes 3)
 
 -- the registers r0 to r7, sp, fp and pc
 unfoldable pub eleven_words : List ℕ → Result (List ℕ) MsgFault
 eleven_words bytes =
     if nat_lt (length bytes) 96 then Err Short
-    else Ok (nth_word bytes 1 ∷ nth_word bytes 2 ∷ nth_word bytes 3 ∷ nth_word bytes 4 ∷ nth_word bytes 5 ∷ nth_word bytes 6
+    else Ok (nth_word bytes 1 ∷ nth_word bytes 2 ∷ nth_word bytes 3 ∷ nth_word bytes 4 ∷ nth_word bytes 5
+    ∷ nth_word bytes 6
     ∷ nth_word bytes 7 ∷ nth_word bytes 8 ∷ nth_word bytes 9 ∷ nth_word bytes 10 ∷ nth_word bytes 11 ∷ [])
 
 -- the message of a code, with the operand words that stand there: a row a code

@@ -23,5 +23,6 @@ pub length-front : (bytes : List ℕ) (len : ℕ) → IsName bytes len → lengt
 length-front bytes len h = length-take-le len bytes (omega arith)
 
 -- whatever is made of both is made of what is shown
-pub name_back : {X : Type 0} (bytes : List ℕ) (len : ℕ) → IsName bytes len → (f : List ℕ → ℕ → X) → f (padded name_limit (take len bytes)) (length (take len bytes)) ≡ f bytes len
+pub name_back : {X : Type 0} (bytes : List ℕ) (len : ℕ) → IsName bytes len → (f : List ℕ → ℕ → X)
+    → f (padded name_limit (take len bytes)) (length (take len bytes)) ≡ f bytes len
 name_back bytes len h f = ap (λ bs. f bs (length (take len bytes))) h.front ∙ ap (f bytes) (length-front bytes len h)

@@ -87,7 +87,8 @@ abbrev pub lwpstatus_ranges : List Range
 lwpstatus_ranges =
     below 64 ∷ an_id ∷ a_reason ∷ a_matter ∷ a_signal ∷ a_fault ∷ any_word ∷ a_call
     ∷ any_word ∷ any_word ∷ any_word ∷ any_word ∷ any_word ∷ any_word ∷ any_word ∷ an_errno ∷ signal_set ∷ signal_set
-    ∷ any_word ∷ any_word ∷ any_word ∷ any_word ∷ any_word ∷ any_word ∷ any_word ∷ any_word ∷ any_word ∷ any_word ∷ any_word
+    ∷ any_word ∷ any_word ∷ any_word ∷ any_word ∷ any_word ∷ any_word ∷ any_word ∷ any_word ∷ any_word ∷ any_word
+    ∷ any_word
     ∷ a_disposition ∷ an_origin ∷ an_id ∷ any_word ∷ []
 
 -- The 30 words of an lwp's status as it was before signals had information (version 1): signals up to 31, and system
@@ -95,8 +96,10 @@ lwpstatus_ranges =
 abbrev pub first_lwpstatus_ranges : List Range
 first_lwpstatus_ranges =
     below 64 ∷ an_id ∷ a_reason ∷ below 32 ∷ below 32 ∷ a_fault ∷ any_word ∷ below 30
-    ∷ any_word ∷ any_word ∷ any_word ∷ any_word ∷ any_word ∷ any_word ∷ any_word ∷ an_errno ∷ below (2 ^ 31) ∷ below (2 ^ 31)
-    ∷ any_word ∷ any_word ∷ any_word ∷ any_word ∷ any_word ∷ any_word ∷ any_word ∷ any_word ∷ any_word ∷ any_word ∷ any_word
+    ∷ any_word ∷ any_word ∷ any_word ∷ any_word ∷ any_word ∷ any_word ∷ any_word ∷ an_errno ∷ below (2 ^ 31)
+    ∷ below (2 ^ 31)
+    ∷ any_word ∷ any_word ∷ any_word ∷ any_word ∷ any_word ∷ any_word ∷ any_word ∷ any_word ∷ any_word ∷ any_word
+    ∷ any_word
     ∷ a_disposition ∷ []
 
 -- The 46 words of a process's status: flags, process id, parent's id, number of lwps, pending set, traced signals,
@@ -111,7 +114,8 @@ status_ranges =
 -- wait status, mapped bytes, the clock at its making, the job stop's signal, and the 4 words of its program's name.
 abbrev pub psinfo_ranges : List Range
 psinfo_ranges =
-    an_id ∷ an_id ∷ any_word ∷ truth ∷ any_word ∷ any_word ∷ any_word ∷ a_signal ∷ any_word ∷ any_word ∷ any_word ∷ any_word ∷ []
+    an_id ∷ an_id ∷ any_word ∷ truth ∷ any_word ∷ any_word ∷ any_word ∷ a_signal ∷ any_word ∷ any_word ∷ any_word
+    ∷ any_word ∷ []
 
 -- The 8 words of a mapping: address, size, protection, kind, and the 4 words of a name.
 abbrev pub map_entry_ranges : List Range

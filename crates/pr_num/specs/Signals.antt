@@ -10,7 +10,10 @@ use Rattle.pr_num.specs.declared.signals.DefAct.TheVariants.{Stop as StopProcess
 
 -- every signal, in the order of its number, which counts from 1
 abbrev pub signals : List Sig
-signals = Hup ∷ Int ∷ Quit ∷ Ill ∷ Trap ∷ Abrt ∷ Emt ∷ Fpe ∷ Kill ∷ Bus ∷ Segv ∷ Sys ∷ Pipe ∷ Alrm ∷ Term ∷ Usr1 ∷ Usr2 ∷ Cld ∷ Pwr ∷ Winch ∷ Urg ∷ Poll ∷ Stop ∷ Tstp ∷ Cont ∷ Ttin ∷ Ttou ∷ Vtalrm ∷ Prof ∷ Xcpu ∷ Xfsz ∷ Rt0 ∷ Rt1 ∷ Rt2 ∷ Rt3 ∷ Rt4 ∷ Rt5 ∷ Rt6 ∷ Rt7 ∷ []
+signals =
+    Hup ∷ Int ∷ Quit ∷ Ill ∷ Trap ∷ Abrt ∷ Emt ∷ Fpe ∷ Kill ∷ Bus ∷ Segv ∷ Sys ∷ Pipe ∷ Alrm ∷ Term ∷ Usr1 ∷ Usr2 ∷ Cld
+    ∷ Pwr ∷ Winch ∷ Urg ∷ Poll ∷ Stop ∷ Tstp ∷ Cont ∷ Ttin ∷ Ttou ∷ Vtalrm ∷ Prof ∷ Xcpu ∷ Xfsz ∷ Rt0 ∷ Rt1 ∷ Rt2 ∷ Rt3
+    ∷ Rt4 ∷ Rt5 ∷ Rt6 ∷ Rt7 ∷ []
 
 -- the number of a signal (signal.h(3HEAD))
 unfoldable pub signal_number : Sig → ℕ

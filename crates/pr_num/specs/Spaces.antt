@@ -21,8 +21,8 @@ IsBefore m n = m.at + length m.bytes ≤ n.at
 abbrev pub mapped_size : Space → ℕ
 mapped_size space = sum_by (λ m. length m.bytes) space
 
--- what every address space keeps: its mappings stand by rising address and apart, none is empty or reaches past the last
--- address, and together they have at most 1 MiB
+-- what every address space keeps: its mappings stand by rising address and apart, none is empty or reaches past the
+-- last address, and together they have at most 1 MiB
 pub record IsSpace (space : Space) : Type 0 where
   pub apart : AllPairs IsBefore space
   pub not_empty : All (λ (m : Mapping). 0 < length m.bytes) space
@@ -56,7 +56,8 @@ byte_for needed space address = of (find (covers address) space)
   where
     of : Option Mapping → Result ℕ BadByte
     of None = Err (Hole address)
-    of (Some m) = if has_flags m.prot needed then Ok (slice_index m.bytes (address - m.at)) else Err (NotAllowed address)
+    of (Some m) =
+        if has_flags m.prot needed then Ok (slice_index m.bytes (address - m.at)) else Err (NotAllowed address)
 
 -- a byte and those behind it, or what is at fault first
 abbrev pub one_more : Result ℕ BadByte → Result (List ℕ) BadByte → Result (List ℕ) BadByte
@@ -82,7 +83,8 @@ heap_size space = sum_by (λ m. if is_heap m.kind then length m.bytes else 0) sp
 -- a mapping of these bytes, unless there is none
 abbrev pub unless_empty : ℕ → ℕ → MappingKind → List ℕ → Space
 unless_empty address prot kind [] = []
-unless_empty address prot kind (b ∷ bytes) = record { at = address; prot = prot; kind = kind; bytes = whole_pages (b ∷ bytes) } ∷ []
+unless_empty address prot kind (b ∷ bytes) =
+    record { at = address; prot = prot; kind = kind; bytes = whole_pages (b ∷ bytes) } ∷ []
 
 -- readable and executable; readable and writable
 abbrev pub read_execute : ℕ
@@ -102,6 +104,7 @@ first_mappings text bytes =
 unfoldable pub first_space : Program → Space
 first_space p = first_mappings (text_of p) p.bytes
 
--- the registers r0 to r7, sp, fp and pc with which a program begins: it begins at the first instruction, with an empty stack
+-- the registers r0 to r7, sp, fp and pc with which a program begins: it begins at the first instruction, with an empty
+-- stack
 abbrev pub first_registers : List ℕ
 first_registers = 0 ∷ 0 ∷ 0 ∷ 0 ∷ 0 ∷ 0 ∷ 0 ∷ 0 ∷ stack_end ∷ 0 ∷ text_base ∷ []

@@ -8,7 +8,10 @@ use Rattle.pr_num.specs.declared.syscalls.ArgKind.TheVariants.{Dec, Hex, Text, B
 
 -- every system call, in the order of its number, which counts from 1
 abbrev pub syscalls : List Sysno
-syscalls = Exit ∷ Fork ∷ Read ∷ Write ∷ Open ∷ Close ∷ Wait ∷ Getpid ∷ Getppid ∷ Exec ∷ Pipe ∷ Dup ∷ Lseek ∷ Kill ∷ Sigaction ∷ Sigmask ∷ Pause ∷ Sigreturn ∷ Brk ∷ Mmap ∷ Munmap ∷ Mprotect ∷ Time ∷ Sleep ∷ LwpCreate ∷ LwpExit ∷ LwpSuspend ∷ LwpContinue ∷ Fstat ∷ Sigqueue ∷ Vfork ∷ []
+syscalls =
+    Exit ∷ Fork ∷ Read ∷ Write ∷ Open ∷ Close ∷ Wait ∷ Getpid ∷ Getppid ∷ Exec ∷ Pipe ∷ Dup ∷ Lseek ∷ Kill ∷ Sigaction
+    ∷ Sigmask ∷ Pause ∷ Sigreturn ∷ Brk ∷ Mmap ∷ Munmap ∷ Mprotect ∷ Time ∷ Sleep ∷ LwpCreate ∷ LwpExit ∷ LwpSuspend
+    ∷ LwpContinue ∷ Fstat ∷ Sigqueue ∷ Vfork ∷ []
 
 -- the number of a call, of this project's own
 unfoldable pub syscall_number : Sysno → ℕ

@@ -23,7 +23,8 @@ pub const STACK_END: u64 = STACK_BASE + PAGE_SIZE;
 
 /// Each constant is the number that contracts know by its name.
 pub fn places_of_a_space() -> [u64; 8]
-    ensures { result ≡ page_size ∷ text_base ∷ data_base ∷ heap_base ∷ break_limit ∷ gap_base ∷ stack_base ∷ stack_end ∷ [] }
+    ensures { result
+        ≡ page_size ∷ text_base ∷ data_base ∷ heap_base ∷ break_limit ∷ gap_base ∷ stack_base ∷ stack_end ∷ [] }
 {
     [
         PAGE_SIZE,

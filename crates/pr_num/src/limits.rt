@@ -120,7 +120,9 @@ pub fn sizes_of_tables() -> [usize; 4]
 
 /// The limits of a run.
 pub fn limits_of_runs() -> [u64; 13]
-    ensures { result ≡ turn_limit ∷ default_turns ∷ clock_limit ∷ controller_limit ∷ worker_limit ∷ child_limit ∷ scenario_limit ∷ line_limit ∷ checked_limit ∷ list_line_limit ∷ program_limit ∷ spawn_limit ∷ schedule_limit ∷ [] }
+    ensures { result
+        ≡ turn_limit ∷ default_turns ∷ clock_limit ∷ controller_limit ∷ worker_limit ∷ child_limit ∷ scenario_limit
+        ∷ line_limit ∷ checked_limit ∷ list_line_limit ∷ program_limit ∷ spawn_limit ∷ schedule_limit ∷ [] }
 {
     [
         TURN_LIMIT,
@@ -141,7 +143,10 @@ pub fn limits_of_runs() -> [u64; 13]
 
 /// The limits of processes, and the id of an agent.
 pub fn limits_of_processes() -> [u64; 15]
-    ensures { result ≡ process_limit ∷ lwp_limit ∷ last_lwp ∷ agent_id ∷ register_count ∷ frame_limit ∷ queue_limit ∷ descriptor_limit ∷ mapping_limit ∷ all_mappings_limit ∷ area_limit ∷ code_limit ∷ data_limit ∷ instruction_size ∷ text_limit ∷ [] }
+    ensures { result
+        ≡ process_limit ∷ lwp_limit ∷ last_lwp ∷ agent_id ∷ register_count ∷ frame_limit ∷ queue_limit
+        ∷ descriptor_limit ∷ mapping_limit ∷ all_mappings_limit ∷ area_limit ∷ code_limit ∷ data_limit
+        ∷ instruction_size ∷ text_limit ∷ [] }
 {
     [
         PROCESS_LIMIT as u64,
@@ -164,7 +169,10 @@ pub fn limits_of_processes() -> [u64; 15]
 
 /// The limits of files, of the process files, and of the lines of truss.
 pub fn limits_of_files() -> [u64; 15]
-    ensures { result ≡ file_limit ∷ pipe_limit ∷ file_size_limit ∷ pipe_size_limit ∷ name_limit ∷ path_limit ∷ transfer_limit ∷ handle_limit ∷ read_limit ∷ list_limit ∷ message_bytes_limit ∷ sleep_limit ∷ wait_limit ∷ shown_limit ∷ asked_limit ∷ [] }
+    ensures { result
+        ≡ file_limit ∷ pipe_limit ∷ file_size_limit ∷ pipe_size_limit ∷ name_limit ∷ path_limit ∷ transfer_limit
+        ∷ handle_limit ∷ read_limit ∷ list_limit ∷ message_bytes_limit ∷ sleep_limit ∷ wait_limit ∷ shown_limit
+        ∷ asked_limit ∷ [] }
 {
     [
         FILE_LIMIT as u64,

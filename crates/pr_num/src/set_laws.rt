@@ -18,15 +18,19 @@ pub fn members_of_made_sets()
     ensures empty { (n : ℕ) → has_number 0 n ≡ false }
     ensures union { (a b n : ℕ) → has_number (union_word a b) n ≡ (has_number a n || has_number b n) }
     ensures common { (a b n : ℕ) → has_number (common_word a b) n ≡ (has_number a n && has_number b n) }
-    ensures minus { (a b n : ℕ) → b < 2 ^ 64 → 1 ≤ n → n ≤ 64 → has_number (minus_word a b) n ≡ (has_number a n && not (has_number b n)) }
+    ensures minus { (a b n : ℕ) → b < 2 ^ 64 → 1 ≤ n → n ≤ 64
+        → has_number (minus_word a b) n ≡ (has_number a n && not (has_number b n)) }
     ensures added { (w n m : ℕ) → 1 ≤ n → 1 ≤ m → has_number (with_number w n) m ≡ (has_number w m || m == n) }
-    ensures taken_out { (w n m : ℕ) → 1 ≤ n → n ≤ 64 → 1 ≤ m → m ≤ 64 → has_number (without_number w n) m ≡ (has_number w m && not (m == n)) }
-    ensures holdable { (w n : ℕ) → 1 ≤ n → n ≤ 64 → has_number (holdable_word w) n ≡ (has_number w n && not (n == 9) && not (n == 23)) }
+    ensures taken_out { (w n m : ℕ) → 1 ≤ n → n ≤ 64 → 1 ≤ m → m ≤ 64
+        → has_number (without_number w n) m ≡ (has_number w m && not (m == n)) }
+    ensures holdable { (w n : ℕ) → 1 ≤ n → n ≤ 64
+        → has_number (holdable_word w) n ≡ (has_number w n && not (n == 9) && not (n == 23)) }
 {}
 
 /// Sets over a table of so many entries that have the same numbers are the same.
 pub fn set_is_its_members()
-    ensures { (entries a b : ℕ) → a < 2 ^ entries → b < 2 ^ entries → ((n : ℕ) → 1 ≤ n → n ≤ entries → has_number a n ≡ has_number b n) → a ≡ b }
+    ensures { (entries a b : ℕ) → a < 2 ^ entries → b < 2 ^ entries
+        → ((n : ℕ) → 1 ≤ n → n ≤ entries → has_number a n ≡ has_number b n) → a ≡ b }
 {}
 
 /// A word is a set exactly where it has no number beyond its table, and then it is the set's word.
@@ -37,8 +41,10 @@ pub fn words_of_sets()
 
 /// The least entry of a set is in it, and no entry below it is.
 pub fn least_entries<T: Numbered>()
-    ensures member { (w : ℕ) (least : T) → least_entry T.number_of T.table w ≡ Some least → has_number w (T.number_of least) ≡ true }
-    ensures least { (w : ℕ) (least : T) → least_entry T.number_of T.table w ≡ Some least → (n : ℕ) → 1 ≤ n → n < T.number_of least → has_number w n ≡ false }
+    ensures member { (w : ℕ) (least : T) → least_entry T.number_of T.table w ≡ Some least
+        → has_number w (T.number_of least) ≡ true }
+    ensures least { (w : ℕ) (least : T) → least_entry T.number_of T.table w ≡ Some least → (n : ℕ) → 1 ≤ n → n < T.number_of least
+        → has_number w n ≡ false }
 {
     // the call tells that their numbers count up
     let _ = T::entries();

@@ -31,8 +31,10 @@ pub fn signal_numbers(signal: Sig)
 pub fn signal_names(signal: Sig)
     ensures whole { signal_of_name (signal_name signal) ≡ Some signal }
     ensures short { signal_of_name (drop 3 (signal_name signal)) ≡ Some signal }
-    ensures only { (bytes : List ℕ) (found : AnySignal) → signal_of_name bytes ≡ Some found → (bytes ≡ signal_name found) ⊎ (bytes ≡ drop 3 (signal_name found)) }
-    ensures none { (bytes : List ℕ) (other : AnySignal) → signal_of_name bytes ≡ None → (bytes ≢ signal_name other) × (bytes ≢ drop 3 (signal_name other)) }
+    ensures only { (bytes : List ℕ) (found : AnySignal) → signal_of_name bytes ≡ Some found
+        → (bytes ≡ signal_name found) ⊎ (bytes ≡ drop 3 (signal_name found)) }
+    ensures none { (bytes : List ℕ) (other : AnySignal) → signal_of_name bytes ≡ None
+        → (bytes ≢ signal_name other) × (bytes ≢ drop 3 (signal_name other)) }
 {}
 
 /// The numbers of faults are 1 to 8, each of one fault.
@@ -87,6 +89,8 @@ pub fn reason_numbers(reason: StopReason)
 /// Each stop reason has its name, and no other reason has it.
 pub fn reason_names(reason: StopReason)
     ensures back { find (is_reason_named (reason_name reason)) stop_reasons ≡ Some reason }
-    ensures only { (bytes : List ℕ) (found : AnyReason) → find (is_reason_named bytes) stop_reasons ≡ Some found → bytes ≡ reason_name found }
-    ensures none { (bytes : List ℕ) (other : AnyReason) → find (is_reason_named bytes) stop_reasons ≡ None → bytes ≢ reason_name other }
+    ensures only { (bytes : List ℕ) (found : AnyReason) → find (is_reason_named bytes) stop_reasons ≡ Some found
+        → bytes ≡ reason_name found }
+    ensures none { (bytes : List ℕ) (other : AnyReason) → find (is_reason_named bytes) stop_reasons ≡ None
+        → bytes ≢ reason_name other }
 {}

@@ -94,8 +94,11 @@ impl Opens {
     /// Closes the handle of a number, which is free then: `BadHandle` exactly where it is not open or not this
     /// controller's, and then nothing changes.
     pub fn close(&mut self, controller: u32, handle: u32) -> Result<Held, OpenNo>
-        ensures ok { IfOk result (λ h. (handle_of self.old controller handle ≡ Some h) × (self.new ≡ slice_set self.old handle None)) }
-        ensures err { IfErr result (λ refusal. (refusal ≡ OpenNo.BadHandle) × (handle_of self.old controller handle ≡ None) × (self.new ≡ self.old)) }
+        ensures ok { IfOk result
+            (λ h. (handle_of self.old controller handle ≡ Some h) × (self.new ≡ slice_set self.old handle None)) }
+        ensures err { IfErr result
+            (λ refusal. (refusal ≡ OpenNo.BadHandle) × (handle_of self.old controller handle ≡ None)
+            × (self.new ≡ self.old)) }
     {
         let h = *self.get(controller, handle)?;
         self.held.take(handle as usize);

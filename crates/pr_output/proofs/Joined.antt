@@ -27,22 +27,28 @@ AppendsSome-first old new a b h = record {
 }
 
 -- all of the first part, and then a front of the second, is a front of both
-AppendsSome-second : (old mid new : Option (List ℕ)) (a b : List ℕ) → mid ≡ with_end old a → AppendsSome mid new b → AppendsSome old new (a ++ b)
+AppendsSome-second : (old mid new : Option (List ℕ)) (a b : List ℕ) → mid ≡ with_end old a → AppendsSome mid new b
+    → AppendsSome old new (a ++ b)
 AppendsSome-second old mid new a b whole h = record {
   count = length a + h.count;
-  appended = h.appended ∙ ap (λ known. with_end known (take h.count b)) whole ∙ with_end-with_end old a (take h.count b) ∙ ap (with_end old) (sym (take-append-add a b h.count));
+  appended =
+      h.appended ∙ ap (λ known. with_end known (take h.count b)) whole ∙ with_end-with_end old a (take h.count b)
+      ∙ ap (with_end old) (sym (take-append-add a b h.count));
 }
 
 -- all of the first part, and then all of the second
-pub with_end-second : (old mid new : Option (List ℕ)) (a b : List ℕ) → mid ≡ with_end old a → new ≡ with_end mid b → new ≡ with_end old (a ++ b)
+pub with_end-second : (old mid new : Option (List ℕ)) (a b : List ℕ) → mid ≡ with_end old a → new ≡ with_end mid b
+    → new ≡ with_end old (a ++ b)
 with_end-second old mid new a b whole h = h ∙ ap (λ known. with_end known b) whole ∙ with_end-with_end old a b
 
-OnOk-second : (r : Result Unit Cut) (old mid new : Option (List ℕ)) (a b : List ℕ) → mid ≡ with_end old a → OnOk r (new ≡ with_end mid b) → OnOk r (new ≡ with_end old (a ++ b))
+OnOk-second : (r : Result Unit Cut) (old mid new : Option (List ℕ)) (a b : List ℕ) → mid ≡ with_end old a
+    → OnOk r (new ≡ with_end mid b) → OnOk r (new ≡ with_end old (a ++ b))
 OnOk-second (Ok u) old mid new a b whole h = with_end-second old mid new a b whole h
 OnOk-second (Err e) old mid new a b whole h = tt
 
 -- what is put behind a text that is there whole
-pub Puts-second : (r : Result Unit Cut) (old mid new : Option (List ℕ)) (before between after : ℕ) (a b : List ℕ) → mid ≡ with_end old a → between ≡ before → Puts r mid new between after b → Puts r old new before after (a ++ b)
+pub Puts-second : (r : Result Unit Cut) (old mid new : Option (List ℕ)) (before between after : ℕ) (a b : List ℕ)
+    → mid ≡ with_end old a → between ≡ before → Puts r mid new between after b → Puts r old new before after (a ++ b)
 Puts-second r old mid new before between after a b whole same h = record {
   all = OnOk-second r old mid new a b whole h.all;
   failed = λ is. AppendsFront-second old mid new a b whole (h.failed is);
@@ -53,7 +59,8 @@ Puts-second r old mid new before between after a b whole same h = record {
 }
 
 -- what was cut stays cut when more is to follow
-pub Puts-cut : (r : Result Unit Cut) (e : Cut) (old new : Option (List ℕ)) (before after : ℕ) (a b : List ℕ) → r ≡ Err e → Puts (Err e) old new before after a → Puts r old new before after (a ++ b)
+pub Puts-cut : (r : Result Unit Cut) (e : Cut) (old new : Option (List ℕ)) (before after : ℕ) (a b : List ℕ) → r ≡ Err e
+    → Puts (Err e) old new before after a → Puts r old new before after (a ++ b)
 Puts-cut r e old new before after a b is h = subst (λ r. Puts r old new before after (a ++ b)) (sym is) (record {
   all = tt;
   failed = λ is. AppendsFront-first old new a b (h.failed is);
@@ -64,7 +71,8 @@ Puts-cut r e old new before after a b is h = subst (λ r. Puts r old new before 
 })
 
 -- memory ran out before anything was put
-pub Puts-nothing : (r : Result Unit Cut) (known : Option (List ℕ)) (faults : ℕ) (text : List ℕ) → r ≡ Err NoMemory → Puts r known known faults faults text
+pub Puts-nothing : (r : Result Unit Cut) (known : Option (List ℕ)) (faults : ℕ) (text : List ℕ) → r ≡ Err NoMemory
+    → Puts r known known faults faults text
 Puts-nothing r known faults text is = subst (λ r. Puts r known known faults faults text) (sym is) (record {
   all = tt;
   failed = λ is. cc;

@@ -7,11 +7,12 @@ use Rattle.pr_plain.specs.HistoryText.{entries_text}
 abbrev pub block_size : ℕ
 block_size = 65536
 
--- The lines of the entries from one place up to another, of which there is one at least: enough for a block, or all that
--- are left; and no more, since the lines of fewer entries are too short for a block.
+-- The lines of the entries from one place up to another, of which there is one at least: enough for a block, or all
+-- that are left; and no more, since the lines of fewer entries are too short for a block.
 pub record IsNextBlock (history : List Entry) (from to : ℕ) (block : List ℕ) : Type 0 where
   pub goes_on : from < to
   pub within : to ≤ length history
   pub lines : entries_text 0 (take to history) ≡ entries_text 0 (take from history) ++ block
   pub full : (to ≡ length history) ⊎ (block_size ≤ length block)
-  pub least : (n : ℕ) → from ≤ n → n < to → length (entries_text 0 (take n history)) < length (entries_text 0 (take from history)) + block_size
+  pub least : (n : ℕ) → from ≤ n → n < to
+      → length (entries_text 0 (take n history)) < length (entries_text 0 (take from history)) + block_size

@@ -8,7 +8,8 @@ use Rattle.pr_parts.specs.WatchedAreas.{AreAreas, IsBelow, area_address, begins_
 use Rattle.pr_parts.proofs.ByAddressLemmas.{All-placed, insert-placed, length-placed, length-without_first, pairs-placed, pairs-without_first}
 use Rattle.pr_num.proofs.TableLaws.{All-without_first}
 
-pub AreAreas-with_area : (a : Area) (areas : List Area) → AreAreas areas → 0 < a.size → a.at + a.size ≤ 2 ^ 64 → is_taken a.at a.size areas ≡ false → length areas < 64 → AreAreas (with_area a areas)
+pub AreAreas-with_area : (a : Area) (areas : List Area) → AreAreas areas → 0 < a.size → a.at + a.size ≤ 2 ^ 64
+    → is_taken a.at a.size areas ≡ false → length areas < 64 → AreAreas (with_area a areas)
 unfolding with_area
 AreAreas-with_area a areas old some within free room = record {
   apart = pairs-placed area_address (λ (b : Area). b.size) a areas some old.apart free;
@@ -27,14 +28,17 @@ AreAreas-without_area at areas old = record {
 }
 
 -- a change of a list is what it means
-pub insert-with_area : (a : Area) (areas : List Area) (place : ℕ) → place ≡ position_or_len (is_behind area_address a.at) areas → insert areas place a ≡ with_area a areas
+pub insert-with_area : (a : Area) (areas : List Area) (place : ℕ)
+    → place ≡ position_or_len (is_behind area_address a.at) areas → insert areas place a ≡ with_area a areas
 unfolding with_area
 insert-with_area a areas place e = rw e (insert-placed area_address a areas)
 
-pub remove-without_area : (at : ℕ) (areas : List Area) (place : ℕ) → position (begins_at at) areas ≡ Some place → remove areas place ≡ without_area at areas
+pub remove-without_area : (at : ℕ) (areas : List Area) (place : ℕ) → position (begins_at at) areas ≡ Some place
+    → remove areas place ≡ without_area at areas
 unfolding without_area
 remove-without_area at areas place e = remove-without_first (begins_at at) areas place e
 
-pub without_area-none : (at : ℕ) (areas : List Area) → position (begins_at at) areas ≡ None → without_area at areas ≡ areas
+pub without_area-none : (at : ℕ) (areas : List Area) → position (begins_at at) areas ≡ None
+    → without_area at areas ≡ areas
 unfolding without_area
 without_area-none at areas e = without_first-no_place (begins_at at) areas e

@@ -21,21 +21,32 @@ one_of None b x e = inr e
 one_of (Some y) b x e = inl e
 
 -- the least signal of what one set has and another has not is in the first and not in the second
-first_of_difference : (w held : ℕ) (s : Sig) → held < 2 ^ 64 → least_signal (minus_word w held) ≡ Some s → (has_number w (signal_number s) ≡ true) × (not (has_number held (signal_number s)) ≡ true)
+first_of_difference : (w held : ℕ) (s : Sig) → held < 2 ^ 64 → least_signal (minus_word w held) ≡ Some s
+    → (has_number w (signal_number s) ≡ true) × (not (has_number held (signal_number s)) ≡ true)
 first_of_difference w held s small found =
     let range = signal_number-range s in
-    let both = sym (has_number-minus w held (signal_number s) small (omega arith) (omega arith)) ∙ has_number-least_signal _ s found in
+    let both =
+    sym (has_number-minus w held (signal_number s) small (omega arith) (omega arith))
+    ∙ has_number-least_signal _ s found in
     and_parts (has_number w (signal_number s)) _ both
 
-pub pending-taken : (own shared held : ℕ) (s : Sig) → held < 2 ^ 64 → takeable_signal own shared held ≡ Some s → (has_number own (signal_number s) ≡ true) ⊎ (has_number shared (signal_number s) ≡ true)
+pub pending-taken : (own shared held : ℕ) (s : Sig) → held < 2 ^ 64 → takeable_signal own shared held ≡ Some s
+    → (has_number own (signal_number s) ≡ true) ⊎ (has_number shared (signal_number s) ≡ true)
 unfolding takeable_signal
 pending-taken own shared held s small taken =
-    elim (one_of _ _ s taken) [ inl e ↦ inl (first_of_difference own held s small e).0 | inr e ↦ inr (first_of_difference shared held s small e).0 ]
+    elim (one_of _ _ s taken) [
+      | inl e ↦ inl (first_of_difference own held s small e).0
+      | inr e ↦ inr (first_of_difference shared held s small e).0
+    ]
 
-pub unheld-taken : (own shared held : ℕ) (s : Sig) → held < 2 ^ 64 → takeable_signal own shared held ≡ Some s → has_number held (signal_number s) ≡ false
+pub unheld-taken : (own shared held : ℕ) (s : Sig) → held < 2 ^ 64 → takeable_signal own shared held ≡ Some s
+    → has_number held (signal_number s) ≡ false
 unfolding takeable_signal
 unheld-taken own shared held s small taken =
-    elim (one_of _ _ s taken) [ inl e ↦ not-true _ (first_of_difference own held s small e).1 | inr e ↦ not-true _ (first_of_difference shared held s small e).1 ]
+    elim (one_of _ _ s taken) [
+      | inl e ↦ not-true _ (first_of_difference own held s small e).1
+      | inr e ↦ not-true _ (first_of_difference shared held s small e).1
+    ]
 
 -- ---- what is deleted
 
@@ -54,12 +65,14 @@ unfolding is_stop has_number stop_signals with_number union_word signal_number d
 has_number-stop Stop = refl
 has_number-stop _ = refl
 
-pub stop_signals-are : (s : Sig) → (has_number stop_signals (signal_number s) ≡ true) ↔ (default_action s ≡ default.Stop)
+pub stop_signals-are : (s : Sig)
+    → (has_number stop_signals (signal_number s) ≡ true) ↔ (default_action s ≡ default.Stop)
 unfolding is_stop
 stop_signals-are s =
     (λ e. from_is_stop (default_action s) (sym (has_number-stop s) ∙ e), λ e. has_number-stop s ∙ ap is_stop e)
 
-pub deleted_by-symmetric : (s : Sig) → has_number (deleted_by s) (signal_number Cont) ≡ has_number (deleted_by Cont) (signal_number s)
+pub deleted_by-symmetric : (s : Sig)
+    → has_number (deleted_by s) (signal_number Cont) ≡ has_number (deleted_by Cont) (signal_number s)
 unfolding deleted_by continue_signal has_number stop_signals with_number union_word signal_number
 deleted_by-symmetric Cont = refl
 deleted_by-symmetric _ = refl

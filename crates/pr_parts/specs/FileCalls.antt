@@ -71,7 +71,8 @@ duplicated t fds fd = of_open (open_of t fds fd) (free_fd fds)
     of_open : Option (ℕ × OpenFile) → Option ℕ → FileEffect ℕ
     of_open None free = refused t fds BadFd
     of_open (Some found) None = refused t fds NoPlace
-    of_open (Some found) (Some free) = record { files = with_user_added t found.0; fds = slice_set fds free (Some found.0); answer = Ok free }
+    of_open (Some found) (Some free) =
+        record { files = with_user_added t found.0; fds = slice_set fds free (Some found.0); answer = Ok free }
 
 -- ---- fork(2): the child's descriptors are the parent's, for the same open files
 
@@ -103,7 +104,9 @@ opened_file t fds fd file flags = record {
 
 -- a file without bytes is made and opened, unless 256 files stand
 unfoldable pub created_file : FileTable → Descriptors → ℕ → List ℕ → ℕ → FileEffect ℕ
-created_file t fds fd name flags = if nat_lt (length t.files) file_limit then opened_file (with_file t name []) fds fd (length t.files) flags else refused t fds TableFull
+created_file t fds fd name flags =
+    if nat_lt (length t.files) file_limit then opened_file (with_file t name []) fds fd
+    (length t.files) flags else refused t fds TableFull
 
 unfoldable pub opened : FileTable → Descriptors → List ℕ → ℕ → FileEffect ℕ
 opened t fds name flags = found (file_named t name) (free_fd fds)
@@ -121,7 +124,8 @@ opened t fds name flags = found (file_named t name) (free_fd fds)
 
 -- a pipe more, at the least free place, with its read end
 unfoldable pub with_read_end : FileTable → FileTable
-with_read_end t = with_open (record t { pipes = with_placed t.pipes [] }) (first_open (PipeReader (free_place t.pipes)) Read)
+with_read_end t =
+    with_open (record t { pipes = with_placed t.pipes [] }) (first_open (PipeReader (free_place t.pipes)) Read)
 
 -- the same with both ends
 unfoldable pub with_pipe : FileTable → FileTable
@@ -141,7 +145,8 @@ piped t fds = from (free_fd fds)
   where
     ends : ℕ → Option ℕ → FileEffect (ℕ × ℕ)
     ends reader None = refused t fds NoPlace
-    ends reader (Some writer) = if nat_lt (count_by is_some t.pipes) pipe_limit then made_pipe t fds reader writer else refused t fds TableFull
+    ends reader (Some writer) =
+        if nat_lt (count_by is_some t.pipes) pipe_limit then made_pipe t fds reader writer else refused t fds TableFull
 
     from : Option ℕ → FileEffect (ℕ × ℕ)
     from None = refused t fds NoPlace
@@ -194,7 +199,12 @@ sought t fds fd offset = of_open (open_of t fds fd)
         if is_some (pipe_of found.1.target)
         then refused t fds NotSeekable
         else (if nat_le offset file_size_limit
-        then record { files = with_open_at t found.0 (record found.1 { offset = offset }); fds = fds; answer = Ok offset }
+        then record {
+          files = with_open_at t found.0 (record found.1 { offset = offset });
+          fds = fds;
+          answer =
+              Ok offset;
+        }
         else refused t fds BadOffset)
 
 -- ---- fstat(2)

@@ -72,7 +72,8 @@ bytes_from bytes offset most = take most (drop offset bytes)
 -- A file gives its bytes from the offset on, as many as there are and are asked for, and the offset moves behind them.
 unfoldable pub read_file : FileTable → ℕ → OpenFile → ℕ → ReadEffect
 read_file t place o most = record {
-  files = with_open_at t place (record o { offset = o.offset + length (bytes_from (contents t o.target) o.offset most) });
+  files = with_open_at t place
+      (record o { offset = o.offset + length (bytes_from (contents t o.target) o.offset most) });
   bytes = Ok (bytes_from (contents t o.target) o.offset most);
 }
 
@@ -82,7 +83,11 @@ unfoldable pub read_pipe : FileTable → ℕ → ℕ → ReadEffect
 read_pipe t pipe most =
     if length (pipe_bytes t pipe) == 0
     then (if has_writer t pipe then record { files = t; bytes = Err Sleep } else record { files = t; bytes = Ok [] })
-    else record { files = with_pipe_bytes t pipe (drop most (pipe_bytes t pipe)); bytes = Ok (take most (pipe_bytes t pipe)) }
+    else record {
+      files = with_pipe_bytes t pipe (drop most (pipe_bytes t pipe));
+      bytes =
+          Ok (take most (pipe_bytes t pipe));
+    }
 
 -- what an open file gives
 abbrev pub read_open : FileTable → ℕ → OpenFile → ℕ → ReadEffect
@@ -105,7 +110,8 @@ read_fd t fds fd most = of_open (open_for_reading t fds fd)
 
 -- bytes with others written over them from an offset on: what lies between their end and the offset is zeros
 abbrev pub written_over : List ℕ → ℕ → List ℕ → List ℕ
-written_over bytes offset others = take offset bytes ++ replicate (offset - length bytes) 0 ++ others ++ drop (offset + length others) bytes
+written_over bytes offset others =
+    take offset bytes ++ replicate (offset - length bytes) 0 ++ others ++ drop (offset + length others) bytes
 
 -- the bytes of a file after a write: a write of no bytes leaves them, also behind their end
 abbrev pub after_write : List ℕ → ℕ → List ℕ → List ℕ
@@ -125,7 +131,8 @@ write_file t fds place o file bytes =
     if nat_lt file_size_limit (o.offset + length bytes)
     then refused t fds NoSpace
     else record {
-      files = with_open_at (with_file_bytes t file (after_write (contents t o.target) o.offset bytes)) place (record o { offset = o.offset + length bytes });
+      files = with_open_at (with_file_bytes t file (after_write (contents t o.target) o.offset bytes)) place
+          (record o { offset = o.offset + length bytes });
       fds = fds;
       answer = Ok (length bytes);
     }

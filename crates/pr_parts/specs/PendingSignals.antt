@@ -37,7 +37,9 @@ nothing_pending = record { standard = replicate standard_signal_count None; queu
 
 -- what came with a signal that is pending: of a signal that queues, with the first that came
 unfoldable pub info_of : Sig → Pending → Option Info
-info_of s p = if is_standard s then slice_index_or p.standard (signal_number s - 1) None else option_map (λ q. q.info) (find (is_of s) p.queued)
+info_of s p =
+    if is_standard s then slice_index_or p.standard (signal_number s - 1) None else option_map (λ q. q.info)
+    (find (is_of s) p.queued)
 
 -- the set of the signals that are pending
 unfoldable pub pending_set : Pending → ℕ
@@ -69,7 +71,9 @@ added s info p = if is_standard s then with_standard (signal_number s - 1) info 
 -- a signal is taken, or deleted alone: a standard signal is pending no longer, and of one that queues the first that
 -- came is not
 unfoldable pub without_one : Sig → Pending → Pending
-without_one s p = if is_standard s then record p { standard = slice_set p.standard (signal_number s - 1) None } else record p { queued = without_first (is_of s) p.queued }
+without_one s p =
+    if is_standard s then record p { standard = slice_set p.standard (signal_number s - 1) None } else record p
+    { queued = without_first (is_of s) p.queued }
 
 -- the places from that of a number on, without what stands for the signals of a set
 abbrev pub without_infos : ℕ → ℕ → List (Option Info) → List (Option Info)

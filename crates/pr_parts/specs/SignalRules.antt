@@ -18,7 +18,10 @@ takeable_signal own shared held = option_or (least_signal (minus_word own held))
 
 -- the stop signals, which are made to stop a process, SIGSTOP, SIGTSTP, SIGTTIN and SIGTTOU
 unfoldable pub stop_signals : ℕ
-stop_signals = with_number (with_number (with_number (with_number 0 (signal_number Stop)) (signal_number Tstp)) (signal_number Ttin)) (signal_number Ttou)
+stop_signals =
+    with_number
+    (with_number (with_number (with_number 0 (signal_number Stop)) (signal_number Tstp)) (signal_number Ttin))
+    (signal_number Ttou)
 
 -- SIGCONT alone
 unfoldable pub continue_signal : ℕ
@@ -43,4 +46,6 @@ by_default default.Stop = act.Stop
 -- What a signal does under a disposition: 0 is the default action, 1 ignores it, and any other is the address of the
 -- handler that catches it.
 unfoldable pub action_of : Sig → ℕ → Action
-action_of s disposition = if nat_lt 1 disposition then act.Catch disposition else (if disposition == 1 then act.Ignore else by_default (default_action s))
+action_of s disposition =
+    if nat_lt 1 disposition then act.Catch disposition else
+    (if disposition == 1 then act.Ignore else by_default (default_action s))

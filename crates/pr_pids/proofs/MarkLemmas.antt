@@ -43,6 +43,7 @@ module _ (some at : ℕ) (words : List ℕ) (inside : at < 64) where
       by : (i : ℕ) → i < 64 → bit_at set i ≡ 0 → slice_index words i ≡ 0
       by i within zero =
           elim (cases_eq i at) [
-            | inl same ↦ absurd (zero-one (bit_at set i) zero (ap (bit_at set) same ∙ bit_at_set_same w64 some at inside))
+            | inl same ↦
+                absurd (zero-one (bit_at set i) zero (ap (bit_at set) same ∙ bit_at_set_same w64 some at inside))
             | inr apart ↦ others i within apart (sym (bit_at_set_other w64 some at inside i apart) ∙ zero)
           ]

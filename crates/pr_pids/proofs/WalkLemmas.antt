@@ -126,7 +126,8 @@ passed words some from at word h within empty zero other past under =
       | inr above ↦ here (word-of-other at word other (omega arith) under)
     ]
   where
-    here : (at ≤ other / 64) × (other / 64 < word) → eqb (bit_at (slice_index words (other / 64)) (other % 64)) 1 ≡ false
+    here : (at ≤ other / 64) × (other / 64 < word)
+        → eqb (bit_at (slice_index words (other / 64)) (other % 64)) 1 ≡ false
     here place =
         let low = place.0 in
         let high = place.1 in
@@ -160,7 +161,8 @@ module _ (words : List ℕ) (from at : ℕ) (empty : IsEmpty words from (at * 64
             | inr above ↦ none.none other (omega arith)
           ]
 
-  pub if-next-behind : (o : Option ℕ) → IfSome o (λ pid. IsNextFrom words (at * 64) pid) → IfSome o (λ pid. IsNextFrom words from pid)
+  pub if-next-behind : (o : Option ℕ) → IfSome o (λ pid. IsNextFrom words (at * 64) pid)
+      → IfSome o (λ pid. IsNextFrom words from pid)
   if-next-behind None next = tt
   if-next-behind (Some pid) next = next-behind pid next
 
@@ -170,4 +172,5 @@ module _ (words : List ℕ) (from at : ℕ) (empty : IsEmpty words from (at * 64
 
 -- before the word of an id there is none
 pub none-before : (words : List ℕ) (from : ℕ) → IsEmpty words from (from / 64 * 64)
-none-before words from other past under = let parts = div-add-mod from 64 in absurd (let wrong : ⊥ = omega arith in wrong)
+none-before words from other past under = let parts = div-add-mod from 64 in
+    absurd (let wrong : ⊥ = omega arith in wrong)

@@ -8,8 +8,8 @@ use pr_num::limits::PROCESS_LIMIT;
 use std::alloc::Global;
 use std::marker::Model;
 
-/// For each process id below 4,096 a set of blocks, which are numbered from 0 to 63, seen by contracts as a word for each
-/// id. The words are made with it, and nothing else takes memory.
+/// For each process id below 4,096 a set of blocks, which are numbered from 0 to 63, seen by contracts as a word for
+/// each id. The words are made with it, and nothing else takes memory.
 #[derive(Drop)]
 pub struct BlockSets {
     words: Vec<u64>,
@@ -48,7 +48,8 @@ impl BlockSets {
     pub fn remove(&mut self, pid: u32, block: u32)
         requires pid { pid < process_limit }
         requires block { block < 64 }
-        ensures { (p b : ℕ) → b < 64 → has_block self.new p b ≡ (has_block self.old p b && not ((p == pid) && (b == block))) }
+        ensures { (p b : ℕ) → b < 64
+            → has_block self.new p b ≡ (has_block self.old p b && not ((p == pid) && (b == block))) }
     {
         self.words[pid as usize] &= !(1 << block);
     }

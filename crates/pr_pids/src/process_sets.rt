@@ -32,7 +32,8 @@ impl Model for ProcessSet {
 /// The bits that tell which words have an id, where this is the word at a place now.
 fn mark(some: u64, at: u32, word: u64) -> u64
     requires { at < 64 }
-    ensures { (words : List ℕ) → slice_index words at ≡ word → ((i : ℕ) → i < 64 → i ≢ at → bit_at some i ≡ 0 → slice_index words i ≡ 0) → IsSummed result words }
+    ensures { (words : List ℕ) → slice_index words at ≡ word
+        → ((i : ℕ) → i < 64 → i ≢ at → bit_at some i ≡ 0 → slice_index words i ≡ 0) → IsSummed result words }
 {
     if word == 0 {
         some & !(1 << at)

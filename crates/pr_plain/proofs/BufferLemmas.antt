@@ -8,7 +8,8 @@ pub StartsWith-refl : (xs : List ℕ) → StartsWith xs xs
 StartsWith-refl xs = record { more = []; is = sym (append-nil xs) }
 
 -- a buffer to which bytes were appended, or for which there was no memory
-pub StartsWith-grown : {E : Type 0} (r : Result Unit E) (new old bytes : List ℕ) → new ≡ cond (is_ok r) (old ++ bytes) old → StartsWith new old
+pub StartsWith-grown : {E : Type 0} (r : Result Unit E) (new old bytes : List ℕ)
+    → new ≡ cond (is_ok r) (old ++ bytes) old → StartsWith new old
 StartsWith-grown (Ok u) new old bytes e = record { more = bytes; is = e }
 StartsWith-grown (Err x) new old bytes e = record { more = []; is = e ∙ sym (append-nil old) }
 

@@ -18,7 +18,8 @@ pub record IsNumberWord (w : List ℕ) (n : ℕ) : Type 0 where
   pub word : w ≡ decimal n
   pub small : is_number n ≡ true
 
-decimal_of_digits : (ds : List ℕ) (n : ℕ) → are_digits ds ≡ true → 0 < length ds → (get_or ds 0 0 ≡ 48 → length ds ≡ 1) → value_from 0 ds ≡ n → n < 2 ^ 64 → IsNumberWord ds n
+decimal_of_digits : (ds : List ℕ) (n : ℕ) → are_digits ds ≡ true → 0 < length ds → (get_or ds 0 0 ≡ 48 → length ds ≡ 1)
+    → value_from 0 ds ≡ n → n < 2 ^ 64 → IsNumberWord ds n
 decimal_of_digits ds n digits some lead is small = record {
   word = sym (decimal-digits_value numerals ds digits some lead (omega arith)) ∙ ap decimal is;
   small = lt-ltb n (2 ^ 64) small;
@@ -34,10 +35,12 @@ unfolding decimal_of
 unhexed w plain = rw plain refl
 
 -- a word of digits behind a first one that is no 0
-from_digits : (b : ℕ) (bs : List ℕ) (n : ℕ) → eqb b 48 ≡ false → number_from 10 0 (b ∷ bs) ≡ Some n → IsNumberWord (b ∷ bs) n
+from_digits : (b : ℕ) (bs : List ℕ) (n : ℕ) → eqb b 48 ≡ false → number_from 10 0 (b ∷ bs) ≡ Some n
+    → IsNumberWord (b ∷ bs) n
 from_digits b bs n other found =
     let d = number_from-is 0 (b ∷ bs) n found in
-    decimal_of_digits (b ∷ bs) n d.digits (omega arith) (λ h. absurd (eqb-false b 48 other h)) d.is (d.small (omega arith))
+    decimal_of_digits (b ∷ bs) n d.digits (omega arith) (λ h. absurd (eqb-false b 48 other h)) d.is
+    (d.small (omega arith))
 
 -- a word that is read is that number in decimal
 pub decimal_of-word : (w : List ℕ) (n : ℕ) → decimal_of w ≡ Some n → IsNumberWord w n
@@ -49,15 +52,21 @@ decimal_of-word (b ∷ []) n e = by (eqb b 48) refl e
     by true is found =
         let zero_byte = eqb-true b 48 is in
         let none = same_Some 0 n found in
-        record { word = ap (λ x. x ∷ []) zero_byte ∙ sym (decimal_digit 0 (omega arith)) ∙ ap decimal none; small = lt-ltb n (2 ^ 64) (omega arith) }
+        record {
+          word = ap (λ x. x ∷ []) zero_byte ∙ sym (decimal_digit 0 (omega arith)) ∙ ap decimal none;
+          small =
+              lt-ltb n (2 ^ 64) (omega arith);
+        }
     by false is found = from_digits b [] n is found
 decimal_of-word (b ∷ c ∷ bs) n e = by (eqb c 120) refl e
   where
-    behind : (t : Bool) → eqb b 48 ≡ t → eqb c 120 ≡ false → cond t (number_after_zero (c ∷ bs)) (number_from 10 0 (b ∷ c ∷ bs)) ≡ Some n → IsNumberWord (b ∷ c ∷ bs) n
+    behind : (t : Bool) → eqb b 48 ≡ t → eqb c 120 ≡ false
+        → cond t (number_after_zero (c ∷ bs)) (number_from 10 0 (b ∷ c ∷ bs)) ≡ Some n → IsNumberWord (b ∷ c ∷ bs) n
     behind true is plain found = let none = no_zero_word c bs plain in cc
     behind false is plain found = from_digits b (c ∷ bs) n is found
 
-    by : (t : Bool) → eqb c 120 ≡ t → cond t None (number_words.number_of (b ∷ c ∷ bs)) ≡ Some n → IsNumberWord (b ∷ c ∷ bs) n
+    by : (t : Bool) → eqb c 120 ≡ t → cond t None (number_words.number_of (b ∷ c ∷ bs)) ≡ Some n
+        → IsNumberWord (b ∷ c ∷ bs) n
     by true is found = cc
     by false is found = behind (eqb b 48) refl is found
 
@@ -76,7 +85,8 @@ decimal-unhexed n fits = digits_unhexed (decimal n) (decimal-digits n (ltb-true 
 
 -- a number in decimal is read as that number
 pub decimal_of-decimal : (n : ℕ) → is_number n ≡ true → decimal_of (decimal n) ≡ Some n
-decimal_of-decimal n fits = unhexed (decimal n) (decimal-unhexed n fits) ∙ text.number_of-decimal n (ltb-true n (2 ^ 64) fits)
+decimal_of-decimal n fits =
+    unhexed (decimal n) (decimal-unhexed n fits) ∙ text.number_of-decimal n (ltb-true n (2 ^ 64) fits)
 
 -- ---- numbers below 2^32
 
@@ -91,10 +101,15 @@ pub decimal_id_of-word : (w : List ℕ) (n : ℕ) → decimal_id_of w ≡ Some n
 unfolding decimal_id_of number_words.id_of
 decimal_id_of-word w n e = by (begins_hex w) refl e
   where
-    of : (o : Option ℕ) → number_words.number_of w ≡ o → begins_hex w ≡ false → option_and_then (λ m. cond (ltb m (2 ^ 32)) (Some m) None) o ≡ Some n → IsIdWord w n
+    of : (o : Option ℕ) → number_words.number_of w ≡ o → begins_hex w ≡ false
+        → option_and_then (λ m. cond (ltb m (2 ^ 32)) (Some m) None) o ≡ Some n → IsIdWord w n
     of (Some m) is plain found =
         let p = cond_some (ltb m (2 ^ 32)) m n found in
-        record { word = (decimal_of-word w m (unhexed w plain ∙ is)).word ∙ ap decimal p.1; small = ap is_id (sym p.1) ∙ p.0 }
+        record {
+          word = (decimal_of-word w m (unhexed w plain ∙ is)).word ∙ ap decimal p.1;
+          small =
+              ap is_id (sym p.1) ∙ p.0;
+        }
     of None is plain found = cc
 
     by : (t : Bool) → begins_hex w ≡ t → cond t None (number_words.id_of w) ≡ Some n → IsIdWord w n

@@ -60,19 +60,25 @@ same_actor x a e = same_Some x a e
 
 actor_is : (w : List ℕ) (a : Actor) → actor_of w ≡ Some a → IsActor w a
 unfolding actor_of actor_text actor_form
-actor_is w a e = by_word w (codes "clock") _ _ a (IsActor w a) e (λ is h. actor_as w Clock a (same_actor Clock a h) (record { word = is; formed = refl })) (λ h. other w h)
+actor_is w a e =
+    by_word w (codes "clock") _ _ a (IsActor w a) e
+    (λ is h. actor_as w Clock a (same_actor Clock a h) (record { word = is; formed = refl })) (λ h. other w h)
   where
     lwp : (v : List ℕ) → (lwp_of v >>= λ l. Some (Lwp l.0 l.1)) ≡ Some a → IsActor v a
     lwp v h =
         let p = found_by (lwp_of v) (λ l. Some (Lwp l.0 l.1)) a h in
         let is = lwp_of-is v p.value p.is in
-        actor_as v (Lwp p.value.0 p.value.1) a (same_actor (Lwp p.value.0 p.value.1) a p.then_is) (record { word = is.word; formed = is.formed })
+        actor_as v (Lwp p.value.0 p.value.1) a (same_actor (Lwp p.value.0 p.value.1) a p.then_is)
+        (record { word = is.word; formed = is.formed })
 
-    first : (b : ℕ) (bs : List ℕ) (t : Bool) → eqb b 99 ≡ t → cond t (decimal_id_of bs >>= λ k. Some (Controller k)) (lwp_of (b ∷ bs) >>= λ l. Some (Lwp l.0 l.1)) ≡ Some a → IsActor (b ∷ bs) a
+    first : (b : ℕ) (bs : List ℕ) (t : Bool) → eqb b 99 ≡ t
+        → cond t (decimal_id_of bs >>= λ k. Some (Controller k)) (lwp_of (b ∷ bs) >>= λ l. Some (Lwp l.0 l.1)) ≡ Some a
+        → IsActor (b ∷ bs) a
     first b bs true is h =
         let p = found_by (decimal_id_of bs) (λ k. Some (Controller k)) a h in
         let n = decimal_id_of-word bs p.value p.is in
-        actor_as (b ∷ bs) (Controller p.value) a (same_actor (Controller p.value) a p.then_is) (record { word = ap (λ x. x ∷ bs) (eqb-true b 99 is) ∙ ap (λ x. 99 ∷ x) n.word; formed = n.small })
+        actor_as (b ∷ bs) (Controller p.value) a (same_actor (Controller p.value) a p.then_is)
+        (record { word = ap (λ x. x ∷ bs) (eqb-true b 99 is) ∙ ap (λ x. 99 ∷ x) n.word; formed = n.small })
     first b bs false is h = lwp (b ∷ bs) h
 
     other : (v : List ℕ) → controller_or_lwp v ≡ Some a → IsActor v a
@@ -80,10 +86,15 @@ actor_is w a e = by_word w (codes "clock") _ _ a (IsActor w a) e (λ is h. actor
     other (b ∷ bs) h = first b bs (eqb b 99) refl h
 
 -- an lwp begins with a digit
-starts_low : (ds rest : List ℕ) → are_digits ds ≡ true → ds ≢ [] → (b : ℕ) × (bs : List ℕ) × (ds ++ rest ≡ b ∷ bs) × (b ≤ 57)
+starts_low : (ds rest : List ℕ) → are_digits ds ≡ true → ds ≢ []
+    → (b : ℕ) × (bs : List ℕ) × (ds ++ rest ≡ b ∷ bs) × (b ≤ 57)
 starts_low [] rest h some = absurd (some refl)
-starts_low (b ∷ bs) rest h some =
-    (b, bs ++ rest, refl, leb-true b 57 (and_parts (leb 48 b) (leb b 57) (and_parts (leb 48 b && leb b 57) (are_digits bs) h).0).1)
+starts_low (b ∷ bs) rest h some = (
+  b,
+  bs ++ rest,
+  refl,
+  leb-true b 57 (and_parts (leb 48 b) (leb b 57) (and_parts (leb 48 b && leb b 57) (are_digits bs) h).0).1,
+)
 
 not_empty : (n : ℕ) → is_number n ≡ true → decimal n ≢ []
 unfolding decimal_of number_words.number_of
@@ -97,18 +108,24 @@ low_actor b bs low = by (bytes_eq (b ∷ bs) (codes "clock")) refl
     head [] = 0
     head (x ∷ xs) = x
 
-    by : (t : Bool) → bytes_eq (b ∷ bs) (codes "clock") ≡ t → cond t (Some Clock) (controller_or_lwp (b ∷ bs)) ≡ (lwp_of (b ∷ bs) >>= λ l. Some (Lwp l.0 l.1))
+    by : (t : Bool) → bytes_eq (b ∷ bs) (codes "clock") ≡ t
+        → cond t (Some Clock) (controller_or_lwp (b ∷ bs)) ≡ (lwp_of (b ∷ bs) >>= λ l. Some (Lwp l.0 l.1))
     by true is = let same : b ≡ 99 = ap head ((bytes_eq-Decides (b ∷ bs) (codes "clock")).0 is) in absurd (omega arith)
-    by false is = ap (λ t. cond t (decimal_id_of bs >>= λ k. Some (Controller k)) (lwp_of (b ∷ bs) >>= λ l. Some (Lwp l.0 l.1))) (ne_eqb b 99 (λ e. omega arith))
+    by false is =
+        ap (λ t. cond t (decimal_id_of bs >>= λ k. Some (Controller k)) (lwp_of (b ∷ bs) >>= λ l. Some (Lwp l.0 l.1)))
+        (ne_eqb b 99 (λ e. omega arith))
 
 no_id_lock : decimal_id_of (codes "lock") ≡ None
 unfolding decimal_id_of number_words.id_of number_words.number_of number_from with_digit digit_of
 no_id_lock = refl
 
-lwp_back : (p l : ℕ) → is_id p ≡ true → is_id l ≡ true → (b : ℕ) × (bs : List ℕ) × (decimal p ++ (codes "/" ++ decimal l) ≡ b ∷ bs) × (b ≤ 57) → actor_of (lwp_text p l) ≡ Some (Lwp p l)
+lwp_back : (p l : ℕ) → is_id p ≡ true → is_id l ≡ true
+    → (b : ℕ) × (bs : List ℕ) × (decimal p ++ (codes "/" ++ decimal l) ≡ b ∷ bs) × (b ≤ 57)
+    → actor_of (lwp_text p l) ≡ Some (Lwp p l)
 unfolding lwp_text
 lwp_back p l hp hl x =
-    let text : decimal p ++ codes "/" ++ decimal l ≡ x.0 ∷ x.1 = append_assoc (decimal p) (codes "/") (decimal l) ∙ x.2 in
+    let text : decimal p ++ codes "/" ++ decimal l ≡ x.0 ∷ x.1 =
+    append_assoc (decimal p) (codes "/") (decimal l) ∙ x.2 in
     ap actor_of text ∙ low_actor x.0 x.1 x.3
     ∙ ap (λ w. lwp_of w >>= λ y. Some (Lwp y.0 y.1)) (sym text)
     ∙ ap (λ o. o >>= λ y. Some (Lwp y.0 y.1)) (lwp_of-text p l hp hl)
@@ -121,7 +138,8 @@ actor_back (Controller k) form = by (bytes_eq (99 ∷ decimal k) (codes "clock")
     tail [] = []
     tail (x ∷ xs) = xs
 
-    by : (t : Bool) → bytes_eq (99 ∷ decimal k) (codes "clock") ≡ t → cond t (Some Clock) (decimal_id_of (decimal k) >>= λ n. Some (Controller n)) ≡ Some (Controller k)
+    by : (t : Bool) → bytes_eq (99 ∷ decimal k) (codes "clock") ≡ t
+        → cond t (Some Clock) (decimal_id_of (decimal k) >>= λ n. Some (Controller n)) ≡ Some (Controller k)
     by true is =
         let same : decimal k ≡ codes "lock" = ap tail ((bytes_eq-Decides (99 ∷ decimal k) (codes "clock")).0 is) in
         absurd (none-some k (sym no_id_lock ∙ ap decimal_id_of (sym same) ∙ decimal_id_of-decimal k form))
@@ -129,7 +147,9 @@ actor_back (Controller k) form = by (bytes_eq (99 ∷ decimal k) (codes "clock")
 actor_back (Lwp p l) form =
     let parts = and_parts (is_id p) (is_id l) form in
     let number = is_number-from_id p parts.0 in
-    lwp_back p l parts.0 parts.1 (starts_low (decimal p) (codes "/" ++ decimal l) (decimal-digits p (ltb-true p (2 ^ 64) number)) (not_empty p number))
+    lwp_back p l parts.0 parts.1
+    (starts_low (decimal p) (codes "/" ++ decimal l) (decimal-digits p (ltb-true p (2 ^ 64) number))
+    (not_empty p number))
 actor_back Clock form = refl
 
 -- ---- what was done
@@ -139,7 +159,8 @@ pub record IsAct (ws : Words) (a : Act) : Type 0 where
   pub formed : act_form a ≡ true
 
 act_as : (ws : Words) (x a : Act) → ◌≡◌ {A = Option Act} (Some x) (Some a) → IsAct ws x → IsAct ws a
-act_as ws x a e t = let same = same_Some x a e in record { words = t.words ∙ ap act_words same; formed = ap act_form (sym same) ∙ t.formed }
+act_as ws x a e t = let same = same_Some x a e in
+    record { words = t.words ∙ ap act_words same; formed = ap act_form (sym same) ∙ t.formed }
 
 -- a reply behind the arrow that ends the words
 abbrev ended : Call → Reply × Words → Option Act
@@ -155,14 +176,21 @@ exchange_is ws a e =
     let t = reply_taken q.value r.value.0 r.value.1 r.is in
     let f = cond_some (is_done r.value.1) (act.Call p.value.0 r.value.0) a r.then_is in
     act_as ws (act.Call p.value.0 r.value.0) a (ap (λ x. Some x) f.1) (record {
-      words = c.words ∙ ap (λ vs. call_words p.value.0 ++ vs) (behind_word-is arrow p.value.1 q.value q.is ∙ ap (λ vs. arrow ∷ vs) (t.words ∙ ap (λ vs. reply_words r.value.0 ++ vs) (done_is r.value.1 f.0) ∙ append-nil (reply_words r.value.0)));
+      words = c.words
+          ∙ ap (λ vs. call_words p.value.0 ++ vs)
+          (behind_word-is arrow p.value.1 q.value q.is
+          ∙ ap (λ vs. arrow ∷ vs)
+          (t.words ∙ ap (λ vs. reply_words r.value.0 ++ vs) (done_is r.value.1 f.0)
+          ∙ append-nil (reply_words r.value.0)));
       formed = and_from (call_form p.value.0) (reply_form r.value.0) c.formed t.formed;
     })
 
-exchange_back : (c : Call) (r : Reply) → call_form c ≡ true → reply_form r ≡ true → exchange_of (call_words c ++ arrow ∷ reply_words r) ≡ Some (act.Call c r)
+exchange_back : (c : Call) (r : Reply) → call_form c ≡ true → reply_form r ≡ true
+    → exchange_of (call_words c ++ arrow ∷ reply_words r) ≡ Some (act.Call c r)
 unfolding exchange_of word_at
 exchange_back c r hc hr =
-    ap (λ o. o >>= λ x. (behind_word arrow x.1 >>= λ rest. (reply_at rest >>= ended x.0))) (call_again c (reply_words r) hc)
+    ap (λ o. o >>= λ x. (behind_word arrow x.1 >>= λ rest. (reply_at rest >>= ended x.0)))
+    (call_again c (reply_words r) hc)
     ∙ ap (λ o. o >>= λ rest. (reply_at rest >>= ended c)) (behind_word-again arrow (reply_words r))
     ∙ ap (λ o. o >>= ended c) (reply_again r hr)
 
@@ -171,7 +199,8 @@ unfolding tick_of act_words act_form
 tick_is w ws n a number e =
     let f = cond_some (is_done ws) (act.Tick n) a e in
     let d = decimal_of-word w n number in
-    act_as (w ∷ ws) (act.Tick n) a (ap (λ x. Some x) f.1) (record { words = ap (λ v. v ∷ ws) d.word ∙ ap (λ vs. decimal n ∷ vs) (done_is ws f.0); formed = d.small })
+    act_as (w ∷ ws) (act.Tick n) a (ap (λ x. Some x) f.1)
+    (record { words = ap (λ v. v ∷ ws) d.word ∙ ap (λ vs. decimal n ∷ vs) (done_is ws f.0); formed = d.small })
 
 turned_is : (ws : Words) (a : Act) → (turn_of ws >>= λ t. Some (act.Turn t)) ≡ Some a → IsAct ws a
 unfolding act_words act_form
@@ -187,12 +216,15 @@ act_is ws a e =
     let words = word_at-is ws p.value.0 p.value.1 p.is in
     by p.value.0 p.value.1 words (decimal_of p.value.0) refl p.then_is
   where
-    choice : (w : List ℕ) (t : Bool) → cond t (exchange_of ws) (turn_of ws >>= λ t. Some (act.Turn t)) ≡ Some a → IsAct ws a
+    choice : (w : List ℕ) (t : Bool) → cond t (exchange_of ws) (turn_of ws >>= λ t. Some (act.Turn t)) ≡ Some a
+        → IsAct ws a
     choice w true h = exchange_is ws a h
     choice w false h = turned_is ws a h
 
-    by : (w : List ℕ) (rest : Words) → ws ≡ w ∷ rest → (o : Option ℕ) → decimal_of w ≡ o → act_by o w rest ws ≡ Some a → IsAct ws a
-    by w rest words (Some n) is h = let t = tick_is w rest n a is h in record { words = words ∙ t.words; formed = t.formed }
+    by : (w : List ℕ) (rest : Words) → ws ≡ w ∷ rest → (o : Option ℕ) → decimal_of w ≡ o → act_by o w rest ws ≡ Some a
+        → IsAct ws a
+    by w rest words (Some n) is h = let t = tick_is w rest n a is h in
+        record { words = words ∙ t.words; formed = t.formed }
     by w rest words None is h = choice w (begins_call w) h
 
 call_dispatch : (c : Call) (more : Words) → act_of (call_words c ++ more) ≡ exchange_of (call_words c ++ more)
@@ -200,7 +232,8 @@ unfolding act_of call_words word_at decimal_of number_words.number_of number_fro
 call_dispatch call.List more = refl
 call_dispatch _ more = refl
 
-turn_dispatch : (d : Did) (more : Words) → act_of (did_words d ++ more) ≡ (turn_of (did_words d ++ more) >>= λ t. Some (act.Turn t))
+turn_dispatch : (d : Did) (more : Words)
+    → act_of (did_words d ++ more) ≡ (turn_of (did_words d ++ more) >>= λ t. Some (act.Turn t))
 unfolding act_of did_words word_at decimal_of number_words.number_of number_from with_digit digit_of begins_call
 turn_dispatch Stopped more = refl
 turn_dispatch _ more = refl
@@ -235,8 +268,10 @@ numbered n i who what = cond (eqb i n) (Some (record { actor = who; act = what }
 pub entry_of-is : (n : ℕ) (ws : Words) (e : Entry) → entry_of n ws ≡ Some e → IsEntry n ws e
 unfolding entry_of entry_words has_form
 entry_of-is n ws e found =
-    let i = found_by (number_at ws) (λ i. (word_at i.1 >>= λ w. (actor_of w.0 >>= λ who. (act_of w.1 >>= numbered n i.0 who)))) e found in
-    let w = found_by (word_at i.value.1) (λ w. (actor_of w.0 >>= λ who. (act_of w.1 >>= numbered n i.value.0 who))) e i.then_is in
+    let i = found_by (number_at ws)
+    (λ i. (word_at i.1 >>= λ w. (actor_of w.0 >>= λ who. (act_of w.1 >>= numbered n i.0 who)))) e found in
+    let w = found_by (word_at i.value.1)
+    (λ w. (actor_of w.0 >>= λ who. (act_of w.1 >>= numbered n i.value.0 who))) e i.then_is in
     let who = found_by (actor_of w.value.0) (λ who. (act_of w.value.1 >>= numbered n i.value.0 who)) e w.then_is in
     let what = found_by (act_of w.value.1) (numbered n i.value.0 who.value) e who.then_is in
     let f = cond_some (eqb i.value.0 n) (entry who.value what.value) e what.then_is in
@@ -244,18 +279,26 @@ entry_of-is n ws e found =
     let actor = actor_is w.value.0 who.value who.is in
     let done = act_is w.value.1 what.value what.is in
     record {
-      words = number.words ∙ ap (λ k. decimal k ∷ i.value.1) (eqb-true i.value.0 n f.0) ∙ ap (λ vs. decimal n ∷ vs) (word_at-is i.value.1 w.value.0 w.value.1 w.is ∙ ap (λ v. v ∷ w.value.1) actor.word ∙ ap (λ vs. actor_text who.value ∷ vs) done.words) ∙ ap (λ (x : Entry). decimal n ∷ actor_text x.actor ∷ act_words x.act) f.1;
-      formed = ap (λ (x : Entry). actor_form x.actor && act_form x.act) (sym f.1) ∙ and_from (actor_form who.value) (act_form what.value) actor.formed done.formed;
+      words = number.words ∙ ap (λ k. decimal k ∷ i.value.1) (eqb-true i.value.0 n f.0)
+          ∙ ap (λ vs. decimal n ∷ vs)
+          (word_at-is i.value.1 w.value.0 w.value.1 w.is ∙ ap (λ v. v ∷ w.value.1) actor.word
+          ∙ ap (λ vs. actor_text who.value ∷ vs) done.words)
+          ∙ ap (λ (x : Entry). decimal n ∷ actor_text x.actor ∷ act_words x.act) f.1;
+      formed =
+          ap (λ (x : Entry). actor_form x.actor && act_form x.act) (sym f.1)
+          ∙ and_from (actor_form who.value) (act_form what.value) actor.formed done.formed;
     }
   where
     entry : Actor → Act → Entry
     entry who what = record { actor = who; act = what }
 
-pub entry_of-words : (n : ℕ) (e : Entry) → is_number n ≡ true → has_form e ≡ true → entry_of n (entry_words n e) ≡ Some e
+pub entry_of-words : (n : ℕ) (e : Entry) → is_number n ≡ true → has_form e ≡ true
+    → entry_of n (entry_words n e) ≡ Some e
 unfolding entry_of entry_words has_form word_at
 entry_of-words n e number form =
     let parts = and_parts (actor_form e.actor) (act_form e.act) form in
-    ap (λ o. o >>= λ i. (word_at i.1 >>= λ w. (actor_of w.0 >>= λ who. (act_of w.1 >>= numbered n i.0 who)))) (number_step.again n (actor_text e.actor ∷ act_words e.act) number)
+    ap (λ o. o >>= λ i. (word_at i.1 >>= λ w. (actor_of w.0 >>= λ who. (act_of w.1 >>= numbered n i.0 who))))
+    (number_step.again n (actor_text e.actor ∷ act_words e.act) number)
     ∙ ap (λ o. o >>= λ who. (act_of (act_words e.act) >>= numbered n n who)) (actor_back e.actor parts.0)
     ∙ ap (λ o. o >>= numbered n n e.actor) (act_back e.act parts.1)
     ∙ ap (λ t. cond t (Some e) None) (eq-eqb n n refl)
@@ -275,7 +318,9 @@ heading_of-is ws n e =
     let f = cond_some (is_done q.value.1) q.value.0 n q.then_is in
     let t = number_step.taken p.value q.value.0 q.value.1 q.is in
     record {
-      words = behind_word-is (codes "history") ws p.value p.is ∙ ap (λ vs. codes "history" ∷ vs) (t.words ∙ ap (λ vs. decimal q.value.0 ∷ vs) (done_is q.value.1 f.0) ∙ ap (λ k. decimal k ∷ []) f.1);
+      words = behind_word-is (codes "history") ws p.value p.is
+          ∙ ap (λ vs. codes "history" ∷ vs)
+          (t.words ∙ ap (λ vs. decimal q.value.0 ∷ vs) (done_is q.value.1 f.0) ∙ ap (λ k. decimal k ∷ []) f.1);
       formed = ap is_number (sym f.1) ∙ t.formed;
     }
 
@@ -304,7 +349,11 @@ pub entry_in-is : (n : ℕ) (line : List ℕ) (e : Entry) → entry_in n line �
 unfolding entry_line entry_words
 entry_in-is n line e found =
     let t = entry_of-is n (slice_split is_blank line) e found in
-    record { line_is = line_of_words line (decimal n) (actor_text e.actor ∷ act_words e.act) t.words; formed = t.formed }
+    record {
+      line_is = line_of_words line (decimal n) (actor_text e.actor ∷ act_words e.act) t.words;
+      formed =
+          t.formed;
+    }
 
 -- a name is a word
 name_byte : (b : ℕ) → is_name_byte b ≡ true → is_word_byte b ≡ true
@@ -325,7 +374,8 @@ name_bytes (b ∷ bs) h =
 name_word : (w : List ℕ) → is_name w ≡ true → is_word w ≡ true
 unfolding is_name
 name_word [] h = cc
-name_word (b ∷ bs) h = name_bytes (b ∷ bs) (and_parts (is_letter b && leb (length (b ∷ bs)) 31) (list_all is_name_byte (b ∷ bs)) h).1
+name_word (b ∷ bs) h =
+    name_bytes (b ∷ bs) (and_parts (is_letter b && leb (length (b ∷ bs)) 31) (list_all is_name_byte (b ∷ bs)) h).1
 
 names_formed : (c : Call) → call_form c ≡ true → names_words c ≡ true
 unfolding call_form names_words
@@ -352,7 +402,8 @@ unfolding has_form
 words_formed e h = act_words_formed e.actor e.act (and_parts (actor_form e.actor) (act_form e.act) h).1
 
 pub entry_in-line : (n : ℕ) (e : Entry) → is_number n ≡ true → has_form e ≡ true → entry_in n (entry_line n e) ≡ Some e
-entry_in-line n e number form = ap (entry_of n) (entry_line-words n e (words_formed e form)) ∙ entry_of-words n e number form
+entry_in-line n e number form =
+    ap (entry_of n) (entry_line-words n e (words_formed e form)) ∙ entry_of-words n e number form
 
 pub record IsHeadingLine (line : List ℕ) (n : ℕ) : Type 0 where
   pub line_is : line ≡ heading_line n
@@ -369,4 +420,5 @@ heading_words n = (two (codes "history") (decimal n) (record { is = refl }) (dec
 
 pub heading_in-line : (n : ℕ) → is_number n ≡ true → heading_in (heading_line n) ≡ Some n
 unfolding heading_line
-heading_in-line n number = ap heading_of (joined-words (codes "history") (decimal n ∷ []) (heading_words n)) ∙ heading_of-words n number
+heading_in-line n number =
+    ap heading_of (joined-words (codes "history") (decimal n ∷ []) (heading_words n)) ∙ heading_of-words n number

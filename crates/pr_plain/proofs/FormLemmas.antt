@@ -33,7 +33,8 @@ replies_told reply.Done reply.Done = refl
 replies_told _ reply.Done = refl
 replies_told _ _ = refl
 
-pub calls_and_turns_told : (c : Call) (d : Did) → bytes_eq (first_word (call_words c)) (first_word (did_words d)) ≡ false
+pub calls_and_turns_told : (c : Call) (d : Did)
+    → bytes_eq (first_word (call_words c)) (first_word (did_words d)) ≡ false
 unfolding call_words did_words
 calls_and_turns_told call.List Stopped = refl
 calls_and_turns_told _ Stopped = refl
@@ -50,9 +51,12 @@ glyph_low n = grind (arith, nat_tests)
 
 onto_low : (k n : ℕ) (acc : List ℕ) → begins_low (digits_onto (suc k) 10 false n acc) ≡ true
 onto_low zero n acc =
-    either (λ (w : List ℕ). begins_low w ≡ true) (eqb (n / 10) 0) (digit_glyph false (n % 10) ∷ acc) (digit_glyph false (n % 10) ∷ acc) (glyph_low n) (glyph_low n)
+    either (λ (w : List ℕ). begins_low w ≡ true) (eqb (n / 10) 0) (digit_glyph false (n % 10) ∷ acc)
+    (digit_glyph false (n % 10) ∷ acc) (glyph_low n) (glyph_low n)
 onto_low (suc k) n acc =
-    either (λ (w : List ℕ). begins_low w ≡ true) (eqb (n / 10) 0) (digit_glyph false (n % 10) ∷ acc) (digits_onto (suc k) 10 false (n / 10) (digit_glyph false (n % 10) ∷ acc)) (glyph_low n) (onto_low k (n / 10) (digit_glyph false (n % 10) ∷ acc))
+    either (λ (w : List ℕ). begins_low w ≡ true) (eqb (n / 10) 0) (digit_glyph false (n % 10) ∷ acc)
+    (digits_onto (suc k) 10 false (n / 10) (digit_glyph false (n % 10) ∷ acc)) (glyph_low n)
+    (onto_low k (n / 10) (digit_glyph false (n % 10) ∷ acc))
 
 decimal_low : (n : ℕ) → begins_low (decimal n) ≡ true
 unfolding digits
@@ -76,4 +80,5 @@ pub turns_and_times_told : (d : Did) (n : ℕ) → first_word (did_words d) ≢ 
 turns_and_times_told d n same =
     false≢true (sym (did_high d) ∙ ap begins_low same ∙ decimal_low n)
 
-pub ruleset forms_told = (calls_told, turns_told, replies_told, calls_and_turns_told, calls_and_times_told, turns_and_times_told)
+pub ruleset forms_told =
+    (calls_told, turns_told, replies_told, calls_and_turns_told, calls_and_times_told, turns_and_times_told)

@@ -40,39 +40,53 @@ word_at-shorter ws w rest e = omega (arith, ap length (word_at-is ws w rest e))
 
 -- ---- handles
 
-regroup : (front : List ℕ) (h : ℕ) (o : Option (List ℕ × Words)) → with_handles front (o >>= λ hs. Some (h ∷ hs.0, hs.1)) ≡ with_handles (front ++ h ∷ []) o
+regroup : (front : List ℕ) (h : ℕ) (o : Option (List ℕ × Words))
+    → with_handles front (o >>= λ hs. Some (h ∷ hs.0, hs.1)) ≡ with_handles (front ++ h ∷ []) o
 regroup front h None = refl
 regroup front h (Some x) = ap (λ (hs : List ℕ). Some (hs, x.1)) (sym (append_assoc front (h ∷ []) x.0))
 
-handles_more : (front : List ℕ) (w : List ℕ) (h : ℕ) (rest : Words) → bytes_eq w arrow ≡ false → decimal_id_of w ≡ Some h → with_handles front (handles_at (w ∷ rest)) ≡ with_handles (front ++ h ∷ []) (handles_at rest)
+handles_more : (front : List ℕ) (w : List ℕ) (h : ℕ) (rest : Words) → bytes_eq w arrow ≡ false
+    → decimal_id_of w ≡ Some h
+    → with_handles front (handles_at (w ∷ rest)) ≡ with_handles (front ++ h ∷ []) (handles_at rest)
 unfolding handles_at
 handles_more front w h rest other found =
-    ap (λ t. with_handles front (cond t (Some ([], w ∷ rest)) (decimal_id_of w >>= λ h. (handles_at rest >>= λ hs. Some (h ∷ hs.0, hs.1))))) other
+    ap (λ t.
+    with_handles front
+    (cond t (Some ([], w ∷ rest)) (decimal_id_of w >>= λ h. (handles_at rest >>= λ hs. Some (h ∷ hs.0, hs.1)))))
+    other
     ∙ ap (λ o. with_handles front (o >>= λ h. (handles_at rest >>= λ hs. Some (h ∷ hs.0, hs.1)))) found
     ∙ regroup front h (handles_at rest)
 
-pub handles_at-more : (front : List ℕ) (ws : Words) (w : List ℕ) (h : ℕ) (rest : Words) → word_at ws ≡ Some (w, rest) → bytes_eq w arrow ≡ false → decimal_id_of w ≡ Some h → with_handles front (handles_at ws) ≡ with_handles (front ++ h ∷ []) (handles_at rest)
+pub handles_at-more : (front : List ℕ) (ws : Words) (w : List ℕ) (h : ℕ) (rest : Words) → word_at ws ≡ Some (w, rest)
+    → bytes_eq w arrow ≡ false → decimal_id_of w ≡ Some h
+    → with_handles front (handles_at ws) ≡ with_handles (front ++ h ∷ []) (handles_at rest)
 handles_at-more front ws w h rest e other found =
     ap (λ vs. with_handles front (handles_at vs)) (word_at-is ws w rest e) ∙ handles_more front w h rest other found
 
-handles_bad : (w : List ℕ) (rest : Words) → bytes_eq w arrow ≡ false → decimal_id_of w ≡ None → handles_at (w ∷ rest) ≡ None
+handles_bad : (w : List ℕ) (rest : Words) → bytes_eq w arrow ≡ false → decimal_id_of w ≡ None
+    → handles_at (w ∷ rest) ≡ None
 unfolding handles_at
 handles_bad w rest other none =
-    ap (λ t. cond t (Some ([], w ∷ rest)) (decimal_id_of w >>= λ h. (handles_at rest >>= λ hs. Some (h ∷ hs.0, hs.1)))) other
+    ap (λ t. cond t (Some ([], w ∷ rest)) (decimal_id_of w >>= λ h. (handles_at rest >>= λ hs. Some (h ∷ hs.0, hs.1))))
+    other
     ∙ ap (λ o. o >>= λ h. (handles_at rest >>= λ hs. Some (h ∷ hs.0, hs.1))) none
 
 -- where a word is neither the arrow nor a handle, nothing is read, whatever was read before
-pub handles_at-bad : (front : List ℕ) (ws : Words) (w : List ℕ) (rest : Words) → word_at ws ≡ Some (w, rest) → bytes_eq w arrow ≡ false → decimal_id_of w ≡ None → with_handles front (handles_at ws) ≡ None
+pub handles_at-bad : (front : List ℕ) (ws : Words) (w : List ℕ) (rest : Words) → word_at ws ≡ Some (w, rest)
+    → bytes_eq w arrow ≡ false → decimal_id_of w ≡ None → with_handles front (handles_at ws) ≡ None
 handles_at-bad front ws w rest e other none =
-    ap (λ vs. with_handles front (handles_at vs)) (word_at-is ws w rest e) ∙ ap (with_handles front) (handles_bad w rest other none)
+    ap (λ vs. with_handles front (handles_at vs)) (word_at-is ws w rest e)
+    ∙ ap (with_handles front) (handles_bad w rest other none)
 
 handles_arrow : (w : List ℕ) (rest : Words) → bytes_eq w arrow ≡ true → handles_at (w ∷ rest) ≡ Some ([], w ∷ rest)
 unfolding handles_at
 handles_arrow w rest is =
-    ap (λ t. cond t (Some ([], w ∷ rest)) (decimal_id_of w >>= λ h. (handles_at rest >>= λ hs. Some (h ∷ hs.0, hs.1)))) is
+    ap (λ t.
+    cond t (Some ([], w ∷ rest)) (decimal_id_of w >>= λ h. (handles_at rest >>= λ hs. Some (h ∷ hs.0, hs.1)))) is
 
 -- at the arrow the handles are those that were read before
-pub handles_at-arrow : (front : List ℕ) (ws : Words) (w : List ℕ) (rest : Words) → word_at ws ≡ Some (w, rest) → bytes_eq w arrow ≡ true → with_handles front (handles_at ws) ≡ Some (front, ws)
+pub handles_at-arrow : (front : List ℕ) (ws : Words) (w : List ℕ) (rest : Words) → word_at ws ≡ Some (w, rest)
+    → bytes_eq w arrow ≡ true → with_handles front (handles_at ws) ≡ Some (front, ws)
 handles_at-arrow front ws w rest e is =
     let words = word_at-is ws w rest e in
     ap (λ vs. with_handles front (handles_at vs)) words ∙ ap (with_handles front) (handles_arrow w rest is)

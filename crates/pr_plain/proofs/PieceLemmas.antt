@@ -21,21 +21,33 @@ not_found : (b : Bool) (n : ℕ) → cond b (Some n) None ≡ None → b ≡ fal
 not_found true n e = cc
 not_found false n e = refl
 
-whole_piece : (cut : ℕ) (bs : List ℕ) → length bs ≤ position_or_len (is_cut cut) bs → slice_split (is_cut cut) bs ≡ bs ∷ []
+whole_piece : (cut : ℕ) (bs : List ℕ) → length bs ≤ position_or_len (is_cut cut) bs
+    → slice_split (is_cut cut) bs ≡ bs ∷ []
 whole_piece cut [] far = refl
 whole_piece cut (b ∷ bs) far =
-    elim (eqb b cut) as (λ t. length (b ∷ bs) ≤ cond (not t) (1 + position_or_len (is_cut cut) bs) 0 → cond t ([] ∷ slice_split (is_cut cut) bs) (onto_first b (slice_split (is_cut cut) bs)) ≡ (b ∷ bs) ∷ []) [ true ↦ λ none. absurd (omega arith) | false ↦ λ more. ap (onto_first b) (whole_piece cut bs (omega arith)) ] far
+    elim (eqb b cut)
+    as (λ t. length (b ∷ bs) ≤ cond (not t) (1 + position_or_len (is_cut cut) bs) 0
+    → cond t ([] ∷ slice_split (is_cut cut) bs) (onto_first b (slice_split (is_cut cut) bs)) ≡ (b ∷ bs) ∷ [])
+    [ true ↦ λ none. absurd (omega arith) | false ↦ λ more. ap (onto_first b) (whole_piece cut bs (omega arith)) ]
+    far
 
-pub piece_none : (cut : ℕ) (bs : List ℕ) → position (λ b. eqb b cut) bs ≡ None → slice_split (λ b. eqb b cut) bs ≡ bs ∷ []
+pub piece_none : (cut : ℕ) (bs : List ℕ) → position (λ b. eqb b cut) bs ≡ None
+    → slice_split (λ b. eqb b cut) bs ≡ bs ∷ []
 piece_none cut bs e =
-    whole_piece cut bs (ltb-false (position_or_len (is_cut cut) bs) (length bs) (not_found (ltb (position_or_len (is_cut cut) bs) (length bs)) (position_or_len (is_cut cut) bs) e))
+    whole_piece cut bs
+    (ltb-false (position_or_len (is_cut cut) bs) (length bs)
+    (not_found (ltb (position_or_len (is_cut cut) bs) (length bs)) (position_or_len (is_cut cut) bs) e))
 
-pub piece_some : (cut : ℕ) (bs : List ℕ) (end : ℕ) → position (λ b. eqb b cut) bs ≡ Some end → slice_split (λ b. eqb b cut) bs ≡ take end bs ∷ slice_split (λ b. eqb b cut) (take (length bs - (end + 1)) (drop (end + 1) bs))
+pub piece_some : (cut : ℕ) (bs : List ℕ) (end : ℕ) → position (λ b. eqb b cut) bs ≡ Some end
+    → slice_split (λ b. eqb b cut) bs
+    ≡ take end bs ∷ slice_split (λ b. eqb b cut) (take (length bs - (end + 1)) (drop (end + 1) bs))
 piece_some cut bs end e =
-    let here = found_within (ltb (position_or_len (is_cut cut) bs) (length bs)) (position_or_len (is_cut cut) bs) end e in
+    let here =
+    found_within (ltb (position_or_len (is_cut cut) bs) (length bs)) (position_or_len (is_cut cut) bs) end e in
     slice_split_first (is_cut cut) bs 0 (ltb-true (position_or_len (is_cut cut) bs) (length bs) here.0)
     ∙ ap (λ n. take n bs ∷ slice_split (is_cut cut) (drop (n + 1) bs)) here.1
-    ∙ ap (λ rest. take end bs ∷ slice_split (is_cut cut) rest) (sym (take_all (length bs - (end + 1)) (drop (end + 1) bs) (omega (arith, length-drop (end + 1) bs))))
+    ∙ ap (λ rest. take end bs ∷ slice_split (is_cut cut) rest)
+    (sym (take_all (length bs - (end + 1)) (drop (end + 1) bs) (omega (arith, length-drop (end + 1) bs))))
 
 -- where there is a piece, it is to be read
 some_piece : (ws : Words) → 0 < length ws → is_done ws ≡ false
@@ -48,6 +60,7 @@ pub none_left : (cut : ℕ) (rest : Option (Bor (List ℕ))) → is_none rest �
 unfolding word_at
 none_left cut None = refl
 none_left cut (Some bytes) =
-    sym (some_piece (slice_split (λ b. eqb b cut) bytes.now) (omega (arith, length-slice_split (λ b. eqb b cut) bytes.now)))
+    sym (some_piece (slice_split (λ b. eqb b cut) bytes.now)
+    (omega (arith, length-slice_split (λ b. eqb b cut) bytes.now)))
 
 pub ruleset done = (none_left)

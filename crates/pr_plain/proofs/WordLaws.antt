@@ -38,7 +38,8 @@ all_bytes [] h = refl
 all_bytes (b ∷ bs) h = and_from (is_byte b) (list_all is_byte bs) (lt-ltb b 256 h.0) (all_bytes bs h.1)
 
 each_byte : (bs : List ℕ) → list_all is_byte bs ≡ true → All IsByte bs
-each_byte bs h = All-weaker (λ b. is_byte b ≡ true) IsByte (λ b is. ltb-true b 256 is) bs (AllPass-from_list_all is_byte bs h)
+each_byte bs h =
+    All-weaker (λ b. is_byte b ≡ true) IsByte (λ b is. ltb-true b 256 is) bs (AllPass-from_list_all is_byte bs h)
 
 -- ---- each kind of word
 

@@ -64,7 +64,8 @@ bytes_cons b bs p q = record { each = and_from (is_word_byte b) (list_all is_wor
 
 bytes_append : (xs ys : List ℕ) → AllBytes xs → AllBytes ys → AllBytes (xs ++ ys)
 bytes_append xs ys p q = record {
-  each = list_all-append is_word_byte xs ys ∙ and_from (list_all is_word_byte xs) (list_all is_word_byte ys) p.each q.each;
+  each = list_all-append is_word_byte xs ys
+      ∙ and_from (list_all is_word_byte xs) (list_all is_word_byte ys) p.each q.each;
 }
 
 -- a word has bytes of words
@@ -114,11 +115,17 @@ digit_byte n = glyph_byte (n % 10)
 
 decimal_from : (k n : ℕ) (acc : List ℕ) → AllBytes acc → IsWord (digits_onto (suc k) 10 false n acc)
 decimal_from zero n acc h =
-    let front : IsWord (digit_glyph false (n % 10) ∷ acc) = word_behind (digit_glyph false (n % 10)) acc (digit_byte n) h in
-    either (λ w. IsWord w) (eqb (n / 10) 0) (digit_glyph false (n % 10) ∷ acc) (digit_glyph false (n % 10) ∷ acc) front front
+    let front : IsWord (digit_glyph false (n % 10) ∷ acc) =
+    word_behind (digit_glyph false (n % 10)) acc (digit_byte n) h in
+    either (λ w. IsWord w) (eqb (n / 10) 0) (digit_glyph false (n % 10) ∷ acc)
+    (digit_glyph false (n % 10) ∷ acc) front front
 decimal_from (suc k) n acc h =
-    let more : AllBytes (digit_glyph false (n % 10) ∷ acc) = bytes_cons (digit_glyph false (n % 10)) acc (digit_byte n) h in
-    either (λ w. IsWord w) (eqb (n / 10) 0) (digit_glyph false (n % 10) ∷ acc) (digits_onto (suc k) 10 false (n / 10) (digit_glyph false (n % 10) ∷ acc)) (word_of (digit_glyph false (n % 10)) acc more) (decimal_from k (n / 10) (digit_glyph false (n % 10) ∷ acc) more)
+    let more : AllBytes (digit_glyph false (n % 10) ∷ acc) =
+    bytes_cons (digit_glyph false (n % 10)) acc (digit_byte n) h in
+    either (λ w. IsWord w) (eqb (n / 10) 0) (digit_glyph false (n % 10) ∷ acc)
+    (digits_onto (suc k) 10 false (n / 10) (digit_glyph false (n % 10) ∷ acc))
+    (word_of (digit_glyph false (n % 10)) acc more)
+    (decimal_from k (n / 10) (digit_glyph false (n % 10) ∷ acc) more)
 
 pub decimal_word : (n : ℕ) → IsWord (decimal n)
 unfolding digits
@@ -134,7 +141,8 @@ digits_bytes : (bs : List ℕ) → AllBytes (digits_of_bytes bs)
 unfolding byte_digits
 digits_bytes [] = no_bytes
 digits_bytes (b ∷ bs) =
-    bytes_cons (digit_glyph false (b / 16)) (digit_glyph false (b % 16) ∷ digits_of_bytes bs) (glyph_byte (b / 16)) (bytes_cons (digit_glyph false (b % 16)) (digits_of_bytes bs) (glyph_byte (b % 16)) (digits_bytes bs))
+    bytes_cons (digit_glyph false (b / 16)) (digit_glyph false (b % 16) ∷ digits_of_bytes bs) (glyph_byte (b / 16))
+    (bytes_cons (digit_glyph false (b % 16)) (digits_of_bytes bs) (glyph_byte (b % 16)) (digits_bytes bs))
 
 bytes_word : (bs : List ℕ) → IsWord (hex_word bs)
 unfolding hex_word byte_digits
@@ -187,7 +195,9 @@ headed w ws h others = words_cons w ws (record { is = h }) others
 lwp_word : (p l : ℕ) → IsWord (lwp_text p l)
 unfolding lwp_text
 lwp_word p l =
-    word_append (decimal p ++ codes "/") (decimal l) (word_append (decimal p) (codes "/") (decimal_word p) (record { each = refl })) (bytes_of (decimal l) (decimal_word l))
+    word_append (decimal p ++ codes "/") (decimal l)
+    (word_append (decimal p) (codes "/") (decimal_word p) (record { each = refl }))
+    (bytes_of (decimal l) (decimal_word l))
 
 actor_word : (a : Actor) → IsWord (actor_text a)
 unfolding actor_text
@@ -206,9 +216,13 @@ unfolding did_words
 did_all Stopped = record { each = refl }
 did_all Ran = record { each = refl }
 did_all (Entered c) = headed (codes "entered") _ refl (one _ (syscall_word c))
-did_all (Made c r) = words_append (codes "made" ∷ syscall_name c ∷ []) (result_words r) (headed (codes "made") _ refl (one _ (syscall_word c))) (result_all r)
+did_all (Made c r) =
+    words_append (codes "made" ∷ syscall_name c ∷ []) (result_words r)
+    (headed (codes "made") _ refl (one _ (syscall_word c))) (result_all r)
 did_all (Slept c) = headed (codes "slept") _ refl (one _ (syscall_word c))
-did_all (Woke c r) = words_append (codes "woke" ∷ syscall_name c ∷ []) (result_words r) (headed (codes "woke") _ refl (one _ (syscall_word c))) (result_all r)
+did_all (Woke c r) =
+    words_append (codes "woke" ∷ syscall_name c ∷ []) (result_words r)
+    (headed (codes "woke") _ refl (one _ (syscall_word c))) (result_all r)
 did_all (Returned c) = headed (codes "returned") _ refl (one _ (syscall_word c))
 did_all (Faulted f) = headed (codes "faulted") _ refl (one _ (fault_word f))
 did_all (Posted f) = headed (codes "posted") _ refl (two _ _ (fault_word f) (signal_word (fault_signal f)))
@@ -241,14 +255,18 @@ numbered w n h = headed w (decimal n ∷ []) h (one (decimal n) (decimal_word n)
 
 call_all : (c : Call) → names_words c ≡ true → AllWords (call_words c)
 unfolding call_words names_words
-call_all (call.Open p l f m) h = headed (codes "open") _ refl (three _ _ _ (target_word p l) (file_word f) (mode_word m))
+call_all (call.Open p l f m) h =
+    headed (codes "open") _ refl (three _ _ _ (target_word p l) (file_word f) (mode_word m))
 call_all (call.Close n) h = numbered (codes "close") n refl
 call_all (call.Ctl n bytes) h = headed (codes "ctl") _ refl (two _ _ (decimal_word n) (bytes_word bytes))
-call_all (call.CtlWait n until bytes) h = headed (codes "ctlwait") _ refl (three _ _ _ (decimal_word n) (decimal_word until) (bytes_word bytes))
-call_all (call.Read n at len) h = headed (codes "read") _ refl (three _ _ _ (decimal_word n) (decimal_word at) (decimal_word len))
+call_all (call.CtlWait n until bytes) h =
+    headed (codes "ctlwait") _ refl (three _ _ _ (decimal_word n) (decimal_word until) (bytes_word bytes))
+call_all (call.Read n at len) h =
+    headed (codes "read") _ refl (three _ _ _ (decimal_word n) (decimal_word at) (decimal_word len))
 call_all (call.Poll ns) h = headed (codes "poll") _ refl (decimals ns)
 call_all (call.Interrupt k) h = numbered (codes "interrupt") k refl
-call_all (call.Spawn program held) h = headed (codes "spawn") _ refl (words_cons program (held_words held) (record { is = h }) (held_all held))
+call_all (call.Spawn program held) h =
+    headed (codes "spawn") _ refl (words_cons program (held_words held) (record { is = h }) (held_all held))
 call_all (call.Kill p s) h = headed (codes "kill") _ refl (two _ _ (decimal_word p) (decimal_word s))
 call_all (call.Until n) h = numbered (codes "until") n refl
 call_all call.List h = record { each = refl }
@@ -268,13 +286,15 @@ reply_all (reply.Fail e) = headed (codes "fail") _ refl (one _ (errno_word e))
 
 act_all : (a : Act) (who : Actor) → has_words (record { actor = who; act = a }) ≡ true → AllWords (act_words a)
 unfolding act_words has_words
-act_all (act.Call c r) who h = words_append (call_words c) (codes "->" ∷ reply_words r) (call_all c h) (headed (codes "->") _ refl (reply_all r))
+act_all (act.Call c r) who h =
+    words_append (call_words c) (codes "->" ∷ reply_words r) (call_all c h) (headed (codes "->") _ refl (reply_all r))
 act_all (act.Turn t) who h = turn_all t
 act_all (act.Tick n) who h = one (decimal n) (decimal_word n)
 
 pub entry_words-words : (n : ℕ) (e : Entry) → has_words e ≡ true → list_all is_word (entry_words n e) ≡ true
 unfolding entry_words
 entry_words-words n e h =
-    (words_cons (decimal n) (actor_text e.actor ∷ act_words e.act) (decimal_word n) (words_cons (actor_text e.actor) (act_words e.act) (actor_word e.actor) (act_all e.act e.actor h))).each
+    (words_cons (decimal n) (actor_text e.actor ∷ act_words e.act) (decimal_word n)
+    (words_cons (actor_text e.actor) (act_words e.act) (actor_word e.actor) (act_all e.act e.actor h))).each
 
 pub ruleset words_of_entries = (entry_words-words)

@@ -28,7 +28,8 @@ lwp_of w = do
 unfoldable pub target_of : List ℕ → Option (ℕ × ℕ)
 target_of w = do
   p ← id_at (slice_split is_slash w)
-  if is_done p.1 then Some (p.0, 0) else (id_at p.1 >>= λ l. if is_done l.1 && not (l.0 == 0) then Some (p.0, l.0) else None)
+  if is_done p.1 then Some (p.0, 0) else
+      (id_at p.1 >>= λ l. if is_done l.1 && not (l.0 == 0) then Some (p.0, l.0) else None)
 
 unfoldable pub target_at : Words → Option ((ℕ × ℕ) × Words)
 target_at ws = do
@@ -117,7 +118,9 @@ until_at ws = do
 
 -- the first words of calls
 abbrev pub call_names : List (List ℕ)
-call_names = codes "open" ∷ codes "close" ∷ codes "ctl" ∷ codes "ctlwait" ∷ codes "read" ∷ codes "poll" ∷ codes "interrupt" ∷ codes "spawn" ∷ codes "kill" ∷ codes "until" ∷ codes "list" ∷ []
+call_names =
+    codes "open" ∷ codes "close" ∷ codes "ctl" ∷ codes "ctlwait" ∷ codes "read" ∷ codes "poll" ∷ codes "interrupt"
+    ∷ codes "spawn" ∷ codes "kill" ∷ codes "until" ∷ codes "list" ∷ []
 
 unfoldable pub begins_call : List ℕ → Bool
 begins_call w = list_any (bytes_eq w) call_names

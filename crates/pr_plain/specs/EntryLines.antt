@@ -5,8 +5,8 @@ use Rattle.pr_model.specs.declared.events.Entry.{Entry}
 use Rattle.pr_plain.specs.EntryReading.{entries_in, next_entry, next_heading, then_reads}
 use Rattle.pr_text.specs.TextLines.{is_newline}
 
--- The number of the first entry's line, how many entries there are to be, how many of them were read, and the lines below
--- these.
+-- The number of the first entry's line, how many entries there are to be, how many of them were read, and the lines
+-- below these.
 pub record EntriesAhead : Type 0 where
   pub first : ℕ
   pub count : ℕ
@@ -28,4 +28,6 @@ below_heading line text = then_reads (next_heading line (slice_split is_newline 
 
 -- the next entry, and what is left behind it; or the number of its line
 unfoldable pub next_of : EntriesAhead → Result (Entry × EntriesAhead) ℕ
-next_of l = then_reads (next_entry (l.first + l.read) l.read l.lines) (λ x. Ok (x.0, record l { read = l.read + 1; lines = x.1 }))
+next_of l =
+    then_reads (next_entry (l.first + l.read) l.read l.lines)
+    (λ x. Ok (x.0, record l { read = l.read + 1; lines = x.1 }))

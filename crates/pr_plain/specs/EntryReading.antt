@@ -90,13 +90,14 @@ unfoldable pub next_heading : ℕ → List (List ℕ) → Result (ℕ × List (L
 next_heading line ls =
     then_reads (or_line line (word_at ls)) (λ l. then_reads (or_line line (heading_in l.0)) (λ count. Ok (count, l.1)))
 
--- The entries from a number on, up to as many as there are to be, in lines that count from `line`; or the first line that
--- is wrong. Where the lines end too early that is the line behind the last.
+-- The entries from a number on, up to as many as there are to be, in lines that count from `line`; or the first line
+-- that is wrong. Where the lines end too early that is the line behind the last.
 unfoldable pub entries_in : ℕ → ℕ → ℕ → List (List ℕ) → Result (List Entry) ℕ
 entries_in line count n [] = if n == count then Ok [] else Err line
 entries_in line count n (l ∷ ls) =
     if n == count then Ok []
-    else then_reads (or_line line (entry_in n l)) (λ e. then_reads (entries_in (line + 1) count (n + 1) ls) (λ es. Ok (e ∷ es)))
+    else then_reads (or_line line (entry_in n l))
+    (λ e. then_reads (entries_in (line + 1) count (n + 1) ls) (λ es. Ok (e ∷ es)))
 
 -- the entries of the history that lines begin with, or the first line that is wrong
 unfoldable pub history_in : ℕ → List (List ℕ) → Result (List Entry) ℕ

@@ -1,5 +1,5 @@
--- A scenario of any size, for measurements: a program forks n children, each of which makes 20 calls, and then waits for
--- them; a truss traces all of them, but for SIGCLD.
+-- A scenario of any size, for measurements: a program forks n children, each of which makes 20 calls, and then waits
+-- for them; a truss traces all of them, but for SIGCLD.
 use Rattle.std.specs.Prelude.{ℕ, List, [], ◌∷◌, ◌++◌, codes, decimal}
 use Rattle.std.specs.List.{flat_map}
 use Rattle.pr_text.specs.TextLines.{newline}

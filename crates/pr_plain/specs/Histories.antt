@@ -28,8 +28,8 @@ pub record BeginsWith (text : List ℕ) (es : List Entry) : Type 0 where
   pub lines : lines_of text ≡ history_lines es ++ below
   pub formed : list_all has_form es ≡ true
 
--- A text is that of a history with anything behind it, or lacks only its last newline. These are the texts that begin with
--- it.
+-- A text is that of a history with anything behind it, or lacks only its last newline. These are the texts that begin
+-- with it.
 abbrev pub IsTextOf : List ℕ → List Entry → Type 0
 IsTextOf text es = ((rest : List ℕ) × (text ≡ history_text es ++ rest)) ⊎ (text ++ newline ∷ [] ≡ history_text es)
 

@@ -1,5 +1,5 @@
--- The text of a run without controllers: how many steps there are, and each on a line; then the same of the trace. What a
--- system call gave stands as in the text of a history.
+-- The text of a run without controllers: how many steps there are, and each on a line; then the same of the trace. What
+-- a system call gave stands as in the text of a history.
 use Rattle.std.specs.Prelude.{ℕ, List, [], ◌∷◌, ◌++◌, codes, decimal, length}
 use Rattle.std.specs.List.{flat_map}
 use Rattle.pr_num.specs.Faults.{fault_name}
@@ -38,4 +38,6 @@ trace_heading n = joined (codes "trace" ∷ decimal n ∷ []) ++ newline ∷ []
 
 -- steps and a trace
 unfoldable pub plain_text : List Step → List Step → List ℕ
-plain_text steps trace = plain_heading (length steps) ++ (flat_map step_text steps ++ (trace_heading (length trace) ++ flat_map step_text trace))
+plain_text steps trace =
+    plain_heading (length steps)
+    ++ (flat_map step_text steps ++ (trace_heading (length trace) ++ flat_map step_text trace))

@@ -15,8 +15,8 @@ use Rattle.pr_model.specs.declared.events.Turned.{Turned}
 use Rattle.pr_plain.specs.Readings.{◌>>=◌}
 use Rattle.pr_plain.specs.WordReading.{Words, word_at, is_done, behind_word, number_at, syscall_at, fault_at, signal_at}
 
--- What a system call gave: = and its value, an errno, or no word where the call ended its lwp. What the next word says is
--- told by that word.
+-- What a system call gave: = and its value, an errno, or no word where the call ended its lwp. What the next word says
+-- is told by that word.
 abbrev pub errno_or_ended : Option Errno → Words → Words → Res × Words
 errno_or_ended (Some e) rest ws = (Error e, rest)
 errno_or_ended None rest ws = (Ended, ws)

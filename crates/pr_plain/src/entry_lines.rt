@@ -10,8 +10,8 @@ use pr_model::Entry;
 use std::alloc::Global;
 use std::marker::Model;
 
-/// The entries of a history, of which each is read off the next line as it is asked for. Contracts see the lines that are
-/// left, the number of the first entry's line, how many entries there are to be, and how many were read.
+/// The entries of a history, of which each is read off the next line as it is asked for. Contracts see the lines that
+/// are left, the number of the first entry's line, how many entries there are to be, and how many were read.
 #[derive(Drop)]
 pub struct EntryLines<'a> {
     lines: Pieces<'a>,

@@ -14,8 +14,8 @@ const MIDDLE: &[u8] =
 const TAIL: &[u8] =
     b"\nreap:\nset r1, 0\nsys wait\nsub r4, r5\njnz r4, reap\nset r1, 0\nsys exit\nkid:\nset r2, 20\nagain:\nsys getpid\nsub r2, r5\njnz r2, again\nset r1, 0\nsys exit\nend\ntruss -f -c -s !CLD g\n";
 
-/// The scenario for so many children, of which these are the digits, in pieces that stand one behind the other. Takes no
-/// memory.
+/// The scenario for so many children, of which these are the digits, in pieces that stand one behind the other. Takes
+/// no memory.
 pub fn generated_pieces(digits: &[u8]) -> [&[u8]; 5]
     ensures { (n : ℕ) → digits.now ≡ decimal n → flat_map (λ piece. piece.now) result ≡ generated_text n }
 {

@@ -28,14 +28,16 @@ pub fn a_line_is_its_words()
 pub fn a_text_is_its_lines()
     ensures ends { (n : ℕ) (e : AnyEntry) → entry_text n e ≡ entry_line n e ++ newline ∷ [] }
     ensures within { (n : ℕ) (e : AnyEntry) → has_words e ≡ true → All (λ b. is_newline b ≡ false) (entry_line n e) }
-    ensures cut { (n : ℕ) (es : List AnyEntry) → list_all has_words es ≡ true → slice_split is_newline (entries_text n es) ≡ entry_lines n es ++ [] ∷ [] }
+    ensures cut { (n : ℕ) (es : List AnyEntry) → list_all has_words es ≡ true
+        → slice_split is_newline (entries_text n es) ≡ entry_lines n es ++ [] ∷ [] }
 {}
 
 /// The text of a history grows at its end, by the text of the new entry.
 #[tactic(auto, using(crate::proofs::LineLemmas::growing_text))]
 pub fn a_text_grows_at_its_end()
     ensures none { (n : ℕ) → entries_text n [] ≡ [] }
-    ensures longer { (n : ℕ) (es : List AnyEntry) (e : AnyEntry) → entries_text n (es ++ e ∷ []) ≡ entries_text n es ++ entry_text (n + length es) e }
+    ensures longer { (n : ℕ) (es : List AnyEntry) (e : AnyEntry)
+        → entries_text n (es ++ e ∷ []) ≡ entries_text n es ++ entry_text (n + length es) e }
 {}
 
 /// Bytes are read back from their word, and from no other word.
@@ -57,11 +59,12 @@ pub fn forms_are_told_by_their_first_word()
     ensures turns_and_times { (d : AnyDid) (n : ℕ) → first_word (did_words d) ≢ decimal n }
 {}
 
-/// The texts that begin with a history are its own text with anything behind it, and its own text without the last newline.
-/// So what is written of a history is read back.
+/// The texts that begin with a history are its own text with anything behind it, and its own text without the last
+/// newline. So what is written of a history is read back.
 #[tactic(auto, using(crate::proofs::TextLaws::texts_of_histories))]
 pub fn a_history_is_in_its_text()
     ensures whole { (es : List AnyEntry) (rest : List ℕ) → list_all has_form es ≡ true → BeginsWith (history_text es ++ rest) es }
-    ensures unended { (es : List AnyEntry) (text : List ℕ) → list_all has_form es ≡ true → text ++ newline ∷ [] ≡ history_text es → BeginsWith text es }
+    ensures unended { (es : List AnyEntry) (text : List ℕ) → list_all has_form es ≡ true → text ++ newline ∷ [] ≡ history_text es
+        → BeginsWith text es }
     ensures only { (text : List ℕ) (es : List AnyEntry) → BeginsWith text es → IsTextOf text es }
 {}

@@ -63,10 +63,10 @@ fn read_text(alloc: Global, text: &[u8], first_line: u32) -> Result<History, His
     }
 }
 
-/// The history that a text begins with: a heading that tells how many entries there are, and each entry on a line of its
-/// own, as they are written. Or the first line that is wrong, where the text's lines count from `first_line`; where the
-/// lines end too early that is the line behind the last. The last line may lack its newline, and what stands below the
-/// last entry is not looked at.
+/// The history that a text begins with: a heading that tells how many entries there are, and each entry on a line of
+/// its own, as they are written. Or the first line that is wrong, where the text's lines count from `first_line`; where
+/// the lines end too early that is the line behind the last. The last line may lack its newline, and what stands below
+/// the last entry is not looked at.
 ///
 /// Goes over the text once. Of memory it takes what the history needs, and at most twice that for handles of a poll.
 pub fn read_history(alloc: Global, text: &[u8], first_line: u32) -> Result<History, HistRefusal>

@@ -41,7 +41,9 @@ fn write_gave(
     call: Sysno,
     res: Res,
 ) -> Result<(), AllocError>
-    ensures all { OnOk result (out.new.items ≡ out.old.items ++ (lwp_text pid lwp ++ spaced (word.now ∷ syscall_name call ∷ result_words res))) }
+    ensures all { OnOk result
+        (out.new.items
+        ≡ out.old.items ++ (lwp_text pid lwp ++ spaced (word.now ∷ syscall_name call ∷ result_words res))) }
     ensures kept { StartsWith out.new.items out.old.items }
 {
     write_named(out, pid, lwp, word, call.name().as_bytes())?;

@@ -141,7 +141,8 @@ goes : (s u : ProbeState) (g : ProbeStage) (r : Reply) → u.stage ≡ g → u.o
 goes s u g r at same more nothing closes placed =
     let next : place_at (advanced u).stage ≡ place_at (stage_after g) =
     advanced-same place_at run-place release-place u ∙ ap (λ (h : ProbeStage). place_at (stage_after h)) at in
-    stays s (advanced u) g r (advanced-kept (λ t. t.opened) (λ t h. refl) u ∙ same) (omega (arith, next, more)) nothing closes placed
+    stays s (advanced u) g r (advanced-kept (λ t. t.opened) (λ t h. refl) u ∙ same)
+    (omega (arith, next, more)) nothing closes placed
 
 out-place : (g : ProbeStage) → place_at (way_out g) ≡ 6
 unfolding way_out way_out_of_trace place_at
@@ -260,39 +261,92 @@ restore-place Exits = omega arith
 
 accepted-holds : (s : ProbeState) (g : ProbeStage) (r : Reply) → (g ≡ Close → ⊥) → IsPlaced s.opened g
     → Holds (at_stage s g) g r (accepted (at_stage s g) r g)
-unfolding accepted asking_accepted with_status place_at place_of stage_after stage_opened asking_after kind_after call_of
+unfolding accepted asking_accepted with_status place_at place_of stage_after stage_opened asking_after kind_after
+    call_of
     asking_call given_by closed_by
 accepted-holds s (Open Control) r going placed = opens s Control r refl (omega arith) (omega arith) refl placed
 accepted-holds s (Open Status) r going placed = opens s Status r refl (omega arith) (omega arith) refl placed
 accepted-holds s (Open Lstatus) r going placed = opens s Lstatus r refl (omega arith) (omega arith) refl placed
 accepted-holds s (Open Map) r going placed = opens s Map r refl (omega arith) (omega arith) refl placed
-accepted-holds s (Open AgentControl) r going placed = opens s AgentControl r refl (omega arith) (omega arith) refl placed
+accepted-holds s (Open AgentControl) r going placed =
+    opens s AgentControl r refl (omega arith) (omega arith) refl placed
 accepted-holds s (Open AgentStatus) r going placed = opens s AgentStatus r refl (omega arith) (omega arith) refl placed
-accepted-holds s ReadFirst r going placed = goes (at_stage s ReadFirst) (record (at_stage s ReadFirst) { stood = process_stands (bytes_read r) }) ReadFirst r refl refl (omega arith) refl refl placed
-accepted-holds s Stop r going placed = goes (at_stage s Stop) (record (at_stage s Stop) { until = until_in r }) Stop r refl refl (omega arith) refl refl placed
-accepted-holds s AwaitStop r going placed = goes (at_stage s AwaitStop) (at_stage s AwaitStop) AwaitStop r refl refl (omega arith) refl refl placed
-accepted-holds s ReadStatus r going placed = goes (at_stage s ReadStatus) (with_status (at_stage s ReadStatus) (bytes_read r)) ReadStatus r refl refl (omega arith) refl refl placed
-accepted-holds s ReadMap r going placed = map-by (Holds (at_stage s ReadMap) ReadMap r) (at_stage s ReadMap) (bytes_read r) (λ e. refused-stays (at_stage s ReadMap) ReadMap r e refl refl placed) (goes (at_stage s ReadMap) (at_stage s ReadMap) ReadMap r refl refl (omega arith) refl refl placed)
-accepted-holds s SaveCode r going placed = goes (at_stage s SaveCode) (record (at_stage s SaveCode) { code = take code_size (bytes_read r) }) SaveCode r refl refl (omega arith) refl refl placed
-accepted-holds s SaveStack r going placed = goes (at_stage s SaveStack) (record (at_stage s SaveStack) { stack = take stack_size (bytes_read r) }) SaveStack r refl refl (omega arith) refl refl placed
-accepted-holds s (Trace k) r going placed = goes (at_stage s (Trace k)) (at_stage s (Trace k)) (Trace k) r refl refl (trace-place k) refl refl placed
-accepted-holds s MakeAgent r going placed = goes (at_stage s MakeAgent) (at_stage s MakeAgent) MakeAgent r refl refl (omega arith) refl refl placed
-accepted-holds s PlantCode r going placed = goes (at_stage s PlantCode) (at_stage s PlantCode) PlantCode r refl refl (omega arith) refl refl placed
-accepted-holds s (Asking d SetRegisters) r going placed = goes (at_stage s (Asking d SetRegisters)) (at_stage s (Asking d SetRegisters)) (Asking d SetRegisters) r refl refl (omega arith) refl refl placed
-accepted-holds s (Asking d RunAgent) r going placed = goes (at_stage s (Asking d RunAgent)) (at_stage s (Asking d RunAgent)) (Asking d RunAgent) r refl refl (omega arith) refl refl placed
-accepted-holds s (Asking d Await) r going placed = poll-by (Holds (at_stage s (Asking d Await)) (Asking d Await) r) (at_stage s (Asking d Await)) r (stays (at_stage s (Asking d Await)) (at_stage s (Asking d Await)) (Asking d Await) r refl (omega arith) refl refl placed) (goes (at_stage s (Asking d Await)) (at_stage s (Asking d Await)) (Asking d Await) r refl refl (omega arith) refl refl placed)
-accepted-holds s (Asking d ReadAgent) r going placed = answer-by (Holds (at_stage s (Asking d ReadAgent)) (Asking d ReadAgent) r) (at_stage s (Asking d ReadAgent)) d (bytes_read r) (stays (at_stage s (Asking d ReadAgent)) (at_stage (at_stage s (Asking d ReadAgent)) (Asking d ReadKind)) (Asking d ReadAgent) r refl (omega arith) refl refl placed) (stays (at_stage s (Asking d ReadAgent)) (asked (at_stage s (Asking d ReadAgent)) d) (Asking d ReadAgent) r refl (omega (arith, asked-place d)) refl refl placed)
-accepted-holds s (Asking d ReadKind) r going placed = stays (at_stage s (Asking d ReadKind)) (asked (with_kind (at_stage s (Asking d ReadKind)) d (kind_in (bytes_read r))) d) (Asking d ReadKind) r (kind-kept (λ t. t.opened) (λ t lines. refl) (at_stage s (Asking d ReadKind)) d (kind_in (bytes_read r))) (omega (arith, asked-place d)) refl refl placed
-accepted-holds s UntraceExits r going placed = goes (at_stage s UntraceExits) (at_stage s UntraceExits) UntraceExits r refl refl (omega arith) refl refl placed
-accepted-holds s SetExit r going placed = goes (at_stage s SetExit) (at_stage s SetExit) SetExit r refl refl (omega arith) refl refl placed
-accepted-holds s RunExit r going placed = goes (at_stage s RunExit) (at_stage s RunExit) RunExit r refl refl (omega arith) refl refl placed
-accepted-holds s AwaitExit r going placed = poll-by (Holds (at_stage s AwaitExit) AwaitExit r) (at_stage s AwaitExit) r (stays (at_stage s AwaitExit) (at_stage s AwaitExit) AwaitExit r refl (omega arith) refl refl placed) (goes (at_stage s AwaitExit) (at_stage s AwaitExit) AwaitExit r refl refl (omega arith) refl refl placed)
-accepted-holds s WriteCode r going placed = goes (at_stage s WriteCode) (at_stage s WriteCode) WriteCode r refl refl (omega arith) refl refl placed
-accepted-holds s WriteStack r going placed = goes (at_stage s WriteStack) (at_stage s WriteStack) WriteStack r refl refl (omega arith) refl refl placed
-accepted-holds s (Retrace k) r going placed = goes (at_stage s (Retrace k)) (at_stage s (Retrace k)) (Retrace k) r refl refl (retrace-place k) refl refl placed
-accepted-holds s Run r going placed = goes (at_stage s Run) (at_stage s Run) Run r refl refl (omega arith) refl refl placed
-accepted-holds s (Restore k) r going placed = goes (at_stage s (Restore k)) (at_stage s (Restore k)) (Restore k) r refl refl (restore-place k) refl refl placed
-accepted-holds s Release r going placed = goes (at_stage s Release) (at_stage s Release) Release r refl refl (omega arith) refl refl placed
+accepted-holds s ReadFirst r going placed =
+    goes (at_stage s ReadFirst)
+    (record (at_stage s ReadFirst) { stood = process_stands (bytes_read r) }) ReadFirst r refl refl
+    (omega arith) refl refl placed
+accepted-holds s Stop r going placed =
+    goes (at_stage s Stop) (record (at_stage s Stop) { until = until_in r }) Stop r refl refl
+    (omega arith) refl refl placed
+accepted-holds s AwaitStop r going placed =
+    goes (at_stage s AwaitStop) (at_stage s AwaitStop) AwaitStop r refl refl (omega arith) refl refl placed
+accepted-holds s ReadStatus r going placed =
+    goes (at_stage s ReadStatus) (with_status (at_stage s ReadStatus) (bytes_read r)) ReadStatus r refl refl
+    (omega arith) refl refl placed
+accepted-holds s ReadMap r going placed =
+    map-by (Holds (at_stage s ReadMap) ReadMap r) (at_stage s ReadMap) (bytes_read r)
+    (λ e. refused-stays (at_stage s ReadMap) ReadMap r e refl refl placed)
+    (goes (at_stage s ReadMap) (at_stage s ReadMap) ReadMap r refl refl (omega arith) refl refl placed)
+accepted-holds s SaveCode r going placed =
+    goes (at_stage s SaveCode)
+    (record (at_stage s SaveCode) { code = take code_size (bytes_read r) }) SaveCode r refl refl
+    (omega arith) refl refl placed
+accepted-holds s SaveStack r going placed =
+    goes (at_stage s SaveStack)
+    (record (at_stage s SaveStack) { stack = take stack_size (bytes_read r) }) SaveStack r refl refl
+    (omega arith) refl refl placed
+accepted-holds s (Trace k) r going placed =
+    goes (at_stage s (Trace k)) (at_stage s (Trace k)) (Trace k) r refl refl (trace-place k) refl refl placed
+accepted-holds s MakeAgent r going placed =
+    goes (at_stage s MakeAgent) (at_stage s MakeAgent) MakeAgent r refl refl (omega arith) refl refl placed
+accepted-holds s PlantCode r going placed =
+    goes (at_stage s PlantCode) (at_stage s PlantCode) PlantCode r refl refl (omega arith) refl refl placed
+accepted-holds s (Asking d SetRegisters) r going placed =
+    goes (at_stage s (Asking d SetRegisters)) (at_stage s (Asking d SetRegisters)) (Asking d SetRegisters) r refl refl
+    (omega arith) refl refl placed
+accepted-holds s (Asking d RunAgent) r going placed =
+    goes (at_stage s (Asking d RunAgent)) (at_stage s (Asking d RunAgent)) (Asking d RunAgent) r refl refl
+    (omega arith) refl refl placed
+accepted-holds s (Asking d Await) r going placed =
+    poll-by (Holds (at_stage s (Asking d Await)) (Asking d Await) r) (at_stage s (Asking d Await)) r
+    (stays (at_stage s (Asking d Await)) (at_stage s (Asking d Await)) (Asking d Await) r refl
+    (omega arith) refl refl placed)
+    (goes (at_stage s (Asking d Await)) (at_stage s (Asking d Await)) (Asking d Await) r refl refl
+    (omega arith) refl refl placed)
+accepted-holds s (Asking d ReadAgent) r going placed =
+    answer-by (Holds (at_stage s (Asking d ReadAgent)) (Asking d ReadAgent) r) (at_stage s (Asking d ReadAgent)) d
+    (bytes_read r)
+    (stays (at_stage s (Asking d ReadAgent)) (at_stage (at_stage s (Asking d ReadAgent)) (Asking d ReadKind))
+    (Asking d ReadAgent) r refl (omega arith) refl refl placed)
+    (stays (at_stage s (Asking d ReadAgent)) (asked (at_stage s (Asking d ReadAgent)) d) (Asking d ReadAgent) r refl
+    (omega (arith, asked-place d)) refl refl placed)
+accepted-holds s (Asking d ReadKind) r going placed =
+    stays (at_stage s (Asking d ReadKind))
+    (asked (with_kind (at_stage s (Asking d ReadKind)) d (kind_in (bytes_read r))) d) (Asking d ReadKind) r
+    (kind-kept (λ t. t.opened) (λ t lines. refl) (at_stage s (Asking d ReadKind)) d (kind_in (bytes_read r)))
+    (omega (arith, asked-place d)) refl refl placed
+accepted-holds s UntraceExits r going placed =
+    goes (at_stage s UntraceExits) (at_stage s UntraceExits) UntraceExits r refl refl (omega arith) refl refl placed
+accepted-holds s SetExit r going placed =
+    goes (at_stage s SetExit) (at_stage s SetExit) SetExit r refl refl (omega arith) refl refl placed
+accepted-holds s RunExit r going placed =
+    goes (at_stage s RunExit) (at_stage s RunExit) RunExit r refl refl (omega arith) refl refl placed
+accepted-holds s AwaitExit r going placed =
+    poll-by (Holds (at_stage s AwaitExit) AwaitExit r) (at_stage s AwaitExit) r
+    (stays (at_stage s AwaitExit) (at_stage s AwaitExit) AwaitExit r refl (omega arith) refl refl placed)
+    (goes (at_stage s AwaitExit) (at_stage s AwaitExit) AwaitExit r refl refl (omega arith) refl refl placed)
+accepted-holds s WriteCode r going placed =
+    goes (at_stage s WriteCode) (at_stage s WriteCode) WriteCode r refl refl (omega arith) refl refl placed
+accepted-holds s WriteStack r going placed =
+    goes (at_stage s WriteStack) (at_stage s WriteStack) WriteStack r refl refl (omega arith) refl refl placed
+accepted-holds s (Retrace k) r going placed =
+    goes (at_stage s (Retrace k)) (at_stage s (Retrace k)) (Retrace k) r refl refl (retrace-place k) refl refl placed
+accepted-holds s Run r going placed =
+    goes (at_stage s Run) (at_stage s Run) Run r refl refl (omega arith) refl refl placed
+accepted-holds s (Restore k) r going placed =
+    goes (at_stage s (Restore k)) (at_stage s (Restore k)) (Restore k) r refl refl (restore-place k) refl refl placed
+accepted-holds s Release r going placed =
+    goes (at_stage s Release) (at_stage s Release) Release r refl refl (omega arith) refl refl placed
 accepted-holds s Close r going placed = absurd (going refl)
 
 -- what fails gives no handle
@@ -333,7 +387,8 @@ closes-nothing s (Restore k) going = refl
 closes-nothing s Release going = refl
 closes-nothing s Close going = absurd (going refl)
 
-pub fed-holds : (s : ProbeState) (r : Reply) → (s.stage ≡ Close → ⊥) → IsPlaced s.opened s.stage → Holds s s.stage r (fed s r)
+pub fed-holds : (s : ProbeState) (r : Reply) → (s.stage ≡ Close → ⊥) → IsPlaced s.opened s.stage
+    → Holds s s.stage r (fed s r)
 fed-holds s r going placed =
     fed-by (Holds s s.stage r) s r (λ e is. refuses e is) (λ is. accepted-holds s s.stage r going placed)
   where
@@ -365,20 +420,24 @@ shuts-by s zero none placed =
     let last : places_to_last hs - 1 ≡ 0 = omega (arith, none) in
     let bare : get_or hs 0 None ≡ None = first-none hs none in
     let shut : closed_by (option_map call.Close (get_or hs (places_to_last hs - 1) None)) ≡ [] = rw (last, bare) refl in
-    let unset : held (slice_set hs (places_to_last hs - 1) None) ≡ held hs = held-unset hs (places_to_last hs - 1) (omega (arith, none)) in
+    let unset : held (slice_set hs (places_to_last hs - 1) None) ≡ held hs =
+    held-unset hs (places_to_last hs - 1) (omega (arith, none)) in
     record {
       stage = refl;
       placed = record {
         few = omega (arith, none, places-set hs (places_to_last hs - 1) None (omega (arith, none)));
         room = length-set hs (places_to_last hs - 1) None ∙ placed.room;
       };
-      held_is = sym (ap (λ (xs : List ℕ). held (slice_set hs (places_to_last hs - 1) None) ++ xs) shut ∙ append-nil _ ∙ unset);
+      held_is =
+          sym (ap (λ (xs : List ℕ). held (slice_set hs (places_to_last hs - 1) None) ++ xs) shut ∙ append-nil _
+          ∙ unset);
     }
 shuts-by s (suc n) some placed =
     let hs = s.opened.handles in
     let last = has-last hs n some in
     let place : places_to_last hs - 1 ≡ n = omega (arith, some) in
-    let shut : closed_by (option_map call.Close (get_or hs (places_to_last hs - 1) None)) ≡ last.handle ∷ [] = rw (place, last.there) refl in
+    let shut : closed_by (option_map call.Close (get_or hs (places_to_last hs - 1) None)) ≡ last.handle ∷ [] =
+    rw (place, last.there) refl in
     record {
       stage = refl;
       placed = record {
@@ -390,7 +449,8 @@ shuts-by s (suc n) some placed =
           ∙ ap (λ (xs : List ℕ). held (slice_set hs (places_to_last hs - 1) None) ++ xs) (sym shut);
     }
 
-pub close-shuts : (s : ProbeState) (r : Reply) → IsPlaced s.opened Close → Shuts (at_stage s Close) (fed (at_stage s Close) r)
+pub close-shuts : (s : ProbeState) (r : Reply) → IsPlaced s.opened Close
+    → Shuts (at_stage s Close) (fed (at_stage s Close) r)
 unfolding fed accepted
 close-shuts s r placed = rw (close-passes r) (shuts-by (at_stage s Close) (places_to_last s.opened.handles) refl placed)
 
@@ -439,12 +499,15 @@ ended-none s ended = of (places_to_last s.opened.handles) refl
     of (suc n) some =
         let last = has-last s.opened.handles n some in
         let place : places_to_last s.opened.handles - 1 ≡ n = omega (arith, some) in
-        let there : get_or s.opened.handles (places_to_last s.opened.handles - 1) None ≡ Some last.handle = rw place last.there in
-        let shown : is_none (option_map call.Close (get_or s.opened.handles (places_to_last s.opened.handles - 1) None)) ≡ false = rw there refl in
+        let there : get_or s.opened.handles (places_to_last s.opened.handles - 1) None ≡ Some last.handle =
+        rw place last.there in
+        let shown : is_none (option_map call.Close (get_or s.opened.handles (places_to_last s.opened.handles - 1) None))
+        ≡ false = rw there refl in
         let both : false ≡ true = sym shown ∙ ended in
         absurd cc
 
-closes-all : (s : ProbeState) (rs : List Reply) → IsPlaced s.opened Close → has_ended (fed_all (at_stage s Close) rs) ≡ true
+closes-all : (s : ProbeState) (rs : List Reply) → IsPlaced s.opened Close
+    → has_ended (fed_all (at_stage s Close) rs) ≡ true
     → ClosesAll (at_stage s Close) rs
 unfolding fed_all handles_given handles_closed gathered next_call_of call_of
 closes-all s [] placed ended = record { given = refl; closed = sym (ap reverse (ended-none s ended)) }
@@ -509,7 +572,9 @@ closing-closed s r rs at placed ended =
     let later : ClosesAll (at_stage s Close) (r ∷ rs) =
     closes-all s (r ∷ rs) here (ap (λ (v : ProbeState). has_ended (fed_all (fed v r) rs)) is ∙ ended) in
     let all : ClosesAll s (r ∷ rs) = subst (λ (v : ProbeState). ClosesAll v (r ∷ rs)) is later in
-    all.closed ∙ ap reverse (sym (ap (λ (xs : List ℕ). held s.opened.handles ++ xs) all.given ∙ append-nil (held s.opened.handles)))
+    all.closed
+    ∙ ap reverse
+    (sym (ap (λ (xs : List ℕ). held s.opened.handles ++ xs) all.given ∙ append-nil (held s.opened.handles)))
 
 -- each handle that is open or was given is closed
 all-closed : (s : ProbeState) (rs : List Reply) → IsPlaced s.opened s.stage → has_ended (fed_all s rs) ≡ true
@@ -533,7 +598,8 @@ all-closed s (r ∷ rs) placed ended = of (all-closed (fed s r) rs) (is_close s.
         ap (λ (xs : List ℕ). xs ++ handles_closed (fed s r) rs) holds.closed
         ∙ later holds.placed ended
         ∙ ap (λ (xs : List ℕ). reverse (xs ++ handles_given (fed s r) rs)) holds.given
-        ∙ ap reverse (append_assoc (held s.opened.handles) (given_by (call_of s s.stage) r) (handles_given (fed s r) rs))
+        ∙ ap reverse
+        (append_assoc (held s.opened.handles) (given_by (call_of s s.stage) r) (handles_given (fed s r) rs))
 
 pub first-placed : (pid : ℕ) → IsPlaced (first_probe pid).opened (first_probe pid).stage
 unfolding first_probe nothing_open places_to_last place_at

@@ -168,32 +168,86 @@ Keeps s g r t = t.refusal ≡ None → Goes s g r t.stage t.code
 
 accepted-keeps : (s : ProbeState) (g : ProbeStage) (r : Reply) → Keeps (at_stage s g) g r (accepted (at_stage s g) r g)
 unfolding accepted asking_accepted with_status kept
-accepted-keeps s (Open f) r = λ none. advanced-goes (at_stage s (Open f)) _ (Open f) r refl (keeps-plain (at_stage s (Open f)) (Open f) r refl)
-accepted-keeps s ReadFirst r = λ none. advanced-goes (at_stage s ReadFirst) _ ReadFirst r refl (keeps-plain (at_stage s ReadFirst) ReadFirst r refl)
-accepted-keeps s Stop r = λ none. advanced-goes (at_stage s Stop) _ Stop r refl (keeps-plain (at_stage s Stop) Stop r refl)
-accepted-keeps s AwaitStop r = λ none. advanced-goes (at_stage s AwaitStop) _ AwaitStop r refl (keeps-plain (at_stage s AwaitStop) AwaitStop r refl)
-accepted-keeps s ReadStatus r = λ none. advanced-goes (at_stage s ReadStatus) _ ReadStatus r refl (keeps-plain (at_stage s ReadStatus) ReadStatus r refl)
-accepted-keeps s ReadMap r = map-by (Keeps (at_stage s ReadMap) ReadMap r) (at_stage s ReadMap) (bytes_read r) (λ e none. not-refused (at_stage s ReadMap) e none) (λ none. advanced-goes (at_stage s ReadMap) (at_stage s ReadMap) ReadMap r refl (keeps-plain (at_stage s ReadMap) ReadMap r refl))
-accepted-keeps s SaveCode r = λ none. advanced-goes (at_stage s SaveCode) _ SaveCode r refl (code-saved (at_stage s SaveCode) r)
-accepted-keeps s SaveStack r = λ none. advanced-goes (at_stage s SaveStack) _ SaveStack r refl (keeps-plain (at_stage s SaveStack) SaveStack r refl)
-accepted-keeps s (Trace k) r = λ none. advanced-goes (at_stage s (Trace k)) _ (Trace k) r refl (keeps-plain (at_stage s (Trace k)) (Trace k) r refl)
-accepted-keeps s MakeAgent r = λ none. advanced-goes (at_stage s MakeAgent) _ MakeAgent r refl (keeps-plain (at_stage s MakeAgent) MakeAgent r refl)
-accepted-keeps s PlantCode r = λ none. advanced-goes (at_stage s PlantCode) _ PlantCode r refl (keeps-plain (at_stage s PlantCode) PlantCode r refl)
-accepted-keeps s (Asking d SetRegisters) r = λ none. advanced-goes (at_stage s (Asking d SetRegisters)) _ (Asking d SetRegisters) r refl (keeps-plain (at_stage s (Asking d SetRegisters)) (Asking d SetRegisters) r refl)
-accepted-keeps s (Asking d RunAgent) r = λ none. advanced-goes (at_stage s (Asking d RunAgent)) _ (Asking d RunAgent) r refl (keeps-plain (at_stage s (Asking d RunAgent)) (Asking d RunAgent) r refl)
-accepted-keeps s (Asking d Await) r = poll-by (Keeps (at_stage s (Asking d Await)) (Asking d Await) r) (at_stage s (Asking d Await)) r (λ none. again-goes (at_stage s (Asking d Await)) d r) (λ none. advanced-goes (at_stage s (Asking d Await)) (at_stage s (Asking d Await)) (Asking d Await) r refl (keeps-plain (at_stage s (Asking d Await)) (Asking d Await) r refl))
-accepted-keeps s (Asking d ReadAgent) r = answer-by (Keeps (at_stage s (Asking d ReadAgent)) (Asking d ReadAgent) r) (at_stage s (Asking d ReadAgent)) d (bytes_read r) (λ none. found-goes (at_stage s (Asking d ReadAgent)) d r) (λ none. shut-goes (at_stage s (Asking d ReadAgent)) d r)
-accepted-keeps s (Asking d ReadKind) r = λ none. kind-goes (at_stage s (Asking d ReadKind)) d r _ (kind-kept (λ t. t.code) (λ t lines. refl) (at_stage s (Asking d ReadKind)) d (kind_in (bytes_read r)))
-accepted-keeps s UntraceExits r = λ none. advanced-goes (at_stage s UntraceExits) _ UntraceExits r refl (keeps-plain (at_stage s UntraceExits) UntraceExits r refl)
-accepted-keeps s SetExit r = λ none. advanced-goes (at_stage s SetExit) _ SetExit r refl (keeps-plain (at_stage s SetExit) SetExit r refl)
-accepted-keeps s RunExit r = λ none. advanced-goes (at_stage s RunExit) _ RunExit r refl (keeps-plain (at_stage s RunExit) RunExit r refl)
-accepted-keeps s AwaitExit r = poll-by (Keeps (at_stage s AwaitExit) AwaitExit r) (at_stage s AwaitExit) r (λ none. exit-goes (at_stage s AwaitExit) r) (λ none. advanced-goes (at_stage s AwaitExit) (at_stage s AwaitExit) AwaitExit r refl (keeps-plain (at_stage s AwaitExit) AwaitExit r refl))
-accepted-keeps s WriteCode r = λ none. advanced-goes (at_stage s WriteCode) _ WriteCode r refl (keeps-plain (at_stage s WriteCode) WriteCode r refl)
-accepted-keeps s WriteStack r = λ none. advanced-goes (at_stage s WriteStack) _ WriteStack r refl (keeps-plain (at_stage s WriteStack) WriteStack r refl)
-accepted-keeps s (Retrace k) r = λ none. advanced-goes (at_stage s (Retrace k)) _ (Retrace k) r refl (keeps-plain (at_stage s (Retrace k)) (Retrace k) r refl)
+accepted-keeps s (Open f) r =
+    λ none. advanced-goes (at_stage s (Open f)) _ (Open f) r refl (keeps-plain (at_stage s (Open f)) (Open f) r refl)
+accepted-keeps s ReadFirst r =
+    λ none. advanced-goes (at_stage s ReadFirst) _ ReadFirst r refl
+    (keeps-plain (at_stage s ReadFirst) ReadFirst r refl)
+accepted-keeps s Stop r =
+    λ none. advanced-goes (at_stage s Stop) _ Stop r refl (keeps-plain (at_stage s Stop) Stop r refl)
+accepted-keeps s AwaitStop r =
+    λ none. advanced-goes (at_stage s AwaitStop) _ AwaitStop r refl
+    (keeps-plain (at_stage s AwaitStop) AwaitStop r refl)
+accepted-keeps s ReadStatus r =
+    λ none. advanced-goes (at_stage s ReadStatus) _ ReadStatus r refl
+    (keeps-plain (at_stage s ReadStatus) ReadStatus r refl)
+accepted-keeps s ReadMap r =
+    map-by (Keeps (at_stage s ReadMap) ReadMap r) (at_stage s ReadMap) (bytes_read r)
+    (λ e none. not-refused (at_stage s ReadMap) e none)
+    (λ none.
+    advanced-goes (at_stage s ReadMap) (at_stage s ReadMap) ReadMap r refl
+    (keeps-plain (at_stage s ReadMap) ReadMap r refl))
+accepted-keeps s SaveCode r =
+    λ none. advanced-goes (at_stage s SaveCode) _ SaveCode r refl (code-saved (at_stage s SaveCode) r)
+accepted-keeps s SaveStack r =
+    λ none. advanced-goes (at_stage s SaveStack) _ SaveStack r refl
+    (keeps-plain (at_stage s SaveStack) SaveStack r refl)
+accepted-keeps s (Trace k) r =
+    λ none. advanced-goes (at_stage s (Trace k)) _ (Trace k) r refl
+    (keeps-plain (at_stage s (Trace k)) (Trace k) r refl)
+accepted-keeps s MakeAgent r =
+    λ none. advanced-goes (at_stage s MakeAgent) _ MakeAgent r refl
+    (keeps-plain (at_stage s MakeAgent) MakeAgent r refl)
+accepted-keeps s PlantCode r =
+    λ none. advanced-goes (at_stage s PlantCode) _ PlantCode r refl
+    (keeps-plain (at_stage s PlantCode) PlantCode r refl)
+accepted-keeps s (Asking d SetRegisters) r =
+    λ none. advanced-goes (at_stage s (Asking d SetRegisters)) _ (Asking d SetRegisters) r refl
+    (keeps-plain (at_stage s (Asking d SetRegisters)) (Asking d SetRegisters) r refl)
+accepted-keeps s (Asking d RunAgent) r =
+    λ none. advanced-goes (at_stage s (Asking d RunAgent)) _ (Asking d RunAgent) r refl
+    (keeps-plain (at_stage s (Asking d RunAgent)) (Asking d RunAgent) r refl)
+accepted-keeps s (Asking d Await) r =
+    poll-by (Keeps (at_stage s (Asking d Await)) (Asking d Await) r) (at_stage s (Asking d Await)) r
+    (λ none. again-goes (at_stage s (Asking d Await)) d r)
+    (λ none.
+    advanced-goes (at_stage s (Asking d Await)) (at_stage s (Asking d Await)) (Asking d Await) r refl
+    (keeps-plain (at_stage s (Asking d Await)) (Asking d Await) r refl))
+accepted-keeps s (Asking d ReadAgent) r =
+    answer-by (Keeps (at_stage s (Asking d ReadAgent)) (Asking d ReadAgent) r) (at_stage s (Asking d ReadAgent)) d
+    (bytes_read r) (λ none. found-goes (at_stage s (Asking d ReadAgent)) d r)
+    (λ none. shut-goes (at_stage s (Asking d ReadAgent)) d r)
+accepted-keeps s (Asking d ReadKind) r =
+    λ none. kind-goes (at_stage s (Asking d ReadKind)) d r _
+    (kind-kept (λ t. t.code) (λ t lines. refl) (at_stage s (Asking d ReadKind)) d (kind_in (bytes_read r)))
+accepted-keeps s UntraceExits r =
+    λ none. advanced-goes (at_stage s UntraceExits) _ UntraceExits r refl
+    (keeps-plain (at_stage s UntraceExits) UntraceExits r refl)
+accepted-keeps s SetExit r =
+    λ none. advanced-goes (at_stage s SetExit) _ SetExit r refl (keeps-plain (at_stage s SetExit) SetExit r refl)
+accepted-keeps s RunExit r =
+    λ none. advanced-goes (at_stage s RunExit) _ RunExit r refl (keeps-plain (at_stage s RunExit) RunExit r refl)
+accepted-keeps s AwaitExit r =
+    poll-by (Keeps (at_stage s AwaitExit) AwaitExit r) (at_stage s AwaitExit) r
+    (λ none. exit-goes (at_stage s AwaitExit) r)
+    (λ none.
+    advanced-goes (at_stage s AwaitExit) (at_stage s AwaitExit) AwaitExit r refl
+    (keeps-plain (at_stage s AwaitExit) AwaitExit r refl))
+accepted-keeps s WriteCode r =
+    λ none. advanced-goes (at_stage s WriteCode) _ WriteCode r refl
+    (keeps-plain (at_stage s WriteCode) WriteCode r refl)
+accepted-keeps s WriteStack r =
+    λ none. advanced-goes (at_stage s WriteStack) _ WriteStack r refl
+    (keeps-plain (at_stage s WriteStack) WriteStack r refl)
+accepted-keeps s (Retrace k) r =
+    λ none. advanced-goes (at_stage s (Retrace k)) _ (Retrace k) r refl
+    (keeps-plain (at_stage s (Retrace k)) (Retrace k) r refl)
 accepted-keeps s Run r = λ none. advanced-goes (at_stage s Run) _ Run r refl (keeps-plain (at_stage s Run) Run r refl)
-accepted-keeps s (Restore k) r = λ none. advanced-goes (at_stage s (Restore k)) _ (Restore k) r refl (keeps-plain (at_stage s (Restore k)) (Restore k) r refl)
-accepted-keeps s Release r = λ none. advanced-goes (at_stage s Release) _ Release r refl (keeps-plain (at_stage s Release) Release r refl)
+accepted-keeps s (Restore k) r =
+    λ none. advanced-goes (at_stage s (Restore k)) _ (Restore k) r refl
+    (keeps-plain (at_stage s (Restore k)) (Restore k) r refl)
+accepted-keeps s Release r =
+    λ none. advanced-goes (at_stage s Release) _ Release r refl (keeps-plain (at_stage s Release) Release r refl)
 accepted-keeps s Close r = λ none. close-goes (at_stage s Close) r
 
 fed-keeps : (s : ProbeState) (r : Reply) → Keeps s s.stage r (fed s r)

@@ -195,7 +195,8 @@ unfolding stage_asked calls_at
 asked-none d none = rw none (omega arith)
 
 asked-calls : (d : ℕ) → calls_at (stage_asked d) + 1 ≤ 11 + 5 * (63 - d) + 1
-asked-calls d = elim (cases_Bool (nat_lt d (descriptor_limit - 1))) [ inl more ↦ asked-more d more | inr none ↦ asked-none d none ]
+asked-calls d =
+    elim (cases_Bool (nat_lt d (descriptor_limit - 1))) [ inl more ↦ asked-more d more | inr none ↦ asked-none d none ]
 
 after-calls : (g : ProbeStage) → is_close g ≡ false → calls_at (stage_after g) + 1 ≤ calls_at g
 unfolding stage_after stage_opened asking_after kind_after calls_at is_close
@@ -245,7 +246,8 @@ advanced-fewer : (u : ProbeState) (g : ProbeStage) → u.stage ≡ g → is_clos
 unfolding advanced
 advanced-fewer u g at goes =
     let next = next-calls u (stage_after u.stage) in
-    let same : calls_at (stage_after u.stage) ≡ calls_at (stage_after g) = ap (λ (h : ProbeStage). calls_at (stage_after h)) at in
+    let same : calls_at (stage_after u.stage) ≡ calls_at (stage_after g) =
+    ap (λ (h : ProbeStage). calls_at (stage_after h)) at in
     omega (arith, next, same, after-calls g goes)
 
 -- a refusal
@@ -325,7 +327,8 @@ passes g e none = of (is_passed_over g e) refl none
     of false is passed = absurd cc
 
 -- what fails and does not refuse a wait is an interrupt
-only-interrupts : (g : ProbeStage) (r : Reply) → ((e : Errno) → is_passed_over g e ≡ is_interrupt e) → refusal_in g r ≡ None
+only-interrupts : (g : ProbeStage) (r : Reply) → ((e : Errno) → is_passed_over g e ≡ is_interrupt e)
+    → refusal_in g r ≡ None
     → (e : Errno) → r ≡ reply.Fail e → e ≡ Intr
 only-interrupts g r waits none e is =
     let passed : refusal_in g (reply.Fail e) ≡ None = ap (refusal_in g) (sym is) ∙ none in
@@ -357,29 +360,44 @@ exit-interrupts : (e : Errno) → is_passed_over AwaitExit e ≡ is_interrupt e
 unfolding is_passed_over
 exit-interrupts e = refl
 
-accepted-fewer : (s : ProbeState) (g : ProbeStage) (r : Reply) → is_close g ≡ false → IsNoInterrupt r → refusal_in g r ≡ None
+accepted-fewer : (s : ProbeState) (g : ProbeStage) (r : Reply) → is_close g ≡ false → IsNoInterrupt r
+    → refusal_in g r ≡ None
     → Fewer g (accepted (at_stage s g) r g)
 unfolding accepted asking_accepted with_status is_close
 accepted-fewer s (Open f) r goes calm none = advanced-fewer (with_opened (at_stage s (Open f)) f r) (Open f) refl refl
-accepted-fewer s ReadFirst r goes calm none = advanced-fewer (record (at_stage s ReadFirst) { stood = process_stands (bytes_read r) }) ReadFirst refl refl
+accepted-fewer s ReadFirst r goes calm none =
+    advanced-fewer (record (at_stage s ReadFirst) { stood = process_stands (bytes_read r) }) ReadFirst refl refl
 accepted-fewer s Stop r goes calm none = advanced-fewer (record (at_stage s Stop) { until = until_in r }) Stop refl refl
 accepted-fewer s AwaitStop r goes calm none = advanced-fewer (at_stage s AwaitStop) AwaitStop refl refl
-accepted-fewer s ReadStatus r goes calm none = advanced-fewer (with_status (at_stage s ReadStatus) (bytes_read r)) ReadStatus refl refl
-accepted-fewer s ReadMap r goes calm none = map-by (Fewer ReadMap) (at_stage s ReadMap) (bytes_read r) (λ e. map-fewer (at_stage s ReadMap) e refl) (advanced-fewer (at_stage s ReadMap) ReadMap refl refl)
-accepted-fewer s SaveCode r goes calm none = advanced-fewer (record (at_stage s SaveCode) { code = take code_size (bytes_read r) }) SaveCode refl refl
-accepted-fewer s SaveStack r goes calm none = advanced-fewer (record (at_stage s SaveStack) { stack = take stack_size (bytes_read r) }) SaveStack refl refl
+accepted-fewer s ReadStatus r goes calm none =
+    advanced-fewer (with_status (at_stage s ReadStatus) (bytes_read r)) ReadStatus refl refl
+accepted-fewer s ReadMap r goes calm none =
+    map-by (Fewer ReadMap) (at_stage s ReadMap) (bytes_read r) (λ e. map-fewer (at_stage s ReadMap) e refl)
+    (advanced-fewer (at_stage s ReadMap) ReadMap refl refl)
+accepted-fewer s SaveCode r goes calm none =
+    advanced-fewer (record (at_stage s SaveCode) { code = take code_size (bytes_read r) }) SaveCode refl refl
+accepted-fewer s SaveStack r goes calm none =
+    advanced-fewer (record (at_stage s SaveStack) { stack = take stack_size (bytes_read r) }) SaveStack refl refl
 accepted-fewer s (Trace k) r goes calm none = advanced-fewer (at_stage s (Trace k)) (Trace k) refl refl
 accepted-fewer s MakeAgent r goes calm none = advanced-fewer (at_stage s MakeAgent) MakeAgent refl refl
 accepted-fewer s PlantCode r goes calm none = advanced-fewer (at_stage s PlantCode) PlantCode refl refl
-accepted-fewer s (Asking d SetRegisters) r goes calm none = advanced-fewer (at_stage s (Asking d SetRegisters)) (Asking d SetRegisters) refl refl
-accepted-fewer s (Asking d RunAgent) r goes calm none = advanced-fewer (at_stage s (Asking d RunAgent)) (Asking d RunAgent) refl refl
-accepted-fewer s (Asking d Await) r goes calm none = poll-fewer (at_stage s (Asking d Await)) r (Asking d Await) refl refl calm (only-interrupts (Asking d Await) r (λ e. wait-interrupts d e) none)
-accepted-fewer s (Asking d ReadAgent) r goes calm none = answer-by (Fewer (Asking d ReadAgent)) (at_stage s (Asking d ReadAgent)) d (bytes_read r) (found-fewer (at_stage s (Asking d ReadAgent)) d) (shut-fewer (at_stage s (Asking d ReadAgent)) d)
-accepted-fewer s (Asking d ReadKind) r goes calm none = kind-fewer (with_kind (at_stage s (Asking d ReadKind)) d (kind_in (bytes_read r))) d
+accepted-fewer s (Asking d SetRegisters) r goes calm none =
+    advanced-fewer (at_stage s (Asking d SetRegisters)) (Asking d SetRegisters) refl refl
+accepted-fewer s (Asking d RunAgent) r goes calm none =
+    advanced-fewer (at_stage s (Asking d RunAgent)) (Asking d RunAgent) refl refl
+accepted-fewer s (Asking d Await) r goes calm none =
+    poll-fewer (at_stage s (Asking d Await)) r (Asking d Await) refl refl calm
+    (only-interrupts (Asking d Await) r (λ e. wait-interrupts d e) none)
+accepted-fewer s (Asking d ReadAgent) r goes calm none =
+    answer-by (Fewer (Asking d ReadAgent)) (at_stage s (Asking d ReadAgent)) d (bytes_read r)
+    (found-fewer (at_stage s (Asking d ReadAgent)) d) (shut-fewer (at_stage s (Asking d ReadAgent)) d)
+accepted-fewer s (Asking d ReadKind) r goes calm none =
+    kind-fewer (with_kind (at_stage s (Asking d ReadKind)) d (kind_in (bytes_read r))) d
 accepted-fewer s UntraceExits r goes calm none = advanced-fewer (at_stage s UntraceExits) UntraceExits refl refl
 accepted-fewer s SetExit r goes calm none = advanced-fewer (at_stage s SetExit) SetExit refl refl
 accepted-fewer s RunExit r goes calm none = advanced-fewer (at_stage s RunExit) RunExit refl refl
-accepted-fewer s AwaitExit r goes calm none = poll-fewer (at_stage s AwaitExit) r AwaitExit refl refl calm (only-interrupts AwaitExit r exit-interrupts none)
+accepted-fewer s AwaitExit r goes calm none =
+    poll-fewer (at_stage s AwaitExit) r AwaitExit refl refl calm (only-interrupts AwaitExit r exit-interrupts none)
 accepted-fewer s WriteCode r goes calm none = advanced-fewer (at_stage s WriteCode) WriteCode refl refl
 accepted-fewer s WriteStack r goes calm none = advanced-fewer (at_stage s WriteStack) WriteStack refl refl
 accepted-fewer s (Retrace k) r goes calm none = advanced-fewer (at_stage s (Retrace k)) (Retrace k) refl refl
@@ -425,7 +443,8 @@ goes-fewer s r placed calm goes =
     let after = (fed-holds s r (not-close s.stage goes) placed).placed in
     omega (arith, fewer, closes-few (fed s r).opened (fed s r).stage after, closes-six s.opened s.stage goes)
 
-left-fewer : (s : ProbeState) (r : Reply) → IsPlaced s.opened s.stage → IsNoInterrupt r → calls_left (fed s r) ≤ calls_left s - 1
+left-fewer : (s : ProbeState) (r : Reply) → IsPlaced s.opened s.stage → IsNoInterrupt r
+    → calls_left (fed s r) ≤ calls_left s - 1
 left-fewer s r placed calm = of (is_close s.stage) refl
   where
     of : (b : Bool) → is_close s.stage ≡ b → calls_left (fed s r) ≤ calls_left s - 1
@@ -482,7 +501,8 @@ none-by s g at none = of (is_close s.stage) refl
 none-left : (s : ProbeState) → calls_left s ≤ 0 → has_ended s ≡ true
 none-left s none = none-by s s.stage refl none
 
-ends-by : (s : ProbeState) (rs : List Reply) → IsPlaced s.opened s.stage → All IsNoInterrupt rs → calls_left s ≤ length rs
+ends-by : (s : ProbeState) (rs : List Reply) → IsPlaced s.opened s.stage → All IsNoInterrupt rs
+    → calls_left s ≤ length rs
     → has_ended (fed_all s rs) ≡ true
 unfolding fed_all
 ends-by s [] placed calm few = none-left s few

@@ -182,7 +182,8 @@ accepted-back s ReadFirst r = λ none. sym (advanced-refusal _) ∙ none
 accepted-back s Stop r = λ none. sym (advanced-refusal _) ∙ none
 accepted-back s AwaitStop r = λ none. sym (advanced-refusal _) ∙ none
 accepted-back s ReadStatus r = λ none. sym (advanced-refusal _) ∙ none
-accepted-back s ReadMap r = map-by (Back s) s (bytes_read r) (λ e none. not-refused s e none) (λ none. sym (advanced-refusal s) ∙ none)
+accepted-back s ReadMap r =
+    map-by (Back s) s (bytes_read r) (λ e none. not-refused s e none) (λ none. sym (advanced-refusal s) ∙ none)
 accepted-back s SaveCode r = λ none. sym (advanced-refusal _) ∙ none
 accepted-back s SaveStack r = λ none. sym (advanced-refusal _) ∙ none
 accepted-back s (Trace k) r = λ none. sym (advanced-refusal _) ∙ none
@@ -192,7 +193,8 @@ accepted-back s (Asking d SetRegisters) r = λ none. sym (advanced-refusal _) �
 accepted-back s (Asking d RunAgent) r = λ none. sym (advanced-refusal _) ∙ none
 accepted-back s (Asking d Await) r = poll-by (Back s) s r (λ none. none) (λ none. sym (advanced-refusal s) ∙ none)
 accepted-back s (Asking d ReadAgent) r = answer-by (Back s) s d (bytes_read r) (λ none. none) (λ none. none)
-accepted-back s (Asking d ReadKind) r = λ none. sym (kind-kept (λ t. t.refusal) (λ t lines. refl) s d (kind_in (bytes_read r))) ∙ none
+accepted-back s (Asking d ReadKind) r =
+    λ none. sym (kind-kept (λ t. t.refusal) (λ t lines. refl) s d (kind_in (bytes_read r))) ∙ none
 accepted-back s UntraceExits r = λ none. sym (advanced-refusal _) ∙ none
 accepted-back s SetExit r = λ none. sym (advanced-refusal _) ∙ none
 accepted-back s RunExit r = λ none. sym (advanced-refusal _) ∙ none

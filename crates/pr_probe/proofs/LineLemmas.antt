@@ -32,7 +32,8 @@ no-more old few = sym (ap (take descriptor_limit) (append-nil old) ∙ take_all 
 
 with-more : (old : List OpenDescriptor) (x : OpenDescriptor) → length old ≤ descriptor_limit
     → Adds old (x ∷ []) (cond (nat_lt (length old) descriptor_limit) (old ++ x ∷ []) old)
-with-more old x few = elim (cases_Bool (nat_lt (length old) descriptor_limit)) [ inl room ↦ fits room | inr full ↦ stays full ]
+with-more old x few =
+    elim (cases_Bool (nat_lt (length old) descriptor_limit)) [ inl room ↦ fits room | inr full ↦ stays full ]
   where
     fits : nat_lt (length old) descriptor_limit ≡ true
         → Adds old (x ∷ []) (cond (nat_lt (length old) descriptor_limit) (old ++ x ∷ []) old)
@@ -47,14 +48,17 @@ with-more old x few = elim (cases_Bool (nat_lt (length old) descriptor_limit)) [
         rw full (sym (take-append-le descriptor_limit old (x ∷ []) more ∙ take_all descriptor_limit old few))
 
 twice : (n : ℕ) (xs ys : List OpenDescriptor) → take n (take n xs ++ ys) ≡ take n (xs ++ ys)
-twice n xs ys = elim (cases_Bool (nat_lt (length xs) n)) [ inl less ↦ short (ltb-true _ _ less) | inr not ↦ long (ltb-false _ _ not) ]
+twice n xs ys =
+    elim (cases_Bool (nat_lt (length xs) n))
+    [ inl less ↦ short (ltb-true _ _ less) | inr not ↦ long (ltb-false _ _ not) ]
   where
     short : length xs < n → take n (take n xs ++ ys) ≡ take n (xs ++ ys)
     short less = ap (λ (zs : List OpenDescriptor). take n (zs ++ ys)) (take_all n xs (omega arith))
 
     long : n ≤ length xs → take n (take n xs ++ ys) ≡ take n (xs ++ ys)
     long more =
-        take-append-le n (take n xs) ys (omega (arith, length-take n xs)) ∙ take_all n (take n xs) (omega (arith, length-take n xs))
+        take-append-le n (take n xs) ys (omega (arith, length-take n xs))
+        ∙ take_all n (take n xs) (omega (arith, length-take n xs))
         ∙ sym (take-append-le n xs ys more)
 
 -- ---- one step
@@ -86,25 +90,38 @@ accepted-adds : (s : ProbeState) (g : ProbeStage) (r : Reply) → length s.lines
     → Adds s.lines (answered_at g r) (accepted s r g).lines
 unfolding accepted asking_accepted with_status answered_at
 accepted-adds s (Open f) r few = staying s (advanced (with_opened s f r)) few (on (with_opened s f r))
-accepted-adds s ReadFirst r few = staying s (advanced (record s { stood = process_stands (bytes_read r) })) few (on (record s { stood = process_stands (bytes_read r) }))
-accepted-adds s Stop r few = staying s (advanced (record s { until = until_in r })) few (on (record s { until = until_in r }))
+accepted-adds s ReadFirst r few =
+    staying s (advanced (record s { stood = process_stands (bytes_read r) })) few
+    (on (record s { stood = process_stands (bytes_read r) }))
+accepted-adds s Stop r few =
+    staying s (advanced (record s { until = until_in r })) few (on (record s { until = until_in r }))
 accepted-adds s AwaitStop r few = staying s (advanced s) few (on s)
-accepted-adds s ReadStatus r few = staying s (advanced (with_status s (bytes_read r))) few (on (with_status s (bytes_read r)))
-accepted-adds s ReadMap r few = map-by (λ t. Adds s.lines [] t.lines) s (bytes_read r) (λ e. staying s (refused s e) few (out s e)) (staying s (advanced s) few (on s))
-accepted-adds s SaveCode r few = staying s (advanced (record s { code = take code_size (bytes_read r) })) few (on (record s { code = take code_size (bytes_read r) }))
-accepted-adds s SaveStack r few = staying s (advanced (record s { stack = take stack_size (bytes_read r) })) few (on (record s { stack = take stack_size (bytes_read r) }))
+accepted-adds s ReadStatus r few =
+    staying s (advanced (with_status s (bytes_read r))) few (on (with_status s (bytes_read r)))
+accepted-adds s ReadMap r few =
+    map-by (λ t. Adds s.lines [] t.lines) s (bytes_read r) (λ e. staying s (refused s e) few (out s e))
+    (staying s (advanced s) few (on s))
+accepted-adds s SaveCode r few =
+    staying s (advanced (record s { code = take code_size (bytes_read r) })) few
+    (on (record s { code = take code_size (bytes_read r) }))
+accepted-adds s SaveStack r few =
+    staying s (advanced (record s { stack = take stack_size (bytes_read r) })) few
+    (on (record s { stack = take stack_size (bytes_read r) }))
 accepted-adds s (Trace k) r few = staying s (advanced s) few (on s)
 accepted-adds s MakeAgent r few = staying s (advanced s) few (on s)
 accepted-adds s PlantCode r few = staying s (advanced s) few (on s)
 accepted-adds s (Asking d SetRegisters) r few = staying s (advanced s) few (on s)
 accepted-adds s (Asking d RunAgent) r few = staying s (advanced s) few (on s)
-accepted-adds s (Asking d Await) r few = poll-by (λ t. Adds s.lines [] t.lines) s r (no-more s.lines few) (staying s (advanced s) few (on s))
-accepted-adds s (Asking d ReadAgent) r few = answer-by (λ t. Adds s.lines [] t.lines) s d (bytes_read r) (no-more s.lines few) (no-more s.lines few)
+accepted-adds s (Asking d Await) r few =
+    poll-by (λ t. Adds s.lines [] t.lines) s r (no-more s.lines few) (staying s (advanced s) few (on s))
+accepted-adds s (Asking d ReadAgent) r few =
+    answer-by (λ t. Adds s.lines [] t.lines) s d (bytes_read r) (no-more s.lines few) (no-more s.lines few)
 accepted-adds s (Asking d ReadKind) r few = kind-adds s d (kind_in (bytes_read r)) few
 accepted-adds s UntraceExits r few = staying s (advanced s) few (on s)
 accepted-adds s SetExit r few = staying s (advanced s) few (on s)
 accepted-adds s RunExit r few = staying s (advanced s) few (on s)
-accepted-adds s AwaitExit r few = poll-by (λ t. Adds s.lines [] t.lines) s r (no-more s.lines few) (staying s (advanced s) few (on s))
+accepted-adds s AwaitExit r few =
+    poll-by (λ t. Adds s.lines [] t.lines) s r (no-more s.lines few) (staying s (advanced s) few (on s))
 accepted-adds s WriteCode r few = staying s (advanced s) few (on s)
 accepted-adds s WriteStack r few = staying s (advanced s) few (on s)
 accepted-adds s (Retrace k) r few = staying s (advanced s) few (on s)
@@ -144,7 +161,8 @@ fails-nothing (Restore k) e = refl
 fails-nothing Release e = refl
 fails-nothing Close e = refl
 
-refused-adds : (s : ProbeState) (r : Reply) (e : Errno) → refusal_in s.stage r ≡ Some e → length s.lines ≤ descriptor_limit
+refused-adds : (s : ProbeState) (r : Reply) (e : Errno) → refusal_in s.stage r ≡ Some e
+    → length s.lines ≤ descriptor_limit
     → Adds s.lines (answered_at s.stage r) (refused s e).lines
 refused-adds s r e is few =
     let refuses : Refuses s.stage r e = refusal-counts s.stage r e is in

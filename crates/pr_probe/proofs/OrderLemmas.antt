@@ -67,7 +67,8 @@ left_of (Restore Exits) = drop 3 restoring
 left_of Release = []
 left_of Close = []
 
-asked-from : (d n : ℕ) → descriptor_limit - d ≡ suc n → all_asked d ≡ asking d ++ flat_map asking (range_with_len (d + 1) n)
+asked-from : (d n : ℕ) → descriptor_limit - d ≡ suc n
+    → all_asked d ≡ asking d ++ flat_map asking (range_with_len (d + 1) n)
 unfolding all_asked
 asked-from d n some = ap (λ (k : ℕ). flat_map asking (range_with_len d k)) some
 
@@ -97,7 +98,8 @@ asked-ends d none =
     rw none (sym (ap (λ (xs : List ProbeStage). xs ++ leaving) (asked-none (d + 1) (omega arith))))
 
 asked-left : (d : ℕ) → left_of (stage_asked d) ≡ all_asked (d + 1) ++ leaving
-asked-left d = elim (cases_Bool (nat_lt d (descriptor_limit - 1))) [ inl more ↦ asked-goes d more | inr none ↦ asked-ends d none ]
+asked-left d =
+    elim (cases_Bool (nat_lt d (descriptor_limit - 1))) [ inl more ↦ asked-goes d more | inr none ↦ asked-ends d none ]
 
 -- ---- one step
 
@@ -199,7 +201,9 @@ accepted-goes s ReadFirst r = λ none. advanced-left _ ReadFirst refl
 accepted-goes s Stop r = λ none. advanced-left _ Stop refl
 accepted-goes s AwaitStop r = λ none. advanced-left _ AwaitStop refl
 accepted-goes s ReadStatus r = λ none. advanced-left _ ReadStatus refl
-accepted-goes s ReadMap r = map-by (GoesOn ReadMap) (at_stage s ReadMap) (bytes_read r) (λ e none. not-refused (at_stage s ReadMap) e none) (λ none. advanced-left (at_stage s ReadMap) ReadMap refl)
+accepted-goes s ReadMap r =
+    map-by (GoesOn ReadMap) (at_stage s ReadMap) (bytes_read r) (λ e none. not-refused (at_stage s ReadMap) e none)
+    (λ none. advanced-left (at_stage s ReadMap) ReadMap refl)
 accepted-goes s SaveCode r = λ none. advanced-left _ SaveCode refl
 accepted-goes s SaveStack r = λ none. advanced-left _ SaveStack refl
 accepted-goes s (Trace k) r = λ none. advanced-left _ (Trace k) refl
@@ -207,13 +211,19 @@ accepted-goes s MakeAgent r = λ none. advanced-left _ MakeAgent refl
 accepted-goes s PlantCode r = λ none. advanced-left _ PlantCode refl
 accepted-goes s (Asking d SetRegisters) r = λ none. advanced-left _ (Asking d SetRegisters) refl
 accepted-goes s (Asking d RunAgent) r = λ none. advanced-left _ (Asking d RunAgent) refl
-accepted-goes s (Asking d Await) r = poll-by (GoesOn (Asking d Await)) (at_stage s (Asking d Await)) r (λ none. wait-left d) (λ none. advanced-left (at_stage s (Asking d Await)) (Asking d Await) refl)
-accepted-goes s (Asking d ReadAgent) r = answer-by (GoesOn (Asking d ReadAgent)) (at_stage s (Asking d ReadAgent)) d (bytes_read r) (λ none. read-kind-left d) (λ none. shut-left d)
+accepted-goes s (Asking d Await) r =
+    poll-by (GoesOn (Asking d Await)) (at_stage s (Asking d Await)) r (λ none. wait-left d)
+    (λ none. advanced-left (at_stage s (Asking d Await)) (Asking d Await) refl)
+accepted-goes s (Asking d ReadAgent) r =
+    answer-by (GoesOn (Asking d ReadAgent)) (at_stage s (Asking d ReadAgent)) d (bytes_read r)
+    (λ none. read-kind-left d) (λ none. shut-left d)
 accepted-goes s (Asking d ReadKind) r = λ none. kind-left d
 accepted-goes s UntraceExits r = λ none. advanced-left _ UntraceExits refl
 accepted-goes s SetExit r = λ none. advanced-left _ SetExit refl
 accepted-goes s RunExit r = λ none. advanced-left _ RunExit refl
-accepted-goes s AwaitExit r = poll-by (GoesOn AwaitExit) (at_stage s AwaitExit) r (λ none. exit-left) (λ none. advanced-left (at_stage s AwaitExit) AwaitExit refl)
+accepted-goes s AwaitExit r =
+    poll-by (GoesOn AwaitExit) (at_stage s AwaitExit) r (λ none. exit-left)
+    (λ none. advanced-left (at_stage s AwaitExit) AwaitExit refl)
 accepted-goes s WriteCode r = λ none. advanced-left _ WriteCode refl
 accepted-goes s WriteStack r = λ none. advanced-left _ WriteStack refl
 accepted-goes s (Retrace k) r = λ none. advanced-left _ (Retrace k) refl

@@ -37,7 +37,8 @@ bare h hs none = of (places_to_last hs) refl h refl
     of : (n : ℕ) → places_to_last hs ≡ n → (g : Option ℕ) → h ≡ g → IsBare h hs
     of zero rest None is = record { rest = rest; first = ap is_some is }
     of zero rest (Some x) is =
-        let one : places_to_last (h ∷ hs) ≡ 1 = places-bare h hs rest ∙ ap (λ (g : Option ℕ). cond (is_some g) 1 0) is in
+        let one : places_to_last (h ∷ hs) ≡ 1 =
+        places-bare h hs rest ∙ ap (λ (g : Option ℕ). cond (is_some g) 1 0) is in
         absurd (omega (arith, one, none))
     of (suc n) rest g is = absurd (omega (arith, places-more h hs (omega (arith, rest)), none))
 
@@ -113,7 +114,8 @@ pub record HasLast (hs : List (Option ℕ)) (n : ℕ) : Type 0 where
   pub fewer : places_to_last (slice_set hs n None) ≤ n
 
 -- which place that is
-exact : (h : Option ℕ) (hs : List (Option ℕ)) (n : ℕ) → places_to_last (h ∷ hs) ≡ suc (suc n) → places_to_last hs ≡ suc n
+exact : (h : Option ℕ) (hs : List (Option ℕ)) (n : ℕ) → places_to_last (h ∷ hs) ≡ suc (suc n)
+    → places_to_last hs ≡ suc n
 exact h hs n is = of (places_to_last hs) refl
   where
     of : (m : ℕ) → places_to_last hs ≡ m → places_to_last hs ≡ suc n

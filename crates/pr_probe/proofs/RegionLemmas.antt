@@ -7,7 +7,8 @@ use Rattle.pr_probe.specs.declared.regions.Region.{Region}
 
 -- the first mapping, and those after it
 map_allows-step : (r : Region) (bytes : List ℕ) → mapping_record ≤ length bytes
-    → map_allows r bytes ≡ (allows_in r (record_read map_entry_ranges bytes) || map_allows r (drop mapping_record bytes))
+    → map_allows r bytes
+    ≡ (allows_in r (record_read map_entry_ranges bytes) || map_allows r (drop mapping_record bytes))
 unfolding map_allows some_allows
 map_allows-step r bytes some =
     let places : length bytes / mapping_record ≡ suc (length (drop mapping_record bytes) / mapping_record) =

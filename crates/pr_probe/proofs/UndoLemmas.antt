@@ -146,7 +146,8 @@ undone-left s (r ∷ rs) undoes ended =
 
 -- where the process was directed alone
 run-undoes : (s : ProbeState)
-    → (is_undoing (with_run_next s Release).stage ≡ true) × (left s.stood (with_run_next s Release).stage ≡ releasing s.stood)
+    → (is_undoing (with_run_next s Release).stage ≡ true)
+    × (left s.stood (with_run_next s Release).stage ≡ releasing s.stood)
 unfolding is_undoing left releasing
 run-undoes s =
     run-next-by (λ t. (is_undoing t.stage ≡ true) × (left s.stood t.stage ≡ releasing s.stood)) s Release
@@ -206,4 +207,5 @@ pub undone-kept : (s : ProbeState) (e : Errno) (rs : List Reply) → has_ended (
     → undone_in (refused s e) rs ≡ undoing s.stage s.stood
 undone-kept s e rs ended =
     let after = refused-undoes s s.stage e in
-    undone-left (refused s e) rs after.0 ended ∙ ap (λ (b : Bool). left b (refused s e).stage) (refused-stood s e) ∙ after.1
+    undone-left (refused s e) rs after.0 ended ∙ ap (λ (b : Bool). left b (refused s e).stage) (refused-stood s e)
+    ∙ after.1

@@ -103,8 +103,8 @@ restoring = Restore Signals ∷ Restore Faults ∷ Restore Entries ∷ Restore E
 unfoldable pub releasing : Bool → List ProbeStage
 releasing stood = if stood then [] else Release ∷ []
 
--- What follows a refusal at a stage, the closes aside: all four sets are set back where one was changed, and the process
--- is run where it was directed, unless it stood before.
+-- What follows a refusal at a stage, the closes aside: all four sets are set back where one was changed, and the
+-- process is run where it was directed, unless it stood before.
 unfoldable pub undoing : ProbeStage → Bool → List ProbeStage
 undoing stage stood =
     (if has_changed_sets stage then restoring else []) ++ (if is_directed stage then releasing stood else [])
@@ -188,7 +188,7 @@ descriptors_answered s rs = gathered (λ t r. answered_at t.stage r) s rs
 abbrev pub IsNoInterrupt : Reply → Type 0
 IsNoInterrupt r = r ≢ reply.Fail Intr
 
--- the most calls that are made where no wait is interrupted: 19 up to the agent, 5 for each descriptor, 4 to its end, 7 to
--- put all back, and 6 closes
+-- the most calls that are made where no wait is interrupted: 19 up to the agent, 5 for each descriptor, 4 to its end, 7
+-- to put all back, and 6 closes
 abbrev pub most_calls : ℕ
 most_calls = 19 + 5 * descriptor_limit + 4 + 7 + 6

@@ -90,8 +90,8 @@ asking_after descriptor ReadKind = stage_asked descriptor
 -- The stage after an answer that was no refusal. apfiles opens the control file, the status, the status of all lwps and
 -- the mappings, and looks whether the process stands; it directs that to stop, waits until it stands, and reads its
 -- status and mappings. It saves the bytes that it is to write over, sets the traced sets, makes the agent, opens the
--- agent's files and writes its code. It asks for each descriptor. Then it traces no exit, sends the agent to its end and
--- waits for that; it writes the saved bytes back, sets the four sets back, runs the process and closes.
+-- agent's files and writes its code. It asks for each descriptor. Then it traces no exit, sends the agent to its end
+-- and waits for that; it writes the saved bytes back, sets the four sets back, runs the process and closes.
 unfoldable pub stage_after : ProbeStage → ProbeStage
 stage_after (Open f) = stage_opened f
 stage_after ReadFirst = Stop

@@ -39,8 +39,9 @@ use Rattle.pr_probe.specs.declared.traced_sets.SetKind.TheVariants.{Exits}
 use Rattle.pr_probe.specs.declared.traced_sets.TracedSets.{TracedSets}
 
 -- apfiles on its way: of which process, the files that it has open, its stage, the clock at which its wait ends (0 for
--- no end), whether the process stood already, whether it has a watched area, the sets that it is traced by, the bytes of
--- its text and of its stack that are saved, the descriptors that were found open, and the errno that refused apfiles.
+-- no end), whether the process stood already, whether it has a watched area, the sets that it is traced by, the bytes
+-- of its text and of its stack that are saved, the descriptors that were found open, and the errno that refused
+-- apfiles.
 pub record ProbeState : Type 0 where
   pub pid : ℕ
   pub opened : Opened
@@ -190,7 +191,8 @@ asked s descriptor = at_stage s (stage_asked descriptor)
 -- what the descriptor stands for is read only where the call of the agent found it open
 unfoldable pub with_answer : ProbeState → ℕ → List ℕ → ProbeState
 with_answer s descriptor bytes =
-    if shows_open (record_read lwpstatus_ranges bytes) then at_stage s (Asking descriptor ReadKind) else asked s descriptor
+    if shows_open (record_read lwpstatus_ranges bytes) then at_stage s
+    (Asking descriptor ReadKind) else asked s descriptor
 
 -- the descriptors that are open with one more, where there is room
 unfoldable pub with_kind : ProbeState → ℕ → Option FdKind → ProbeState

@@ -18,9 +18,11 @@ pub fn a_probe_keeps_its_order()
 /// A run that ends without a refusal writes back what it saved: the bytes of the text, and the bytes of the stack.
 pub fn a_probe_writes_back_what_it_saved()
     ensures code { (pid : ℕ) (rs : List Reply) → has_ended (fed_all (first_probe pid) rs) ≡ true
-        → (fed_all (first_probe pid) rs).refusal ≡ None → codes_written (first_probe pid) rs ≡ codes_saved (first_probe pid) rs }
+        → (fed_all (first_probe pid) rs).refusal ≡ None
+        → codes_written (first_probe pid) rs ≡ codes_saved (first_probe pid) rs }
     ensures stack { (pid : ℕ) (rs : List Reply) → has_ended (fed_all (first_probe pid) rs) ≡ true
-        → (fed_all (first_probe pid) rs).refusal ≡ None → stacks_written (first_probe pid) rs ≡ stacks_saved (first_probe pid) rs }
+        → (fed_all (first_probe pid) rs).refusal ≡ None
+        → stacks_written (first_probe pid) rs ≡ stacks_saved (first_probe pid) rs }
 {}
 
 /// Whatever was refused, and when: a probe sets all four sets back where it had changed one, and runs the process where

@@ -247,8 +247,8 @@ pub(crate) fn stage_after(stage: ProbeStage) -> ProbeStage
     }
 }
 
-/// The stage after a refusal. Where a set was changed, all four are set back; where the process was directed to stop, it
-/// is run. Once the agent stands, apfiles only closes.
+/// The stage after a refusal. Where a set was changed, all four are set back; where the process was directed to stop,
+/// it is run. Once the agent stands, apfiles only closes.
 #[tactic(auto, unfolding(crate::specs::ProbeStages::way_out, crate::specs::ProbeStages::way_out_of_trace))]
 pub(crate) fn way_out(stage: ProbeStage) -> ProbeStage
     ensures { result ≡ way_out stage }

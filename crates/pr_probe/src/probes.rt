@@ -74,7 +74,8 @@ impl Model for Probe {
       refusal = p.refusal;
     } };
 
-    ghost invariant = { λ p. (code_size ≤ vec_capacity p.code) × (stack_size ≤ vec_capacity p.stack) × (descriptor_limit ≤ vec_capacity p.lines) };
+    ghost invariant = { λ p. (code_size ≤ vec_capacity p.code) × (stack_size ≤ vec_capacity p.stack)
+        × (descriptor_limit ≤ vec_capacity p.lines) };
 }
 
 /// Whether a call gave no errno.
@@ -230,7 +231,8 @@ impl Probe {
     /// The call that sets the registers of the agent.
     #[tactic(auto, unfolding(pr_num::specs::Messages::tail_length))]
     fn set_registers(&self, alloc: Global, descriptor: u32, pc: u64) -> Result<Call, NoMemory>
-        ensures { IfOk result (λ call. call ≡ message_to self.now ProbeFile.AgentControl (Message.Sreg (agent_registers descriptor pc))) }
+        ensures { IfOk result
+            (λ call. call ≡ message_to self.now ProbeFile.AgentControl (Message.Sreg (agent_registers descriptor pc))) }
     {
         let regs = agent_registers(descriptor, pc);
         self.send(alloc, ProbeFile::AgentControl, &Message::Sreg { regs })
@@ -239,7 +241,8 @@ impl Probe {
     /// The call that makes the agent.
     #[tactic(auto, unfolding(pr_num::specs::Messages::tail_length))]
     fn make_agent(&self, alloc: Global) -> Result<Call, NoMemory>
-        ensures { IfOk result (λ call. call ≡ message_to self.now ProbeFile.Control (Message.Agent (agent_registers 0 text_base))) }
+        ensures { IfOk result
+            (λ call. call ≡ message_to self.now ProbeFile.Control (Message.Agent (agent_registers 0 text_base))) }
     {
         let regs = agent_registers(0, TEXT_BASE);
         self.send(alloc, ProbeFile::Control, &Message::Agent { regs })

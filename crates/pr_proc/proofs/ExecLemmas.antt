@@ -21,18 +21,26 @@ pub under-alone : {X : Type 0} (id : ℕ) (x : X) → under id ((id, x) ∷ []) 
 under-alone id x = rw (eq-eqb id id refl) refl
 
 -- two steps that agree on the process that stands change the processes alike
-pub run-changed : (pid id : ℕ) (q p new : TracedProcess) (l : TracedLwp) (program : Program) (es : List (ℕ × TracedProcess)) → under pid es ≡ Some q → under pid es ≡ Some p → lwp_of p id ≡ Some l → ((m : TracedLwp) → lwp_of q id ≡ Some m → new ≡ with_program traced id m program q) → put_under pid new es ≡ change_under pid (with_program traced id l program) es
+pub run-changed : (pid id : ℕ) (q p new : TracedProcess) (l : TracedLwp) (program : Program)
+    (es : List (ℕ × TracedProcess)) → under pid es ≡ Some q → under pid es ≡ Some p → lwp_of p id ≡ Some l
+    → ((m : TracedLwp) → lwp_of q id ≡ Some m → new ≡ with_program traced id m program q)
+    → put_under pid new es ≡ change_under pid (with_program traced id l program) es
 run-changed pid id q p new l program es stands found own step =
     let same : p ≡ q = same_Some p q (sym found ∙ stands) in
     let mine : lwp_of q id ≡ Some l = rw (← same) own in
     ap (λ w. put_under pid w es) (step l mine) ∙ put_under-found pid (with_program traced id l program) q es stands
 
 -- so the system is the one in which the process runs the program
-pub exec-run : (s : TracedSystem) (pid id : ℕ) (p : TracedProcess) (l : TracedLwp) (o : Option Program) (g h : Program) (es : List (ℕ × TracedProcess)) → live_process s pid ≡ Some p → lwp_of p id ≡ Some l → o ≡ Some g → o ≡ Some h → ((q : TracedProcess) → under pid s.processes ≡ Some q → (m : TracedLwp) → lwp_of q id ≡ Some m → es ≡ change_under pid (with_program traced id m h) s.processes) → record s { processes = es } ≡ with_process pid (with_program traced id l g) s
+pub exec-run : (s : TracedSystem) (pid id : ℕ) (p : TracedProcess) (l : TracedLwp) (o : Option Program) (g h : Program)
+    (es : List (ℕ × TracedProcess)) → live_process s pid ≡ Some p → lwp_of p id ≡ Some l → o ≡ Some g → o ≡ Some h
+    → ((q : TracedProcess) → under pid s.processes ≡ Some q → (m : TracedLwp) → lwp_of q id ≡ Some m
+    → es ≡ change_under pid (with_program traced id m h) s.processes)
+    → record s { processes = es } ≡ with_process pid (with_program traced id l g) s
 unfolding with_process
 exec-run s pid id p l o g h es live own given taken step =
     let same : g ≡ h = same_Some g h (sym given ∙ taken) in
-    rw same (ap (λ (ds : List (ℕ × TracedProcess)). record s { processes = ds }) (step p (live_process-found s pid p live) l own))
+    rw same (ap (λ (ds : List (ℕ × TracedProcess)). record s { processes = ds })
+    (step p (live_process-found s pid p live) l own))
 
 -- and what it borrowed goes back
 pub exec-back : (s left new : TracedSystem) (pid : ℕ) (p q : TracedProcess) (space : Space)

@@ -24,7 +24,8 @@ tail-under e es id p tail there =
 
 module _ (parent : ℕ) where
   -- the list behind the first has no child of a kind where the whole has none
-  module _ (kind : TracedProcess → Bool) (e : ℕ × TracedProcess) (es : Pairs) (tail : rises_from (e.0 + 1) es ≡ true) where
+  module _ (kind : TracedProcess → Bool) (e : ℕ × TracedProcess) (es : Pairs)
+      (tail : rises_from (e.0 + 1) es ≡ true) where
     tail-none : (from to : ℕ) → HasNone kind parent from to (e ∷ es) → HasNone kind parent from to es
     tail-none from to none = record {
       each = λ id p there meant least less. none.each id p (tail-under e es id p tail there) meant least less;
@@ -44,7 +45,8 @@ module _ (parent : ℕ) where
           → children_among parent (e ∷ es) ≡ first_zombie id status
       by (inl own) None is =
           rw own
-          (ap (λ o. child_before e.0 o (children_among parent es)) is ∙ ap (λ others. child_before e.0 None others) rest)
+          (ap (λ o. child_before e.0 o (children_among parent es)) is
+          ∙ ap (λ others. child_before e.0 None others) rest)
       by (inl own) (Some other) is = absurd (lives (ap is_some is) (eqb-true e.1.parent parent own))
       by (inr other) o is = rw other rest
 

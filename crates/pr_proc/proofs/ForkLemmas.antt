@@ -24,13 +24,15 @@ some-within (x ∷ xs) (suc i) within e = some-within xs i (omega arith) e
 
 -- ---- frames, of which the last is taken off and put back
 
-last-at : {X : Type 0} (xs : List X) (n : ℕ) (x : X) → length xs ≡ suc n → slice_get xs n ≡ Some x → take n xs ++ x ∷ [] ≡ xs
+last-at : {X : Type 0} (xs : List X) (n : ℕ) (x : X) → length xs ≡ suc n → slice_get xs n ≡ Some x
+    → take n xs ++ x ∷ [] ≡ xs
 last-at [] n x len e = absurd (omega arith)
 last-at (y ∷ []) zero x len e = ap (λ z. z ∷ []) (sym (same_Some y x e))
 last-at (y ∷ z ∷ xs) zero x len e = absurd (omega arith)
 last-at (y ∷ xs) (suc n) x len e = ap (λ ys. y ∷ ys) (last-at xs n x (omega arith) e)
 
-pub last-back : {X : Type 0} (xs : List X) (x : X) → slice_get xs (length xs - 1) ≡ Some x → take (length xs - 1) xs ++ x ∷ [] ≡ xs
+pub last-back : {X : Type 0} (xs : List X) (x : X) → slice_get xs (length xs - 1) ≡ Some x
+    → take (length xs - 1) xs ++ x ∷ [] ≡ xs
 last-back [] x e = absurd (none-some x e)
 last-back (y ∷ xs) x e = last-at (y ∷ xs) (length (y ∷ xs) - 1) x (omega arith) e
 
@@ -53,7 +55,8 @@ apart-next s pid p free live same =
     let wrong : None ≡ Some p = sym free ∙ ap (λ id. under id s.processes) same ∙ live_process-found s pid p live in cc
 
 -- it stands beside one under that id
-pub beside-next : (s : TracedSystem) (pid : ℕ) (p child : TracedProcess) → process_of s s.made ≡ None → live_process s pid ≡ Some p → under pid (with_made child s).processes ≡ Some p
+pub beside-next : (s : TracedSystem) (pid : ℕ) (p child : TracedProcess) → process_of s s.made ≡ None
+    → live_process s pid ≡ Some p → under pid (with_made child s).processes ≡ Some p
 unfolding with_made
 beside-next s pid p child free live =
     under-inserted_other s.made pid child (apart-next s pid p free live) s.processes ∙ live_process-found s pid p live
@@ -68,27 +71,50 @@ unfolding with_made
 next-files s child = refl
 
 -- what was put in and is then changed was changed and then put in
-pub changed-inserted : {X : Type 0} (id : ℕ) (f : X → X) (x : X) (es : List (ℕ × X)) → change_under id f (inserted id x es) ≡ inserted id (f x) es
+pub changed-inserted : {X : Type 0} (id : ℕ) (f : X → X) (x : X) (es : List (ℕ × X))
+    → change_under id f (inserted id x es) ≡ inserted id (f x) es
 changed-inserted id f x [] = rw (eq-eqb id id refl) refl
 changed-inserted id f x (e ∷ es) =
-    elim (cases_Bool (ltb e.0 id)) [ inl below ↦ let less = ltb-true e.0 id below in rw (below, ne_eqb e.0 id (λ same. absurd (omega arith))) (ap (λ ds. e ∷ ds) (changed-inserted id f x es)) | inr above ↦ rw (above, eq-eqb id id refl) refl ]
+    elim (cases_Bool (ltb e.0 id)) [
+      | inl below ↦ let less = ltb-true e.0 id below in
+          rw (below, ne_eqb e.0 id (λ same. absurd (omega arith))) (ap (λ ds. e ∷ ds) (changed-inserted id f x es))
+      | inr above ↦ rw (above, eq-eqb id id refl) refl
+    ]
 
 -- a child that was made and is then given its descriptors is one that was made with them
-pub given-child : (s : TracedSystem) (child : TracedProcess) (fds : Descriptors) → with_process s.made (with_fds fds) (record (with_made child s) { files = with_all_shared (with_made child s).files fds }) ≡ with_made (with_fds fds child) (record s { files = with_all_shared s.files fds })
+pub given-child : (s : TracedSystem) (child : TracedProcess) (fds : Descriptors)
+    → with_process s.made (with_fds fds)
+    (record (with_made child s) { files = with_all_shared (with_made child s).files fds })
+    ≡ with_made (with_fds fds child) (record s { files = with_all_shared s.files fds })
 unfolding with_made with_process
-given-child s child fds = ap (λ es. record { programs = s.programs; clock = s.clock; made = s.made + 1; files = with_all_shared s.files fds; processes = es }) (changed-inserted s.made (with_fds fds) child s.processes)
+given-child s child fds =
+    ap (λ es.
+    record {
+      programs = s.programs;
+      clock = s.clock;
+      made = s.made + 1;
+      files = with_all_shared s.files fds;
+      processes =
+          es;
+    }) (changed-inserted s.made (with_fds fds) child s.processes)
 
 -- the same where each step is given as an equation
-pub child-given : (s added shared new : TracedSystem) (p child : TracedProcess) (fds : Descriptors) → added ≡ with_made child s → shared ≡ record added { files = with_all_shared added.files p.fds } → fds ≡ p.fds → new ≡ with_process s.made (with_fds fds) shared → new ≡ with_made (with_fds p.fds child) (record s { files = with_all_shared s.files p.fds })
+pub child-given : (s added shared new : TracedSystem) (p child : TracedProcess) (fds : Descriptors)
+    → added ≡ with_made child s → shared ≡ record added { files = with_all_shared added.files p.fds } → fds ≡ p.fds
+    → new ≡ with_process s.made (with_fds fds) shared
+    → new ≡ with_made (with_fds p.fds child) (record s { files = with_all_shared s.files p.fds })
 child-given s added shared new p child fds made system same given =
     given ∙ ap (λ d. with_process s.made (with_fds d) shared) same
-    ∙ ap (with_process s.made (with_fds p.fds)) (system ∙ ap (λ (t : TracedSystem). record t { files = with_all_shared t.files p.fds }) made)
+    ∙ ap (with_process s.made (with_fds p.fds))
+    (system ∙ ap (λ (t : TracedSystem). record t { files = with_all_shared t.files p.fds }) made)
     ∙ given-child s child p.fds
 
-pub next-some : (s added : TracedSystem) (child : TracedProcess) → added ≡ with_made child s → IsSome (under s.made added.processes)
+pub next-some : (s added : TracedSystem) (child : TracedProcess) → added ≡ with_made child s
+    → IsSome (under s.made added.processes)
 next-some s added child made = rw made (ap is_some (next-stands s child))
 
-pub next-beside : (s added : TracedSystem) (pid : ℕ) (p child : TracedProcess) → process_of s s.made ≡ None → live_process s pid ≡ Some p → added ≡ with_made child s → under pid added.processes ≡ Some p
+pub next-beside : (s added : TracedSystem) (pid : ℕ) (p child : TracedProcess) → process_of s s.made ≡ None
+    → live_process s pid ≡ Some p → added ≡ with_made child s → under pid added.processes ≡ Some p
 next-beside s added pid p child free live made = rw made (beside-next s pid p child free live)
 
 pub ruleset fork_laws = (beside-next, next-stands, next-files, given-child)

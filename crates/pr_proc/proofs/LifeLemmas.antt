@@ -17,12 +17,14 @@ use Rattle.pr_proc.proofs.FamilyLemmas.{tail-under}
 -- Live processes.
 
 -- a process of this id that has not ended is the live one
-pub live_process-made : (s : TracedSystem) (pid : ℕ) (p : TracedProcess) → under pid s.processes ≡ Some p → is_none p.ended ≡ true → live_process s pid ≡ Some p
+pub live_process-made : (s : TracedSystem) (pid : ℕ) (p : TracedProcess) → under pid s.processes ≡ Some p
+    → is_none p.ended ≡ true → live_process s pid ≡ Some p
 unfolding live_process
 live_process-made s pid p found live = rw (found, live) refl
 
 -- one that is live is found
-live-some : (s : TracedSystem) (pid : ℕ) (o : Option TracedProcess) → live_process s pid ≡ o → IsSome o → IsSome (under pid s.processes)
+live-some : (s : TracedSystem) (pid : ℕ) (o : Option TracedProcess) → live_process s pid ≡ o → IsSome o
+    → IsSome (under pid s.processes)
 live-some s pid None e some = absurd (cc)
 live-some s pid (Some p) e some = ap is_some (live_process-found s pid p e)
 
@@ -100,7 +102,8 @@ module _ (parent : ℕ) where
   all-idle k [] rises idle = refl
   all-idle k (e ∷ es) rises idle =
       let tail = rises_from-tail k e es rises in
-      ap (λ (p : TracedProcess). (e.0, p) ∷ map_each (orphaned parent) es) (idle e.0 e.1 (rw (eq-eqb e.0 e.0 refl) refl))
+      ap (λ (p : TracedProcess). (e.0, p) ∷ map_each (orphaned parent) es)
+      (idle e.0 e.1 (rw (eq-eqb e.0 e.0 refl) refl))
       ∙ ap (λ (ds : List (ℕ × TracedProcess)). e ∷ ds)
       (all-idle (e.0 + 1) es tail (λ id p there. idle id p (tail-under e es id p tail there)))
 
@@ -145,7 +148,8 @@ ended-so s left passed back new pid status p live leaves passes gives tells =
     tells ∙ ap (with_parent_signalled p.parent pid status) loan ∙ with_ended-live s pid status p live
 
 -- the last lwp of a live process ends with it
-pub with_lwp_ended-last : (s : TracedSystem) (pid id : ℕ) (p : TracedProcess) → live_process s pid ≡ Some p → length p.lwps ≡ 1 → with_ended traced pid 0 s ≡ with_lwp_ended traced pid p id s
+pub with_lwp_ended-last : (s : TracedSystem) (pid id : ℕ) (p : TracedProcess) → live_process s pid ≡ Some p
+    → length p.lwps ≡ 1 → with_ended traced pid 0 s ≡ with_lwp_ended traced pid p id s
 unfolding with_ended with_lwp_ended
 with_lwp_ended-last s pid id p live last = rw (live, last) refl
 

@@ -195,7 +195,8 @@ module _ (old new : List ℕ) (parent id block : ℕ) (at : block ≡ block_of i
   unfolding IsMarked
   marked-one small =
       put parent (block_of id)
-      ∙ rw (eq-eqb parent parent refl, eq-eqb (block_of id) block (sym at)) (or-true (has_block old parent (block_of id)))
+      ∙ rw (eq-eqb parent parent refl, eq-eqb (block_of id) block (sym at))
+      (or-true (has_block old parent (block_of id)))
     where
       or-true : (b : Bool) → (b || true) ≡ true
       or-true true = refl
@@ -212,7 +213,8 @@ pub cleared : (kind : TracedProcess → Bool) (parent block : ℕ) (old new : Li
     → AreMarked kind new es
 unfolding IsMarked
 cleared kind parent block old new es marks none taken = record {
-  each = λ id p there meant. by id p there meant (cases_Bool (eqb p.parent parent)) (cases_Bool (eqb (block_of id) block));
+  each = λ id p there meant.
+      by id p there meant (cases_Bool (eqb p.parent parent)) (cases_Bool (eqb (block_of id) block));
 }
   where
     kept : (id : ℕ) (p : TracedProcess) → under id es ≡ Some p → kind p ≡ true
@@ -246,7 +248,8 @@ module _ (words : List ℕ) (parent low id : ℕ) (small : parent < process_limi
 -- ---- children
 
 -- a process that is no child, or has not ended
-pub no-zombie : (parent : ℕ) (p : TracedProcess) → zombie_status parent p ≡ None → has_ended p ≡ true → p.parent ≢ parent
+pub no-zombie : (parent : ℕ) (p : TracedProcess) → zombie_status parent p ≡ None → has_ended p ≡ true
+    → p.parent ≢ parent
 no-zombie parent p none ended own =
     true≢false (sym ended ∙ ap is_some (rw (eq-eqb p.parent parent own) at none))
 
@@ -318,7 +321,8 @@ module _ (kind : TracedProcess → Bool) (parent : ℕ) (es : Pairs) where
         (λ other p there meant least. absurd (none-some p (sym (first-end low other es next least) ∙ there)))
 
     -- in a block
-    pub none-in : (block low : ℕ) → block < 64 → HasNoneFrom kind parent (block * 64) es → HasNoneIn kind parent block es
+    pub none-in : (block low : ℕ) → block < 64 → HasNoneFrom kind parent (block * 64) es
+        → HasNoneIn kind parent block es
     none-in block low within none = record {
       each = λ other p there meant here. elim (cases_lt other (block * 64)) [
         | inl before ↦ (let less = block-before other block before within in absurd (omega arith))

@@ -27,26 +27,37 @@ module _ (target number : ℕ) where
   sending-zero life within zero = rw (le-ltb signal_count number within, zero) refl
 
   module _ (s : TracedSystem) where
-    pub sending-gone : number ≤ signal_count → target ≢ 0 → under target s.processes ≡ None → sending target number (life_of s target) ≡ refuses Srch
+    pub sending-gone : number ≤ signal_count → target ≢ 0 → under target s.processes ≡ None
+        → sending target number (life_of s target) ≡ refuses Srch
     unfolding sending life_of
     sending-gone within other none = rw (le-ltb signal_count number within, ne_eqb target 0 other, none) refl
 
     module _ (p : TracedProcess) where
-      pub sending-zombie : (status : ℕ) → number ≤ signal_count → target ≢ 0 → under target s.processes ≡ Some p → p.ended ≡ Some status → sending target number (life_of s target) ≡ sends_nothing
+      pub sending-zombie : (status : ℕ) → number ≤ signal_count → target ≢ 0 → under target s.processes ≡ Some p
+          → p.ended ≡ Some status → sending target number (life_of s target) ≡ sends_nothing
       unfolding sending life_of
-      sending-zombie status within other found over = rw (le-ltb signal_count number within, ne_eqb target 0 other, found, over) refl
+      sending-zombie status within other found over =
+          rw (le-ltb signal_count number within, ne_eqb target 0 other, found, over) refl
 
-      pub sending-nothing : number ≤ signal_count → target ≢ 0 → under target s.processes ≡ Some p → p.ended ≡ None → signal_of_number number ≡ None → sending target number (life_of s target) ≡ sends_nothing
+      pub sending-nothing : number ≤ signal_count → target ≢ 0 → under target s.processes ≡ Some p → p.ended ≡ None
+          → signal_of_number number ≡ None → sending target number (life_of s target) ≡ sends_nothing
       unfolding sending life_of
-      sending-nothing within other found live none = rw (le-ltb signal_count number within, ne_eqb target 0 other, found, live, none) refl
+      sending-nothing within other found live none =
+          rw (le-ltb signal_count number within, ne_eqb target 0 other, found, live, none) refl
 
-      pub sending-full : (g : Sig) → number ≤ signal_count → target ≢ 0 → under target s.processes ≡ Some p → p.ended ≡ None → signal_of_number number ≡ Some g → has_room g p.pending ≡ false → sending target number (life_of s target) ≡ refuses Again
+      pub sending-full : (g : Sig) → number ≤ signal_count → target ≢ 0 → under target s.processes ≡ Some p
+          → p.ended ≡ None → signal_of_number number ≡ Some g → has_room g p.pending ≡ false
+          → sending target number (life_of s target) ≡ refuses Again
       unfolding sending life_of
-      sending-full g within other found live is full = rw (le-ltb signal_count number within, ne_eqb target 0 other, found, live, is, full) refl
+      sending-full g within other found live is full =
+          rw (le-ltb signal_count number within, ne_eqb target 0 other, found, live, is, full) refl
 
-      pub sending-room : (g : Sig) → number ≤ signal_count → target ≢ 0 → under target s.processes ≡ Some p → p.ended ≡ None → signal_of_number number ≡ Some g → has_room g p.pending ≡ true → sending target number (life_of s target) ≡ sends g
+      pub sending-room : (g : Sig) → number ≤ signal_count → target ≢ 0 → under target s.processes ≡ Some p
+          → p.ended ≡ None → signal_of_number number ≡ Some g → has_room g p.pending ≡ true
+          → sending target number (life_of s target) ≡ sends g
       unfolding sending life_of
-      sending-room g within other found live is room = rw (le-ltb signal_count number within, ne_eqb target 0 other, found, live, is, room) refl
+      sending-room g within other found live is room =
+          rw (le-ltb signal_count number within, ne_eqb target 0 other, found, live, is, room) refl
 
 not_over : (o : Option ℕ) → is_some o ≡ false → is_none o ≡ true
 not_over None e = refl
@@ -56,16 +67,24 @@ has_room-room_for : (g : Sig) (p : TracedProcess) → has_room g p.pending ≡ t
 unfolding has_room_for
 has_room-room_for g p room = room
 
-pub is-sent : (s : TracedSystem) (target id : ℕ) (g : Sig) (p : TracedProcess) → id ≡ target → under id s.processes ≡ Some p → is_some p.ended ≡ false → has_room g p.pending ≡ true → IsSent s target id g
+pub is-sent : (s : TracedSystem) (target id : ℕ) (g : Sig) (p : TracedProcess) → id ≡ target
+    → under id s.processes ≡ Some p → is_some p.ended ≡ false → has_room g p.pending ≡ true → IsSent s target id g
 is-sent s target id g p named found live room =
     let lives : live_process s id ≡ Some p = live_process-made s id p found (not_over p.ended live) in
-    record { named = named; lives = ap is_some lives; room = rw lives (room-deletions None g p (has_room-room_for g p room)) }
+    record {
+      named = named;
+      lives = ap is_some lives;
+      room =
+          rw lives (room-deletions None g p (has_room-room_for g p room));
+    }
 
 -- what is sent to one process is sent to no other
-pub sent-again : (s : TracedSystem) (target id other : ℕ) (g h : Sig) → sent.Sent id g ≡ sent.Sent other h → IsSent s target id g → IsSent s target other h
+pub sent-again : (s : TracedSystem) (target id other : ℕ) (g h : Sig) → sent.Sent id g ≡ sent.Sent other h
+    → IsSent s target id g → IsSent s target other h
 sent-again s target id other g h same is =
     let same_id : id ≡ other = cc in
     let same_signal : g ≡ h = cc in
     subst (λ n. IsSent s target n h) same_id (subst (λ x. IsSent s target id x) same_signal is)
 
-pub ruleset sending_laws = (sending-number, sending-zero, sending-gone, sending-zombie, sending-nothing, sending-full, sending-room)
+pub ruleset sending_laws =
+    (sending-number, sending-zero, sending-gone, sending-zombie, sending-nothing, sending-full, sending-room)

@@ -29,7 +29,10 @@ pub ruleset under_laws = (size-some, size-none)
 but-none : (id : ℕ) (es : Pairs) → under id es ≡ None → sizes_but id es ≡ sizes_of es
 but-none id [] none = refl
 but-none id (e ∷ es) none =
-    elim (eqb e.0 id) as (λ b. cond b (Some e.1) (under id es) ≡ None → cond b (sizes_but id es) (size_of e.1 + sizes_but id es) ≡ size_of e.1 + sizes_of es) [ true ↦ λ h. cc | false ↦ λ h. ap (λ (n : ℕ). size_of e.1 + n) (but-none id es h) ] none
+    elim (eqb e.0 id)
+    as (λ b. cond b (Some e.1) (under id es) ≡ None
+    → cond b (sizes_but id es) (size_of e.1 + sizes_but id es) ≡ size_of e.1 + sizes_of es)
+    [ true ↦ λ h. cc | false ↦ λ h. ap (λ (n : ℕ). size_of e.1 + n) (but-none id es h) ] none
 
 -- the sum of all is that of the others and what the one has
 pub but-one : (low id : ℕ) (es : Pairs) → rises_from low es ≡ true → sizes_of es ≡ sizes_but id es + size_under id es
@@ -58,13 +61,15 @@ small-sum out (e ∷ es) small =
           rw other (omega (arith, rest, head))
     ]
 
-pub total-limit : (others out : ℕ) (es : Pairs) → IsTotal others out es → length es ≤ 2 ^ 32 → others ≤ mapping_limit * 2 ^ 32
+pub total-limit : (others out : ℕ) (es : Pairs) → IsTotal others out es → length es ≤ 2 ^ 32
+    → others ≤ mapping_limit * 2 ^ 32
 total-limit others out es total few =
     let sum = small-sum out es total.small in
     omega (arith, total.sum, sum, few)
 
 -- where the one that was left out is small too, all are
-all-small : (low out : ℕ) (es : Pairs) → rises_from low es ≡ true → All (IsSmallBut out) es → size_under out es ≤ mapping_limit → All IsSmall es
+all-small : (low out : ℕ) (es : Pairs) → rises_from low es ≡ true → All (IsSmallBut out) es
+    → size_under out es ≤ mapping_limit → All IsSmall es
 all-small low out [] rises small limit = All-nil IsSmall
 all-small low out (e ∷ es) rises small limit =
     let tail = rises_from-tail low e es rises in
@@ -87,16 +92,20 @@ small-but id es small =
 
 -- ---- another one is left out
 
-pub whole-small : (others out size : ℕ) (es : Pairs) → IsRising es → IsTotal others out es → size ≡ size_under out es → size ≤ mapping_limit → AreSmall es
-whole-small others out size es rises total is limit = record { each = all-small 0 out es rises total.small (omega (arith, is, limit)) }
+pub whole-small : (others out size : ℕ) (es : Pairs) → IsRising es → IsTotal others out es → size ≡ size_under out es
+    → size ≤ mapping_limit → AreSmall es
+whole-small others out size es rises total is limit =
+    record { each = all-small 0 out es rises total.small (omega (arith, is, limit)) }
 
-pub other-out : (id total size : ℕ) (es : Pairs) → IsRising es → AreSmall es → total ≡ sizes_of es → size ≡ size_under id es → IsTotal (total - size) id es
+pub other-out : (id total size : ℕ) (es : Pairs) → IsRising es → AreSmall es → total ≡ sizes_of es
+    → size ≡ size_under id es → IsTotal (total - size) id es
 other-out id total size es rises small is one = record {
   sum = omega (arith, is, one, but-one 0 id es rises);
   small = small-but id es small.each;
 }
 
-pub whole-sum : (others out : ℕ) (es : Pairs) → IsRising es → IsTotal others out es → others + size_under out es ≡ sizes_of es
+pub whole-sum : (others out : ℕ) (es : Pairs) → IsRising es → IsTotal others out es
+    → others + size_under out es ≡ sizes_of es
 whole-sum others out es rises total = omega (arith, total.sum, but-one 0 out es rises)
 
 -- ---- the one that is left out changes, comes or goes
@@ -104,19 +113,29 @@ whole-sum others out es rises total = omega (arith, total.sum, but-one 0 out es 
 but-put_under : (id : ℕ) (w : TracedProcess) (es : Pairs) → sizes_but id (put_under id w es) ≡ sizes_but id es
 but-put_under id w [] = refl
 but-put_under id w (e ∷ es) =
-    elim (cases_Bool (eqb e.0 id)) [ inl here ↦ rw (here, here) refl | inr other ↦ rw (other, other) (ap (λ (n : ℕ). size_of e.1 + n) (but-put_under id w es)) ]
+    elim (cases_Bool (eqb e.0 id)) [
+      | inl here ↦ rw (here, here) refl
+      | inr other ↦ rw (other, other) (ap (λ (n : ℕ). size_of e.1 + n) (but-put_under id w es))
+    ]
 
-small-put_under : (id : ℕ) (w : TracedProcess) (es : Pairs) → All (IsSmallBut id) es → All (IsSmallBut id) (put_under id w es)
+small-put_under : (id : ℕ) (w : TracedProcess) (es : Pairs) → All (IsSmallBut id) es
+    → All (IsSmallBut id) (put_under id w es)
 small-put_under id w [] small = small
 small-put_under id w (e ∷ es) small =
     let rest = All-tail (IsSmallBut id) e es small in
     elim (cases_Bool (eqb e.0 id)) [
-      | inl here ↦ rw here (All-cons (IsSmallBut id) (e.0, w) es (λ differs. absurd (differs (eqb-true e.0 id here))) rest)
-      | inr other ↦ rw other (All-cons (IsSmallBut id) e (put_under id w es) (All-head (IsSmallBut id) e es small) (small-put_under id w es rest))
+      | inl here ↦
+          rw here (All-cons (IsSmallBut id) (e.0, w) es (λ differs. absurd (differs (eqb-true e.0 id here))) rest)
+      | inr other ↦
+          rw other
+          (All-cons (IsSmallBut id) e (put_under id w es) (All-head (IsSmallBut id) e es small)
+          (small-put_under id w es rest))
     ]
 
-pub total-changed : (others id : ℕ) (w : TracedProcess) (es : Pairs) → IsTotal others id es → IsTotal others id (put_under id w es)
-total-changed others id w es total = record { sum = total.sum ∙ sym (but-put_under id w es); small = small-put_under id w es total.small }
+pub total-changed : (others id : ℕ) (w : TracedProcess) (es : Pairs) → IsTotal others id es
+    → IsTotal others id (put_under id w es)
+total-changed others id w es total =
+    record { sum = total.sum ∙ sym (but-put_under id w es); small = small-put_under id w es total.small }
 
 but-inserted : (id : ℕ) (x : TracedProcess) (es : Pairs) → sizes_but id (inserted id x es) ≡ sizes_but id es
 but-inserted id x [] = rw (eq-eqb id id refl) refl
@@ -130,7 +149,8 @@ is_None : (o : Option TracedProcess) → IsNone o → o ≡ None
 is_None None none = refl
 is_None (Some p) none = cc
 
-pub total-more : (id total : ℕ) (x : TracedProcess) (es : Pairs) → AreSmall es → total ≡ sizes_of es → IsNone (under id es) → IsTotal total id (inserted id x es)
+pub total-more : (id total : ℕ) (x : TracedProcess) (es : Pairs) → AreSmall es → total ≡ sizes_of es
+    → IsNone (under id es) → IsTotal total id (inserted id x es)
 total-more id total x es small is free = record {
   sum = is ∙ sym (but-inserted id x es ∙ but-none id es (is_None (under id es) free));
   small = All-inserted (IsSmallBut id) id x es (λ differs. absurd (differs refl)) (small-but id es small.each);

@@ -16,15 +16,21 @@ use Rattle.pr_proc.specs.Counts.{AllUsedAtMost, HasUsedAtMost, UsedAtMost}
 -- What keeps what processes have used.
 
 -- a process changed in a way that keeps what it used
-pub AllUsedAtMost-with_process : (n pid : ℕ) (f : TracedProcess → TracedProcess) (s : TracedSystem) → ((p : TracedProcess) → (f p).control.usage ≡ p.control.usage) → AllUsedAtMost n s → AllUsedAtMost n (with_process pid f s)
+pub AllUsedAtMost-with_process : (n pid : ℕ) (f : TracedProcess → TracedProcess) (s : TracedSystem)
+    → ((p : TracedProcess) → (f p).control.usage ≡ p.control.usage) → AllUsedAtMost n s
+    → AllUsedAtMost n (with_process pid f s)
 unfolding with_process
 AllUsedAtMost-with_process n pid f s kept h = record {
-  each = All-change_under (HasUsedAtMost n) pid f s.processes (λ p at within. subst (UsedAtMost n) (sym (kept p)) within) h.each;
+  each = All-change_under (HasUsedAtMost n) pid f s.processes
+      (λ p at within. subst (UsedAtMost n) (sym (kept p)) within) h.each;
 }
 
-AllUsedAtMost-each : (n : ℕ) (f : TracedProcess → TracedProcess) (ps : List (ℕ × TracedProcess)) (s : TracedSystem) → ((p : TracedProcess) → (f p).control.usage ≡ p.control.usage) → AllUsedAtMost n (record s { processes = ps }) → AllUsedAtMost n (record s { processes = map_each f ps })
+AllUsedAtMost-each : (n : ℕ) (f : TracedProcess → TracedProcess) (ps : List (ℕ × TracedProcess)) (s : TracedSystem)
+    → ((p : TracedProcess) → (f p).control.usage ≡ p.control.usage) → AllUsedAtMost n (record s { processes = ps })
+    → AllUsedAtMost n (record s { processes = map_each f ps })
 AllUsedAtMost-each n f ps s kept h = record {
-  each = All-map_each (HasUsedAtMost n) (HasUsedAtMost n) f (λ e within. subst (UsedAtMost n) (sym (kept e.1)) within) ps h.each;
+  each = All-map_each (HasUsedAtMost n) (HasUsedAtMost n) f
+      (λ e within. subst (UsedAtMost n) (sym (kept e.1)) within) ps h.each;
 }
 
 AllUsedAtMost-with_process_if : (n : ℕ) (o : Option ℕ) (f : TracedProcess → TracedProcess) (s : TracedSystem)
@@ -84,51 +90,71 @@ job_stop-usage g p = elim (cases_Bool (ends_job_stop g)) [ inl e ↦ rw e refl |
 
 deletions-usage : (g : Sig) (p : TracedProcess) → (with_deletions g p).control.usage ≡ p.control.usage
 unfolding with_deletions without_pending
-deletions-usage g p = elim (cases_Bool (eqb (deleted_by g) 0)) [ inl e ↦ rw e refl | inr e ↦ rw e (job_stop-usage g (without_pending (deleted_by g) p)) ]
+deletions-usage g p =
+    elim (cases_Bool (eqb (deleted_by g) 0))
+    [ inl e ↦ rw e refl | inr e ↦ rw e (job_stop-usage g (without_pending (deleted_by g) p)) ]
 
-pending-usage : (target : Option ℕ) (g : Sig) (info : Info) (p : TracedProcess) → (with_pending target g info p).control.usage ≡ p.control.usage
+pending-usage : (target : Option ℕ) (g : Sig) (info : Info) (p : TracedProcess)
+    → (with_pending target g info p).control.usage ≡ p.control.usage
 unfolding with_pending
 pending-usage None g info p = refl
 pending-usage (Some id) g info p = refl
 
-pub signalled-usage : (target : Option ℕ) (g : Sig) (info : Info) (p : TracedProcess) → (signalled target g info p).control.usage ≡ p.control.usage
+pub signalled-usage : (target : Option ℕ) (g : Sig) (info : Info) (p : TracedProcess)
+    → (signalled target g info p).control.usage ≡ p.control.usage
 unfolding signalled
 signalled-usage target g info p =
-    elim (cases_Bool (is_none p.ended)) [ inl e ↦ rw e (pending-usage target g info (with_deletions g p) ∙ deletions-usage g p) | inr e ↦ rw e refl ]
+    elim (cases_Bool (is_none p.ended))
+    [ inl e ↦ rw e (pending-usage target g info (with_deletions g p) ∙ deletions-usage g p) | inr e ↦ rw e refl ]
 
-AllUsedAtMost-signalled : (n parent pid status : ℕ) (s : TracedSystem) → AllUsedAtMost n s → AllUsedAtMost n (with_parent_signalled parent pid status s)
+AllUsedAtMost-signalled : (n parent pid status : ℕ) (s : TracedSystem) → AllUsedAtMost n s
+    → AllUsedAtMost n (with_parent_signalled parent pid status s)
 unfolding with_parent_signalled
 AllUsedAtMost-signalled n parent pid status s h =
-    elim (cases_Bool (eqb parent 0)) [ inl none ↦ rw none h | inr some ↦ rw some (AllUsedAtMost-with_process n parent _ s (λ p. signalled-usage _ _ _ p) h) ]
+    elim (cases_Bool (eqb parent 0)) [
+      | inl none ↦ rw none h
+      | inr some ↦ rw some (AllUsedAtMost-with_process n parent _ s (λ p. signalled-usage _ _ _ p) h)
+    ]
 
-pub AllUsedAtMost-ended : (n pid : ℕ) (p : TracedProcess) (status : ℕ) (s : TracedSystem) → AllUsedAtMost n s → AllUsedAtMost n (with_this_ended traced pid p status s)
+pub AllUsedAtMost-ended : (n pid : ℕ) (p : TracedProcess) (status : ℕ) (s : TracedSystem) → AllUsedAtMost n s
+    → AllUsedAtMost n (with_this_ended traced pid p status s)
 unfolding with_this_ended
 AllUsedAtMost-ended n pid p status s h =
-    let buried : AllUsedAtMost n (record s { processes = change_under pid (zombie traced status) s.processes }) = record {
-      each = All-change_under (HasUsedAtMost n) pid (zombie traced status) s.processes (λ q at within. subst (UsedAtMost n) (sym (zombie-usage status q)) within) h.each;
+    let buried : AllUsedAtMost n (record s { processes = change_under pid (zombie traced status) s.processes }) =
+    record {
+      each = All-change_under (HasUsedAtMost n) pid (zombie traced status) s.processes
+          (λ q at within. subst (UsedAtMost n) (sym (zombie-usage status q)) within) h.each;
     } in
     let left = AllUsedAtMost-each n (orphaned pid) _ s (orphaned-usage pid) buried in
     AllUsedAtMost-signalled n p.parent pid status _ (AllUsedAtMost-loans_passed n pid p _ (record { each = left.each }))
 
 -- what bounds all counts bounds those of a process
-pub AllUsedAtMost-under : (n pid : ℕ) (s : TracedSystem) (p : TracedProcess) → under pid s.processes ≡ Some p → AllUsedAtMost n s → UsedAtMost n p.control.usage
+pub AllUsedAtMost-under : (n pid : ℕ) (s : TracedSystem) (p : TracedProcess) → under pid s.processes ≡ Some p
+    → AllUsedAtMost n s → UsedAtMost n p.control.usage
 AllUsedAtMost-under n pid s p found h = All-under (HasUsedAtMost n) pid p s.processes h.each found
 
-pub AllUsedAtMost-if_live : (n pid status : ℕ) (s : TracedSystem) (o : Option TracedProcess) → AllUsedAtMost n s → AllUsedAtMost n (ended_if_live traced pid status s o)
+pub AllUsedAtMost-if_live : (n pid status : ℕ) (s : TracedSystem) (o : Option TracedProcess) → AllUsedAtMost n s
+    → AllUsedAtMost n (ended_if_live traced pid status s o)
 AllUsedAtMost-if_live n pid status s None h = h
 AllUsedAtMost-if_live n pid status s (Some p) h = AllUsedAtMost-ended n pid p status s h
 
-pub AllUsedAtMost-generated : (n pid : ℕ) (target : Option ℕ) (g : Sig) (info : Info) (s : TracedSystem) → AllUsedAtMost n s → AllUsedAtMost n (generated traced pid target g info s)
+pub AllUsedAtMost-generated : (n pid : ℕ) (target : Option ℕ) (g : Sig) (info : Info) (s : TracedSystem)
+    → AllUsedAtMost n s → AllUsedAtMost n (generated traced pid target g info s)
 unfolding generated with_ended
 AllUsedAtMost-generated n pid target g info s h =
-    elim (cases_Bool (is_kill g)) [ inl kills ↦ rw kills (AllUsedAtMost-if_live n pid (signal_number g) s (live_process s pid) h) | inr other ↦ rw other (AllUsedAtMost-with_process n pid (signalled target g info) s (signalled-usage target g info) h) ]
+    elim (cases_Bool (is_kill g)) [
+      | inl kills ↦ rw kills (AllUsedAtMost-if_live n pid (signal_number g) s (live_process s pid) h)
+      | inr other ↦
+          rw other (AllUsedAtMost-with_process n pid (signalled target g info) s (signalled-usage target g info) h)
+    ]
 
 -- ---- a process more, and one less
 
 pub unused : (n : ℕ) → UsedAtMost n nothing_used
 unused n = record { calls = omega arith; signals = omega arith; faults = omega arith; instructions = omega arith }
 
-pub AllUsedAtMost-made : (n : ℕ) (p : TracedProcess) (s : TracedSystem) → p.control.usage ≡ nothing_used → AllUsedAtMost n s → AllUsedAtMost n (with_made p s)
+pub AllUsedAtMost-made : (n : ℕ) (p : TracedProcess) (s : TracedSystem) → p.control.usage ≡ nothing_used
+    → AllUsedAtMost n s → AllUsedAtMost n (with_made p s)
 unfolding with_made
 AllUsedAtMost-made n p s none h = record {
   each = All-inserted (HasUsedAtMost n) s.made p s.processes (subst (UsedAtMost n) (sym none) (unused n)) h.each;

@@ -4,8 +4,8 @@ use Rattle.pr_num.specs.Limits.{process_limit}
 use Rattle.pr_model.specs.State.{TracedProcess}
 use Rattle.pr_pids.specs.Blocks.{has_block}
 
--- In which blocks of 64 ids the children of each process stand, and in which those that have ended, so that they are found
--- without a walk over others.
+-- In which blocks of 64 ids the children of each process stand, and in which those that have ended, so that they are
+-- found without a walk over others.
 
 -- the block of an id; the last one has all ids behind it too
 unfoldable pub block_of : ℕ → ℕ
@@ -23,7 +23,8 @@ abbrev pub has_ended : TracedProcess → Bool
 has_ended p = is_some p.ended
 
 -- the block of each process of a kind but that of an id is marked for its parent
-pub record AreMarkedBut (kind : TracedProcess → Bool) (out : ℕ) (words : List ℕ) (es : List (ℕ × TracedProcess)) : Type 0 where
+pub record AreMarkedBut (kind : TracedProcess → Bool) (out : ℕ) (words : List ℕ)
+    (es : List (ℕ × TracedProcess)) : Type 0 where
   pub each : (id : ℕ) (p : TracedProcess) → under id es ≡ Some p → kind p ≡ true → id ≢ out → IsMarked words p.parent id
 
 -- that of each process of the kind is
@@ -34,7 +35,8 @@ pub record AreMarked (kind : TracedProcess → Bool) (words : List ℕ) (es : Li
 
 -- a process has no child of a kind from one id on, before another one
 pub record HasNone (kind : TracedProcess → Bool) (parent from to : ℕ) (es : List (ℕ × TracedProcess)) : Type 0 where
-  pub each : (id : ℕ) (p : TracedProcess) → under id es ≡ Some p → kind p ≡ true → from ≤ id → id < to → p.parent ≢ parent
+  pub each : (id : ℕ) (p : TracedProcess) → under id es ≡ Some p → kind p ≡ true → from ≤ id → id < to
+      → p.parent ≢ parent
 
 -- nor any from one id on
 pub record HasNoneFrom (kind : TracedProcess → Bool) (parent from : ℕ) (es : List (ℕ × TracedProcess)) : Type 0 where
@@ -42,7 +44,8 @@ pub record HasNoneFrom (kind : TracedProcess → Bool) (parent from : ℕ) (es :
 
 -- nor any in a block
 pub record HasNoneIn (kind : TracedProcess → Bool) (parent block : ℕ) (es : List (ℕ × TracedProcess)) : Type 0 where
-  pub each : (id : ℕ) (p : TracedProcess) → under id es ≡ Some p → kind p ≡ true → block_of id ≡ block → p.parent ≢ parent
+  pub each : (id : ℕ) (p : TracedProcess) → under id es ≡ Some p → kind p ≡ true → block_of id ≡ block
+      → p.parent ≢ parent
 
 -- the same of all children
 abbrev pub HasNoChild : ℕ → ℕ → ℕ → List (ℕ × TracedProcess) → Type 0

@@ -44,8 +44,9 @@ fn clear_control(control: &mut Control<Areas>)
     watch_nothing(&mut control.areas);
 }
 
-/// Leaves of a process what a zombie keeps: its parent, program name, moment and usage, and this wait status. Closes its
-/// descriptors, and answers the memory that it had; that of its lwps is freed. It is changed in place. Takes no memory.
+/// Leaves of a process what a zombie keeps: its parent, program name, moment and usage, and this wait status. Closes
+/// its descriptors, and answers the memory that it had; that of its lwps is freed. It is changed in place. Takes no
+/// memory.
 #[tactic(auto, unfolding(pr_model::specs::Lives::zombie, pr_model::specs::Lives::bare_process, pr_model::specs::Machines::traced))]
 fn become_zombie(alloc: Global, files: &mut Files, process: &mut Proc, status: u64) -> Space
     ensures files { files.new ≡ with_all_closed files.old process.old.fds }
@@ -119,7 +120,9 @@ fn tell_parent(sys: &mut Sys, parent: u32, pid: u32, status: u64)
 #[tactic(auto, using(pr_num::proofs::ByIdLaws::by_id_laws, std::proofs::lemmas::Option::same_Some), unfolding(pr_model::specs::State::with_process))]
 fn bury(sys: &mut Sys, pid: u32, status: u64) -> Space
     requires { IsSome (under pid sys.old.processes) }
-    ensures system { ForSome (under pid sys.old.processes) (λ p. sys.new ≡ with_process pid (zombie traced status) (record sys.old { files = with_all_closed sys.old.files p.fds })) }
+    ensures system { ForSome (under pid sys.old.processes)
+        (λ p. sys.new
+        ≡ with_process pid (zombie traced status) (record sys.old { files = with_all_closed sys.old.files p.fds })) }
     ensures space { ForSome (under pid sys.old.processes) (λ p. result ≡ p.space) }
 {
     let alloc = sys.programs.alloc();

@@ -99,7 +99,9 @@ fn run_under(
     requires lwp { IfSome (under pid processes.old) (λ p. IsSome (lwp_of p id)) }
     requires space { space ≡ first_space program.now }
     requires place { only ≡ (id, first_lwp traced false) ∷ [] }
-    ensures processes { ForSome (under pid processes.old) (λ p. ForSome (lwp_of p id) (λ l. processes.new ≡ change_under pid (with_program traced id l program.now) processes.old)) }
+    ensures processes { ForSome (under pid processes.old)
+        (λ p. ForSome (lwp_of p id)
+        (λ l. processes.new ≡ change_under pid (with_program traced id l program.now) processes.old)) }
     ensures left { ForSome (under pid processes.old) (λ p. result ≡ p.space) }
 {
     run(processes.get_mut(pid), id, program, space, only)
@@ -113,9 +115,17 @@ pub fn exec(alloc: Global, sys: &mut Sys, pid: u32, lwp: u32, program: u32) -> R
     requires live { IsSome (live_process sys.old pid) }
     requires lwp { IfSome (live_process sys.old pid) (λ p. IsSome (lwp_of p lwp)) }
     requires program { program < length sys.old.programs }
-    ensures ok { OnOk result (ForSome (live_process sys.old pid) (λ p. ForSome (lwp_of p lwp) (λ l. ForSome (slice_get sys.old.programs program) (λ g. sys.new ≡ with_process_if p.lender (with_loan_back pid p) (with_process pid (with_program traced lwp l g) sys.old))))) }
-    ensures refused { ForSome (live_process sys.old pid) (λ p. ForSome (slice_get sys.old.programs program) (λ g. Says result (exec_refusal sys.old p lwp g))) }
-    ensures memory { result ≡ Err ProcNo.NoMemory → ForSome (live_process sys.old pid) (λ p. ForSome (slice_get sys.old.programs program) (λ g. exec_refusal sys.old p lwp g ≡ None)) }
+    ensures ok { OnOk result
+        (ForSome (live_process sys.old pid)
+        (λ p. ForSome (lwp_of p lwp)
+        (λ l. ForSome (slice_get sys.old.programs program)
+        (λ g. sys.new
+        ≡ with_process_if p.lender (with_loan_back pid p) (with_process pid (with_program traced lwp l g) sys.old))))) }
+    ensures refused { ForSome (live_process sys.old pid)
+        (λ p. ForSome (slice_get sys.old.programs program) (λ g. Says result (exec_refusal sys.old p lwp g))) }
+    ensures memory { result ≡ Err ProcNo.NoMemory
+        → ForSome (live_process sys.old pid)
+        (λ p. ForSome (slice_get sys.old.programs program) (λ g. exec_refusal sys.old p lwp g ≡ None)) }
     ensures err { OnErr result (sys.new ≡ sys.old) }
 {
     let process = live(sys, pid).unwrap();

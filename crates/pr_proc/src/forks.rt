@@ -119,7 +119,8 @@ fn with_zero(regs: [u64; 11]) -> [u64; 11]
 #[tactic(auto, unfolding(pr_model::specs::Lives::forked_lwp, pr_model::specs::Machines::traced))]
 fn forked_lwp(call: Sysno, lwp: &Lwp, frames: Frames, control: &Control<Areas>) -> Lwp
     requires { frames ≡ lwp.now.frames }
-    ensures { (birth : Birth) → call ≡ call_of birth → result ≡ forked_lwp traced birth (arguments_in lwp.now.regs lwp.now.phase) control.now lwp.now }
+    ensures { (birth : Birth) → call ≡ call_of birth
+        → result ≡ forked_lwp traced birth (arguments_in lwp.now.regs lwp.now.phase) control.now lwp.now }
 {
     let regs = lwp.regs;
     let args = arguments_in(lwp);
@@ -148,7 +149,10 @@ fn bare_child(
     lwp: Lwp,
     clock: u64,
 ) -> Result<Proc, NoMemory>
-    ensures { IfOk result (λ child. (birth : Birth) → (args : List ℕ) → (l : TracedLwp) → lwp ≡ forked_lwp traced birth args process.now.control l → child ≡ bare_child birth pid process.now l args clock) }
+    ensures { IfOk result
+        (λ child. (birth : Birth) → (args : List ℕ) → (l : TracedLwp)
+        → lwp ≡ forked_lwp traced birth args process.now.control l
+        → child ≡ bare_child birth pid process.now l args clock) }
 {
     let lwps = one_lwp(alloc, 1, lwp)?;
     let dispositions = process.dispositions;
@@ -183,7 +187,11 @@ fn made_child(
     requires live { IsSome (live_process sys.old pid) }
     requires lwp { IfSome (live_process sys.old pid) (λ p. IsSome (lwp_of p lwp)) }
     ensures same { sys.new ≡ sys.old }
-    ensures child { IfOk result (λ child. (birth : Birth) → call ≡ call_of birth → ForSome (live_process sys.old pid) (λ p. ForSome (lwp_of p lwp) (λ l. child ≡ bare_child birth pid p l (arguments_in l.regs l.phase) sys.old.clock))) }
+    ensures child { IfOk result
+        (λ child. (birth : Birth) → call ≡ call_of birth
+        → ForSome (live_process sys.old pid)
+        (λ p. ForSome (lwp_of p lwp)
+        (λ l. child ≡ bare_child birth pid p l (arguments_in l.regs l.phase) sys.old.clock))) }
 {
     let mut frames = Frames::new();
     copy_frames(sys.processes.get_mut(pid), lwp, &mut frames);
@@ -205,7 +213,8 @@ fn give_fds(process: &mut Proc, fds: Fds)
 fn share_fds(sys: &mut Sys, pid: u32) -> Fds
     requires stands { IsSome (under pid sys.old.processes) }
     requires users { HasRoom sys.old.files descriptor_limit }
-    ensures system { ForSome (under pid sys.old.processes) (λ p. sys.new ≡ record sys.old { files = with_all_shared sys.old.files p.fds }) }
+    ensures system { ForSome (under pid sys.old.processes)
+        (λ p. sys.new ≡ record sys.old { files = with_all_shared sys.old.files p.fds }) }
     ensures processes { sys.new.processes ≡ sys.old.processes }
     ensures fds { ForSome (under pid sys.old.processes) (λ p. result ≡ p.fds) }
 {
@@ -230,7 +239,10 @@ fn add_child(sys: &mut Sys, pid: u32, child: Proc) -> Result<(), NoMemory>
     requires room { sys.old.made + 1 < 2 ^ 32 }
     requires free { process_of sys.old sys.old.made ≡ None }
     requires users { HasRoom sys.old.files descriptor_limit }
-    ensures ok { OnOk result (ForSome (live_process sys.old pid) (λ p. sys.new ≡ with_made (with_fds p.fds child) (record sys.old { files = with_all_shared sys.old.files p.fds }))) }
+    ensures ok { OnOk result
+        (ForSome (live_process sys.old pid)
+        (λ p. sys.new
+        ≡ with_made (with_fds p.fds child) (record sys.old { files = with_all_shared sys.old.files p.fds }))) }
     ensures err { OnErr result (sys.new ≡ sys.old) }
 {
     let id = sys.made;
@@ -240,9 +252,9 @@ fn add_child(sys: &mut Sys, pid: u32, child: Proc) -> Result<(), NoMemory>
     Ok(())
 }
 
-/// Forks a live process by an lwp of it, with the arguments of the call in which that is, and answers the child's id. `Again`
-/// comes exactly where 4,096 processes were made, then `NoSpace` exactly where all processes together would map more
-/// than 64 MiB, and memory runs out only where neither is so. After an error the system is as it was.
+/// Forks a live process by an lwp of it, with the arguments of the call in which that is, and answers the child's id.
+/// `Again` comes exactly where 4,096 processes were made, then `NoSpace` exactly where all processes together would map
+/// more than 64 MiB, and memory runs out only where neither is so. After an error the system is as it was.
 #[tactic(auto, unfolding(crate::specs::Refusals::fork_refusal))]
 pub fn fork(alloc: Global, sys: &mut Sys, pid: u32, lwp: u32) -> Result<u32, ProcNo>
     requires live { IsSome (live_process sys.old pid) }
@@ -251,7 +263,10 @@ pub fn fork(alloc: Global, sys: &mut Sys, pid: u32, lwp: u32) -> Result<u32, Pro
     requires free { process_of sys.old sys.old.made ≡ None }
     // open files can count a child's descriptors too
     requires users { HasRoom sys.old.files descriptor_limit }
-    ensures ok { OnOk result (ForSome (live_process sys.old pid) (λ p. ForSome (lwp_of p lwp) (λ l. sys.new ≡ with_child traced by_fork pid p l (arguments_in l.regs l.phase) sys.old))) }
+    ensures ok { OnOk result
+        (ForSome (live_process sys.old pid)
+        (λ p. ForSome (lwp_of p lwp)
+        (λ l. sys.new ≡ with_child traced by_fork pid p l (arguments_in l.regs l.phase) sys.old))) }
     ensures child { IfOk result (λ child. child ≡ sys.old.made) }
     ensures refused { ForSome (live_process sys.old pid) (λ p. Says result (fork_refusal sys.old p)) }
     ensures memory { result ≡ Err ProcNo.NoMemory → ForSome (live_process sys.old pid) (λ p. fork_refusal sys.old p ≡ None) }
@@ -295,7 +310,8 @@ fn borrow(child: &mut Proc, lender: u32, space: Space)
 fn lend_memory(alloc: Global, sys: &mut Sys, pid: u32, child: u32)
     requires lender { IsSome (under pid sys.old.processes) }
     requires borrower { IsSome (under child sys.old.processes) }
-    ensures { ForSome (under pid sys.old.processes) (λ p. sys.new ≡ with_process child (with_loan pid p.space) (with_process pid (lent_to child) sys.old)) }
+    ensures { ForSome (under pid sys.old.processes)
+        (λ p. sys.new ≡ with_process child (with_loan pid p.space) (with_process pid (lent_to child) sys.old)) }
 {
     let space = lend_space(alloc, sys.processes.get_mut(pid), child);
     borrow(sys.processes.get_mut(child), pid, space);
@@ -312,7 +328,10 @@ pub fn lend(alloc: Global, sys: &mut Sys, pid: u32, lwp: u32) -> Result<u32, Pro
     requires free { process_of sys.old sys.old.made ≡ None }
     // open files can count a child's descriptors too
     requires users { HasRoom sys.old.files descriptor_limit }
-    ensures ok { OnOk result (ForSome (live_process sys.old pid) (λ p. ForSome (lwp_of p lwp) (λ l. sys.new ≡ with_child traced by_vfork pid p l (arguments_in l.regs l.phase) sys.old))) }
+    ensures ok { OnOk result
+        (ForSome (live_process sys.old pid)
+        (λ p. ForSome (lwp_of p lwp)
+        (λ l. sys.new ≡ with_child traced by_vfork pid p l (arguments_in l.regs l.phase) sys.old))) }
     ensures child { IfOk result (λ child. child ≡ sys.old.made) }
     ensures refused { Says result (lend_refusal sys.old) }
     ensures memory { result ≡ Err ProcNo.NoMemory → lend_refusal sys.old ≡ None }

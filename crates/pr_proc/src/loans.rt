@@ -19,7 +19,8 @@ fn is_id(pid: u32, id: Option<u32>) -> bool
 /// Lets a process, if it has lent its memory to that of an id, have it again, or its next borrower.
 #[tactic(auto, unfolding(pr_model::specs::Lives::with_loan_back))]
 fn take_back(lender: &mut Proc, pid: u32, space: Space, borrower: Option<u32>)
-    ensures { (p : TracedProcess) → p.space ≡ space → p.borrower ≡ borrower → lender.new ≡ with_loan_back pid p lender.old }
+    ensures { (p : TracedProcess) → p.space ≡ space → p.borrower ≡ borrower
+        → lender.new ≡ with_loan_back pid p lender.old }
 {
     if is_id(pid, lender.borrower) {
         lender.space = space;
@@ -37,7 +38,8 @@ pub(crate) fn give_back(
     space: Space,
     borrower: Option<u32>,
 )
-    ensures { (p : TracedProcess) → p.space ≡ space → p.borrower ≡ borrower → sys.new ≡ with_process_if lender (with_loan_back pid p) sys.old }
+    ensures { (p : TracedProcess) → p.space ≡ space → p.borrower ≡ borrower
+        → sys.new ≡ with_process_if lender (with_loan_back pid p) sys.old }
 {
     let Some(lender) = lender else {
         return;
@@ -60,7 +62,8 @@ fn take_lender(borrower: &mut Proc, pid: u32, lender: Option<u32>)
 /// Leaves the lender of the process of an id, if it has one, to its borrower, if it has one.
 #[tactic(auto, using(pr_num::proofs::ByIdLaws::by_id_laws), unfolding(pr_model::specs::State::with_process))]
 pub(crate) fn leave_lender(sys: &mut Sys, pid: u32, borrower: Option<u32>, lender: Option<u32>)
-    ensures { (p : TracedProcess) → p.lender ≡ lender → sys.new ≡ with_process_if borrower (with_lender_of pid p) sys.old }
+    ensures { (p : TracedProcess) → p.lender ≡ lender
+        → sys.new ≡ with_process_if borrower (with_lender_of pid p) sys.old }
 {
     let Some(borrower) = borrower else {
         return;

@@ -175,7 +175,8 @@ fn next_place(
     low: u64,
 ) -> Option<u64>
     ensures behind { IfSome result (λ start. low ≤ start) }
-    ensures passed { (kind : TracedProcess → Bool) → AreMarkedBut kind out marks.now table.now → (id : ℕ) (p : TracedProcess) → under id table.now ≡ Some p → kind p ≡ true → low ≤ id → IsBefore id result → p.parent ≢ parent }
+    ensures passed { (kind : TracedProcess → Bool) → AreMarkedBut kind out marks.now table.now → (id : ℕ) (p : TracedProcess)
+        → under id table.now ≡ Some p → kind p ≡ true → low ≤ id → IsBefore id result → p.parent ≢ parent }
 {
     earlier(
         next_marked(marks, parent, low),

@@ -23,8 +23,8 @@ use std::marker::Model;
 /// and its process, by rising id.
 ///
 /// A process stands where the slab put it until it is reaped. How many bytes all processes have mapped is known at any
-/// time: no call goes over them to add their sizes up. Nor does one go over them to find the children of a process: it is
-/// known in which blocks of 64 ids these may stand, and in which those that have ended.
+/// time: no call goes over them to add their sizes up. Nor does one go over them to find the children of a process: it
+/// is known in which blocks of 64 ids these may stand, and in which those that have ended.
 #[derive(Drop)]
 pub struct Processes {
     table: SlabById<Proc>,
@@ -222,8 +222,8 @@ impl Processes {
         Some(self.get_mut(id))
     }
 
-    /// Adds a process under an id that does not stand, behind those of lower ids. Where memory runs out, all stays as it
-    /// is.
+    /// Adds a process under an id that does not stand, behind those of lower ids. Where memory runs out, all stays as
+    /// it is.
     pub fn insert(&mut self, id: u32, process: Proc) -> Result<(), NoMemory>
         requires { IsNone (under id self.old) }
         ensures ok { OnOk result (self.new ≡ inserted id process self.old) }

@@ -11,8 +11,8 @@ use pr_num::NoMemory;
 use std::alloc::Global;
 use std::marker::Model;
 
-/// Programs at places that count from 0, seen by contracts as their list: at most 256, as many as a scenario has, so that
-/// a place is a `u32`.
+/// Programs at places that count from 0, seen by contracts as their list: at most 256, as many as a scenario has, so
+/// that a place is a `u32`.
 #[derive(Drop)]
 pub struct Programs {
     programs: Vec<Program>,
@@ -32,7 +32,8 @@ impl Model for Programs {
 
     ghost view = { λ all. all.programs.items };
 
-    ghost invariant = { λ all. (length all.programs.items ≤ program_limit) × (all.spaces.items ≡ map first_space all.programs.items) × (all.empty ≡ []) };
+    ghost invariant = { λ all. (length all.programs.items ≤ program_limit) × (all.spaces.items ≡ map first_space all.programs.items)
+        × (all.empty ≡ []) };
 }
 
 /// The address space in which a program begins.
@@ -104,8 +105,8 @@ impl Programs {
         &self.programs[place as usize]
     }
 
-    /// The program at a place, and the address space in which it begins: a copy of that shares its bytes with all others,
-    /// until one of them is written to.
+    /// The program at a place, and the address space in which it begins: a copy of that shares its bytes with all
+    /// others, until one of them is written to.
     pub fn start(&self, place: u32) -> (&Program, &Space)
         requires { place < length self.now }
         ensures program { slice_get self.now place ≡ Some result.0.now }

@@ -117,7 +117,8 @@ fn add_spawned(
     requires space { ForSome (slice_get sys.old.programs place) (λ program. space ≡ first_space program) }
     requires room { sys.old.made + 1 < 2 ^ 32 }
     requires free { process_of sys.old sys.old.made ≡ None }
-    ensures ok { OnOk result (ForSome (slice_get sys.old.programs place) (λ program. sys.new ≡ with_spawned traced program held sys.old)) }
+    ensures ok { OnOk result
+        (ForSome (slice_get sys.old.programs place) (λ program. sys.new ≡ with_spawned traced program held sys.old)) }
     ensures made { OnOk result (sys.new.made ≡ sys.old.made + 1) }
     ensures ids { IsNumbered sys.old → IsNumbered sys.new }
     ensures err { OnErr result (sys.new ≡ sys.old) }
@@ -143,7 +144,8 @@ pub(crate) fn spawn_unlimited(
     requires program { place < length sys.old.programs }
     requires room { sys.old.made + 1 < 2 ^ 32 }
     requires ids { IsNumbered sys.old }
-    ensures ok { OnOk result (ForSome (slice_get sys.old.programs place) (λ program. sys.new ≡ with_spawned traced program held sys.old)) }
+    ensures ok { OnOk result
+        (ForSome (slice_get sys.old.programs place) (λ program. sys.new ≡ with_spawned traced program held sys.old)) }
     ensures made { OnOk result (sys.new.made ≡ sys.old.made + 1) }
     ensures ids { IsNumbered sys.new }
     ensures err { OnErr result (sys.new ≡ sys.old) }
@@ -162,11 +164,13 @@ pub fn spawn(alloc: Global, sys: &mut Sys, place: u32, held: bool) -> Result<u32
     requires program { place < length sys.old.programs }
     // no process has the next id
     requires free { process_of sys.old sys.old.made ≡ None }
-    ensures ok { OnOk result (ForSome (slice_get sys.old.programs place) (λ program. sys.new ≡ with_spawned traced program held sys.old)) }
+    ensures ok { OnOk result
+        (ForSome (slice_get sys.old.programs place) (λ program. sys.new ≡ with_spawned traced program held sys.old)) }
     ensures child { IfOk result (λ child. child ≡ sys.old.made) }
     ensures refused { ForSome (slice_get sys.old.programs place) (λ program. Says result (spawn_refusal sys.old program)) }
     ensures memory { result ≡ Err ProcNo.NoMemory → sys.old.made < process_limit }
-    ensures room { result ≡ Err ProcNo.NoMemory → ForSome (slice_get sys.old.programs place) (λ program. spawn_refusal sys.old program ≡ None) }
+    ensures room { result ≡ Err ProcNo.NoMemory
+        → ForSome (slice_get sys.old.programs place) (λ program. spawn_refusal sys.old program ≡ None) }
     ensures err { OnErr result (sys.new ≡ sys.old) }
 {
     let child = sys.made;

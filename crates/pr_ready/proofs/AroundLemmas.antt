@@ -57,7 +57,8 @@ module _ (s : TracedSystem) (pid id : ℕ) (p : TracedProcess) (l : TracedLwp) (
 
 pub turn-ready : (s : TracedSystem) (pid id : ℕ) (t : LwpTurn) (old new : ReadySets) → IsLawfulSystem s
     → turn_of s pid id ≡ Some t
-    → KeepsUp (λ other. eqb pid other || (reaches_around (reach_of t.turned.did) && is_around (around_lwp s pid id) other))
+    → KeepsUp
+    (λ other. eqb pid other || (reaches_around (reach_of t.turned.did) && is_around (around_lwp s pid id) other))
     (changes_files (reach_of t.turned.did)) false (is_movable t.system) t.system old new → AreReady s old
     → AreReady t.system new
 unfolding turn_touches
@@ -77,7 +78,8 @@ made-same s _ other = refl
 
 pub call-ready : (s : TracedState) (by : ℕ) (c : Call) (a : Answer) (old new : ReadySets) → IsLawful s
     → answer_to s by c ≡ Some a
-    → KeepsUp (is_around (around_call s by c)) (call_changes_files c) false (is_movable a.state.system) a.state.system old
+    → KeepsUp (is_around (around_call s by c)) (call_changes_files c) false
+    (is_movable a.state.system) a.state.system old
     new → AreReady s.system old → AreReady a.state.system new
 unfolding call_touches around_call
 call-ready s by c a old new h answer follows before =

@@ -109,7 +109,8 @@ module _ (answer : ℕ × ℕ → Bool) (s : TracedSystem) where
 
       apart : (pid : ℕ) → touches pid ≡ false → pid ≡ which → ⊥
       apart pid spared same =
-          true≢false (sym (eq-eqb which pid (sym same)) ∙ (or_parts (eqb which pid) (wide && is_around around pid) spared).0)
+          true≢false
+          (sym (eq-eqb which pid (sym same)) ∙ (or_parts (eqb which pid) (wide && is_around around pid) spared).0)
 
       touched : (pid : ℕ) → touches pid ≡ true → pid < process_limit → Covers answer s mid pid
       touched pid one small = by (cases_Bool (eqb which pid))
@@ -134,9 +135,11 @@ module _ (answer : ℕ × ℕ → Bool) (s : TracedSystem) where
       }
 
   -- a process alone, which was looked at
-  pub follows-alone : (which : ℕ) (old new : ReadySets) (reach : Reach) → (which < process_limit → Covers answer s new which)
+  pub follows-alone : (which : ℕ) (old new : ReadySets) (reach : Reach)
+      → (which < process_limit → Covers answer s new which)
       → GrowsBut which old new → reach ≡ itself → (around : Around)
-      → KeepsUp (λ other. eqb which other || (reaches_around reach && is_around around other)) (changes_files reach) false
+      → KeepsUp (λ other. eqb which other || (reaches_around reach && is_around around other))
+      (changes_files reach) false
       answer s old new
   follows-alone which old new reach covers first own around =
       follows-turn (changes_files reach) old new new (λ may. absurd (false≢true (sym (ap changes_files own) ∙ may)))
@@ -146,7 +149,8 @@ module _ (answer : ℕ × ℕ → Bool) (s : TracedSystem) where
 -- ---- a process with one lwp
 
 -- what its lwp does not
-only : (f : ℕ × TracedLwp → Bool) (es : List (ℕ × TracedLwp)) (e : ℕ × TracedLwp) → length es ≡ 1 → slice_get es 0 ≡ Some e
+only : (f : ℕ × TracedLwp → Bool) (es : List (ℕ × TracedLwp)) (e : ℕ × TracedLwp) → length es ≡ 1
+    → slice_get es 0 ≡ Some e
     → f e ≡ false → list_any f es ≡ false
 only f [] e one at fails = absurd (omega arith)
 only f (x ∷ []) e one at fails = let same : x ≡ e = same_Some x e at in rw (same, fails) refl

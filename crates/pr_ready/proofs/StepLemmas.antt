@@ -165,10 +165,12 @@ module _ (touches : ℕ → Bool) (files clock : Bool) (s u : TracedSystem) (old
           → IsDue old.moments pid u.clock → has_pid new.movable pid ≡ true
       woken true may ph wakes due = follows.by_clock may pid spared small due now
       woken false stands ph wakes due =
-          absurd (still-wakes s.clock ph (subst (λ n. wakes_between s.clock n ph ≡ true) (left.same_clock stands) wakes))
+          absurd (still-wakes s.clock ph
+          (subst (λ n. wakes_between s.clock n ph ≡ true) (left.same_clock stands) wakes))
 
       waited : (id : ℕ) → (it : HasLwp (waits files s.clock u.clock) s pid id)
-          → ((files ≡ true) × (sleeps_at_pipe it.lwp.phase ≡ true)) ⊎ (wakes_between s.clock u.clock it.lwp.phase ≡ true)
+          → ((files ≡ true) × (sleeps_at_pipe it.lwp.phase ≡ true))
+          ⊎ (wakes_between s.clock u.clock it.lwp.phase ≡ true)
           → has_pid new.movable pid ≡ true
       waited id it (inl (may, sleeps)) =
           follows.by_files may pid spared (pipes-before it.process id it.lwp it.live it.there sleeps) now

@@ -48,7 +48,8 @@ fold-next clock later least (e ∷ es) wakes =
     (λ rest. fold-next clock later (lesser_moment clock least e) es rest)
   where
     by : (wakes_between clock later e.1.phase ≡ true) ⊎ (wakes_between clock later e.1.phase ≡ false)
-        → (list_any (is_woken clock later) es ≡ true → fold (lesser_moment clock) (lesser_moment clock least e) es ≤ later)
+        → (list_any (is_woken clock later) es ≡ true
+        → fold (lesser_moment clock) (lesser_moment clock least e) es ≤ later)
         → fold (lesser_moment clock) (lesser_moment clock least e) es ≤ later
     by (inl is) rest =
         let all = fold-least clock (lesser_moment clock least e) es in

@@ -187,7 +187,9 @@ module _ (answer : ℕ × ℕ → Bool) (after : Option (ℕ × ℕ)) where
       each x less es = none-before answer x pid less es
 
       by : (o : Option (ℕ × ℕ)) → after ≡ o → find (asked_after answer after) (pairs_of pid lwps) ≡ None
-      by None is = absurd (let low : pid < first_pid None = subst (λ (a : Option (ℕ × ℕ)). pid < first_pid a) is less in omega arith)
+      by None is =
+          absurd (let low : pid < first_pid None = subst (λ (a : Option (ℕ × ℕ)). pid < first_pid a) is less in
+          omega arith)
       by (Some x) is =
           rw is (each x (subst (λ (a : Option (ℕ × ℕ)). pid < first_pid a) is less) lwps)
 

@@ -18,8 +18,8 @@ abbrev pub is_in_kin_of : Option Kin → ℕ → Bool
 is_in_kin_of None other = false
 is_in_kin_of (Some k) other = is_in_kin k other
 
--- whether an id is one of those noted: that of a process that is made, of one around a process, or of a target or of one
--- around that
+-- whether an id is one of those noted: that of a process that is made, of one around a process, or of a target or of
+-- one around that
 unfoldable pub is_around : Around → ℕ → Bool
 is_around a other =
     is_id other a.made || (is_in_kin_of a.kin other || (is_id other a.target || is_in_kin_of a.target_kin other))

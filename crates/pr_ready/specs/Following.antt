@@ -17,8 +17,8 @@ abbrev pub target_in_process : Option TracedProcess → ℕ → Option ℕ
 target_in_process None id = None
 target_in_process (Some p) id = target_of_lwp (lwp_of p id)
 
--- before a turn of an lwp: what is around its process, and around whom it may send a signal to, and the next process that
--- may be made
+-- before a turn of an lwp: what is around its process, and around whom it may send a signal to, and the next process
+-- that may be made
 unfoldable pub around_lwp : TracedSystem → ℕ → ℕ → Around
 around_lwp s pid id =
     around_of s (Some s.made) (live_process s pid) (target_in_process (live_process s pid) id)

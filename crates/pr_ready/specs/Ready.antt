@@ -7,8 +7,8 @@ use Rattle.pr_ready.specs.declared.ready.Ready as ready
 use Rattle.pr_ready.specs.declared.moments.Moments.{Moments}
 use Rattle.pr_ready_laws.specs.Left.{dozes, sleeps_at_pipe, wakes_between}
 
--- Which processes are looked at for a turn, and when the clock has to look at those that sleep. A question is asked of lwps, each named after its process's id; which one it
--- is, is left open here.
+-- Which processes are looked at for a turn, and when the clock has to look at those that sleep. A question is asked of
+-- lwps, each named after its process's id; which one it is, is left open here.
 
 abbrev pub ReadySets : Type 0
 ReadySets = ready.Ready
@@ -52,8 +52,8 @@ some_woken_of from to (Some p) = some_woken from to p
 
 -- ---- moments
 
--- the process of an id is looked at when the clock comes to a moment: it is not before that of its block, nor before that
--- of all
+-- the process of an id is looked at when the clock comes to a moment: it is not before that of its block, nor before
+-- that of all
 pub record IsDue (m : Moments) (pid moment : ℕ) : Type 0 where
   pub block : slice_index m.blocks (pid / 64) ≤ moment
   pub all : m.all ≤ moment
@@ -65,8 +65,8 @@ StaysDue old new = (pid moment : ℕ) → IsDue old pid moment → IsDue new pid
 -- ---- the sets
 
 -- The sets have the process of an id where they have to: the first one if the answer about some lwp of it is yes, the
--- second one if some lwp of it sleeps at a pipe, and the third one if some lwp of it sleeps in sleep. And where one sleeps
--- there until a moment that is still to come, the process is looked at when the clock comes to it.
+-- second one if some lwp of it sleeps at a pipe, and the third one if some lwp of it sleeps in sleep. And where one
+-- sleeps there until a moment that is still to come, the process is looked at when the clock comes to it.
 pub record Covers (answer : ℕ × ℕ → Bool) (s : TracedSystem) (r : ReadySets) (pid : ℕ) : Type 0 where
   pub moves : (p : TracedProcess) → live_process s pid ≡ Some p → some_answer answer pid p ≡ true
       → has_pid r.movable pid ≡ true

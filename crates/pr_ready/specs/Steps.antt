@@ -4,9 +4,9 @@ use Rattle.pr_model.specs.State.{TracedSystem, live_process}
 use Rattle.pr_pids.specs.Members.{has_pid}
 use Rattle.pr_ready.specs.Ready.{Covers, IsDue, ReadySets, some_answer_of, some_woken_of}
 
--- How the sets follow a step: those that it touches are looked at, and so are those that may have waited for files or for
--- a moment to which the clock has come, where these may differ; nobody else leaves a set, or is looked at later than the
--- moment until which it sleeps.
+-- How the sets follow a step: those that it touches are looked at, and so are those that may have waited for files or
+-- for a moment to which the clock has come, where these may differ; nobody else leaves a set, or is looked at later
+-- than the moment until which it sleeps.
 pub record KeepsUp (touches : ℕ → Bool) (files clock : Bool) (answer : ℕ × ℕ → Bool) (u : TracedSystem)
     (old new : ReadySets) : Type 0 where
   pub touched : (pid : ℕ) → touches pid ≡ true → pid < process_limit → Covers answer u new pid

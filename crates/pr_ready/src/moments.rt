@@ -76,7 +76,8 @@ pub fn next_moment(clock: u64, lwps: &[(u32, Lwp)]) -> u64
 
 /// A process with these lwps is to be looked at when the next one of them wakes.
 pub fn note_next(moments: &mut Moments, clock: u64, pid: u32, lwps: &[(u32, Lwp)])
-    ensures due { pid < process_limit → (moment : ℕ) → list_any (is_woken clock moment) lwps.now ≡ true → IsDue moments.new pid moment }
+    ensures due { pid < process_limit → (moment : ℕ) → list_any (is_woken clock moment) lwps.now ≡ true
+        → IsDue moments.new pid moment }
     ensures others { StaysDue moments.old moments.new }
 {
     moments.note(pid, next_moment(clock, lwps));

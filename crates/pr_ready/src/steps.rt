@@ -101,7 +101,8 @@ pub fn after_turn<Q: Question>(
     did: Did,
     question: &Q,
 )
-    ensures { KeepsUp (λ other. (pid == other) || (reaches_around (reach_of did) && is_around around other)) (changes_files (reach_of did)) false (Q.answer question.now) sys.now ready.old ready.new }
+    ensures { KeepsUp (λ other. (pid == other) || (reaches_around (reach_of did) && is_around around other))
+        (changes_files (reach_of did)) false (Q.answer question.now) sys.now ready.old ready.new }
 {
     renew(ready, sys, pid, question);
     look_around_if(ready, sys, reaches_around(did), around, question);
@@ -119,7 +120,9 @@ pub fn after_instruction<Q: Question>(
 )
     requires reach { reach_of did ≡ itself }
     requires ran { did ≡ Ran → pid < process_limit → Covers (Q.answer question.now) sys.now ready.old pid }
-    ensures { (around : Around) → KeepsUp (λ other. (pid == other) || (reaches_around (reach_of did) && is_around around other)) (changes_files (reach_of did)) false (Q.answer question.now) sys.now ready.old ready.new }
+    ensures { (around : Around)
+        → KeepsUp (λ other. (pid == other) || (reaches_around (reach_of did) && is_around around other))
+        (changes_files (reach_of did)) false (Q.answer question.now) sys.now ready.old ready.new }
 {
     match did {
         Did::Ran => {}

@@ -15,8 +15,10 @@ use pr_proc::{Question, Sys, live};
 /// moment at which the clock wakes one of them.
 fn look_at_block<Q: Question>(movable: &mut ProcessSet, sys: &Sys, block: u32, question: &Q) -> u64
     requires { block < 64 }
-    ensures looked { (pid : ℕ) → pid / 64 ≡ block → some_answer_of (Q.answer question.now) pid (live_process sys.now pid) ≡ true → has_pid movable.new pid ≡ true }
-    ensures next { (pid moment : ℕ) → pid / 64 ≡ block → some_woken_of sys.now.clock moment (live_process sys.now pid) ≡ true → result ≤ moment }
+    ensures looked { (pid : ℕ) → pid / 64 ≡ block → some_answer_of (Q.answer question.now) pid (live_process sys.now pid) ≡ true
+        → has_pid movable.new pid ≡ true }
+    ensures next { (pid moment : ℕ) → pid / 64 ≡ block → some_woken_of sys.now.clock moment (live_process sys.now pid) ≡ true
+        → result ≤ moment }
     ensures grows { HasAll movable.old movable.new }
 {
     let mut next = u64::MAX;
@@ -37,8 +39,11 @@ fn renew_block<Q: Question>(
     question: &Q,
 )
     requires { block < 64 }
-    ensures looked { (pid : ℕ) → pid / 64 ≡ block → slice_index blocks.old block ≤ sys.now.clock → some_answer_of (Q.answer question.now) pid (live_process sys.now pid) ≡ true → has_pid movable.new pid ≡ true }
-    ensures next { (pid moment : ℕ) → pid / 64 ≡ block → slice_index blocks.old block ≤ moment → some_woken_of sys.now.clock moment (live_process sys.now pid) ≡ true → slice_index blocks.new block ≤ moment }
+    ensures looked { (pid : ℕ) → pid / 64 ≡ block → slice_index blocks.old block ≤ sys.now.clock
+        → some_answer_of (Q.answer question.now) pid (live_process sys.now pid) ≡ true
+        → has_pid movable.new pid ≡ true }
+    ensures next { (pid moment : ℕ) → pid / 64 ≡ block → slice_index blocks.old block ≤ moment
+        → some_woken_of sys.now.clock moment (live_process sys.now pid) ≡ true → slice_index blocks.new block ≤ moment }
     ensures others { (other : ℕ) → other ≢ block → slice_index blocks.new other ≡ slice_index blocks.old other }
     ensures grows { HasAll movable.old movable.new }
 {
@@ -54,8 +59,12 @@ fn renew_blocks<Q: Question>(
     sys: &Sys,
     question: &Q,
 )
-    ensures looked { (pid : ℕ) → pid < process_limit → slice_index blocks.old (pid / 64) ≤ sys.now.clock → some_answer_of (Q.answer question.now) pid (live_process sys.now pid) ≡ true → has_pid movable.new pid ≡ true }
-    ensures next { (pid moment : ℕ) → pid < process_limit → slice_index blocks.old (pid / 64) ≤ moment → some_woken_of sys.now.clock moment (live_process sys.now pid) ≡ true → slice_index blocks.new (pid / 64) ≤ moment }
+    ensures looked { (pid : ℕ) → pid < process_limit → slice_index blocks.old (pid / 64) ≤ sys.now.clock
+        → some_answer_of (Q.answer question.now) pid (live_process sys.now pid) ≡ true
+        → has_pid movable.new pid ≡ true }
+    ensures next { (pid moment : ℕ) → pid < process_limit → slice_index blocks.old (pid / 64) ≤ moment
+        → some_woken_of sys.now.clock moment (live_process sys.now pid) ≡ true
+        → slice_index blocks.new (pid / 64) ≤ moment }
     ensures grows { HasAll movable.old movable.new }
 {
     for block in 0..64 {
@@ -71,8 +80,11 @@ pub fn wake_due<Q: Question>(
     sys: &Sys,
     question: &Q,
 )
-    ensures looked { (pid : ℕ) → pid < process_limit → IsDue moments.old pid sys.now.clock → some_answer_of (Q.answer question.now) pid (live_process sys.now pid) ≡ true → has_pid movable.new pid ≡ true }
-    ensures next { (pid moment : ℕ) → pid < process_limit → IsDue moments.old pid moment → some_woken_of sys.now.clock moment (live_process sys.now pid) ≡ true → IsDue moments.new pid moment }
+    ensures looked { (pid : ℕ) → pid < process_limit → IsDue moments.old pid sys.now.clock
+        → some_answer_of (Q.answer question.now) pid (live_process sys.now pid) ≡ true
+        → has_pid movable.new pid ≡ true }
+    ensures next { (pid moment : ℕ) → pid < process_limit → IsDue moments.old pid moment
+        → some_woken_of sys.now.clock moment (live_process sys.now pid) ≡ true → IsDue moments.new pid moment }
     ensures grows { HasAll movable.old movable.new }
 {
     if moments.all <= sys.clock {

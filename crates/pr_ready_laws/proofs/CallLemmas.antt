@@ -60,7 +60,8 @@ module _ (pid : ℕ) (user : pid ≢ 0) (s : TracedSystem) where
   edited-leaves target p m tail t found apart message.nothing = leaves-self pid true false s
   edited-leaves target p m tail t found apart (message.a_process f edits) =
       let kin = parent-apart target p found apart in
-      let same = process-edits-relate m tail SameFamily (λ x. (refl, refl)) family-next (edit-family m tail) p (f p) edits in
+      let same =
+      process-edits-relate m tail SameFamily (λ x. (refl, refl)) family-next (edit-family m tail) p (f p) edits in
       let parent : p.parent ≢ pid = eqb-false p.parent pid (or_parts (eqb p.parent pid) _ kin.1).0 in
       leaves-apart pid true false target f p s found kin.0 parent (λ is. parent (sym same.0 ∙ is))
   edited-leaves target p m tail t found apart message.an_end =

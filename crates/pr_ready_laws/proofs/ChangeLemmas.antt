@@ -202,7 +202,8 @@ module _ (pid acting : ℕ) (p : TracedProcess) (id : ℕ) (l : TracedLwp) (reac
 
       stands : SuitsTransition s acting p id l t → (way : Ending) → t.ending ≡ Some way
           → process_of
-          (with_process acting (with_lwp id (moved traced t.move)) (all_changed traced acting p id l t.changes s)) acting
+          (with_process acting (with_lwp id (moved traced t.move)) (all_changed traced acting p id l t.changes s))
+          acting
           ≡ Some (with_lwp id (moved traced t.move) p)
       stands suits way is = after t.changes (suits.alone way is).0
 

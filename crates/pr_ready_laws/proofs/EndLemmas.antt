@@ -41,7 +41,8 @@ deletions-family : (g : Sig) → KeepsFamily (with_deletions g)
 unfolding with_deletions without_pending
 deletions-family g x =
     either (SameFamily x) (eqb (deleted_by g) 0) x (without_job_stop g (without_pending (deleted_by g) x)) (refl, refl)
-    (family-next x (without_pending (deleted_by g) x) (without_job_stop g (without_pending (deleted_by g) x)) (refl, refl)
+    (family-next x (without_pending (deleted_by g) x) (without_job_stop g (without_pending (deleted_by g) x))
+    (refl, refl)
     (job-family g (without_pending (deleted_by g) x)))
 
 pending-family : (own : Option ℕ) (g : Sig) (info : Info) → KeepsFamily (with_pending own g info)

@@ -52,8 +52,8 @@ use Rattle.pr_model.specs.declared.lwps.Current.{Current}
 use Rattle.pr_ready_laws.specs.Reach.{Reach, around, changes_files, itself, reach_of, reach_of_call, reaches_around, to_pipes}
 use Rattle.pr_ready_laws.specs.Touched.{target_in, target_of_call}
 
--- What a turn changes is within its reach: a line a call, and a line a row. A turn makes one change, and after it at most
--- stores bytes in the memory of its process.
+-- What a turn changes is within its reach: a line a call, and a line a row. A turn makes one change, and after it at
+-- most stores bytes in the memory of its process.
 
 -- whether a turn of this reach may make a change, where a signal is sent to this process, if to any
 abbrev pub allows : Reach → Option ℕ → Change → Bool
@@ -125,7 +125,8 @@ module _ (t : FileTable) (fds : Descriptors) (space : Space) where
           → OfFiles (read_effect t fds space fd at size)
       by (Ok bytes) is =
           rw is (either to_pipes None (is_none (open_for_reading t fds fd)) _ _ refl
-          (either to_pipes None (ltb transfer_limit size) _ _ refl (either to_pipes None (can_write space at size) _ _ refl refl)))
+          (either to_pipes None (ltb transfer_limit size) _ _ refl
+          (either to_pipes None (can_write space at size) _ _ refl refl)))
       by (Err why) is =
           rw is (either to_pipes None (is_none (open_for_reading t fds fd)) _ _ refl
           (either to_pipes None (ltb transfer_limit size) _ _ refl
@@ -141,7 +142,8 @@ module _ (t : FileTable) (fds : Descriptors) (space : Space) where
           rw is (either to_pipes None (is_none (open_for_writing t fds fd)) _ _ refl
           (either to_pipes None (ltb transfer_limit size) _ _ refl (file-within _)))
       by (Err bad) is =
-          rw is (either to_pipes None (is_none (open_for_writing t fds fd)) _ _ refl (either to_pipes None (ltb transfer_limit size) _ _ refl refl))
+          rw is (either to_pipes None (is_none (open_for_writing t fds fd)) _ _ refl
+          (either to_pipes None (ltb transfer_limit size) _ _ refl refl))
 
   open-within : (at flags : ℕ) → OfFiles (open_effect t fds space at flags)
   unfolding open_effect
@@ -165,7 +167,8 @@ module _ (t : FileTable) (fds : Descriptors) (space : Space) where
     where
       by : (r : Result (ℕ × ℕ) FileNo) → (piped t fds).answer ≡ r → OfFiles (pipe_effect t fds space at)
       by (Ok both) is = rw is (either to_pipes None (can_write space at (2 * word_size)) _ _ refl refl)
-      by (Err why) is = rw is (either to_pipes None (can_write space at (2 * word_size)) _ _ (refusal-within to_pipes why) refl)
+      by (Err why) is =
+          rw is (either to_pipes None (can_write space at (2 * word_size)) _ _ (refusal-within to_pipes why) refl)
 
   fstat-within : (fd at : ℕ) → Alone (fstat_effect t fds space fd at)
   unfolding fstat_effect
@@ -229,14 +232,16 @@ module _ (s : TracedSystem) (p : TracedProcess) (id : ℕ) where
 
   big-within : (value : ℕ) (space : Space) → Alone (unless_too_big s p value space)
   big-within value space =
-      either itself None (leb (mapped_size space) mapping_limit && total_has_room s (mapped_size space) (size_of p)) _ _ refl refl
+      either itself None
+      (leb (mapped_size space) mapping_limit && total_has_room s (mapped_size space) (size_of p)) _ _ refl refl
 
   mmap-within : (len prot : ℕ) → Alone (mmap_effect s p len prot)
   unfolding mmap_effect
   mmap-within len prot = by (gap_in (rounded len) p.space) refl
     where
       by : (o : Option ℕ) → gap_in (rounded len) p.space ≡ o → Alone (mmap_effect s p len prot)
-      by None is = rw is (either itself None (eqb len 0 || (ltb mapping_limit len || ltb prot_limit prot)) _ _ refl refl)
+      by None is =
+          rw is (either itself None (eqb len 0 || (ltb mapping_limit len || ltb prot_limit prot)) _ _ refl refl)
       by (Some at) is =
           rw is (either itself None (eqb len 0 || (ltb mapping_limit len || ltb prot_limit prot)) _ _ refl
           (big-within at (with_mapping (zeros_at at (rounded len) prot Mapped) p.space)))
@@ -249,7 +254,8 @@ module _ (s : TracedSystem) (pid : ℕ) (p : TracedProcess) (id : ℕ) (l : Trac
   call-within since sys.Exit args = refl
   call-within since sys.Fork args =
       either around None (eqb id agent_id) _ _ refl
-      (either around None (leb process_limit s.made) _ _ refl (either around None (total_has_room s (size_of p) 0) _ _ refl refl))
+      (either around None (leb process_limit s.made) _ _ refl
+      (either around None (total_has_room s (size_of p) 0) _ _ refl refl))
   call-within since sys.Vfork args =
       either around None (eqb id agent_id || not (eqb (length p.lwps) 1)) _ _ refl
       (either around None (leb process_limit s.made) _ _ refl refl)
@@ -277,7 +283,8 @@ module _ (s : TracedSystem) (pid : ℕ) (p : TracedProcess) (id : ℕ) (l : Trac
       (big-within s p id 0 (with_break (slice_index args 0) p.space))
   call-within since sys.Mmap args = mmap-within s p id (slice_index args 0) (slice_index args 1)
   call-within since sys.Munmap args =
-      either itself None (list_any (is_mapped_range (slice_index args 0) (rounded (slice_index args 1))) p.space) _ _ refl refl
+      either itself None
+      (list_any (is_mapped_range (slice_index args 0) (rounded (slice_index args 1))) p.space) _ _ refl refl
   call-within since sys.Mprotect args =
       either itself None (has_range (slice_index args 0) (rounded (slice_index args 1)) p.space && leb
       (slice_index args 2) prot_limit) _ _ refl refl
@@ -290,7 +297,8 @@ module _ (s : TracedSystem) (pid : ℕ) (p : TracedProcess) (id : ℕ) (l : Trac
       (either itself None (leb lwp_limit (length p.lwps) || ltb last_lwp p.next_lwp) _ _ refl refl)
   call-within since sys.LwpExit args = refl
   call-within since sys.LwpSuspend args =
-      either itself None (can_be_named p (slice_index args 0)) _ _ (either itself None (eqb (slice_index args 0) id) _ _ refl refl) refl
+      either itself None (can_be_named p (slice_index args 0)) _ _
+      (either itself None (eqb (slice_index args 0) id) _ _ refl refl) refl
   call-within since sys.LwpContinue args = either itself None (can_be_named p (slice_index args 0)) _ _ refl refl
   call-within since sys.Fstat args = fstat-within s.files p.fds p.space (slice_index args 0) (slice_index args 1)
   call-within since sys.Sigqueue args =
@@ -331,7 +339,8 @@ module _ (s : TracedSystem) (pid : ℕ) (p : TracedProcess) (id : ℕ) (l : Trac
       (λ b. WithinRow
       (quiet_row (Acted c.signal (cond b Caught Died))
       (cond b
-      (moving (catches (with_frame l.regs l.held l.frames) (handler_registers c handler l.regs) (handler_held c l.held)))
+      (moving (catches (with_frame l.regs l.held l.frames) (handler_registers c handler l.regs)
+      (handler_held c l.held)))
       (ending (ends_process (signal_number Segv)))))) [
         | true ↦ record { changes = refl; ending = refl }
         | false ↦ record { changes = refl; ending = refl }
@@ -367,7 +376,8 @@ module _ (s : TracedSystem) (pid : ℕ) (p : TracedProcess) (id : ℕ) (l : Trac
       (subst (λ (o : Option ℕ). Within (reach_of_call call) o (call_effect s pid p id l since call args))
       (sym (in-call woken call args since it)) (call-within since call args))
   kind-within row (kind.returns at none) =
-      either-row l.control.step _ _ (record { changes = refl; ending = refl }) (record { changes = refl; ending = refl })
+      either-row l.control.step _ _ (record { changes = refl; ending = refl })
+      (record { changes = refl; ending = refl })
   kind-within row (kind.executes at none) = executed-within (instruction_effect p.space p.control.areas l.regs)
   kind-within row (kind.interrupts {woken = true} it why) = record { changes = refl; ending = refl }
   kind-within row (kind.interrupts {woken = false} it why) = record { changes = refl; ending = refl }

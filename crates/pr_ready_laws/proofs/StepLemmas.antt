@@ -51,7 +51,8 @@ module _ (s : TracedSystem) (pid acting id other : ℕ) (t : LwpTurn) (p : Trace
     (h : IsLawfulSystem s) where
   pub turn-lets : turn_of s acting id ≡ Some t → live_process s acting ≡ Some p → lwp_of p id ≡ Some l
       → turn_touches s acting p l (reach_of t.turned.did) pid ≡ false → can_move t.system pid other ≡ true
-      → (can_move s pid other ≡ true) ⊎ HasLwp (waits (changes_files (reach_of t.turned.did)) s.clock s.clock) s pid other
+      → (can_move s pid other ≡ true)
+      ⊎ HasLwp (waits (changes_files (reach_of t.turned.did)) s.clock s.clock) s pid other
   turn-lets turn live there apart can =
       let user = mover-user t.system pid other (turn-lawful s acting id t h turn) can in
       let left = turn-leaves s pid acting id t p l h user turn live there apart in
@@ -59,7 +60,8 @@ module _ (s : TracedSystem) (pid acting id other : ℕ) (t : LwpTurn) (p : Trace
 
 pub call-lets : (s : TracedState) (pid by id : ℕ) (c : Call) (a : Answer) → IsLawful s → answer_to s by c ≡ Some a
     → call_touches s by c pid ≡ false → can_move a.state.system pid id ≡ true
-    → (can_move s.system pid id ≡ true) ⊎ HasLwp (waits (call_changes_files c) s.system.clock s.system.clock) s.system pid id
+    → (can_move s.system pid id ≡ true)
+    ⊎ HasLwp (waits (call_changes_files c) s.system.clock s.system.clock) s.system pid id
 call-lets s pid by id c a h is apart can =
     let user = mover-user a.state.system pid id (call-state s h by c a is).system can in
     moves-still pid (call_changes_files c) s.system a.state.system (call-leaves s pid by c a user is apart) id can

@@ -12,8 +12,8 @@ use Rattle.pr_model.specs.declared.lwps.Phase.{Phase}
 use Rattle.pr_model.specs.declared.lwps.Phase.TheVariants.{Entered, Asleep}
 use Rattle.pr_ready_laws.specs.Reach.{Reach, reaches_around}
 
--- Which processes a step touches: no other one has an lwp that can move after the step but could not before, unless that
--- lwp waits for files or for the clock. All is told by the state that the step finds, and by what a turn did.
+-- Which processes a step touches: no other one has an lwp that can move after the step but could not before, unless
+-- that lwp waits for files or for the clock. All is told by the state that the step finds, and by what a turn did.
 
 -- ---- those around a process
 

@@ -8,7 +8,8 @@ use Rattle.pr_rec.proofs.RecordLemmas.{TakeWords, AreWords-ranged, ranged-first_
 module _ (ranges : List Range) (take_words : TakeWords ranges) (bytes : List ℕ) where
   are_words : (words : List ℕ) → EncodesRecord ranges bytes words → All IsWord words
   are_words words encodes =
-      AreWords-ranged ranges words take_words (ranged-first_out ranges words 0 encodes.count encodes.ranged) encodes.count
+      AreWords-ranged ranges words take_words
+      (ranged-first_out ranges words 0 encodes.count encodes.ranged) encodes.count
 
   pub same_encoded : (xs ys : List ℕ) → EncodesRecord ranges bytes xs → EncodesRecord ranges bytes ys → xs ≡ ys
   same_encoded xs ys here there =

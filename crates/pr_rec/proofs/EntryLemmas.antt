@@ -29,7 +29,8 @@ module _ {T : Type 0} (f : T → List ℕ) (n : ℕ) (size : (x : T) → length 
   stands_at (y ∷ ys) zero x e =
       let same : y ≡ x = same_Some y x e in
       let none : 8 * n * 0 ≡ 0 = omega arith in
-      let start : drop (8 * n * 0) (bytes_of (y ∷ ys)) ≡ bytes_of (y ∷ ys) = ap (λ (k : ℕ). drop k (bytes_of (y ∷ ys))) none in
+      let start : drop (8 * n * 0) (bytes_of (y ∷ ys)) ≡ bytes_of (y ∷ ys) =
+      ap (λ (k : ℕ). drop k (bytes_of (y ∷ ys))) none in
       let entry : words_bytes (f y) ≡ words_bytes (f x) = ap (λ (z : T). words_bytes (f z)) same in
       record { more = bytes_of ys; place = start ∙ first_apart y ys ∙ ap (λ (zs : List ℕ). zs ++ bytes_of ys) entry }
   stands_at (y ∷ ys) (suc i) x e =
@@ -37,11 +38,13 @@ module _ {T : Type 0} (f : T → List ℕ) (n : ℕ) (size : (x : T) → length 
       let further : 8 * n * suc i ≡ 8 * n + 8 * n * i = omega arith in
       let along : drop (8 * n * suc i) (bytes_of (y ∷ ys)) ≡ drop (8 * n * i) (bytes_of ys) =
       ap (λ (k : ℕ). drop k (bytes_of (y ∷ ys))) further ∙ sym (drop-drop (8 * n * i) (8 * n) (bytes_of (y ∷ ys)))
-      ∙ ap (drop (8 * n * i)) (ap (drop (8 * n)) (first_apart y ys) ∙ drop_at (words_bytes (f y)) (bytes_of ys) (8 * n) (length-first y)) in
+      ∙ ap (drop (8 * n * i))
+      (ap (drop (8 * n)) (first_apart y ys) ∙ drop_at (words_bytes (f y)) (bytes_of ys) (8 * n) (length-first y)) in
       record { more = rest.more; place = along ∙ rest.place }
 
   pub length-entries : (xs : List T) → length (words_bytes (entries_words (map f xs))) ≡ 8 * n * length xs
   length-entries [] = omega arith
   length-entries (x ∷ xs) =
-      ap length (words_bytes-append (f x) (entries_words (map f xs))) ∙ length-append (words_bytes (f x)) (words_bytes (entries_words (map f xs)))
+      ap length (words_bytes-append (f x) (entries_words (map f xs)))
+      ∙ length-append (words_bytes (f x)) (words_bytes (entries_words (map f xs)))
       ∙ omega (arith, length-first x, length-entries xs)

@@ -30,25 +30,35 @@ use Rattle.pr_num.proofs.SearchLemmas.{list_any-find_none}
 -- ---- the entry of a number
 
 -- the number of what a number gives is that number, where nothing stands for 0 alone
-number-back : {T : Type 0} (number : T → ℕ) (o : Option T) (w : ℕ) → ((x : T) → o ≡ Some x → number x ≡ w) → (o ≡ None → w ≡ 0) → number_or_zero number o ≡ w
+number-back : {T : Type 0} (number : T → ℕ) (o : Option T) (w : ℕ) → ((x : T) → o ≡ Some x → number x ≡ w)
+    → (o ≡ None → w ≡ 0) → number_or_zero number o ≡ w
 number-back number None w some none = sym (none refl)
 number-back number (Some x) w some none = some x refl
 
-none_where_zero : {T : Type 0} (o : Option T) (w most : ℕ) → (IsSome o ↔ ((1 ≤ w) × (w ≤ most))) → w < suc most → o ≡ None → w ≡ 0
+none_where_zero : {T : Type 0} (o : Option T) (w most : ℕ) → (IsSome o ↔ ((1 ≤ w) × (w ≤ most))) → w < suc most
+    → o ≡ None → w ≡ 0
 none_where_zero o zero most range small e = refl
-none_where_zero o (suc w) most range small e = absurd (false≢true (sym (ap is_some e) ∙ range.1 (omega arith, omega arith)))
+none_where_zero o (suc w) most range small e =
+    absurd (false≢true (sym (ap is_some e) ∙ range.1 (omega arith, omega arith)))
 
-pub entry_back : {T : Type 0} (number : T → ℕ) (xs : List T) (count : ℕ) → counts_from number 1 xs ≡ true → length xs ≡ count → (o : Option T) (w : ℕ) → o ≡ entry_at xs w → w < count + 1 → number_or_zero number o ≡ w
+pub entry_back : {T : Type 0} (number : T → ℕ) (xs : List T) (count : ℕ) → counts_from number 1 xs ≡ true
+    → length xs ≡ count → (o : Option T) (w : ℕ) → o ≡ entry_at xs w → w < count + 1 → number_or_zero number o ≡ w
 entry_back number xs count counted whole o w is small =
-    number-back number o w (λ x e. number-entry_at number xs counted w x (sym is ∙ e)) (none_where_zero o w (length xs) (rw is (IsSome-entry_at xs w)) (omega arith))
+    number-back number o w (λ x e. number-entry_at number xs counted w x (sym is ∙ e))
+    (none_where_zero o w (length xs) (rw is (IsSome-entry_at xs w)) (omega arith))
 
 pub reason_back : (w : ℕ) → w < 8 → number_or_zero reason_number (entry_at stop_reasons w) ≡ w
-reason_back w small = number-back reason_number (entry_at stop_reasons w) w (reason_number-of_number w) (none_where_zero _ w 7 (reason_numbers-range w) small)
+reason_back w small =
+    number-back reason_number (entry_at stop_reasons w) w (reason_number-of_number w)
+    (none_where_zero _ w 7 (reason_numbers-range w) small)
 
 errno_none : (w : ℕ) → an_errno w ≡ true → errno_of_number w ≡ None → w ≡ 0
 unfolding errno_of_number
 errno_none w ok e =
-    elim (or_cases (eqb w 0) (list_any (is_numbered w) errnos) ok) [ inl is ↦ eqb-true w 0 is | inr some ↦ absurd (false≢true (sym (list_any-find_none (is_numbered w) errnos e) ∙ some)) ]
+    elim (or_cases (eqb w 0) (list_any (is_numbered w) errnos) ok) [
+      | inl is ↦ eqb-true w 0 is
+      | inr some ↦ absurd (false≢true (sym (list_any-find_none (is_numbered w) errnos e) ∙ some))
+    ]
 
 pub errno_back : (w : ℕ) → IsTrue (an_errno w) → number_or_zero errno_number (errno_of_number w) ≡ w
 errno_back w ok = number-back errno_number (errno_of_number w) w (errno_number-of_number w) (errno_none w ok)
@@ -56,12 +66,14 @@ errno_back w ok = number-back errno_number (errno_of_number w) w (errno_number-o
 -- ---- the number of an entry
 
 -- an entry is what its number gives, and nothing is what 0 gives
-of_number-back : {T : Type 0} (number : T → ℕ) (of_number : ℕ → Option T) → ((x : T) → of_number (number x) ≡ Some x) → of_number 0 ≡ None → (o : Option T) → of_number (number_or_zero number o) ≡ o
+of_number-back : {T : Type 0} (number : T → ℕ) (of_number : ℕ → Option T) → ((x : T) → of_number (number x) ≡ Some x)
+    → of_number 0 ≡ None → (o : Option T) → of_number (number_or_zero number o) ≡ o
 of_number-back number of_number back none None = none
 of_number-back number of_number back none (Some x) = back x
 
 -- so that two with one number are one
-same_entry : {T : Type 0} (number : T → ℕ) (of_number : ℕ → Option T) → ((x : T) → of_number (number x) ≡ Some x) → of_number 0 ≡ None → (a b : Option T) → number_or_zero number a ≡ number_or_zero number b → a ≡ b
+same_entry : {T : Type 0} (number : T → ℕ) (of_number : ℕ → Option T) → ((x : T) → of_number (number x) ≡ Some x)
+    → of_number 0 ≡ None → (a b : Option T) → number_or_zero number a ≡ number_or_zero number b → a ≡ b
 same_entry number of_number back none a b e =
     sym (of_number-back number of_number back none a) ∙ ap of_number e ∙ of_number-back number of_number back none b
 
@@ -121,7 +133,8 @@ same_disposition a b e = same_Some a b (sym (disposition_back a) ∙ ap (slice_g
 
 -- ---- the ranges of these words
 
-small_entry : {T : Type 0} (number : T → ℕ) (most : ℕ) → ((x : T) → number x ≤ most) → (o : Option T) → number_or_zero number o < suc most
+small_entry : {T : Type 0} (number : T → ℕ) (most : ℕ) → ((x : T) → number x ≤ most) → (o : Option T)
+    → number_or_zero number o < suc most
 small_entry number most small None = omega arith
 small_entry number most small (Some x) = omega (arith, small x)
 
@@ -156,7 +169,9 @@ pub call_small : (o : Option Sysno) → number_or_zero syscall_number o < syscal
 call_small = small_entry syscall_number syscall_count call_most
 
 pub reason_small : (o : Option StopReason) → number_or_zero reason_number o < 8
-reason_small = small_entry reason_number 7 (λ r. ((reason_numbers-range (reason_number r)).0 (ap is_some (reason_of_number-number r))).1)
+reason_small =
+    small_entry reason_number 7
+    (λ r. ((reason_numbers-range (reason_number r)).0 (ap is_some (reason_of_number-number r))).1)
 
 errno_ok : (e : Errno) → an_errno (errno_number e) ≡ true
 unfolding errno_number

@@ -30,7 +30,10 @@ access-field Read = refl
 access-field _ = refl
 
 pub fd_entry-ranged : (d : FdEntry) → IsFdEntry d → AreRanged fd_entry_ranges (fd_entry_words_of d)
-fd_entry-ranged d h = (lt-ltb _ _ h.descriptor, (kind-field d.kind, (access-field d.access, (word-any _ h.offset, front_words-ranged 4 d.name h.name.bytes))))
+fd_entry-ranged d h = (
+  lt-ltb _ _ h.descriptor,
+  (kind-field d.kind, (access-field d.access, (word-any _ h.offset, front_words-ranged 4 d.name h.name.bytes))),
+)
 
 pub list_entry-ranged : (p : ListEntry) → IsListEntry p → AreRanged list_entry_ranges (list_entry_words_of p)
 list_entry-ranged p h = (lt-ltb _ _ h.id, (lt-ltb _ _ h.parent, front_words-ranged 4 p.program h.program.bytes))
@@ -39,11 +42,21 @@ list_entry-ranged p h = (lt-ltb _ _ h.id, (lt-ltb _ _ h.parent, front_words-rang
 pub watch_entry-typed : (w : WatchEntry) → w.flags < 16 → All IsWord (watch_entry_words_of w) → IsWatchEntry w
 watch_entry-typed w flags fit =
     let words : List ℕ = watch_entry_words_of w in
-    record { at = All-get_or IsWord words 0 0 (omega arith) fit; size = All-get_or IsWord words 1 0 (omega arith) fit; flags = flags }
+    record {
+      at = All-get_or IsWord words 0 0 (omega arith) fit;
+      size = All-get_or IsWord words 1 0 (omega arith) fit;
+      flags = flags;
+    }
 
-pub fd_entry-typed : (d : FdEntry) → d.descriptor < descriptor_limit → IsNameField d.name → All IsWord (fd_entry_words_of d) → IsFdEntry d
+pub fd_entry-typed : (d : FdEntry) → d.descriptor < descriptor_limit → IsNameField d.name
+    → All IsWord (fd_entry_words_of d) → IsFdEntry d
 fd_entry-typed d descriptor name fit =
-    record { descriptor = descriptor; offset = All-get_or IsWord (fd_entry_words_of d) 3 0 (omega arith) fit; name = name }
+    record {
+      descriptor = descriptor;
+      offset = All-get_or IsWord (fd_entry_words_of d) 3 0 (omega arith) fit;
+      name =
+          name;
+    }
 
 pub list_entry-typed : (p : ListEntry) → p.id < 2 ^ 32 → p.parent < 2 ^ 32 → IsNameField p.program → IsListEntry p
 list_entry-typed p id parent program = record { id = id; parent = parent; program = program }

@@ -33,7 +33,8 @@ found-none true rest at e = (refl, e)
 found-none false rest at e = (cc, cc)
 
 -- where none is found out of its range, all are in theirs
-pub ranged-first_out : (rs : List Range) (ws : List ℕ) (at : ℕ) → length ws ≡ length rs → first_out_from at rs ws ≡ None → AreRanged rs ws
+pub ranged-first_out : (rs : List Range) (ws : List ℕ) (at : ℕ) → length ws ≡ length rs → first_out_from at rs ws ≡ None
+    → AreRanged rs ws
 ranged-first_out [] ws at many none = tt
 ranged-first_out (r ∷ rs) [] at many none = absurd (omega arith)
 ranged-first_out (r ∷ rs) (w ∷ ws) at many none =
@@ -68,7 +69,8 @@ abbrev pub TakeWords : List Range → Type 0
 TakeWords [] = Unit {0}
 TakeWords (r ∷ rs) = ((w : ℕ) → r w ≡ true → IsWord w) × TakeWords rs
 
-pub AreWords-ranged : (rs : List Range) (ws : List ℕ) → TakeWords rs → AreRanged rs ws → length ws ≡ length rs → All IsWord ws
+pub AreWords-ranged : (rs : List Range) (ws : List ℕ) → TakeWords rs → AreRanged rs ws → length ws ≡ length rs
+    → All IsWord ws
 AreWords-ranged [] [] take ranged size = All-nil IsWord
 AreWords-ranged [] (w ∷ ws) take ranged size = absurd (omega arith)
 AreWords-ranged (r ∷ rs) [] take ranged size = absurd ranged
@@ -91,40 +93,51 @@ pub read-ranged : (rs : List Range) (bytes ws : List ℕ) → record_read rs byt
 unfolding record_read
 read-ranged rs bytes ws read = by (ltb (length bytes) (8 * length rs)) read
   where
-    found : (o : Option ℕ) → first_out_of_range rs (front_words (length rs) bytes) ≡ o → unless_out (front_words (length rs) bytes) o ≡ Ok ws → AreRanged rs ws
+    found : (o : Option ℕ) → first_out_of_range rs (front_words (length rs) bytes) ≡ o
+        → unless_out (front_words (length rs) bytes) o ≡ Ok ws → AreRanged rs ws
     found None e same =
         let words : front_words (length rs) bytes ≡ ws = cc in
-        subst (AreRanged rs) words (ranged-first_out rs (front_words (length rs) bytes) 0 (length-front_words (length rs) bytes) e)
+        subst (AreRanged rs) words
+        (ranged-first_out rs (front_words (length rs) bytes) 0 (length-front_words (length rs) bytes) e)
     found (Some place) e same = absurd cc
 
-    by : (b : Bool) → cond b (Err Short) (unless_out (front_words (length rs) bytes) (first_out_of_range rs (front_words (length rs) bytes))) ≡ Ok ws → AreRanged rs ws
+    by : (b : Bool)
+        → cond b (Err Short)
+        (unless_out (front_words (length rs) bytes) (first_out_of_range rs (front_words (length rs) bytes))) ≡ Ok ws
+        → AreRanged rs ws
     by true e = absurd cc
     by false e = found _ refl e
 
-pub read-at : (rs : List Range) (bytes ws : List ℕ) (i : ℕ) → record_read rs bytes ≡ Ok ws → range_at rs i (get_or ws i 0) ≡ true
+pub read-at : (rs : List Range) (bytes ws : List ℕ) (i : ℕ) → record_read rs bytes ≡ Ok ws
+    → range_at rs i (get_or ws i 0) ≡ true
 read-at rs bytes ws i read = AreRanged-at rs ws i (read-ranged rs bytes ws read)
 
 -- ---- bytes that begin with a record
 
 -- the bytes of the words at the front are those that stand there
-pub words_bytes-front_words : (n : ℕ) (bytes : List ℕ) → All IsByte bytes → 8 * n ≤ length bytes → words_bytes (front_words n bytes) ≡ take (8 * n) bytes
+pub words_bytes-front_words : (n : ℕ) (bytes : List ℕ) → All IsByte bytes → 8 * n ≤ length bytes
+    → words_bytes (front_words n bytes) ≡ take (8 * n) bytes
 words_bytes-front_words zero bytes small enough = refl
 words_bytes-front_words (suc n) bytes small enough =
     let first : word_bytes (word_of (take 8 bytes)) ≡ take 8 bytes =
     word_bytes-word_of (take 8 bytes) (omega (arith, length-take 8 bytes)) (All-take IsByte 8 bytes small) in
-    let others = words_bytes-front_words n (drop 8 bytes) (All-drop IsByte 8 bytes small) (omega (arith, length-drop 8 bytes)) in
+    let others =
+    words_bytes-front_words n (drop 8 bytes) (All-drop IsByte 8 bytes small) (omega (arith, length-drop 8 bytes)) in
     ap (λ front. front ++ words_bytes (front_words n (drop 8 bytes))) first ∙ ap (λ rest. take 8 bytes ++ rest) others
     ∙ sym (take-add 8 (8 * n) bytes) ∙ ap (λ (k : ℕ). take k bytes) (omega arith)
 
 -- words in their ranges are encoded by their bytes
-pub ranged-encodes : (ranges : List Range) (words bytes : List ℕ) → length words ≡ length ranges → AreRanged ranges words → bytes ≡ words_bytes words → EncodesRecord ranges bytes words
+pub ranged-encodes : (ranges : List Range) (words bytes : List ℕ) → length words ≡ length ranges
+    → AreRanged ranges words → bytes ≡ words_bytes words → EncodesRecord ranges bytes words
 ranged-encodes ranges words bytes size ranged encoded =
     record { count = size; ranged = first_out-ranged ranges words 0 ranged; encoded = encoded }
 
 -- and bytes that begin with theirs begin with the record
-pub ranged-begins : (ranges : List Range) (words bytes more : List ℕ) → length words ≡ length ranges → AreRanged ranges words → bytes ≡ words_bytes words ++ more → BeginsWith ranges bytes words
+pub ranged-begins : (ranges : List Range) (words bytes more : List ℕ) → length words ≡ length ranges
+    → AreRanged ranges words → bytes ≡ words_bytes words ++ more → BeginsWith ranges bytes words
 ranged-begins ranges words bytes more size ranged encoded =
-    let whole : length (words_bytes words) ≡ 8 * length ranges = length-words_bytes words ∙ ap (λ (n : ℕ). 8 * n) size in
+    let whole : length (words_bytes words) ≡ 8 * length ranges =
+    length-words_bytes words ∙ ap (λ (n : ℕ). 8 * n) size in
     let first : take (8 * length ranges) bytes ≡ words_bytes words =
     ap (take (8 * length ranges)) encoded ∙ take_at (words_bytes words) more (8 * length ranges) whole in
     record {
@@ -143,13 +156,18 @@ module _ (ranges : List Range) (take_words : TakeWords ranges) (bytes : List ℕ
   unfolding record_read
   was_read ws read = by (ltb (length bytes) (8 * length ranges)) refl read
     where
-      found : 8 * length ranges ≤ length bytes → (o : Option ℕ) → first_out_of_range ranges (front_words (length ranges) bytes) ≡ o → unless_out (front_words (length ranges) bytes) o ≡ Ok ws → WasRead ws
+      found : 8 * length ranges ≤ length bytes → (o : Option ℕ)
+          → first_out_of_range ranges (front_words (length ranges) bytes) ≡ o
+          → unless_out (front_words (length ranges) bytes) o ≡ Ok ws → WasRead ws
       found enough None e same =
           let words : ws ≡ front_words (length ranges) bytes = cc in
           record { enough = enough; words = words; none = ap (first_out_of_range ranges) words ∙ e }
       found enough (Some place) e same = absurd cc
 
-      by : (b : Bool) → ltb (length bytes) (8 * length ranges) ≡ b → cond b (Err Short) (unless_out (front_words (length ranges) bytes) (first_out_of_range ranges (front_words (length ranges) bytes))) ≡ Ok ws → WasRead ws
+      by : (b : Bool) → ltb (length bytes) (8 * length ranges) ≡ b
+          → cond b (Err Short)
+          (unless_out (front_words (length ranges) bytes)
+          (first_out_of_range ranges (front_words (length ranges) bytes))) ≡ Ok ws → WasRead ws
       by true is e = absurd cc
       by false is e = found (ltb-false _ _ is) _ refl e
 
@@ -162,7 +180,8 @@ module _ (ranges : List Range) (take_words : TakeWords ranges) (bytes : List ℕ
         encoded = record {
           count = size;
           ranged = was.none;
-          encoded = sym (words_bytes-front_words (length ranges) bytes small was.enough) ∙ ap words_bytes (sym was.words);
+          encoded =
+              sym (words_bytes-front_words (length ranges) bytes small was.enough) ∙ ap words_bytes (sym was.words);
         };
       }
 
@@ -171,13 +190,17 @@ module _ (ranges : List Range) (take_words : TakeWords ranges) (bytes : List ℕ
       let encoded = begins.encoded in
       let ranged = ranged-first_out ranges ws 0 encoded.count encoded.ranged in
       let front : ws ≡ front_words (length ranges) bytes =
-      words-front_words ws (take (8 * length ranges) bytes) (length ranges) (sym encoded.encoded) encoded.count (AreWords-ranged ranges ws take_words ranged encoded.count)
+      words-front_words ws (take (8 * length ranges) bytes) (length ranges) (sym encoded.encoded) encoded.count
+      (AreWords-ranged ranges ws take_words ranged encoded.count)
       ∙ front_words-take (length ranges) (8 * length ranges) bytes (omega arith) in
       record_read-whole ranges bytes ws None begins.enough front (sym encoded.ranged)
 
   -- A record is decoded exactly where the bytes begin with it. `IsWhole` says which values there are.
-  module _ {T : Type 0} (words_of : T → List ℕ) (IsWhole : T → Type 0) (one_value : (x y : T) → IsWhole x → IsWhole y → words_of x ≡ words_of y → x ≡ y) (small : All IsByte bytes) where
-    pub decoded : (r : Result T RecFault) → IfOk r (λ x. record_read ranges bytes ≡ Ok (words_of x)) → IfErr r (λ fault. record_read ranges bytes ≡ Err fault) → IfOk r IsWhole → (x : T) → (r ≡ Ok x) ↔ (IsWhole x × BeginsWith ranges bytes (words_of x))
+  module _ {T : Type 0} (words_of : T → List ℕ) (IsWhole : T → Type 0)
+      (one_value : (x y : T) → IsWhole x → IsWhole y → words_of x ≡ words_of y → x ≡ y) (small : All IsByte bytes) where
+    pub decoded : (r : Result T RecFault) → IfOk r (λ x. record_read ranges bytes ≡ Ok (words_of x))
+        → IfErr r (λ fault. record_read ranges bytes ≡ Err fault) → IfOk r IsWhole → (x : T)
+        → (r ≡ Ok x) ↔ (IsWhole x × BeginsWith ranges bytes (words_of x))
     decoded (Ok y) read bad whole x = (to, from)
       where
         to : (let r : Result T RecFault = Ok y in r ≡ Ok x) → IsWhole x × BeginsWith ranges bytes (words_of x)
@@ -189,7 +212,8 @@ module _ (ranges : List Range) (take_words : TakeWords ranges) (bytes : List ℕ
         from h =
             let words : words_of y ≡ words_of x = same_Ok _ _ (sym read ∙ begins-read (words_of x) h.1) in
             ap Ok (one_value y x whole h.0 words)
-    decoded (Err fault) read bad whole x = (λ e. absurd cc, λ h. absurd (ok-err _ _ (sym (begins-read (words_of x) h.1) ∙ bad)))
+    decoded (Err fault) read bad whole x =
+        (λ e. absurd cc, λ h. absurd (ok-err _ _ (sym (begins-read (words_of x) h.1) ∙ bad)))
 
 -- ---- what the lemmas of each record are made of
 
@@ -205,17 +229,24 @@ word-any w small = lt-ltb w (2 ^ 64) small
 
 -- an element of words, and what stands past their end, is a word
 pub element-word : (ws : List ℕ) → All IsWord ws → (i : ℕ) → any_word (get_or ws i 0) ≡ true
-element-word ws fit i = word-any _ (⊎_elim (λ inside. All-get_or IsWord ws i 0 inside fit) (λ past. rw (get_or_past ws i 0 past) (omega arith)) (cases_lt i (length ws)))
+element-word ws fit i =
+    word-any _
+    (⊎_elim (λ inside. All-get_or IsWord ws i 0 inside fit) (λ past. rw (get_or_past ws i 0 past) (omega arith))
+    (cases_lt i (length ws)))
 
 -- the first words of bytes are words
-pub front_words-ranged : (n : ℕ) (bytes : List ℕ) → All IsByte bytes → AreRanged (replicate n any_word) (front_words n bytes)
+pub front_words-ranged : (n : ℕ) (bytes : List ℕ) → All IsByte bytes
+    → AreRanged (replicate n any_word) (front_words n bytes)
 front_words-ranged zero bytes small = tt
-front_words-ranged (suc n) bytes small =
-    (word-any _ (word_of-below (take 8 bytes) (All-take IsByte 8 bytes small)), front_words-ranged n (drop 8 bytes) (All-drop IsByte 8 bytes small))
+front_words-ranged (suc n) bytes small = (
+  word-any _ (word_of-below (take 8 bytes) (All-take IsByte 8 bytes small)),
+  front_words-ranged n (drop 8 bytes) (All-drop IsByte 8 bytes small),
+)
 
 -- two names with the same words are the same
 pub same_name : (a b : List ℕ) → IsNameField a → IsNameField b → front_words 4 a ≡ front_words 4 b → a ≡ b
 same_name a b a_whole b_whole e =
     let back : (n : List ℕ) → IsNameField n → words_bytes (front_words 4 n) ≡ n =
-    λ n whole. words_bytes-front_words 4 n whole.bytes (omega (arith, whole.whole)) ∙ take_all 32 n (omega (arith, whole.whole)) in
+    λ n whole. words_bytes-front_words 4 n whole.bytes (omega (arith, whole.whole))
+    ∙ take_all 32 n (omega (arith, whole.whole)) in
     sym (back a a_whole) ∙ ap words_bytes e ∙ back b b_whole

@@ -48,7 +48,8 @@ flag_if true bit = bit
 -- the flags of an lwp with these marks
 abbrev pub lwp_flags_of : LwpMarks → ℕ
 lwp_flags_of m =
-    flag_if m.stopped stopped_flag + flag_if m.on_event istop_flag + flag_if m.directed dstop_flag + flag_if m.step step_flag
+    flag_if m.stopped stopped_flag + flag_if m.on_event istop_flag + flag_if m.directed dstop_flag
+    + flag_if m.step step_flag
     + flag_if m.asleep asleep_flag + flag_if m.agent agent_flag
 
 -- the flags of a process: its modes, whether it is the system process, and whether it has lent its address space

@@ -22,8 +22,8 @@ record_read ranges bytes =
     if nat_lt (length bytes) (8 * length ranges) then Err Short
     else unless_out (front_words (length ranges) bytes) (first_out_of_range ranges (front_words (length ranges) bytes))
 
--- An lwp's status as it was before signals had information (version 1), and the bytes of it as it is now: the words stay,
--- and the information has three zeros.
+-- An lwp's status as it was before signals had information (version 1), and the bytes of it as it is now: the words
+-- stay, and the information has three zeros.
 pub record IsUpgrade (old new : List ℕ) : Type 0 where
   pub words : List ℕ
   pub before : EncodesRecord first_lwpstatus_ranges old words

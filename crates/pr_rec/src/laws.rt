@@ -28,20 +28,33 @@ ghost use Rattle.pr_rec.specs.declared.usages.Usage.{Usage};
 
 /// The words of a record have one encoding, and bytes encode one record at most.
 pub fn one_encoding_one_record()
-    ensures encoding { (ranges : List Range) (a b words : List ℕ) → EncodesRecord ranges a words → EncodesRecord ranges b words → a ≡ b }
-    ensures usage { (bytes : List ℕ) (x y : Usage) → EncodesRecord usage_ranges bytes (usage_words_of x) → EncodesRecord usage_ranges bytes (usage_words_of y) → x ≡ y }
-    ensures psinfo { (bytes : List ℕ) (x y : Psinfo) → IsNameField x.program → IsNameField y.program → EncodesRecord psinfo_ranges bytes (psinfo_words_of x) → EncodesRecord psinfo_ranges bytes (psinfo_words_of y) → x ≡ y }
-    ensures mapping { (bytes : List ℕ) (x y : MapEntry) → IsNameField x.name → IsNameField y.name → EncodesRecord map_entry_ranges bytes (map_entry_words_of x) → EncodesRecord map_entry_ranges bytes (map_entry_words_of y) → x ≡ y }
-    ensures lwpstatus { (bytes : List ℕ) (x y : LwpStatus) → HasArraySizes x → HasArraySizes y → EncodesRecord lwpstatus_ranges bytes (lwpstatus_words_of x) → EncodesRecord lwpstatus_ranges bytes (lwpstatus_words_of y) → x ≡ y }
-    ensures status { (bytes : List ℕ) (x y : Status) → HasArraySizes x.lwp → HasArraySizes y.lwp → EncodesRecord status_ranges bytes (status_words_of x) → EncodesRecord status_ranges bytes (status_words_of y) → x ≡ y }
+    ensures encoding { (ranges : List Range) (a b words : List ℕ) → EncodesRecord ranges a words → EncodesRecord ranges b words
+        → a ≡ b }
+    ensures usage { (bytes : List ℕ) (x y : Usage) → EncodesRecord usage_ranges bytes (usage_words_of x)
+        → EncodesRecord usage_ranges bytes (usage_words_of y) → x ≡ y }
+    ensures psinfo { (bytes : List ℕ) (x y : Psinfo) → IsNameField x.program → IsNameField y.program
+        → EncodesRecord psinfo_ranges bytes (psinfo_words_of x) → EncodesRecord psinfo_ranges bytes (psinfo_words_of y)
+        → x ≡ y }
+    ensures mapping { (bytes : List ℕ) (x y : MapEntry) → IsNameField x.name → IsNameField y.name
+        → EncodesRecord map_entry_ranges bytes (map_entry_words_of x)
+        → EncodesRecord map_entry_ranges bytes (map_entry_words_of y) → x ≡ y }
+    ensures lwpstatus { (bytes : List ℕ) (x y : LwpStatus) → HasArraySizes x → HasArraySizes y
+        → EncodesRecord lwpstatus_ranges bytes (lwpstatus_words_of x)
+        → EncodesRecord lwpstatus_ranges bytes (lwpstatus_words_of y) → x ≡ y }
+    ensures status { (bytes : List ℕ) (x y : Status) → HasArraySizes x.lwp → HasArraySizes y.lwp
+        → EncodesRecord status_ranges bytes (status_words_of x) → EncodesRecord status_ranges bytes (status_words_of y)
+        → x ≡ y }
 {}
 
 /// Of a record whose fields are in their ranges, its bytes begin with it, whatever follows them: so it is what `decode`
 /// gives.
 pub fn what_is_encoded_is_decoded()
-    ensures status { (s : Status) (more : List ℕ) → IsStatus s → BeginsWith status_ranges (status_bytes s ++ more) (status_words_of s) }
-    ensures lwpstatus { (l : LwpStatus) (more : List ℕ) → IsLwpStatus l → BeginsWith lwpstatus_ranges (lwpstatus_bytes l ++ more) (lwpstatus_words_of l) }
-    ensures psinfo { (p : Psinfo) (more : List ℕ) → IsPsinfo p → BeginsWith psinfo_ranges (psinfo_bytes p ++ more) (psinfo_words_of p) }
+    ensures status { (s : Status) (more : List ℕ) → IsStatus s
+        → BeginsWith status_ranges (status_bytes s ++ more) (status_words_of s) }
+    ensures lwpstatus { (l : LwpStatus) (more : List ℕ) → IsLwpStatus l
+        → BeginsWith lwpstatus_ranges (lwpstatus_bytes l ++ more) (lwpstatus_words_of l) }
+    ensures psinfo { (p : Psinfo) (more : List ℕ) → IsPsinfo p
+        → BeginsWith psinfo_ranges (psinfo_bytes p ++ more) (psinfo_words_of p) }
     ensures usage { (u : Usage) (more : List ℕ) → IsUsage u → BeginsWith usage_ranges (usage_bytes u ++ more) (usage_words_of u) }
     ensures no_lwp { lwpstatus_words_of no_lwp ≡ replicate lwpstatus_word_count 0 }
 {}

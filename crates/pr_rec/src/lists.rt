@@ -73,8 +73,8 @@ pub fn write_list(alloc: Global, processes: &[ListEntry]) -> Result<Bytes, NoMem
 /// How many bytes the record of a process's dispositions has: a word for each signal.
 pub const SIGACT_SIZE: usize = WORD * SIGNAL_COUNT;
 
-/// The dispositions of all signals in their order: 0 default, 1 ignored, else the address of a handler (proc(4), "sigact").
-/// Takes no memory.
+/// The dispositions of all signals in their order: 0 default, 1 ignored, else the address of a handler (proc(4),
+/// "sigact"). Takes no memory.
 #[tactic(auto, unfolding(crate::specs::RecordBytes::sigact_bytes))]
 pub fn encode_sigact(dispositions: &[u64; SIGNAL_COUNT]) -> [u8; SIGACT_SIZE]
     ensures bytes { result ≡ sigact_bytes dispositions.now }

@@ -30,8 +30,8 @@ pub enum Disposition {
 }
 
 impl Disposition {
-    /// How a process disposes of a signal, of the word that sigaction(2) sets: 0 for the default, 1 for ignoring it, and
-    /// else the address of a handler.
+    /// How a process disposes of a signal, of the word that sigaction(2) sets: 0 for the default, 1 for ignoring it,
+    /// and else the address of a handler.
     pub fn of(word: u64) -> Disposition
         ensures { result ≡ disposition_of word }
     {
@@ -150,8 +150,8 @@ impl LwpStatus {
         }
     }
 
-    /// The bytes of the record. Its fields are in their ranges, save for the information of a signal, which may have any
-    /// words: where it has a code and a process id, the bytes encode the record. Takes no memory.
+    /// The bytes of the record. Its fields are in their ranges, save for the information of a signal, which may have
+    /// any words: where it has a code and a process id, the bytes encode the record. Takes no memory.
     #[tactic(auto, unfolding(crate::specs::RecordBytes::lwpstatus_bytes))]
     pub fn encode(&self) -> [u8; LwpStatus::SIZE]
         ensures bytes { result ≡ lwpstatus_bytes self.now }
@@ -168,7 +168,8 @@ impl LwpStatus {
     pub fn decode(bytes: &[u8]) -> Result<LwpStatus, RecFault>
         ensures ok { IfOk result (λ l. record_read lwpstatus_ranges bytes.now ≡ Ok (lwpstatus_words_of l)) }
         ensures err { IfErr result (λ fault. record_read lwpstatus_ranges bytes.now ≡ Err fault) }
-        ensures encoded { (l : Decoded) → (result ≡ Ok l) ↔ (HasArraySizes l × BeginsWith lwpstatus_ranges bytes.now (lwpstatus_words_of l)) }
+        ensures encoded { (l : Decoded)
+            → (result ≡ Ok l) ↔ (HasArraySizes l × BeginsWith lwpstatus_ranges bytes.now (lwpstatus_words_of l)) }
     {
         LwpStatus::read(bytes)
     }

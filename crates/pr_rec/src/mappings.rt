@@ -54,7 +54,8 @@ impl MapEntry {
     pub fn decode(bytes: &[u8]) -> Result<MapEntry, RecFault>
         ensures ok { IfOk result (λ m. record_read map_entry_ranges bytes.now ≡ Ok (map_entry_words_of m)) }
         ensures err { IfErr result (λ fault. record_read map_entry_ranges bytes.now ≡ Err fault) }
-        ensures encoded { (m : Decoded) → (result ≡ Ok m) ↔ (IsNameField m.name × BeginsWith map_entry_ranges bytes.now (map_entry_words_of m)) }
+        ensures encoded { (m : Decoded)
+            → (result ≡ Ok m) ↔ (IsNameField m.name × BeginsWith map_entry_ranges bytes.now (map_entry_words_of m)) }
     {
         MapEntry::read(bytes)
     }

@@ -68,7 +68,8 @@ impl Psinfo {
     pub fn decode(bytes: &[u8]) -> Result<Psinfo, RecFault>
         ensures ok { IfOk result (λ p. record_read psinfo_ranges bytes.now ≡ Ok (psinfo_words_of p)) }
         ensures err { IfErr result (λ fault. record_read psinfo_ranges bytes.now ≡ Err fault) }
-        ensures encoded { (p : Decoded) → (result ≡ Ok p) ↔ (IsNameField p.program × BeginsWith psinfo_ranges bytes.now (psinfo_words_of p)) }
+        ensures encoded { (p : Decoded)
+            → (result ≡ Ok p) ↔ (IsNameField p.program × BeginsWith psinfo_ranges bytes.now (psinfo_words_of p)) }
     {
         Psinfo::read(bytes)
     }

@@ -69,8 +69,9 @@ fn columns() -> [Column; 46]
 }
 
 impl Status {
-    /// The bytes of the record. Its fields are in their ranges, save for the information of the representative's signal,
-    /// which may have any words: where it has a code and a process id, the bytes encode the record. Takes no memory.
+    /// The bytes of the record. Its fields are in their ranges, save for the information of the representative's
+    /// signal, which may have any words: where it has a code and a process id, the bytes encode the record. Takes no
+    /// memory.
     #[tactic(auto, unfolding(crate::specs::RecordBytes::status_bytes))]
     pub fn encode(&self) -> [u8; 368]
         ensures bytes { result ≡ status_bytes self.now }
@@ -87,7 +88,8 @@ impl Status {
     pub fn decode(bytes: &[u8]) -> Result<Status, RecFault>
         ensures ok { IfOk result (λ s. record_read status_ranges bytes.now ≡ Ok (status_words_of s)) }
         ensures err { IfErr result (λ fault. record_read status_ranges bytes.now ≡ Err fault) }
-        ensures encoded { (s : Decoded) → (result ≡ Ok s) ↔ (HasArraySizes s.lwp × BeginsWith status_ranges bytes.now (status_words_of s)) }
+        ensures encoded { (s : Decoded)
+            → (result ≡ Ok s) ↔ (HasArraySizes s.lwp × BeginsWith status_ranges bytes.now (status_words_of s)) }
     {
         Status::read(bytes)
     }

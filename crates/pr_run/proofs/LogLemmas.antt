@@ -18,11 +18,13 @@ log-length past (e ∷ es) = let rest = log-length (past ++ e ∷ []) es in omeg
 pub ruleset counts = (log-length)
 
 -- one more entry of the history is one more of its log
-log-push : (past history : List Entry) (e : Entry) → log_from past (history ++ e ∷ []) ≡ log_from past history ++ behind (past ++ history) e ∷ []
+log-push : (past history : List Entry) (e : Entry)
+    → log_from past (history ++ e ∷ []) ≡ log_from past history ++ behind (past ++ history) e ∷ []
 log-push past [] e = ap (λ (h : List Entry). behind h e ∷ []) (sym (append-nil past))
 log-push past (x ∷ es) e =
     ap (λ (l : List LoggedEntry). behind past x ∷ l)
-    (log-push (past ++ x ∷ []) es e ∙ ap (λ (h : List Entry). log_from (past ++ x ∷ []) es ++ behind h e ∷ []) (append_assoc past (x ∷ []) es))
+    (log-push (past ++ x ∷ []) es e
+    ∙ ap (λ (h : List Entry). log_from (past ++ x ∷ []) es ++ behind h e ∷ []) (append_assoc past (x ∷ []) es))
 
 pub log-next : (old new : List Entry) (e : Entry) → new ≡ old ++ e ∷ [] → log_of new ≡ log_of old ++ behind old e ∷ []
 log-next old new e is = ap log_of is ∙ log-push [] old e
@@ -32,11 +34,16 @@ pub record IsLoggedAt (past history : List Entry) (i : ℕ) (x : LoggedEntry) : 
   pub before : x.before ≡ past ++ take i history
   pub entry : slice_get history i ≡ Some x.entry
 
-pub log-at : (past history : List Entry) (i : ℕ) (x : LoggedEntry) → slice_get (log_from past history) i ≡ Some x → IsLoggedAt past history i x
+pub log-at : (past history : List Entry) (i : ℕ) (x : LoggedEntry) → slice_get (log_from past history) i ≡ Some x
+    → IsLoggedAt past history i x
 log-at past [] i x e = absurd (none-some x e)
 log-at past (y ∷ ys) zero x e =
     let same : behind past y ≡ x = same_Some (behind past y) x e in
-    record { before = ap (λ (s : LoggedEntry). s.before) (sym same) ∙ sym (append-nil past); entry = ap (λ (s : LoggedEntry). Some s.entry) same }
+    record {
+      before = ap (λ (s : LoggedEntry). s.before) (sym same) ∙ sym (append-nil past);
+      entry =
+          ap (λ (s : LoggedEntry). Some s.entry) same;
+    }
 log-at past (y ∷ ys) (suc i) x e =
     let rest = log-at (past ++ y ∷ []) ys i x e in
     record { before = rest.before ∙ append_assoc past (y ∷ []) (take i ys); entry = rest.entry }
@@ -49,7 +56,8 @@ entry_in e = (e.0, e.1.entry)
 pub entries-append : (own more : List (ℕ × LoggedEntry)) → entries_of (own ++ more) ≡ entries_of own ++ entries_of more
 entries-append own more = map-append entry_in own more
 
-place-kept : (own : List (ℕ × LoggedEntry)) (i : ℕ) (x : ℕ × LoggedEntry) (d : ℕ × Entry) → i < length own → (slice_index_or (entries_of own) i d).0 ≡ (slice_index_or own i x).0
+place-kept : (own : List (ℕ × LoggedEntry)) (i : ℕ) (x : ℕ × LoggedEntry) (d : ℕ × Entry) → i < length own
+    → (slice_index_or (entries_of own) i d).0 ≡ (slice_index_or own i x).0
 place-kept own i x d h = ap (λ (e : ℕ × Entry). e.0) (get_or-map entry_in own i x d h)
 
 one-of : (own : List (ℕ × LoggedEntry)) (i : ℕ) → i < length own → ℕ × LoggedEntry
@@ -75,13 +83,17 @@ times-entries : (place : ℕ) (own : List (ℕ × LoggedEntry)) → times_at pla
 times-entries place [] = refl
 times-entries place (e ∷ own) =
     sum_by-cons (λ (x : ℕ × Entry). cond (x.0 == place) 1 0) (entry_in e) (entries_of own)
-    ∙ (ap (λ (n : ℕ). cond (e.0 == place) 1 0 + n) (times-entries place own) ∙ sym (sum_by-cons (λ (x : ℕ × LoggedEntry). cond (x.0 == place) 1 0) e own))
+    ∙ (ap (λ (n : ℕ). cond (e.0 == place) 1 0 + n) (times-entries place own)
+    ∙ sym (sum_by-cons (λ (x : ℕ × LoggedEntry). cond (x.0 == place) 1 0) e own))
 
 -- they are those of the history where these are those of its log
-pub all-entries : (history : List Entry) (own : List (ℕ × LoggedEntry)) → AreAll (log_of history) own → AreAll history (entries_of own)
+pub all-entries : (history : List Entry) (own : List (ℕ × LoggedEntry)) → AreAll (log_of history) own
+    → AreAll history (entries_of own)
 all-entries history own all = record {
   stand = All-map (λ (e : ℕ × Entry). slice_get history e.0 ≡ Some e.1) entry_in own
-      (All-weaker (λ (e : ℕ × LoggedEntry). slice_get (log_of history) e.0 ≡ Some e.1) (λ (e : ℕ × LoggedEntry). slice_get history e.0 ≡ Some e.1.entry) (λ e at. (log-at [] history e.0 e.1 at).entry) own all.stand);
+      (All-weaker (λ (e : ℕ × LoggedEntry). slice_get (log_of history) e.0 ≡ Some e.1)
+      (λ (e : ℕ × LoggedEntry). slice_get history e.0 ≡ Some e.1.entry)
+      (λ e at. (log-at [] history e.0 e.1 at).entry) own all.stand);
   once = λ place below. times-entries place own ∙ all.once place (omega (arith, below, log-length [] history));
 }
 
@@ -92,7 +104,8 @@ pub record StandApart (history : List LoggedEntry) (one other : List (ℕ × Log
   pub first : StandIn history one
   pub second : StandIn history other
 
-pub stands-apart : (history : List LoggedEntry) (one other : List (ℕ × LoggedEntry)) → StandIn history (one ++ other) → StandApart history one other
+pub stands-apart : (history : List LoggedEntry) (one other : List (ℕ × LoggedEntry)) → StandIn history (one ++ other)
+    → StandApart history one other
 stands-apart history one other stand =
     let P : ℕ × LoggedEntry → Type 0 = λ e. slice_get history e.0 ≡ Some e.1 in
     record {
@@ -101,12 +114,16 @@ stands-apart history one other stand =
     }
 
 module _ {X : Type 0} (own_in : X → List (ℕ × LoggedEntry)) where
-  pub entries-of_each : (xs : List X) → entries_of (flat_map own_in xs) ≡ flat_map (λ (l : List (ℕ × Entry)). l) (map (λ (x : X). entries_of (own_in x)) xs)
+  pub entries-of_each : (xs : List X)
+      → entries_of (flat_map own_in xs)
+      ≡ flat_map (λ (l : List (ℕ × Entry)). l) (map (λ (x : X). entries_of (own_in x)) xs)
   entries-of_each [] = refl
   entries-of_each (x ∷ xs) =
-      entries-append (own_in x) (flat_map own_in xs) ∙ ap (λ (l : List (ℕ × Entry)). entries_of (own_in x) ++ l) (entries-of_each xs)
+      entries-append (own_in x) (flat_map own_in xs)
+      ∙ ap (λ (l : List (ℕ × Entry)). entries_of (own_in x) ++ l) (entries-of_each xs)
 
-  pub each-stands : (history : List LoggedEntry) (xs : List X) → StandIn history (flat_map own_in xs) → All (λ (x : X). StandIn history (own_in x)) xs
+  pub each-stands : (history : List LoggedEntry) (xs : List X) → StandIn history (flat_map own_in xs)
+      → All (λ (x : X). StandIn history (own_in x)) xs
   each-stands history [] stand = All-nil (λ (x : X). StandIn history (own_in x))
   each-stands history (x ∷ xs) stand =
       let parts = stands-apart history (own_in x) (flat_map own_in xs) stand in

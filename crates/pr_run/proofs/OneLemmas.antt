@@ -17,7 +17,8 @@ pub run-start : (w : WorldState) (n m : ℕ) → n ≡ m → RunsFor (n - m) w w
 unfolding RunsFor
 run-start w n m e = let none : n - m ≡ zero = omega arith in subst (λ (k : ℕ). RunsFor k w w) (sym none) refl
 
-pub run-on : (first u v : WorldState) (i e : ℕ) → e ≤ i → RunsFor (i - e) first u → Steps u v → RunsFor (i + 1 - e) first v
+pub run-on : (first u v : WorldState) (i e : ℕ) → e ≤ i → RunsFor (i - e) first u → Steps u v
+    → RunsFor (i + 1 - e) first v
 unfolding RunsFor
 run-on first u v i e h run step =
     let next : i + 1 - e ≡ suc (i - e) = omega arith in
@@ -30,7 +31,9 @@ nobody w e = ap (option_map actor_of) e
 -- where no actor can move, a world does not go on
 pub stuck-ends : (w : WorldState) → next_pick w ≡ None → goes_on w ≡ false
 unfolding goes_on
-stuck-ends w e = ap (λ o. nat_lt (length w.kernel.history) w.kernel.places && is_some o) (nobody w e) ∙ of (nat_lt (length w.kernel.history) w.kernel.places)
+stuck-ends w e =
+    ap (λ o. nat_lt (length w.kernel.history) w.kernel.places && is_some o) (nobody w e)
+    ∙ of (nat_lt (length w.kernel.history) w.kernel.places)
   where
     of : (b : Bool) → (b && false) ≡ false
     of true = refl
@@ -60,22 +63,29 @@ pub record HasThose (w v : WorldState) : Type 0 where
 
 picked-those : (w v : WorldState) (o : Option Pick) → v ≡ picked o w → HasThose w v
 unfolding with_pick
-picked-those w v None e = record { kernel = ap (λ (x : WorldState). x.kernel) e; controllers = ap (λ (x : WorldState). x.controllers) e }
-picked-those w v (Some p) e = record { kernel = ap (λ (x : WorldState). x.kernel) e; controllers = ap (λ (x : WorldState). x.controllers) e }
+picked-those w v None e =
+    record { kernel = ap (λ (x : WorldState). x.kernel) e; controllers = ap (λ (x : WorldState). x.controllers) e }
+picked-those w v (Some p) e =
+    record { kernel = ap (λ (x : WorldState). x.kernel) e; controllers = ap (λ (x : WorldState). x.controllers) e }
 
 stands-those : (w v : WorldState) → StandsAs w v → HasThose w v
 stands-those w v (inl same) = picked-those w v None same
 stands-those w v (inr is) = picked-those w v (next_pick w) is
 
-module _ {K : Type 0} (view : K → KernelView) (w u : WorldOf K) (place : seen view u ≡ picked (next_pick (seen view w)) (seen view w)) where
+module _ {K : Type 0} (view : K → KernelView) (w u : WorldOf K)
+    (place : seen view u ≡ picked (next_pick (seen view w)) (seen view w)) where
   -- it stands, with the actor picked
   pub stands : StandsAs (seen view w) (seen view u)
   stands = inr place
 
-  pub has-place : length (view w.kernel).history < (view w.kernel).places → length (view u.kernel).history < (view u.kernel).places
-  has-place h = subst (λ (k : KernelView). length k.history < k.places) (sym (stands-those (seen view w) (seen view u) stands).kernel) h
+  pub has-place : length (view w.kernel).history < (view w.kernel).places
+      → length (view u.kernel).history < (view u.kernel).places
+  has-place h =
+      subst (λ (k : KernelView). length k.history < k.places)
+      (sym (stands-those (seen view w) (seen view u) stands).kernel) h
 
-  pub picked-some : (next : Option Actor) → next ≡ next_actor (seen view w) → (a : Actor) → next ≡ Some a → Picked view w u a
+  pub picked-some : (next : Option Actor) → next ≡ next_actor (seen view w) → (a : Actor) → next ≡ Some a
+      → Picked view w u a
   unfolding next_actor with_pick
   picked-some next is a e = of (next_pick (seen view w)) refl (sym is ∙ e)
     where
@@ -88,11 +98,13 @@ module _ {K : Type 0} (view : K → KernelView) (w u : WorldOf K) (place : seen 
         world = place ∙ ap (λ (o : Option Pick). picked o (seen view w)) f;
       }
 
-  pub picked-none : (next : Option Actor) → next ≡ next_actor (seen view w) → next ≡ None → (seen view u ≡ seen view w) × (next_pick (seen view w) ≡ None)
+  pub picked-none : (next : Option Actor) → next ≡ next_actor (seen view w) → next ≡ None
+      → (seen view u ≡ seen view w) × (next_pick (seen view w) ≡ None)
   unfolding next_actor
   picked-none next is e = of (next_pick (seen view w)) refl (sym is ∙ e)
     where
-      of : (o : Option Pick) → next_pick (seen view w) ≡ o → option_map actor_of o ≡ None → (seen view u ≡ seen view w) × (next_pick (seen view w) ≡ None)
+      of : (o : Option Pick) → next_pick (seen view w) ≡ o → option_map actor_of o ≡ None
+          → (seen view u ≡ seen view w) × (next_pick (seen view w) ≡ None)
       of None f h = (place ∙ ap (λ (o : Option Pick). picked o (seen view w)) f, f)
       of (Some p) f h = cc
 
@@ -105,7 +117,12 @@ module _ {K : Type 0} (view : K → KernelView) (w u : WorldOf K) (a : Actor) (p
   pub step-made : (v : WorldState) → Moves (seen view u) a v → Steps (seen view w) v
   step-made v m =
       let here : Moves (with_pick p.pick (seen view w)) a v = subst (λ (x : WorldState). Moves x a v) p.world m in
-      record { pick = p.pick; next = p.found; moves = subst (λ (x : Actor). Moves (with_pick p.pick (seen view w)) x v) (sym p.actor) here }
+      record {
+        pick = p.pick;
+        next = p.found;
+        moves =
+            subst (λ (x : Actor). Moves (with_pick p.pick (seen view w)) x v) (sym p.actor) here;
+      }
 
 -- ---- what was made of a step
 
@@ -127,21 +144,26 @@ ended-is w o e h =
 
 pub full-ends : (w : WorldState) → w.kernel.places ≤ length w.kernel.history → goes_on w ≡ false
 unfolding goes_on
-full-ends w h = ap (λ (b : Bool). b && is_some (next_actor w)) (of (nat_lt (length w.kernel.history) w.kernel.places) refl)
+full-ends w h =
+    ap (λ (b : Bool). b && is_some (next_actor w)) (of (nat_lt (length w.kernel.history) w.kernel.places) refl)
   where
-    of : (b : Bool) → nat_lt (length w.kernel.history) w.kernel.places ≡ b → nat_lt (length w.kernel.history) w.kernel.places ≡ false
+    of : (b : Bool) → nat_lt (length w.kernel.history) w.kernel.places ≡ b
+        → nat_lt (length w.kernel.history) w.kernel.places ≡ false
     of true e = absurd (omega (arith, ltb-true _ _ e))
     of false e = e
 
-module _ (first w : WorldState) (i e p : ℕ) (begin : e ≡ length first.kernel.history) (full : p ≡ first.kernel.places) (from : e ≤ i) (run : RunsFor (i - length first.kernel.history) first w) where
+module _ (first w : WorldState) (i e p : ℕ) (begin : e ≡ length first.kernel.history) (full : p ≡ first.kernel.places)
+    (from : e ≤ i) (run : RunsFor (i - length first.kernel.history) first w) where
   pub counted : length w.kernel.history ≡ i
   counted = let more = run-longer (i - length first.kernel.history) first w run in omega (arith, more)
 
   pub has-places : i < p → length w.kernel.history < w.kernel.places
-  has-places h = let n = counted in let stay = run-places (i - length first.kernel.history) first w run in omega (arith, n, stay)
+  has-places h = let n = counted in let stay = run-places (i - length first.kernel.history) first w run in
+      omega (arith, n, stay)
 
   pub is-full : p ≤ i → goes_on w ≡ false
-  is-full h = let n = counted in let stay = run-places (i - length first.kernel.history) first w run in full-ends w (omega (arith, n, stay))
+  is-full h = let n = counted in let stay = run-places (i - length first.kernel.history) first w run in
+      full-ends w (omega (arith, n, stay))
 
   pub stuck-is : i ≤ p → next_pick w ≡ None → TellsMachine first → w ≡ end_of_run first
   stuck-is h stuck t =

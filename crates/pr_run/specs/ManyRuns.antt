@@ -78,7 +78,8 @@ MakesTurn processors worker old new w v Idle =
     Rests old new w v × (is_done processors worker w ≡ false) × (next_for processors worker old w ≡ None)
 MakesTurn processors worker old new w v Done = Rests old new w v × (is_done processors worker w ≡ true)
 
--- A worker asks the world where the calls of all controllers are made. So they are after a turn in which no actor moved.
+-- A worker asks the world where the calls of all controllers are made. So they are after a turn in which no actor
+-- moved.
 abbrev pub AsksMade : Progress → Bool → Type 0
 AsksMade Moved made = Unit {0}
 AsksMade Idle made = made ≡ true
@@ -88,8 +89,8 @@ AsksMade Done made = made ≡ true
 abbrev pub IsTurnOf : ℕ → ℕ → Option (ℕ × ℕ) → Option (ℕ × ℕ) → WorldState → WorldState → Type 0
 IsTurnOf processors worker old new w v = Rests old new w v ⊎ MovesNext processors worker old new w v
 
--- Whether what lies under the lock is over: memory was refused to a worker, or the world has ended, and the calls of all
--- controllers are made, so that how it ended is told without memory. It stays so.
+-- Whether what lies under the lock is over: memory was refused to a worker, or the world has ended, and the calls of
+-- all controllers are made, so that how it ended is told without memory. It stays so.
 abbrev pub is_over : {Q : Type 0} → (Q → KernelView) → SharedWorld Q → Bool
 is_over view shared =
     is_some shared.refusal || (shared.world.made && is_some (ended_as (seen view shared.world)))

@@ -9,8 +9,8 @@ const LOOKS: u64 = 100_000;
 /// What stands in the place of a count where one has looked so often.
 const GIVEN_UP: u64 = 1 << 63;
 
-/// How many workers have come to their turns, which they tell one another beside the lock. It has no meaning: it decides
-/// on how many threads a run goes, and what is proved of the run holds of each way.
+/// How many workers have come to their turns, which they tell one another beside the lock. It has no meaning: it
+/// decides on how many threads a run goes, and what is proved of the run holds of each way.
 #[derive(Drop)]
 pub struct Attendance {
     workers: u64,

@@ -164,9 +164,9 @@ fn have_stopped<V: Logged>(duties: &[Duty<V>]) -> bool
     duties.iter().all(|duty| duty.has_stopped)
 }
 
-/// All workers at once, each in a thread of its own. Where the system makes fewer threads, a worker that has none begins
-/// only behind others, and these would wait for what it moves. So all wait until each has come, and where one does not,
-/// one thread makes the run in rounds, in which each worker has one turn.
+/// All workers at once, each in a thread of its own. Where the system makes fewer threads, a worker that has none
+/// begins only behind others, and these would wait for what it moves. So all wait until each has come, and where one
+/// does not, one thread makes the run in rounds, in which each worker has one turn.
 fn work<R: Threads + Wait + Sync, Q: Kernel + Send, G: Gate + Sync>(
     rt: &R,
     lock: &Shared<SharedWorld<Q>>,
@@ -240,8 +240,8 @@ fn ended<Q: Kernel>(shared: SharedWorld<Q>) -> (World<Q>, Result<End, NoMemory>)
 /// the clock, and one for each controller. They take the world in turn under a lock, in any order; its schedule is not
 /// used. A worker leaves where the world has ended, its controller has finished, or memory was refused, and one of the
 /// processor never where its controller has: so the world has ended when all have left, and it says how, without asking
-/// for memory. Where memory runs out on the way, the world is handed back as it stands. It waits for its workers, and for nothing else once they
-/// have left: what is said here holds if it returns.
+/// for memory. Where memory runs out on the way, the world is handed back as it stands. It waits for its workers, and
+/// for nothing else once they have left: what is said here holds if it returns.
 pub fn run_many<R: Threads + Wait + Sync, Q: Kernel + Send, G: Gate + Sync>(
     rt: &R,
     alloc: Global,

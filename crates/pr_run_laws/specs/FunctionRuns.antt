@@ -111,9 +111,9 @@ pub record IsFunctionTrussKept (controllers : List ControllerState) (first : Tra
   pub lists_calls : FetchesBreakpoints k o first h → (pid : ℕ) → ListsItsTurns k o first h pid
   pub under_way : StepsWhatItLifted k o first h
   pub calls_told : TellsItsCallsByCalls k o first h
-  -- A breakpoint is lifted for one lwp alone, also behind an interrupt, which comes in a poll alone; the read after that
-  -- of a breakpoint tells of the one turn that its lwp had since; each call that it tells in its loop is such a turn;
-  -- and the trap of a step is told by the next read, if one comes.
+  -- A breakpoint is lifted for one lwp alone, also behind an interrupt, which comes in a poll alone; the read after
+  -- that of a breakpoint tells of the one turn that its lwp had since; each call that it tells in its loop is such a
+  -- turn; and the trap of a step is told by the next read, if one comes.
   pub lifts : LiftsForOneAlone k o first h
   pub left_alone : IsLeftAlone k o first h
   pub turns : CallsAreTurns k o first h

@@ -43,8 +43,8 @@ pub fn calls_that_send_passive_messages_are_passive()
         → is_passive_call c a.reply ≡ true }
 {}
 
-/// A legal history is passive in which no controller is a script, asks by an agent or shows calls of functions, and each
-/// makes the calls that come next after its replies.
+/// A legal history is passive in which no controller is a script, asks by an agent or shows calls of functions, and
+/// each makes the calls that come next after its replies.
 pub fn histories_of_tracers_are_passive()
     ensures { (controllers : List ControllerState) (n : ℕ) (s : TracedState) (h : List Entry) → All IsTracer controllers
         → IsLegal n s h → Follows controllers s h → IsPassive h }

@@ -23,12 +23,16 @@ room_after false true e = refl
 room_after false false e = cc
 
 -- a program that may begin has a name of its own, and there is room for it
-pub fresh_program : (d : Draft) (name : List ℕ) → may_begin d (Program name) ≡ Ok tt → place_of d.program_names name ≡ None
+pub fresh_program : (d : Draft) (name : List ℕ) → may_begin d (Program name) ≡ Ok tt
+    → place_of d.program_names name ≡ None
 unfolding may_begin
 fresh_program d name e = fresh_at (place_of d.program_names name) _ e
 
-pub few_programs : (d : Draft) (name : List ℕ) → may_begin d (Program name) ≡ Ok tt → length d.program_names < program_limit
+pub few_programs : (d : Draft) (name : List ℕ) → may_begin d (Program name) ≡ Ok tt
+    → length d.program_names < program_limit
 unfolding may_begin
-few_programs d name e = ltb-true _ _ (room_after (is_some (place_of d.program_names name)) (nat_lt (length d.program_names) program_limit) e)
+few_programs d name e =
+    ltb-true _ _
+    (room_after (is_some (place_of d.program_names name)) (nat_lt (length d.program_names) program_limit) e)
 
 pub ruleset may_laws = (fresh_program, few_programs)

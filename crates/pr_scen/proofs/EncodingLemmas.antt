@@ -53,10 +53,12 @@ use Rattle.pr_scen.specs.declared.script_lines.ScriptLine.TheVariants as line
 
 -- ---- steps
 
-some_step : {A B E : Type 0} (e : E) (o : Option A) (x : A) (f : A → Result B E) (r : Result B E) → o ≡ Some x → f x ≡ r → ok_or e o >>= f ≡ r
+some_step : {A B E : Type 0} (e : E) (o : Option A) (x : A) (f : A → Result B E) (r : Result B E) → o ≡ Some x → f x ≡ r
+    → ok_or e o >>= f ≡ r
 some_step e o x f r is rest = ap (λ q. ok_or e q >>= f) is ∙ rest
 
-ok_step : {A B E : Type 0} (o : Result A E) (x : A) (f : A → Result B E) (r : Result B E) → o ≡ Ok x → f x ≡ r → o >>= f ≡ r
+ok_step : {A B E : Type 0} (o : Result A E) (x : A) (f : A → Result B E) (r : Result B E) → o ≡ Ok x → f x ≡ r
+    → o >>= f ≡ r
 ok_step o x f r is rest = ap (λ q. q >>= f) is ∙ rest
 
 -- ---- words
@@ -111,21 +113,28 @@ differ a b i other = at (bytes_eq a b) refl
     at true e = absurd (other (ap (λ w. get_or w i 0) ((bytes_eq-Decides a b).0 e)))
     at false e = refl
 
-lwp_word : (word : List ℕ) → 0 < length word → get_or word 0 0 ≤ 57 → numbered_actor word ≡ lwp_from (slice_split (λ b. eqb b 47) word)
+lwp_word : (word : List ℕ) → 0 < length word → get_or word 0 0 ≤ 57
+    → numbered_actor word ≡ lwp_from (slice_split (λ b. eqb b 47) word)
 unfolding numbered_actor
 lwp_word [] some low = absurd (omega arith)
-lwp_word (b ∷ bs) some low = ap (λ t. cond t (option_map Controller (id_of bs)) (lwp_from (slice_split (λ c. eqb c 47) (b ∷ bs)))) (ne_eqb b 99 (λ e. absurd (omega arith)))
+lwp_word (b ∷ bs) some low =
+    ap (λ t. cond t (option_map Controller (id_of bs)) (lwp_from (slice_split (λ c. eqb c 47) (b ∷ bs))))
+    (ne_eqb b 99 (λ e. absurd (omega arith)))
 
 read_actor : (a : Actor) → IsActor a → actor_of (actor_word a) ≡ Some a
 unfolding actor_of actor_word IsActor numbered_actor
 read_actor (Controller k) h =
     let low = (decimal-first k (id_below k h) []).1 in
-    ap (λ t. cond t (Some Clock) (option_map Controller (id_of (decimal k)))) (differ (99 ∷ decimal k) (codes "clock") 1 (λ e. let same : get_or (decimal k) 0 0 ≡ 108 = e in absurd (omega (arith, ap (λ w. get_or w 0 0) (append-nil (decimal k))))))
+    ap (λ t. cond t (Some Clock) (option_map Controller (id_of (decimal k))))
+    (differ (99 ∷ decimal k) (codes "clock") 1
+    (λ e. let same : get_or (decimal k) 0 0 ≡ 108 = e in
+    absurd (omega (arith, ap (λ w. get_or w 0 0) (append-nil (decimal k))))))
     ∙ ap (option_map Controller) (id_of-decimal k h)
 read_actor (Lwp pid lwp) h =
     let word = lwp_text pid lwp in
     let low = (lwp_text-first pid lwp (id_below pid h.0)).1 in
-    ap (λ t. cond t (Some Clock) (numbered_actor word)) (differ word (codes "clock") 0 (λ e. let same : get_or word 0 0 ≡ 99 = e in absurd (omega arith)))
+    ap (λ t. cond t (Some Clock) (numbered_actor word))
+    (differ word (codes "clock") 0 (λ e. let same : get_or word 0 0 ≡ 99 = e in absurd (omega arith)))
     ∙ lwp_word word (lwp_text-some pid lwp) low
     ∙ ap lwp_from (split_lwp pid lwp (id_below pid h.0) (id_below lwp h.1))
     ∙ ap (λ o. lwp_at o (id_of (decimal lwp))) (id_of-decimal pid h.0)
@@ -141,7 +150,10 @@ unfolding actor_word IsActor
 no_star (Controller k) h = All-cons IsNoStar 99 (decimal k) refl (decimal-apart 42 (omega arith) k (id_below k h))
 no_star (Lwp pid lwp) h = lwp_text-apart 42 (omega arith) pid lwp (id_below pid h.0) (id_below lwp h.1)
 no_star Clock h =
-    All-cons IsNoStar 99 (codes "lock") refl (All-cons IsNoStar 108 (codes "ock") refl (All-cons IsNoStar 111 (codes "ck") refl (All-cons IsNoStar 99 (codes "k") refl (All-cons IsNoStar 107 [] refl (All-nil IsNoStar)))))
+    All-cons IsNoStar 99 (codes "lock") refl
+    (All-cons IsNoStar 108 (codes "ock") refl
+    (All-cons IsNoStar 111 (codes "ck") refl
+    (All-cons IsNoStar 99 (codes "k") refl (All-cons IsNoStar 107 [] refl (All-nil IsNoStar)))))
 
 actor_plain : (a : Actor) → IsActor a → list_all is_plain (actor_word a) ≡ true
 unfolding actor_word IsActor
@@ -152,19 +164,26 @@ actor_plain Clock h = refl
 read_turns : (t : Turns) → AreTurns t → turns_of (turns_word t) ≡ Some t
 unfolding turns_of
 read_turns t h =
-    ap turns_from (slice_split_at (λ b. eqb b 42) (actor_word t.actor) 42 (decimal t.times) (no_star t.actor h.0) refl ∙ ap (λ ws. actor_word t.actor ∷ ws) (slice_split_none (λ b. eqb b 42) (decimal t.times) (decimal-apart 42 (omega arith) t.times h.1)))
+    ap turns_from
+    (slice_split_at (λ b. eqb b 42) (actor_word t.actor) 42 (decimal t.times) (no_star t.actor h.0) refl
+    ∙ ap (λ ws. actor_word t.actor ∷ ws)
+    (slice_split_none (λ b. eqb b 42) (decimal t.times) (decimal-apart 42 (omega arith) t.times h.1)))
     ∙ ap (λ o. turns_at o (number_of (decimal t.times))) (read_actor t.actor h.0)
     ∙ ap (λ o. turns_at (Some t.actor) o) (number_of-decimal t.times h.1)
 
 turns_token : (t : Turns) → AreTurns t → IsToken (turns_word t)
 turns_token t h =
-    plain_token (turns_word t) (omega (arith, length-append (actor_word t.actor) (42 ∷ decimal t.times))) (list_all-append is_plain (actor_word t.actor) (42 ∷ decimal t.times) ∙ ap (λ b. b && list_all is_plain (decimal t.times)) (actor_plain t.actor h.0) ∙ decimal-plain t.times h.1)
+    plain_token (turns_word t) (omega (arith, length-append (actor_word t.actor) (42 ∷ decimal t.times)))
+    (list_all-append is_plain (actor_word t.actor) (42 ∷ decimal t.times)
+    ∙ ap (λ b. b && list_all is_plain (decimal t.times)) (actor_plain t.actor h.0) ∙ decimal-plain t.times h.1)
 
-turns_more : (done turns : List Turns) → AllByRecursion AreTurns turns → with_turns_of done (map turns_word turns) ≡ Ok (done ++ turns)
+turns_more : (done turns : List Turns) → AllByRecursion AreTurns turns
+    → with_turns_of done (map turns_word turns) ≡ Ok (done ++ turns)
 unfolding with_turns_of
 turns_more done [] all = ap Ok (sym (append-nil done))
 turns_more done (t ∷ turns) all =
-    some_step BadOperand (turns_of (turns_word t)) t _ _ (read_turns t all.0) (turns_more (done ++ t ∷ []) turns all.1 ∙ ap Ok (append_assoc done (t ∷ []) turns))
+    some_step BadOperand (turns_of (turns_word t)) t _ _ (read_turns t all.0)
+    (turns_more (done ++ t ∷ []) turns all.1 ∙ ap Ok (append_assoc done (t ∷ []) turns))
 
 turns_tokens : (turns : List Turns) → AllByRecursion AreTurns turns → AllByRecursion IsToken (map turns_word turns)
 turns_tokens [] all = tt
@@ -174,14 +193,22 @@ turns_tokens (t ∷ turns) all = (turns_token t all.0, turns_tokens turns all.1)
 
 read_tool : (k : ToolKind) (pid : ℕ) → IsTool k pid → tool_line_of (tool_words k pid) ≡ Ok (item.Tool k pid)
 unfolding tool_line_of process_tool_line tool_words IsTool tool_name process_tool_of_name is_name is_name_byte
-read_tool Pflags pid h = some_step BadOperand (id_of (decimal pid)) pid _ (Ok (item.Tool Pflags pid)) (id_of-decimal pid h) refl
-read_tool Psig pid h = some_step BadOperand (id_of (decimal pid)) pid _ (Ok (item.Tool Psig pid)) (id_of-decimal pid h) refl
-read_tool Pstack pid h = some_step BadOperand (id_of (decimal pid)) pid _ (Ok (item.Tool Pstack pid)) (id_of-decimal pid h) refl
-read_tool Pmap pid h = some_step BadOperand (id_of (decimal pid)) pid _ (Ok (item.Tool Pmap pid)) (id_of-decimal pid h) refl
-read_tool Pfiles pid h = some_step BadOperand (id_of (decimal pid)) pid _ (Ok (item.Tool Pfiles pid)) (id_of-decimal pid h) refl
-read_tool Pstop pid h = some_step BadOperand (id_of (decimal pid)) pid _ (Ok (item.Tool Pstop pid)) (id_of-decimal pid h) refl
-read_tool Prun pid h = some_step BadOperand (id_of (decimal pid)) pid _ (Ok (item.Tool Prun pid)) (id_of-decimal pid h) refl
-read_tool Pwait pid h = some_step BadOperand (id_of (decimal pid)) pid _ (Ok (item.Tool Pwait pid)) (id_of-decimal pid h) refl
+read_tool Pflags pid h =
+    some_step BadOperand (id_of (decimal pid)) pid _ (Ok (item.Tool Pflags pid)) (id_of-decimal pid h) refl
+read_tool Psig pid h =
+    some_step BadOperand (id_of (decimal pid)) pid _ (Ok (item.Tool Psig pid)) (id_of-decimal pid h) refl
+read_tool Pstack pid h =
+    some_step BadOperand (id_of (decimal pid)) pid _ (Ok (item.Tool Pstack pid)) (id_of-decimal pid h) refl
+read_tool Pmap pid h =
+    some_step BadOperand (id_of (decimal pid)) pid _ (Ok (item.Tool Pmap pid)) (id_of-decimal pid h) refl
+read_tool Pfiles pid h =
+    some_step BadOperand (id_of (decimal pid)) pid _ (Ok (item.Tool Pfiles pid)) (id_of-decimal pid h) refl
+read_tool Pstop pid h =
+    some_step BadOperand (id_of (decimal pid)) pid _ (Ok (item.Tool Pstop pid)) (id_of-decimal pid h) refl
+read_tool Prun pid h =
+    some_step BadOperand (id_of (decimal pid)) pid _ (Ok (item.Tool Prun pid)) (id_of-decimal pid h) refl
+read_tool Pwait pid h =
+    some_step BadOperand (id_of (decimal pid)) pid _ (Ok (item.Tool Pwait pid)) (id_of-decimal pid h) refl
 read_tool Ptree pid h = ap (λ n. Ok (item.Tool Ptree n)) (sym h)
 
 read_gcore : (pid : ℕ) → IsId pid → tool_line_of (codes "gcore" ∷ decimal pid ∷ []) ≡ Ok (item.Gcore pid)
@@ -222,12 +249,15 @@ not_zero : (n : ℕ) → 1 ≤ n → eqb n 0 ≡ false
 not_zero n some = ne_eqb n 0 (λ e. absurd (omega arith))
 
 read_item : (i : Item) → IsItem i → item_of (item_words i) ≡ Ok i
-unfolding item_of item_with outside.turns_of outside.file_of outside.program_of outside.spawn_of outside.script_of outside.schedule_of begins_comment item_words IsItem
+unfolding item_of item_with outside.turns_of outside.file_of outside.program_of outside.spawn_of outside.script_of
+    outside.schedule_of begins_comment item_words IsItem
 read_item item.Blank h = refl
 read_item (item.Turns n) h =
-    some_step BadOperand (number_of (decimal n)) n _ _ (number_of-decimal n h.1) (ap (λ b. cond b (Err BadOperand) (Ok (item.Turns n))) (not_zero n h.0))
+    some_step BadOperand (number_of (decimal n)) n _ _ (number_of-decimal n h.1)
+    (ap (λ b. cond b (Err BadOperand) (Ok (item.Turns n))) (not_zero n h.0))
 read_item (item.File name bytes) h =
-    some_step BadOperand (name_of name) name _ _ (name_of-name name h) (some_step BadOperand (quoted_bytes (quoted bytes)) bytes _ _ (quoted_bytes-quoted bytes) refl)
+    some_step BadOperand (name_of name) name _ _ (name_of-name name h)
+    (some_step BadOperand (quoted_bytes (quoted bytes)) bytes _ _ (quoted_bytes-quoted bytes) refl)
 read_item (item.Program name) h = some_step BadOperand (name_of name) name _ _ (name_of-name name h) refl
 read_item (item.Spawn name) h = some_step BadOperand (name_of name) name _ _ (name_of-name name h) refl
 read_item item.Script h = refl
@@ -242,18 +272,24 @@ pub item_tokens : (i : Item) → IsItem i → AllByRecursion IsToken (item_words
 unfolding item_words IsItem
 item_tokens item.Blank h = tt
 item_tokens (item.Turns n) h = (plain_token (codes "turns") (omega arith) refl, (decimal_token n h.1, tt))
-item_tokens (item.File name bytes) h = (plain_token (codes "file") (omega arith) refl, (name_token name h, (quoted_token bytes, tt)))
+item_tokens (item.File name bytes) h =
+    (plain_token (codes "file") (omega arith) refl, (name_token name h, (quoted_token bytes, tt)))
 item_tokens (item.Program name) h = (plain_token (codes "program") (omega arith) refl, (name_token name h, tt))
 item_tokens (item.Spawn name) h = (plain_token (codes "spawn") (omega arith) refl, (name_token name h, tt))
 item_tokens item.Script h = (plain_token (codes "script") (omega arith) refl, tt)
 item_tokens (item.Truss asked) h = absurd h
 item_tokens (item.Tool kind pid) h = (plain_token (codes "tool") (omega arith) refl, tool_tokens kind pid h)
-item_tokens (item.Gcore pid) h =
-    (plain_token (codes "tool") (omega arith) refl, (plain_token (codes "gcore") (omega arith) refl, (id_token pid h, tt)))
-item_tokens (item.Probe pid) h =
-    (plain_token (codes "tool") (omega arith) refl, (plain_token (codes "apfiles") (omega arith) refl, (id_token pid h, tt)))
+item_tokens (item.Gcore pid) h = (
+  plain_token (codes "tool") (omega arith) refl,
+  (plain_token (codes "gcore") (omega arith) refl, (id_token pid h, tt)),
+)
+item_tokens (item.Probe pid) h = (
+  plain_token (codes "tool") (omega arith) refl,
+  (plain_token (codes "apfiles") (omega arith) refl, (id_token pid h, tt)),
+)
 item_tokens (item.Schedule []) h = absurd h
-item_tokens (item.Schedule (t ∷ turns)) h = (plain_token (codes "schedule") (omega arith) refl, turns_tokens (t ∷ turns) h)
+item_tokens (item.Schedule (t ∷ turns)) h =
+    (plain_token (codes "schedule") (omega arith) refl, turns_tokens (t ∷ turns) h)
 
 pub item_read : (i : Item) → IsItem i → item_of (texts_of (spaced (item_words i))) ≡ Ok i
 item_read i h = ap item_of (texts_of-spaced (item_words i) (item_tokens i h)) ∙ read_item i h
@@ -263,31 +299,39 @@ item_read i h = ap item_of (texts_of-spaced (item_words i) (item_tokens i h)) �
 abbrev raw_begun : Writing
 raw_begun = record { bytes = []; begun = Some Raw; count = 0; numbers = replicate 11 0; run = None; unknown = false }
 
-read_raw : (b : ℕ) (bytes : List ℕ) → AllByRecursion (λ x. x < 256) (b ∷ bytes) → messages_of (codes "raw" ∷ digits_of_bytes (b ∷ bytes) ∷ []) ≡ Ok (b ∷ bytes)
-unfolding messages_of words_written word_written message_word_of message_name operands_of message_begun operand_read bytes_of message_of bytes_with write_over
+read_raw : (b : ℕ) (bytes : List ℕ) → AllByRecursion (λ x. x < 256) (b ∷ bytes)
+    → messages_of (codes "raw" ∷ digits_of_bytes (b ∷ bytes) ∷ []) ≡ Ok (b ∷ bytes)
+unfolding messages_of words_written word_written message_word_of message_name operands_of message_begun operand_read
+    bytes_of message_of bytes_with write_over
 read_raw b bytes all =
-    ap (λ o. ((ok_or BadOperand o >>= (λ tail. Ok (with_whole raw_begun Raw tail))) >>= (λ v. words_written v [])) >>= write_over) (bytes_of_digits-digits (b ∷ bytes) all)
+    ap (λ o. ((ok_or BadOperand o >>= (λ tail. Ok (with_whole raw_begun Raw tail))) >>= (λ v. words_written v []))
+    >>= write_over) (bytes_of_digits-digits (b ∷ bytes) all)
     ∙ ap (λ v. cond v (Err BadOperand) (Ok (b ∷ bytes))) (not_zero (suc (length bytes)) (omega arith))
 
 -- ---- lines of scripts
 
-with_more : (done names : List (List ℕ)) → AllByRecursion (λ n. is_name n ≡ true) names → with_names done names ≡ Ok (done ++ names)
+with_more : (done names : List (List ℕ)) → AllByRecursion (λ n. is_name n ≡ true) names
+    → with_names done names ≡ Ok (done ++ names)
 unfolding with_names
 with_more done [] all = ap Ok (sym (append-nil done))
 with_more done (name ∷ names) all =
-    some_step BadOperand (name_of name) name _ _ (name_of-name name all.0) (with_more (done ++ name ∷ []) names all.1 ∙ ap Ok (append_assoc done (name ∷ []) names))
+    some_step BadOperand (name_of name) name _ _ (name_of-name name all.0)
+    (with_more (done ++ name ∷ []) names all.1 ∙ ap Ok (append_assoc done (name ∷ []) names))
 
 read_line : (l : ScriptLine) → IsLine l → script_line_of (line_words l) ≡ Ok (Line l)
-unfolding script_line_of call_with open_of close_of read_of poll_of write_of interrupt_of spawn_of kill_of until_of list_of begins_comment line_words IsLine
+unfolding script_line_of call_with open_of close_of read_of poll_of write_of interrupt_of spawn_of kill_of until_of
+    list_of begins_comment line_words IsLine
 read_line (line.Open name pid lwp file mode) h =
     ap (λ r. r >>= (λ l. Ok (Line l))) (
     some_step BadOperand (name_of name) name _ (Ok (line.Open name pid lwp file mode)) (name_of-name name h.0)
     (some_step BadOperand (place_of_word (lwp_text pid lwp)) (pid, lwp) _ _ (read_place pid lwp h.1 h.2)
     (some_step BadOperand (mode_of_name (mode_name mode)) mode _ _ (mode_of_name-name mode)
-    (some_step BadOperand (name_of (file_name file)) (file_name file) _ _ (name_of-name (file_name file) (file_named file))
+    (some_step BadOperand (name_of (file_name file)) (file_name file) _ _
+    (name_of-name (file_name file) (file_named file))
     (some_step UnknownName (file_of_name (file_name file)) file _ _ (file_of_name-name file) refl)))))
 read_line (line.Close name) h =
-    ap (λ r. r >>= (λ l. Ok (Line l))) (some_step BadOperand (name_of name) name _ (Ok (line.Close name)) (name_of-name name h) refl)
+    ap (λ r. r >>= (λ l. Ok (Line l)))
+    (some_step BadOperand (name_of name) name _ (Ok (line.Close name)) (name_of-name name h) refl)
 read_line (line.Read name at len) h =
     ap (λ r. r >>= (λ l. Ok (Line l))) (
     some_step BadOperand (name_of name) name _ (Ok (line.Read name at len)) (name_of-name name h.0)
@@ -300,19 +344,26 @@ read_line (line.Write name []) h = absurd h.1
 read_line (line.Write name (b ∷ bytes)) h =
     ap (λ r. r >>= (λ l. Ok (Line l))) (
     some_step BadOperand (name_of name) name _ (Ok (line.Write name (b ∷ bytes))) (name_of-name name h.0)
-    (ok_step (messages_of (codes "raw" ∷ digits_of_bytes (b ∷ bytes) ∷ [])) (b ∷ bytes) _ _ (read_raw b bytes h.1) refl))
+    (ok_step (messages_of (codes "raw" ∷ digits_of_bytes (b ∷ bytes) ∷ [])) (b ∷ bytes) _ _
+    (read_raw b bytes h.1) refl))
 read_line (line.Interrupt controller) h =
-    ap (λ r. r >>= (λ l. Ok (Line l))) (some_step BadOperand (id_of (decimal controller)) controller _ (Ok (line.Interrupt controller)) (id_of-decimal controller h) refl)
+    ap (λ r. r >>= (λ l. Ok (Line l)))
+    (some_step BadOperand (id_of (decimal controller)) controller _ (Ok (line.Interrupt controller))
+    (id_of-decimal controller h) refl)
 read_line (line.Spawn program false) h =
-    ap (λ r. r >>= (λ l. Ok (Line l))) (some_step BadOperand (name_of program) program _ (Ok (line.Spawn program false)) (name_of-name program h) refl)
+    ap (λ r. r >>= (λ l. Ok (Line l)))
+    (some_step BadOperand (name_of program) program _ (Ok (line.Spawn program false)) (name_of-name program h) refl)
 read_line (line.Spawn program true) h =
-    ap (λ r. r >>= (λ l. Ok (Line l))) (some_step BadOperand (name_of program) program _ (Ok (line.Spawn program true)) (name_of-name program h) refl)
+    ap (λ r. r >>= (λ l. Ok (Line l)))
+    (some_step BadOperand (name_of program) program _ (Ok (line.Spawn program true)) (name_of-name program h) refl)
 read_line (line.Kill pid sig) h =
     ap (λ r. r >>= (λ l. Ok (Line l))) (
     some_step BadOperand (id_of (decimal pid)) pid _ (Ok (line.Kill pid sig)) (id_of-decimal pid h.0)
     (some_step BadOperand (number_of (decimal sig)) sig _ _ (number_of-decimal sig h.1) refl))
 read_line (line.Until moment) h =
-    ap (λ r. r >>= (λ l. Ok (Line l))) (some_step BadOperand (number_of (decimal moment)) moment _ (Ok (line.Until moment)) (number_of-decimal moment h) refl)
+    ap (λ r. r >>= (λ l. Ok (Line l)))
+    (some_step BadOperand (number_of (decimal moment)) moment _ (Ok (line.Until moment))
+    (number_of-decimal moment h) refl)
 read_line line.List h = refl
 
 name_tokens : (names : List (List ℕ)) → AllByRecursion (λ n. is_name n ≡ true) names → AllByRecursion IsToken names
@@ -321,21 +372,34 @@ name_tokens (name ∷ names) all = (name_token name all.0, name_tokens names all
 
 pub line_tokens : (l : ScriptLine) → IsLine l → AllByRecursion IsToken (line_words l)
 unfolding line_words IsLine
-line_tokens (line.Open name pid lwp file mode) h =
-    (plain_token (codes "open") (omega arith) refl, (name_token name h.0, (place_token pid lwp h.1 h.2, (name_token (file_name file) (file_named file), (mode_token mode, tt)))))
+line_tokens (line.Open name pid lwp file mode) h = (
+  plain_token (codes "open") (omega arith) refl,
+  (
+    name_token name h.0,
+    (place_token pid lwp h.1 h.2, (name_token (file_name file) (file_named file), (mode_token mode, tt))),
+  ),
+)
 line_tokens (line.Close name) h = (plain_token (codes "close") (omega arith) refl, (name_token name h, tt))
-line_tokens (line.Read name at len) h =
-    (plain_token (codes "read") (omega arith) refl, (name_token name h.0, (decimal_token at h.1, (decimal_token len h.2, tt))))
+line_tokens (line.Read name at len) h = (
+  plain_token (codes "read") (omega arith) refl,
+  (name_token name h.0, (decimal_token at h.1, (decimal_token len h.2, tt))),
+)
 line_tokens (line.Poll []) h = absurd h
 line_tokens (line.Poll (name ∷ names)) h = (plain_token (codes "poll") (omega arith) refl, name_tokens (name ∷ names) h)
 line_tokens (line.Write name []) h = absurd h.1
-line_tokens (line.Write name (b ∷ bytes)) h =
-    (plain_token (codes "write") (omega arith) refl, (name_token name h.0, (plain_token (codes "raw") (omega arith) refl, (bytes_token b bytes, tt))))
-line_tokens (line.Interrupt controller) h = (plain_token (codes "interrupt") (omega arith) refl, (id_token controller h, tt))
+line_tokens (line.Write name (b ∷ bytes)) h = (
+  plain_token (codes "write") (omega arith) refl,
+  (name_token name h.0, (plain_token (codes "raw") (omega arith) refl, (bytes_token b bytes, tt))),
+)
+line_tokens (line.Interrupt controller) h =
+    (plain_token (codes "interrupt") (omega arith) refl, (id_token controller h, tt))
 line_tokens (line.Spawn program false) h = (plain_token (codes "spawn") (omega arith) refl, (name_token program h, tt))
-line_tokens (line.Spawn program true) h =
-    (plain_token (codes "spawn") (omega arith) refl, (name_token program h, (plain_token (codes "held") (omega arith) refl, tt)))
-line_tokens (line.Kill pid sig) h = (plain_token (codes "kill") (omega arith) refl, (id_token pid h.0, (decimal_token sig h.1, tt)))
+line_tokens (line.Spawn program true) h = (
+  plain_token (codes "spawn") (omega arith) refl,
+  (name_token program h, (plain_token (codes "held") (omega arith) refl, tt)),
+)
+line_tokens (line.Kill pid sig) h =
+    (plain_token (codes "kill") (omega arith) refl, (id_token pid h.0, (decimal_token sig h.1, tt)))
 line_tokens (line.Until moment) h = (plain_token (codes "until") (omega arith) refl, (decimal_token moment h, tt))
 line_tokens line.List h = (plain_token (codes "list") (omega arith) refl, tt)
 

@@ -10,11 +10,14 @@ use Rattle.pr_scen.specs.declared.drafts.Draft.{Draft}
 use Rattle.pr_scen.specs.Refusals.{ScenFault}
 
 -- a part is refused, or one below it is
-here : (d : Draft) (part : Part) (parts : List Part) (fault : ScenFault) → part_added d part ≡ Err fault → StopsAt d (part ∷ parts) fault
+here : (d : Draft) (part : Part) (parts : List Part) (fault : ScenFault) → part_added d part ≡ Err fault
+    → StopsAt d (part ∷ parts) fault
 unfolding parts_added
-here d part parts fault refused = record { above = []; this = part; below = parts; read = d; whole = refl; accepted = refl; refused = refused }
+here d part parts fault refused =
+    record { above = []; this = part; below = parts; read = d; whole = refl; accepted = refl; refused = refused }
 
-lower : (d e : Draft) (part : Part) (parts : List Part) (fault : ScenFault) → part_added d part ≡ Ok e → StopsAt e parts fault → StopsAt d (part ∷ parts) fault
+lower : (d e : Draft) (part : Part) (parts : List Part) (fault : ScenFault) → part_added d part ≡ Ok e
+    → StopsAt e parts fault → StopsAt d (part ∷ parts) fault
 unfolding parts_added
 lower d e part parts fault added s = record {
   above = part ∷ s.above;
@@ -26,33 +29,41 @@ lower d e part parts fault added s = record {
   refused = s.refused;
 }
 
-by_part : (d : Draft) (part : Part) (parts : List Part) (fault : ScenFault) (r : Result Draft ScenFault) → part_added d part ≡ r → ((e : Draft) → parts_added e parts ≡ Err fault → StopsAt e parts fault) → r >>= (λ m. parts_added m parts) ≡ Err fault → StopsAt d (part ∷ parts) fault
+by_part : (d : Draft) (part : Part) (parts : List Part) (fault : ScenFault) (r : Result Draft ScenFault)
+    → part_added d part ≡ r → ((e : Draft) → parts_added e parts ≡ Err fault → StopsAt e parts fault)
+    → r >>= (λ m. parts_added m parts) ≡ Err fault → StopsAt d (part ∷ parts) fault
 by_part d part parts fault (Ok e) is on h = lower d e part parts fault is (on e h)
 by_part d part parts fault (Err f) is on h = here d part parts fault (is ∙ h)
 
 stops_at : (parts : List Part) (d : Draft) (fault : ScenFault) → parts_added d parts ≡ Err fault → StopsAt d parts fault
 unfolding parts_added
 stops_at [] d fault h = cc
-stops_at (part ∷ parts) d fault h = by_part d part parts fault (part_added d part) refl (λ e more. stops_at parts e fault more) h
+stops_at (part ∷ parts) d fault h =
+    by_part d part parts fault (part_added d part) refl (λ e more. stops_at parts e fault more) h
 
 -- parts that are accepted lead to those below
-leads : (above below : List Part) (d e : Draft) → parts_added d above ≡ Ok e → parts_added d (above ++ below) ≡ parts_added e below
+leads : (above below : List Part) (d e : Draft) → parts_added d above ≡ Ok e
+    → parts_added d (above ++ below) ≡ parts_added e below
 unfolding parts_added
 leads [] below d e accepted = let same : d ≡ e = cc in ap (λ m. parts_added m below) same
 leads (part ∷ above) below d e accepted = by (part_added d part) (λ m more. leads above below m e more) accepted
   where
-    by : (r : Result Draft ScenFault) → ((m : Draft) → parts_added m above ≡ Ok e → parts_added m (above ++ below) ≡ parts_added e below) → r >>= (λ m. parts_added m above) ≡ Ok e → r >>= (λ m. parts_added m (above ++ below)) ≡ parts_added e below
+    by : (r : Result Draft ScenFault)
+        → ((m : Draft) → parts_added m above ≡ Ok e → parts_added m (above ++ below) ≡ parts_added e below)
+        → r >>= (λ m. parts_added m above) ≡ Ok e → r >>= (λ m. parts_added m (above ++ below)) ≡ parts_added e below
     by (Ok m) on h = on m h
     by (Err f) on h = cc
 
 stopped : (parts : List Part) (d : Draft) (fault : ScenFault) → StopsAt d parts fault → parts_added d parts ≡ Err fault
 unfolding parts_added
 stopped parts d fault s =
-    ap (parts_added d) s.whole ∙ leads s.above (s.this ∷ s.below) d s.read s.accepted ∙ ap (λ r. r >>= (λ m. parts_added m s.below)) s.refused
+    ap (parts_added d) s.whole ∙ leads s.above (s.this ∷ s.below) d s.read s.accepted
+    ∙ ap (λ r. r >>= (λ m. parts_added m s.below)) s.refused
 
 -- ---- the whole
 
-first_by : (lines : List (List ℕ)) (fault : ScenFault) (r : Result Draft ScenFault) → parts_added nothing (parts_of lines) ≡ r → r >>= finished ≡ Err fault → IsFirstFault lines fault
+first_by : (lines : List (List ℕ)) (fault : ScenFault) (r : Result Draft ScenFault)
+    → parts_added nothing (parts_of lines) ≡ r → r >>= finished ≡ Err fault → IsFirstFault lines fault
 first_by lines fault (Ok d) added h = cc
 first_by lines fault (Err f) added h =
     let same : f ≡ fault = cc in stops_at (parts_of lines) nothing fault (added ∙ ap Err same)

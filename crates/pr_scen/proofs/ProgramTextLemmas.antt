@@ -14,11 +14,14 @@ use Rattle.pr_scen.proofs.LineLemmas.{bytes_of}
 use Rattle.pr_scen.proofs.PartLemmas.{left_parts, part-block, part-endless, part-line, stops_whole}
 
 -- a part that begins as it may is what its first line says
-admits : (part : Part) (n : ℕ) (first : List ℕ) (r : Result (Unit {0}) ScenFault) → first_line_of part ≡ (n, first) → numbered n (admitted first) ≡ r → part_admitted part ≡ r
+admits : (part : Part) (n : ℕ) (first : List ℕ) (r : Result (Unit {0}) ScenFault) → first_line_of part ≡ (n, first)
+    → numbered n (admitted first) ≡ r → part_admitted part ≡ r
 admits part n first r begins is = ap (λ (l : ℕ × List ℕ). numbered l.0 (admitted l.1)) begins ∙ is
 
 -- what follows a part that is admitted and accepted, or refused
-part-next : (d : Draft) (part : Part) (parts all : List Part) (r : Result Draft ScenFault) → all ≡ part ∷ parts → part_admitted part ≡ Ok tt → part_added d part ≡ r → program_parts_added d all ≡ r >>= (λ e. program_parts_added e parts)
+part-next : (d : Draft) (part : Part) (parts all : List Part) (r : Result Draft ScenFault) → all ≡ part ∷ parts
+    → part_admitted part ≡ Ok tt → part_added d part ≡ r
+    → program_parts_added d all ≡ r >>= (λ e. program_parts_added e parts)
 unfolding program_parts_added
 part-next d part parts all r is may added =
     ap (program_parts_added d) is
@@ -26,15 +29,26 @@ part-next d part parts all r is may added =
     ∙ ap (λ a. a >>= (λ e. program_parts_added e parts)) added
 
 -- the lines that are left make of the new draft what all of them made of the old one
-pub next_program_part : (draft new : Draft) (n k : ℕ) (first : Bor (List ℕ)) (rest below : List (Bor (List ℕ))) (whole : Result Draft ScenFault) → rest ≡ first ∷ below → Ok tt ≡ numbered n (admitted first.now) → TakesPart n draft new (first.now ∷ map bytes_of below) k → program_parts_added draft (parts_from n (map bytes_of rest)) ≡ whole → program_parts_added new (parts_from (n + k) (map bytes_of (drop k rest))) ≡ whole
+pub next_program_part : (draft new : Draft) (n k : ℕ) (first : Bor (List ℕ)) (rest below : List (Bor (List ℕ)))
+    (whole : Result Draft ScenFault) → rest ≡ first ∷ below → Ok tt ≡ numbered n (admitted first.now)
+    → TakesPart n draft new (first.now ∷ map bytes_of below) k
+    → program_parts_added draft (parts_from n (map bytes_of rest)) ≡ whole
+    → program_parts_added new (parts_from (n + k) (map bytes_of (drop k rest))) ≡ whole
 next_program_part draft new n k first rest below whole e may takes kept =
-    sym (part-next draft takes.part _ _ (Ok new) (left_parts draft new n k first rest below e takes) (admits takes.part n first.now (Ok tt) takes.begins (sym may)) takes.added) ∙ kept
+    sym (part-next draft takes.part _ _ (Ok new) (left_parts draft new n k first rest below e takes)
+    (admits takes.part n first.now (Ok tt) takes.begins (sym may)) takes.added) ∙ kept
 
 -- a part that is refused is what all lines make
-pub stopping_program_part : (e : ScenRefusal) (draft : Draft) (n : ℕ) (first : Bor (List ℕ)) (rest below : List (Bor (List ℕ))) (whole : Result Draft ScenFault) → rest ≡ first ∷ below → Ok tt ≡ numbered n (admitted first.now) → StopsAtPart n draft (first.now ∷ map bytes_of below) e → program_parts_added draft (parts_from n (map bytes_of rest)) ≡ whole → Stops e whole
+pub stopping_program_part : (e : ScenRefusal) (draft : Draft) (n : ℕ) (first : Bor (List ℕ))
+    (rest below : List (Bor (List ℕ))) (whole : Result Draft ScenFault) → rest ≡ first ∷ below
+    → Ok tt ≡ numbered n (admitted first.now) → StopsAtPart n draft (first.now ∷ map bytes_of below) e
+    → program_parts_added draft (parts_from n (map bytes_of rest)) ≡ whole → Stops e whole
 stopping_program_part e draft n first rest below whole is may stops kept =
     stops_whole e (part_added draft stops.part) whole stops.stops
-    (λ fault at. sym kept ∙ part-next draft stops.part stops.others _ (Err fault) (ap (λ xs. parts_from n (map bytes_of xs)) is ∙ stops.first) (admits stops.part n first.now (Ok tt) stops.begins (sym may)) at)
+    (λ fault at. sym kept
+    ∙ part-next draft stops.part stops.others _ (Err fault)
+    (ap (λ xs. parts_from n (map bytes_of xs)) is ∙ stops.first)
+    (admits stops.part n first.now (Ok tt) stops.begins (sym may)) at)
 
 -- ---- the first part of lines begins with the first of them, whatever it is
 
@@ -48,8 +62,16 @@ first_part : (n : ℕ) (this : List ℕ) (below : List (List ℕ)) → FirstPart
 first_part n this below = by (begins_block this) refl (position_from is_end 0 below) refl
   where
     by : (b : Bool) → begins_block this ≡ b → (o : Option ℕ) → position_from is_end 0 below ≡ o → FirstPart n this below
-    by false outside o at = record { part = line n this; others = parts_from (n + 1) below; first = part-line n this below outside; begins = refl }
-    by true begins None at = record { part = endless n this; others = []; first = part-endless n this below begins at; begins = refl }
+    by false outside o at =
+        record {
+          part = line n this;
+          others = parts_from (n + 1) below;
+          first = part-line n this below outside;
+          begins =
+              refl;
+        }
+    by true begins None at =
+        record { part = endless n this; others = []; first = part-endless n this below begins at; begins = refl }
     by true begins (Some k) at = record {
       part = block n this (take k below) (get_or below k []);
       others = parts_from (n + (k + 2)) (drop (k + 1) below);
@@ -58,17 +80,21 @@ first_part n this below = by (begins_block this) refl (position_from is_end 0 be
     }
 
 -- a line that may not stand is what all lines make
-pub refused_line : (fault : ScenFault) (draft : Draft) (n : ℕ) (first : Bor (List ℕ)) (rest below : List (Bor (List ℕ))) (whole : Result Draft ScenFault) → rest ≡ first ∷ below → Err fault ≡ numbered n (admitted first.now) → program_parts_added draft (parts_from n (map bytes_of rest)) ≡ whole → whole ≡ Err fault
+pub refused_line : (fault : ScenFault) (draft : Draft) (n : ℕ) (first : Bor (List ℕ)) (rest below : List (Bor (List ℕ)))
+    (whole : Result Draft ScenFault) → rest ≡ first ∷ below → Err fault ≡ numbered n (admitted first.now)
+    → program_parts_added draft (parts_from n (map bytes_of rest)) ≡ whole → whole ≡ Err fault
 unfolding program_parts_added
 refused_line fault draft n first rest below whole is refused kept =
     let one = first_part n first.now (map bytes_of below) in
     sym kept
     ∙ ap (λ xs. program_parts_added draft (parts_from n (map bytes_of xs))) is
     ∙ ap (program_parts_added draft) one.first
-    ∙ ap (λ a. a >>= (λ _. part_added draft one.part >>= (λ e. program_parts_added e one.others))) (admits one.part n first.now (Err fault) one.begins (sym refused))
+    ∙ ap (λ a. a >>= (λ _. part_added draft one.part >>= (λ e. program_parts_added e one.others)))
+    (admits one.part n first.now (Err fault) one.begins (sym refused))
 
 -- no line is left
-pub no_program_part : (draft : Draft) (n : ℕ) (rest : List (Bor (List ℕ))) (whole : Result Draft ScenFault) → length rest ≡ 0 → program_parts_added draft (parts_from n (map bytes_of rest)) ≡ whole → whole ≡ Ok draft
+pub no_program_part : (draft : Draft) (n : ℕ) (rest : List (Bor (List ℕ))) (whole : Result Draft ScenFault)
+    → length rest ≡ 0 → program_parts_added draft (parts_from n (map bytes_of rest)) ≡ whole → whole ≡ Ok draft
 unfolding program_parts_added parts_from
 no_program_part draft n [] whole none kept = sym kept
 no_program_part draft n (first ∷ below) whole none kept = absurd (omega arith)

@@ -50,4 +50,5 @@ all_opened names (l ∷ lines) = all_opened (with_opened names l) lines
 
 -- the names that a script opens, none of them bound to a handle yet
 unfoldable pub unbound : List ScriptLine → Bindings
-unbound lines = let names = all_opened [] lines in record { names = names; handles = replicate (length names) no_handle }
+unbound lines = let names = all_opened [] lines in
+    record { names = names; handles = replicate (length names) no_handle }

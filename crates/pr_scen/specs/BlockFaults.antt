@@ -28,7 +28,8 @@ program_line place_of n p this = readable this >>= λ _. with_kind (read_added p
 
 -- Of these lines, which count from n and stand below a program, one is the least that is refused: those above it can be
 -- read and make a program, which it cannot follow.
-pub record StopsBelow (place_of : List ℕ → Option Place) (n : ℕ) (p : Program) (lines : List (List ℕ)) (fault : ScenFault) : Type 0 where
+pub record StopsBelow (place_of : List ℕ → Option Place) (n : ℕ) (p : Program) (lines : List (List ℕ))
+    (fault : ScenFault) : Type 0 where
   pub above : List (List ℕ)
   pub this : List ℕ
   pub below : List (List ℕ)
@@ -45,8 +46,8 @@ StopsInProgram name n body fault = StopsBelow (place_in n (map statement_of body
 
 -- ---- lines of scripts
 
--- Of the lines of a script block, which count from n, one is the least that is refused: those above it are accepted, one
--- after another, and it cannot follow them.
+-- Of the lines of a script block, which count from n, one is the least that is refused: those above it are accepted,
+-- one after another, and it cannot follow them.
 pub record StopsInScript (d : Draft) (n : ℕ) (body : List (List ℕ)) (fault : ScenFault) : Type 0 where
   pub above : List (List ℕ)
   pub this : List ℕ
@@ -80,15 +81,19 @@ pub record MakeScript (d : Draft) (n : ℕ) (body : List (List ℕ)) : Type 0 wh
   pub accepted : folded script_line_read n d body ≡ Ok read
 
 -- a program block: it may begin, and then a line of it is refused, or all make a program and its end is refused
-pub record StopsProgram (d : Draft) (n : ℕ) (first : List ℕ) (body : List (List ℕ)) (last : List ℕ) (fault : ScenFault) : Type 0 where
+pub record StopsProgram (d : Draft) (n : ℕ) (first : List ℕ) (body : List (List ℕ)) (last : List ℕ)
+    (fault : ScenFault) : Type 0 where
   pub name : List ℕ
   pub begins : begun d first ≡ Ok (item.Program name)
-  pub stops : StopsInProgram name (n + 1) body fault ⊎ (MakeProgram name (n + 1) body × StopsAtEnd (n + (length body + 1)) last fault)
+  pub stops : StopsInProgram name (n + 1) body fault
+      ⊎ (MakeProgram name (n + 1) body × StopsAtEnd (n + (length body + 1)) last fault)
 
 -- a script block: the same
-pub record StopsScript (d : Draft) (n : ℕ) (first : List ℕ) (body : List (List ℕ)) (last : List ℕ) (fault : ScenFault) : Type 0 where
+pub record StopsScript (d : Draft) (n : ℕ) (first : List ℕ) (body : List (List ℕ)) (last : List ℕ)
+    (fault : ScenFault) : Type 0 where
   pub begins : begun d first ≡ Ok item.Script
-  pub stops : StopsInScript d (n + 1) body fault ⊎ (MakeScript d (n + 1) body × StopsAtEnd (n + (length body + 1)) last fault)
+  pub stops : StopsInScript d (n + 1) body fault
+      ⊎ (MakeScript d (n + 1) body × StopsAtEnd (n + (length body + 1)) last fault)
 
 -- the least line of a block that is refused, the first line of which is n
 abbrev pub IsLeastInBlock : Draft → ℕ → List ℕ → List (List ℕ) → List ℕ → ScenFault → Type 0

@@ -59,13 +59,15 @@ unfoldable pub all_readable : ℕ → List (List ℕ) → Result (Unit {0}) Scen
 all_readable n [] = Ok tt
 all_readable n (this ∷ below) = numbered n (readable this) >>= λ _. all_readable (n + 1) below
 
--- What stands first: a line that cannot be read, or what the program's own language refuses. Of one line it is the former.
+-- What stands first: a line that cannot be read, or what the program's own language refuses. Of one line it is the
+-- former.
 abbrev pub first_of_both : Result (Unit {0}) ScenFault → Result Program AsmFault → Result Program ScenFault
 first_of_both (Ok _) (Ok program) = Ok program
 first_of_both (Ok _) (Err fault) = Err (record { line = fault.line; kind = kind_of fault.kind })
 first_of_both (Err unreadable) (Ok program) = Err unreadable
 first_of_both (Err unreadable) (Err fault) =
-    if nat_le unreadable.line fault.line then Err unreadable else Err (record { line = fault.line; kind = kind_of fault.kind })
+    if nat_le unreadable.line fault.line then Err unreadable else Err
+    (record { line = fault.line; kind = kind_of fault.kind })
 
 -- The program of the lines of a block, which count from n. A line that cannot be read places its name all the same.
 unfoldable pub program_read : List ℕ → ℕ → List (List ℕ) → Result Program ScenFault

@@ -62,7 +62,8 @@ with_file d name bytes =
 abbrev pub with_process : Draft → ℕ → ℕ → Result Draft ScenKind
 with_process d place size =
     if nat_lt (length d.spawns) spawn_limit
-    then (if nat_le (d.mapped + size) all_mappings_limit then Ok (record d { spawns = d.spawns ++ place ∷ []; mapped = d.mapped + size }) else Err TooBig)
+    then (if nat_le (d.mapped + size) all_mappings_limit then Ok
+    (record d { spawns = d.spawns ++ place ∷ []; mapped = d.mapped + size }) else Err TooBig)
     else Err TooMany
 
 -- spawn NAME: a process of a program whose block has ended above
@@ -75,7 +76,8 @@ with_spawn d name = do
 -- one controller more
 unfoldable pub with_controller : Draft → Plan → Result Draft ScenKind
 with_controller d plan =
-    if nat_lt (length d.controllers) controller_limit then Ok (record d { controllers = d.controllers ++ plan ∷ [] }) else Err TooMany
+    if nat_lt (length d.controllers) controller_limit then Ok
+    (record d { controllers = d.controllers ++ plan ∷ [] }) else Err TooMany
 
 -- whether a program of this name has ended above
 abbrev pub has_program : Draft → List ℕ → Bool
@@ -122,13 +124,15 @@ with_item d (item.Schedule turns) = with_schedule d turns
 -- A line that begins a block can: a program has a name of its own, and a script is within the limit.
 unfoldable pub may_begin : Draft → Item → Result (Unit {0}) ScenKind
 may_begin d (item.Program name) =
-    if has_program d name then Err Double else (if nat_lt (length d.program_names) program_limit then Ok tt else Err TooMany)
+    if has_program d name then Err Double else
+    (if nat_lt (length d.program_names) program_limit then Ok tt else Err TooMany)
 may_begin d item.Script = if nat_lt (length d.controllers) controller_limit then Ok tt else Err TooMany
 may_begin d _ = Ok tt
 
 -- a program more
 unfoldable pub with_program : Draft → List ℕ → Program → Draft
-with_program d name program = record d { program_names = d.program_names ++ name ∷ []; programs = d.programs ++ program ∷ [] }
+with_program d name program =
+    record d { program_names = d.program_names ++ name ∷ []; programs = d.programs ++ program ∷ [] }
 
 -- one line of a script more
 abbrev pub with_line : Draft → ScriptLine → Draft
@@ -136,8 +140,10 @@ with_line d l = record d { lines = d.lines ++ l ∷ [] }
 
 -- a script can make this call: it spawns a program whose block has ended above; there are at most 4,096 `list` lines
 unfoldable pub call_added : Draft → ScriptLine → Result Draft ScenKind
-call_added d (line.Spawn program held) = if has_program d program then Ok (with_line d (line.Spawn program held)) else Err UnknownName
-call_added d line.List = if nat_lt d.lists list_line_limit then Ok (record (with_line d line.List) { lists = d.lists + 1 }) else Err TooMany
+call_added d (line.Spawn program held) =
+    if has_program d program then Ok (with_line d (line.Spawn program held)) else Err UnknownName
+call_added d line.List =
+    if nat_lt d.lists list_line_limit then Ok (record (with_line d line.List) { lists = d.lists + 1 }) else Err TooMany
 call_added d l = Ok (with_line d l)
 
 -- what a line of a script block makes of it

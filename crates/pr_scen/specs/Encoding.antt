@@ -86,7 +86,8 @@ IsItem (item.Schedule turns) = SomeTurns turns
 -- ---- lines of scripts; in an `open` lwp 0 stands for the process
 
 unfoldable pub line_words : ScriptLine → List (List ℕ)
-line_words (line.Open name pid lwp file mode) = codes "open" ∷ name ∷ lwp_text pid lwp ∷ file_name file ∷ mode_name mode ∷ []
+line_words (line.Open name pid lwp file mode) =
+    codes "open" ∷ name ∷ lwp_text pid lwp ∷ file_name file ∷ mode_name mode ∷ []
 line_words (line.Close name) = codes "close" ∷ name ∷ []
 line_words (line.Read name at len) = codes "read" ∷ name ∷ decimal at ∷ decimal len ∷ []
 line_words (line.Poll names) = codes "poll" ∷ names

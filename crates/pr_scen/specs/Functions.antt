@@ -22,8 +22,8 @@ is_called name f = bytes_eq f.name name
 abbrev pub labelled_place : List Label → List ℕ → Option ℕ
 labelled_place labels name = option_map (λ l. l.place) (find (is_labelled name) labels)
 
--- Whether an instruction can be the first of a function: a breakpoint of the program would not be told from truss's own,
--- and a system call is no step.
+-- Whether an instruction can be the first of a function: a breakpoint of the program would not be told from truss's
+-- own, and a system call is no step.
 unfoldable pub can_begin_function : Instruction → Bool
 can_begin_function Bpt = false
 can_begin_function (Sys call) = false

@@ -1,5 +1,5 @@
--- The lines outside blocks, each read on its own. Of the kinds of one line a bad operand comes first, wherever it stands,
--- and then a name that is in no table.
+-- The lines outside blocks, each read on its own. Of the kinds of one line a bad operand comes first, wherever it
+-- stands, and then a name that is in no table.
 use Rattle.std.specs.Prelude.{◌==◌, ℕ, List, [], ◌∷◌, codes, Result, Ok, Err, if◌then◌else◌}
 use Rattle.std.specs.Str.{bytes_eq}
 use Rattle.pr_line.specs.Reading.{asked_of, has_bad_option}

@@ -15,7 +15,8 @@ use Rattle.pr_scen.specs.declared.refusals.ScenKind.TheVariants.{BadOperand, Unk
 
 -- names that are joined: each has the form of a name, and stands for an entry of the table
 unfoldable pub named_set : (List ℕ → Option ℕ) → List (List ℕ) → Result ℕ ScenKind
-named_set named names = if list_all is_name names then ok_or UnknownName (with_entries named 0 names) else Err BadOperand
+named_set named names =
+    if list_all is_name names then ok_or UnknownName (with_entries named 0 names) else Err BadOperand
 
 -- the set of a list: `none`, `all`, or names joined by +
 unfoldable pub set_of : (List ℕ → Option ℕ) → ℕ → List ℕ → Result ℕ ScenKind

@@ -10,7 +10,9 @@ use Rattle.pr_scen.specs.declared.message_words.Operand.{Operand}
 use Rattle.pr_scen.specs.declared.message_words.Operand.TheVariants.{Number, Hex, Signals, Faults, Calls, Modes}
 
 abbrev pub message_words : List MessageWord
-message_words = Stop ∷ Dstop ∷ Wstop ∷ Twstop ∷ Run ∷ Csig ∷ Cfault ∷ Ssig ∷ Kill ∷ Unkill ∷ Shold ∷ Strace ∷ Sfault ∷ Sentry ∷ Sexit ∷ Set ∷ Unset ∷ Sreg ∷ Svaddr ∷ Watch ∷ Agent ∷ Read ∷ Write ∷ Raw ∷ []
+message_words =
+    Stop ∷ Dstop ∷ Wstop ∷ Twstop ∷ Run ∷ Csig ∷ Cfault ∷ Ssig ∷ Kill ∷ Unkill ∷ Shold ∷ Strace ∷ Sfault ∷ Sentry
+    ∷ Sexit ∷ Set ∷ Unset ∷ Sreg ∷ Svaddr ∷ Watch ∷ Agent ∷ Read ∷ Write ∷ Raw ∷ []
 
 -- how a message is written
 unfoldable pub message_name : MessageWord → List ℕ

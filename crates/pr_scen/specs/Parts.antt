@@ -4,8 +4,8 @@ use Rattle.std.specs.Prelude.{◌||◌, ◌+◌, ℕ, Bool, List, [], ◌∷◌,
 use Rattle.pr_text.specs.Words.{texts_of}
 use Rattle.pr_scen.specs.Lines.{first_is, is_end}
 
--- A part, with the number of its first line. The lines of a block stand between the line that begins it and the one that
--- ends it.
+-- A part, with the number of its first line. The lines of a block stand between the line that begins it and the one
+-- that ends it.
 pub data Part : Type 0 where
   line : ℕ → List ℕ → Part
   block : ℕ → List ℕ → List (List ℕ) → List ℕ → Part

@@ -44,14 +44,19 @@ turn_piece actor = outside (item.Schedule (record { actor = actor; times = 1 } �
 
 unfoldable pub pieces_of : List (List ℕ × List Statement) → Scenario → List Piece
 pieces_of sources s =
-    outside (item.Turns s.turns) ∷ (map program_piece sources ++ (map file_piece s.files ++ (map (spawn_piece (names_of sources)) s.spawns ++ (map plan_piece s.controllers ++ map turn_piece s.schedule))))
+    outside (item.Turns s.turns)
+    ∷ (map program_piece sources
+    ++ (map file_piece s.files
+    ++ (map (spawn_piece (names_of sources)) s.spawns
+    ++ (map plan_piece s.controllers ++ map turn_piece s.schedule))))
 
 -- ---- what can be written
 
 -- these are the programs that these statements make, whatever lines they stand on
 unfoldable pub AreSources : List (List ℕ × List Statement) → List Program → Type 0
 AreSources [] [] = Unit {0}
-AreSources (source ∷ sources) (p ∷ programs) = ((n : ℕ) → assembled source.0 n (map Ok source.1) ≡ Ok p) × AreSources sources programs
+AreSources (source ∷ sources) (p ∷ programs) =
+    ((n : ℕ) → assembled source.0 n (map Ok source.1) ≡ Ok p) × AreSources sources programs
 AreSources _ _ = ⊥
 
 -- names that none of these is, nor one of them another
@@ -69,8 +74,8 @@ unfoldable pub IsFirstPlan : List (List ℕ) → Plan → Type 0
 IsFirstPlan names (Script s) = (s ≡ first_script s.lines) × AllByRecursion (SpawnsOneOf names) s.lines
 IsFirstPlan names _ = ⊥
 
--- A scenario can be written with these programs: they are its own, under names of their own; its controllers are scripts;
--- and each line of its text can be read.
+-- A scenario can be written with these programs: they are its own, under names of their own; its controllers are
+-- scripts; and each line of its text can be read.
 pub record IsWritten (sources : List (List ℕ × List Statement)) (s : Scenario) : Type 0 where
   pub programs : AreSources sources s.programs
   pub names : OwnNames [] (names_of sources)

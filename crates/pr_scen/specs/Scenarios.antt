@@ -61,8 +61,8 @@ abbrev pub lists_in : Plan → ℕ
 lists_in (Script s) = count_by is_list s.lines
 lists_in _ = 0
 
--- What holds of every scenario that was read: it keeps each limit, its files have names of their own, and what is spawned
--- is one of its programs.
+-- What holds of every scenario that was read: it keeps each limit, its files have names of their own, and what is
+-- spawned is one of its programs.
 pub record IsWithinLimits (s : Scenario) : Type 0 where
   pub least : 1 ≤ s.turns
   pub most : s.turns ≤ turn_limit

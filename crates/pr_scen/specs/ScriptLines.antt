@@ -90,7 +90,8 @@ interrupt_of operands = do
 unfoldable pub spawn_of : List (List ℕ) → Result ScriptLine ScenKind
 spawn_of (word ∷ []) = ok_or BadOperand (name_of word) >>= λ name. Ok (line.Spawn name false)
 spawn_of (word ∷ how ∷ []) =
-    ok_or BadOperand (name_of word) >>= λ name. if bytes_eq how (codes "held") then Ok (line.Spawn name true) else Err BadOperand
+    ok_or BadOperand (name_of word)
+    >>= λ name. if bytes_eq how (codes "held") then Ok (line.Spawn name true) else Err BadOperand
 spawn_of _ = Err BadOperand
 
 -- kill PID SIGNUMBER

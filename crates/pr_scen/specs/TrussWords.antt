@@ -91,7 +91,8 @@ function_words (Some f) = codes "-u" ∷ function_word f ∷ []
 unfoldable pub MayName : Bool → Bool → Option FunctionNames → Type 0
 MayName follow count None = Unit {0}
 MayName follow count (Some f) =
-    (follow ≡ false) × (count ≡ false) × (is_name f.program ≡ true) × SomeNames f.labels × (length f.labels ≤ function_limit)
+    (follow ≡ false) × (count ≡ false) × (is_name f.program ≡ true) × SomeNames f.labels
+    × (length f.labels ≤ function_limit)
 
 -- a truss line: whether children are followed, lwps are shown and events are counted; the lists of calls, signals and
 -- faults; the functions; and what is traced
@@ -112,11 +113,14 @@ flag_words false word = []
 -- the words after the flags
 unfoldable pub list_words : TrussLine → List (List ℕ)
 list_words t =
-    codes "-t" ∷ listing_word t.calls ∷ codes "-s" ∷ listing_word t.signals ∷ codes "-m" ∷ listing_word t.faults ∷ (function_words t.functions ++ target_words t.target)
+    codes "-t" ∷ listing_word t.calls ∷ codes "-s" ∷ listing_word t.signals ∷ codes "-m" ∷ listing_word t.faults
+    ∷ (function_words t.functions ++ target_words t.target)
 
 unfoldable pub truss_words : TrussLine → List (List ℕ)
 truss_words t =
-    codes "truss" ∷ (flag_words t.follow (codes "-f") ++ (flag_words t.lwps (codes "-l") ++ (flag_words t.count (codes "-c") ++ list_words t)))
+    codes "truss"
+    ∷ (flag_words t.follow (codes "-f")
+    ++ (flag_words t.lwps (codes "-l") ++ (flag_words t.count (codes "-c") ++ list_words t)))
 
 -- the options that it asks for, which have no functions yet
 unfoldable pub truss_options : TrussLine → Options
@@ -139,4 +143,5 @@ truss_asked t = record { options = truss_options t; functions = t.functions }
 -- what can be encoded: lists, functions and processes name some, and names have their form
 unfoldable pub IsTrussLine : TrussLine → Type 0
 IsTrussLine t =
-    IsListing call_numbered t.calls × IsListing signal_numbered t.signals × IsListing fault_numbered t.faults × IsTarget t.target × MayName t.follow t.count t.functions
+    IsListing call_numbered t.calls × IsListing signal_numbered t.signals × IsListing fault_numbered t.faults
+    × IsTarget t.target × MayName t.follow t.count t.functions

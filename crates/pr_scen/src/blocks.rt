@@ -199,7 +199,8 @@ impl Draft {
         requires few { number + length body.now + 1 < 2 ^ 32 }
         requires fresh { place_of self.old.program_names name ≡ None }
         requires room { length self.old.program_names < program_limit }
-        ensures { Answers (λ _. self.new) result (program_added number self.old name (map (λ line. line.now) body.now) last.now) }
+        ensures { Answers (λ _. self.new) result
+            (program_added number self.old name (map (λ line. line.now) body.now) last.now) }
     {
         let program = program_read(alloc, name, number + 1, body)?;
         let end = number + body.len() as u32 + 1;
@@ -234,7 +235,8 @@ impl Draft {
         lines: &[&[u8]],
     ) -> Result<(), ScenRefusal>
         requires { first + length lines.now ≤ 2 ^ 32 }
-        ensures { Answers (λ _. self.new) result (folded script_line_read first self.old (map (λ line. line.now) lines.now)) }
+        ensures { Answers (λ _. self.new) result
+            (folded script_line_read first self.old (map (λ line. line.now) lines.now)) }
     {
         for (i, line) in lines.iter().enumerate() {
             self.add_inner_line(alloc, first + i as u32, line)?;
@@ -252,7 +254,8 @@ impl Draft {
         last: &[u8],
     ) -> Result<(), ScenRefusal>
         requires { number + length body.now + 1 < 2 ^ 32 }
-        ensures { Answers (λ _. self.new) result (script_added number self.old (map (λ line. line.now) body.now) last.now) }
+        ensures { Answers (λ _. self.new) result
+            (script_added number self.old (map (λ line. line.now) body.now) last.now) }
     {
         self.add_script_lines(alloc, number + 1, body)?;
         ended_at(number + body.len() as u32 + 1, last)?;
@@ -271,7 +274,8 @@ impl Draft {
         last: &[u8],
     ) -> Result<(), ScenRefusal>
         requires { number + length body.now + 1 < 2 ^ 32 }
-        ensures { Answers (λ _. self.new) result (part_added self.old (block number first.now (map (λ line. line.now) body.now) last.now)) }
+        ensures { Answers (λ _. self.new) result
+            (part_added self.old (block number first.now (map (λ line. line.now) body.now) last.now)) }
     {
         match self.begin_at(alloc, number, first)? {
             Item::Program(name) => self.add_program_block(alloc, number, name, body, last),

@@ -120,7 +120,8 @@ fn truss_of(alloc: Global, operands: Tokens) -> Result<Item, Refused<ScenKind>>
 /// The kind of a truss line that is refused: a bad option comes before a name that is in no table.
 fn truss_kind(alloc: Global, words: &[Bytes]) -> Result<ScenKind, NoMemory>
     requires { length words.now < 2 ^ 32 }
-    ensures { IfOk result (λ kind. kind ≡ (if has_bad_option words.now then ScenKind.BadOperand else ScenKind.UnknownName)) }
+    ensures { IfOk result
+        (λ kind. kind ≡ (if has_bad_option words.now then ScenKind.BadOperand else ScenKind.UnknownName)) }
 {
     if has_bad_option(alloc, words)? {
         Ok(ScenKind::BadOperand)

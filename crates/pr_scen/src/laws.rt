@@ -37,8 +37,9 @@ pub fn a_refusal_names_the_first_line()
     ensures refuses { (lines : List (List ℕ)) (fault : ScenFault) → IsFirstFault lines fault → scenario_in lines ≡ Err fault }
 {}
 
-/// A block is refused exactly at the least of its lines that is refused: the line that begins it; of the lines in it the
-/// first that cannot be read or cannot follow those above it; or, where all those are accepted, the line that ends it.
+/// A block is refused exactly at the least of its lines that is refused: the line that begins it; of the lines in it
+/// the first that cannot be read or cannot follow those above it; or, where all those are accepted, the line that ends
+/// it.
 pub fn a_refusal_in_a_block_names_its_least_line()
     ensures refused { (d : Draft) (n : ℕ) (first : List ℕ) (body : List (List ℕ)) (last : List ℕ) (fault : ScenFault)
         → part_added d (block n first body last) ≡ Err fault → IsLeastInBlock d n first body last fault }
@@ -56,14 +57,15 @@ pub fn lines_are_read_as_they_are_encoded()
         → script_line_of (texts_of (spaced (line_words l))) ≡ Ok (InScript.Line l) }
 {}
 
-/// A text of lines outside blocks and whole blocks is read as what they say, one after another, or stops where they stop.
+/// A text of lines outside blocks and whole blocks is read as what they say, one after another, or stops where they
+/// stop.
 pub fn texts_are_read_as_they_are_encoded()
     ensures { (pieces : List Piece) → AllByRecursion IsPiece pieces
         → scenario_of (text_of_pieces pieces) ≡ scenario_of_pieces pieces }
 {}
 
-/// Each scenario within its limits has a text that is read as it, where its programs can be written, under names of their
-/// own, its controllers are scripts, and no line of that text is too long or has a byte that is not of ASCII.
+/// Each scenario within its limits has a text that is read as it, where its programs can be written, under names of
+/// their own, its controllers are scripts, and no line of that text is too long or has a byte that is not of ASCII.
 pub fn each_scenario_has_a_text()
     ensures { (sources : List (List ℕ × List Statement)) (s : Scenario) → IsWithinLimits s → IsWritten sources s
         → scenario_of (text_of_pieces (pieces_of sources s)) ≡ Ok s }

@@ -65,8 +65,8 @@ fn read_parts(alloc: Global, lines: &[&[u8]]) -> Result<Draft, ScenRefusal>
     Ok(draft)
 }
 
-/// The programs that a text spells, in the order of their blocks, or its first line that is refused. Lines count from 1.
-/// A line outside blocks has no words or is a comment; any other is refused as one whose first word is unknown.
+/// The programs that a text spells, in the order of their blocks, or its first line that is refused. Lines count from
+/// 1. A line outside blocks has no words or is a comment; any other is refused as one whose first word is unknown.
 #[tactic(auto, unfolding(crate::specs::ProgramTexts::programs_of))]
 pub fn read_programs(alloc: Global, text: &[u8]) -> Result<Vec<Program>, ScenRefusal>
     requires { length text.now + 2 < 2 ^ 32 }

@@ -29,8 +29,8 @@ fn end_of(lines: &[&[u8]]) -> Option<usize>
 }
 
 impl Draft {
-    /// Adds the block that a line of this number begins, where these lines stand below it, and answers how many lines it
-    /// has.
+    /// Adds the block that a line of this number begins, where these lines stand below it, and answers how many lines
+    /// it has.
     fn take_block(
         &mut self,
         alloc: Global,
@@ -111,8 +111,8 @@ fn read_text(alloc: Global, text: &[u8]) -> Result<Scenario, ScenRefusal>
     read_lines(alloc, &lines)
 }
 
-/// The scenario that a text spells, or its first line that is refused. Lines count from 1. What is read keeps each limit of
-/// a scenario.
+/// The scenario that a text spells, or its first line that is refused. Lines count from 1. What is read keeps each
+/// limit of a scenario.
 ///
 /// Takes time linear in the text, but for the logarithm of the number of names.
 pub fn read_scenario(alloc: Global, text: &[u8]) -> Result<Scenario, ScenRefusal>

@@ -24,5 +24,12 @@ impl Model for Scenario {
 
     ghost Value = { plain.Scenario };
 
-    ghost view = { λ s. record { turns = s.turns; programs = s.programs.items; files = s.files.items; spawns = s.spawns.items; controllers = s.controllers.items; schedule = s.schedule.items } };
+    ghost view = { λ s. record {
+      turns = s.turns;
+      programs = s.programs.items;
+      files = s.files.items;
+      spawns = s.spawns.items;
+      controllers = s.controllers.items;
+      schedule = s.schedule.items;
+    } };
 }

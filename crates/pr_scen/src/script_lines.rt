@@ -7,8 +7,8 @@ pub type Lines = Table<ScriptLine>;
 /// A line of a script: a call that the script makes, with the name by which the script speaks of the handle.
 #[derive(Drop)]
 pub enum ScriptLine {
-    /// Opens a file of a process; the name then stands for the handle. `lwp` is the lwp's id for a file of one lwp, else
-    /// 0.
+    /// Opens a file of a process; the name then stands for the handle. `lwp` is the lwp's id for a file of one lwp,
+    /// else 0.
     Open {
         name: Name,
         pid: u32,

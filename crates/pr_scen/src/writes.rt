@@ -30,7 +30,14 @@ impl Model for Writing {
 
     ghost Value = { plain.Writing };
 
-    ghost view = { λ w. record { bytes = w.bytes.items; begun = w.begun; count = w.count; numbers = w.numbers; run = w.run; unknown = w.unknown } };
+    ghost view = { λ w. record {
+      bytes = w.bytes.items;
+      begun = w.begun;
+      count = w.count;
+      numbers = w.numbers;
+      run = w.run;
+      unknown = w.unknown;
+    } };
 }
 
 impl Writing {
@@ -205,7 +212,8 @@ impl Writing {
         text: &[u8],
         word: MessageWord,
     ) -> Result<(), Refused<ScenKind>>
-        ensures { Gives (λ _. self.new) result (in_message self.old text.now word (slice_get (operands_of word) self.old.count)) }
+        ensures { Gives (λ _. self.new) result
+            (in_message self.old text.now word (slice_get (operands_of word) self.old.count)) }
     {
         match operands_of(word).get(self.count) {
             Some(operand) => self.take_operand(alloc, word, text, *operand),

@@ -37,13 +37,16 @@ unfolding check_of
 check-nothing input = read-nothing (checked_of_input input)
 
 -- Whatever the status is, there is no history.
-pub leaves-nothing : (old new : Ends) (status : Status) (h : List Entry) → Reads checked_limit (IsThe check_of) no_run old new status h → h ≡ []
+pub leaves-nothing : (old new : Ends) (status : Status) (h : List Entry)
+    → Reads checked_limit (IsThe check_of) no_run old new status h → h ≡ []
 leaves-nothing old new status h r = by (status_cases status)
   where
     by : IsWhole status ⊎ ((status ≡ ReadFailed) ⊎ ((status ≡ WriteFailed) ⊎ (status ≡ OutOfMemory))) → h ≡ []
-    by (inl s) = let a = r.answered s in a.gives.given.history_is ∙ (ap (λ (x : Answer). x.history) a.gives.may ∙ check-nothing a.input)
+    by (inl s) = let a = r.answered s in
+        a.gives.given.history_is ∙ (ap (λ (x : Answer). x.history) a.gives.may ∙ check-nothing a.input)
     by (inr (inl s)) = (r.not_read s).no_history
-    by (inr (inr (inl s))) = let c = r.cut s in c.cut.history_is ∙ (ap (λ (x : Answer). x.history) c.may ∙ check-nothing c.input)
+    by (inr (inr (inl s))) = let c = r.cut s in
+        c.cut.history_is ∙ (ap (λ (x : Answer). x.history) c.may ∙ check-nothing c.input)
     by (inr (inr (inr s))) = of_memory (r.memory s)
       where
         of_memory : RanOutReading old new h ⊎ RanOutAfter checked_limit (IsThe check_of) no_run old new h → h ≡ []
@@ -51,17 +54,21 @@ leaves-nothing old new status h r = by (status_cases status)
         of_memory (inr after) =
             ⊎_elim
             (λ (early : RanOutEarly no_run after.input h old.written new.written). early.left)
-            (λ (late : OneRanOut (IsThe check_of after.input) h old.written new.written). late.ran_out.history_is ∙ (ap (λ (x : Answer). x.history) late.may ∙ check-nothing after.input))
+            (λ (late : OneRanOut (IsThe check_of after.input) h old.written new.written). late.ran_out.history_is
+            ∙ (ap (λ (x : Answer). x.history) late.may ∙ check-nothing after.input))
             after.ran_out
 
 -- Memory ran out before the text was begun, whichever the input is.
-pub lost-any : (a b : Option (List ℕ)) (h : List Entry) (old new : Option (List ℕ)) → RanOutEarly no_run a h old new → RanOutEarly no_run b h old new
+pub lost-any : (a b : Option (List ℕ)) (h : List Entry) (old new : Option (List ℕ)) → RanOutEarly no_run a h old new
+    → RanOutEarly no_run b h old new
 lost-any a b h old new early = record { unwritten = early.unwritten; left = early.left }
 
 -- ---- the judgement is given
 
 module _ (old new : Ends) (status : Status) (h : List Entry) where
-  of_read : (r : Result (Scenario × List Entry) Wrong) → (IsWhole status → IsGiven (judgement_of r) status h old.written new.written) → IfOk r (λ read. IsWhole status → IsJudged read.0 read.1 old new status h)
+  of_read : (r : Result (Scenario × List Entry) Wrong)
+      → (IsWhole status → IsGiven (judgement_of r) status h old.written new.written)
+      → IfOk r (λ read. IsWhole status → IsJudged read.0 read.1 old new status h)
   unfolding judgement_of first_illegal_of
   of_read (Err w) given = tt
   of_read (Ok read) given = λ whole. record {
@@ -70,12 +77,24 @@ module _ (old new : Ends) (status : Status) (h : List Entry) where
     given = given whole;
   }
 
-  of_left : (left : Option (List ℕ)) → (IsWhole status → IfSome left (λ input. GivesOne (IsThe check_of (taken_of checked_limit input)) status h old.written new.written))
-      → IfSome left (λ input. IfOk (checked_of_input (taken_of checked_limit input)) (λ read. IsWhole status → IsJudged read.0 read.1 old new status h))
+  of_left : (left : Option (List ℕ))
+      → (IsWhole status
+      → IfSome left
+      (λ input. GivesOne (IsThe check_of (taken_of checked_limit input)) status h old.written new.written))
+      → IfSome left
+      (λ input.
+      IfOk (checked_of_input (taken_of checked_limit input))
+      (λ read. IsWhole status → IsJudged read.0 read.1 old new status h))
   unfolding check_of
   of_left None given = tt
-  of_left (Some input) given = of_read (checked_of_input (taken_of checked_limit input)) (λ whole. let one = given whole in subst (λ (a : Answer). IsGiven a status h old.written new.written) one.may one.given)
+  of_left (Some input) given =
+      of_read (checked_of_input (taken_of checked_limit input))
+      (λ whole. let one = given whole in
+      subst (λ (a : Answer). IsGiven a status h old.written new.written) one.may one.given)
 
   pub judges-history : Reads checked_limit (IsThe check_of) no_run old new status h
-      → IfSome old.left (λ input. IfOk (checked_of_input (taken_of checked_limit input)) (λ read. IsWhole status → IsJudged read.0 read.1 old new status h))
+      → IfSome old.left
+      (λ input.
+      IfOk (checked_of_input (taken_of checked_limit input))
+      (λ read. IsWhole status → IsJudged read.0 read.1 old new status h))
   judges-history r = of_left old.left r.answers

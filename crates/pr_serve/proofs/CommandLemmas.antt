@@ -18,12 +18,14 @@ range-all : (from len : ℕ) → All (λ n. (from ≤ n) × (n < from + len)) (r
 range-all from zero = All-nil (λ n. (from ≤ n) × (n < from + zero))
 range-all from (suc len) =
     All-cons (λ n. (from ≤ n) × (n < from + suc len)) from (range_with_len (from + 1) len) (omega arith, omega arith)
-    (All-weaker (λ n. (from + 1 ≤ n) × (n < from + 1 + len)) (λ n. (from ≤ n) × (n < from + suc len)) (λ n h. (omega (arith, h.0), omega (arith, h.1))) (range_with_len (from + 1) len) (range-all (from + 1) len))
+    (All-weaker (λ n. (from + 1 ≤ n) × (n < from + 1 + len)) (λ n. (from ≤ n) × (n < from + suc len))
+    (λ n h. (omega (arith, h.0), omega (arith, h.1))) (range_with_len (from + 1) len) (range-all (from + 1) len))
 
 number-within : (most : ℕ) (word : List ℕ) (n : ℕ) → number_up_to most word ≡ Some n → (1 ≤ n) × (n ≤ most)
 unfolding number_up_to
 number-within most word n e =
-    let h = All-find (λ n. (1 ≤ n) × (n < 1 + most)) (λ n. bytes_eq (decimal n) word) (range_with_len 1 most) n (range-all 1 most) e in (h.0, omega (arith, h.1))
+    let h = All-find (λ n. (1 ≤ n) × (n < 1 + most)) (λ n. bytes_eq (decimal n) word) (range_with_len 1 most) n
+    (range-all 1 most) e in (h.0, omega (arith, h.1))
 
 of_shared : (showing : Showing) (word : List ℕ) → HasWorkers (shared_run showing word)
 unfolding shared_run
@@ -69,13 +71,16 @@ two-words a b =
 
 three-words : (a b c : List ℕ) → HasWorkers (of_three_words a b c)
 unfolding of_three_words
-three-words a b c = of_both (bytes_eq a (codes "run") && bytes_eq b (codes "-j")) (shared_run Whole c) Explains (of_shared Whole c) tt
+three-words a b c =
+    of_both (bytes_eq a (codes "run") && bytes_eq b (codes "-j")) (shared_run Whole c) Explains (of_shared Whole c) tt
 
 four-words : (a b c d : List ℕ) → HasWorkers (of_four_words a b c d)
 unfolding of_four_words
 four-words a b c d =
-    of_both (bytes_eq a (codes "run") && bytes_eq b (codes "-q") && bytes_eq c (codes "-j")) (shared_run Quiet d) _ (of_shared Quiet d)
-    (of_both (bytes_eq a (codes "run") && bytes_eq b (codes "-j") && bytes_eq d (codes "-q")) (shared_run Quiet c) Explains (of_shared Quiet c) tt)
+    of_both (bytes_eq a (codes "run") && bytes_eq b (codes "-q") && bytes_eq c (codes "-j")) (shared_run Quiet d) _
+    (of_shared Quiet d)
+    (of_both (bytes_eq a (codes "run") && bytes_eq b (codes "-j") && bytes_eq d (codes "-q"))
+    (shared_run Quiet c) Explains (of_shared Quiet c) tt)
 
 -- Words that ask for a run on several threads name 1 to 16 of them.
 pub words-workers : (words : List (List ℕ)) → HasWorkers (work_of words)

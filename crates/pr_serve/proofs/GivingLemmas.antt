@@ -26,7 +26,9 @@ other-cut : {P : Type 0} (status : Status) → status ≡ WriteFailed → status
 other-cut status a b = let no : ⊥ = cc in absurd no
 
 -- The text of an answer was put into a sink, and the status is that after it.
-pub gives : (w : Result Unit Cut) (answer : Answer) (status : Status) (h : List Entry) (old new : Option (List ℕ)) (before after : ℕ) → IsWhole answer.status → h ≡ answer.history → status ≡ status_after w answer.status → Puts w old new before after answer.text → Responds answer ⊥ status h old new before after
+pub gives : (w : Result Unit Cut) (answer : Answer) (status : Status) (h : List Entry) (old new : Option (List ℕ))
+    (before after : ℕ) → IsWhole answer.status → h ≡ answer.history → status ≡ status_after w answer.status
+    → Puts w old new before after answer.text → Responds answer ⊥ status h old new before after
 unfolding status_after
 gives (Ok done) answer status h old new before after end same is put = record {
   whole = λ a b. record { status_is = is; history_is = same; written = put.all };
@@ -54,7 +56,8 @@ gives (Err cut.NoMemory) answer status h old new before after end same is put = 
 }
 
 -- Memory ran out before there was an answer.
-pub gives-early : (answer : Answer) (early : Type 0) (status : Status) (h : List Entry) (old new : Option (List ℕ)) (before after : ℕ) → StopsEarly early status before after → Responds answer early status h old new before after
+pub gives-early : (answer : Answer) (early : Type 0) (status : Status) (h : List Entry) (old new : Option (List ℕ))
+    (before after : ℕ) → StopsEarly early status before after → Responds answer early status h old new before after
 gives-early answer early status h old new before after stops =
     let is : status ≡ OutOfMemory = stops.status_is in
     record {
@@ -67,19 +70,24 @@ gives-early answer early status h old new before after stops =
     }
 
 -- Memory ran out before the text was begun.
-pub gives-nothing : (answer : Answer) (early : Type 0) (status : Status) (h : List Entry) (known : Option (List ℕ)) (faults : ℕ) → status ≡ OutOfMemory → early → Responds answer early status h known known faults faults
-gives-nothing answer early status h known faults is e = gives-early answer early status h known known faults faults (record { status_is = is; left = e; no_fault = refl })
+pub gives-nothing : (answer : Answer) (early : Type 0) (status : Status) (h : List Entry) (known : Option (List ℕ))
+    (faults : ℕ) → status ≡ OutOfMemory → early → Responds answer early status h known known faults faults
+gives-nothing answer early status h known faults is e =
+    gives-early answer early status h known known faults faults (record { status_is = is; left = e; no_fault = refl })
 
 -- The same answer, of which something else is said where memory ran out early.
-pub gives-else : (a b : Answer) (early other : Type 0) (status : Status) (h : List Entry) (old new : Option (List ℕ)) (before after : ℕ) → a ≡ b → (early → other) → Responds a early status h old new before after → Responds b other status h old new before after
-gives-else a b early other status h old new before after same f r = subst (λ (x : Answer). Responds x other status h old new before after) same (record {
-  whole = r.whole;
-  cut = r.cut;
-  rose = r.rose;
-  memory = λ s. ⊎_elim (λ e. inl (f e)) (λ late. inr late) (r.memory s);
-  no_fault = r.no_fault;
-  read = r.read;
-})
+pub gives-else : (a b : Answer) (early other : Type 0) (status : Status) (h : List Entry) (old new : Option (List ℕ))
+    (before after : ℕ) → a ≡ b → (early → other) → Responds a early status h old new before after
+    → Responds b other status h old new before after
+gives-else a b early other status h old new before after same f r =
+    subst (λ (x : Answer). Responds x other status h old new before after) same (record {
+      whole = r.whole;
+      cut = r.cut;
+      rose = r.rose;
+      memory = λ s. ⊎_elim (λ e. inl (f e)) (λ late. inr late) (r.memory s);
+      no_fault = r.no_fault;
+      read = r.read;
+    })
 
 pub whole-usage : IsWhole Usage
 whole-usage = record { read = λ is. cc; wrote = λ is. cc; had_memory = λ is. cc }
@@ -88,5 +96,6 @@ pub whole-done : IsWhole Done
 whole-done = record { read = λ is. cc; wrote = λ is. cc; had_memory = λ is. cc }
 
 -- what was put, said of an equal text
-pub puts-same : (w : Result Unit Cut) (old new : Option (List ℕ)) (before after : ℕ) (a b : List ℕ) → a ≡ b → Puts w old new before after a → Puts w old new before after b
+pub puts-same : (w : Result Unit Cut) (old new : Option (List ℕ)) (before after : ℕ) (a b : List ℕ) → a ≡ b
+    → Puts w old new before after a → Puts w old new before after b
 puts-same w old new before after a b same put = subst (λ (x : List ℕ). Puts w old new before after x) same put

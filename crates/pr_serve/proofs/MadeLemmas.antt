@@ -21,20 +21,26 @@ pub made-fits : (Fits : List Entry → Type 0) (r : Result Ran NoMemory) (made h
 made-fits Fits (Ok run) made h is fits = subst Fits (sym is) fits
 made-fits Fits (Err e) made h is fits = tt
 
-module _ (text : RunText) (s : Scenario) (made : List Entry) (status : Status) (h : List Entry) (old new : Option (List ℕ)) (before after : ℕ) where
+module _ (text : RunText) (s : Scenario) (made : List Entry) (status : Status) (h : List Entry)
+    (old new : Option (List ℕ)) (before after : ℕ) where
   -- What was made so far is left of the run.
   so-far : IsBroughtSoFar s made → LeftWith made h old new → StoppedRun s h old new
   so-far brought left = record { unwritten = left.unwritten; so_far = subst (IsBroughtSoFar s) (sym left.is) brought }
 
-  pub made-shown : (r : Result Ran NoMemory) → IfOk r (λ run. run.end ≡ end_of (run_of s)) → IfOk r (λ run. run.reports.items ≡ reports_of (run_of s)) → OnOk r (made ≡ (run_of s).kernel.history) → OnErr r (IsBroughtSoFar s made)
-      → IfOk r (λ run. Responds (ran_so text run.end made run.reports.items) ⊥ status h old new before after) → OnErr r (StopsEarly (LeftWith made h old new) status before after) → Responds (ran text (run_of s)) (StoppedRun s h old new) status h old new before after
+  pub made-shown : (r : Result Ran NoMemory) → IfOk r (λ run. run.end ≡ end_of (run_of s))
+      → IfOk r (λ run. run.reports.items ≡ reports_of (run_of s)) → OnOk r (made ≡ (run_of s).kernel.history)
+      → OnErr r (IsBroughtSoFar s made)
+      → IfOk r (λ run. Responds (ran_so text run.end made run.reports.items) ⊥ status h old new before after)
+      → OnErr r (StopsEarly (LeftWith made h old new) status before after)
+      → Responds (ran text (run_of s)) (StoppedRun s h old new) status h old new before after
   unfolding ran
   made-shown (Ok run) ended reports history brought shown stopped =
       let same =
       ap (λ (e : End). ran_so text e made run.reports.items) ended
       ∙ (ap (λ (x : List Entry). ran_so text (end_of (run_of s)) x run.reports.items) history
       ∙ ap (λ (rs : List Report). ran_so text (end_of (run_of s)) (run_of s).kernel.history rs) reports) in
-      gives-else (ran_so text run.end made run.reports.items) (ran text (run_of s)) ⊥ (StoppedRun s h old new) status h old new before after same (λ never. absurd never) shown
+      gives-else (ran_so text run.end made run.reports.items) (ran text (run_of s)) ⊥
+      (StoppedRun s h old new) status h old new before after same (λ never. absurd never) shown
   made-shown (Err e) ended reports history brought shown stopped =
       gives-early (ran text (run_of s)) (StoppedRun s h old new) status h old new before after
       (record { status_is = stopped.status_is; left = so-far brought stopped.left; no_fault = stopped.no_fault })

@@ -15,34 +15,45 @@ use Rattle.pr_output.specs.declared.cuts.Cut.{Cut}
 use Rattle.pr_output.specs.declared.cuts.Cut.TheVariants.{WriteFailed}
 use Rattle.pr_serve.specs.Giving.{text_of}
 
-module _ (old mid new : Option (List ℕ)) (pieces : List (Bor (List ℕ))) (i : ℕ) (p : Bor (List ℕ)) (at : slice_get pieces i ≡ Some p) (so_far : mid ≡ with_end old (text_of (take i pieces))) where
+module _ (old mid new : Option (List ℕ)) (pieces : List (Bor (List ℕ))) (i : ℕ) (p : Bor (List ℕ))
+    (at : slice_get pieces i ≡ Some p) (so_far : mid ≡ with_end old (text_of (take i pieces))) where
   text-next : text_of (take (i + 1) pieces) ≡ text_of (take i pieces) ++ p.now
   text-next =
       ap text_of (take-next i pieces p at)
-      ∙ flat_map-append (λ (q : Bor (List ℕ)). q.now) (take i pieces) (p ∷ []) ∙ ap (λ t. text_of (take i pieces) ++ t) (append-nil p.now)
+      ∙ flat_map-append (λ (q : Bor (List ℕ)). q.now) (take i pieces) (p ∷ [])
+      ∙ ap (λ t. text_of (take i pieces) ++ t) (append-nil p.now)
 
   pub piece-next : new ≡ with_end mid p.now → new ≡ with_end old (text_of (take (i + 1) pieces))
-  piece-next more = more ∙ ap (λ known. with_end known p.now) so_far ∙ with_end-with_end old (text_of (take i pieces)) p.now ∙ ap (with_end old) (sym text-next)
+  piece-next more =
+      more ∙ ap (λ known. with_end known p.now) so_far ∙ with_end-with_end old (text_of (take i pieces)) p.now
+      ∙ ap (with_end old) (sym text-next)
 
   text-whole : text_of (take (i + 1) pieces) ++ text_of (drop (i + 1) pieces) ≡ text_of pieces
-  text-whole = sym (flat_map-append (λ (q : Bor (List ℕ)). q.now) (take (i + 1) pieces) (drop (i + 1) pieces)) ∙ ap text_of (take-append-drop (i + 1) pieces)
+  text-whole =
+      sym (flat_map-append (λ (q : Bor (List ℕ)). q.now) (take (i + 1) pieces) (drop (i + 1) pieces))
+      ∙ ap text_of (take-append-drop (i + 1) pieces)
 
   piece-cut : AppendsFront mid new p.now → AppendsFront old new (text_of pieces)
   piece-cut front =
-      let here : AppendsFront old new (text_of (take i pieces) ++ p.now) = AppendsFront-second old mid new (text_of (take i pieces)) p.now so_far front in
-      let there : AppendsFront old new (text_of (take (i + 1) pieces)) = subst (λ t. AppendsFront old new t) (sym text-next) here in
-      subst (λ t. AppendsFront old new t) text-whole (AppendsFront-first old new (text_of (take (i + 1) pieces)) (text_of (drop (i + 1) pieces)) there)
+      let here : AppendsFront old new (text_of (take i pieces) ++ p.now) =
+      AppendsFront-second old mid new (text_of (take i pieces)) p.now so_far front in
+      let there : AppendsFront old new (text_of (take (i + 1) pieces)) =
+      subst (λ t. AppendsFront old new t) (sym text-next) here in
+      subst (λ t. AppendsFront old new t) text-whole
+      (AppendsFront-first old new (text_of (take (i + 1) pieces)) (text_of (drop (i + 1) pieces)) there)
 
   -- A write failed in this piece.
-  pub piece-failed : (r : Result Unit Cut) (before between after : ℕ) → r ≡ Err WriteFailed → between ≡ before → AppendsFront mid new p.now → Rose between after → between ≤ after → Puts r old new before after (text_of pieces)
-  piece-failed r before between after is same front rose grows = subst (λ (x : Result Unit Cut). Puts x old new before after (text_of pieces)) (sym is) (record {
-    all = tt;
-    failed = λ e. piece-cut front;
-    rose = λ e. subst (λ (n : ℕ). Rose n after) same rose;
-    memory = λ e. cc;
-    no_fault = λ other. absurd (other refl);
-    never_falls = omega (arith, same, grows);
-  })
+  pub piece-failed : (r : Result Unit Cut) (before between after : ℕ) → r ≡ Err WriteFailed → between ≡ before
+      → AppendsFront mid new p.now → Rose between after → between ≤ after → Puts r old new before after (text_of pieces)
+  piece-failed r before between after is same front rose grows =
+      subst (λ (x : Result Unit Cut). Puts x old new before after (text_of pieces)) (sym is) (record {
+        all = tt;
+        failed = λ e. piece-cut front;
+        rose = λ e. subst (λ (n : ℕ). Rose n after) same rose;
+        memory = λ e. cc;
+        no_fault = λ other. absurd (other refl);
+        never_falls = omega (arith, same, grows);
+      })
 
 -- nothing was written yet
 pub piece-none : (old : Option (List ℕ)) → old ≡ with_end old []
@@ -55,5 +66,8 @@ piece-at (x ∷ xs) zero d h = refl
 piece-at (x ∷ xs) (suc i) d h = piece-at xs i d (omega (arith, h))
 
 -- a number between two texts, in pieces
-pub numbered : (before digits behind : Bor (List ℕ)) (n : ℕ) → digits.now ≡ decimal n → text_of (before ∷ digits ∷ behind ∷ []) ≡ before.now ++ (decimal n ++ behind.now)
-numbered before digits behind n is = ap (λ (t : List ℕ). before.now ++ (t ++ (behind.now ++ []))) is ∙ ap (λ (t : List ℕ). before.now ++ (decimal n ++ t)) (append-nil behind.now)
+pub numbered : (before digits behind : Bor (List ℕ)) (n : ℕ) → digits.now ≡ decimal n
+    → text_of (before ∷ digits ∷ behind ∷ []) ≡ before.now ++ (decimal n ++ behind.now)
+numbered before digits behind n is =
+    ap (λ (t : List ℕ). before.now ++ (t ++ (behind.now ++ []))) is
+    ∙ ap (λ (t : List ℕ). before.now ++ (decimal n ++ t)) (append-nil behind.now)

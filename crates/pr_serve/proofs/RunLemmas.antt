@@ -34,7 +34,8 @@ first_world-places s = refl
 pub spawns-few : (s : Scenario) → IsWithinLimits s → length s.spawns + 1 ≤ process_limit
 spawns-few s limits = omega (arith, limits.spawns)
 
-pub spawns-map : (s : Scenario) → IsWithinLimits s → sum_by (λ place. size_at_start (slice_get s.programs place)) s.spawns ≤ all_mappings_limit
+pub spawns-map : (s : Scenario) → IsWithinLimits s
+    → sum_by (λ place. size_at_start (slice_get s.programs place)) s.spawns ≤ all_mappings_limit
 spawns-map s limits = omega (arith, limits.mapped)
 
 -- ---- files: the kernel takes them as the scenario has them
@@ -44,16 +45,21 @@ own-names s limits = limits.own_names
 
 -- ---- controllers: one of a plan
 
-pub controllers-few : (plans : List Plan) (controllers : List Controller) → map state_of controllers ≡ map controller_of plans → length controllers ≡ length plans
-controllers-few plans controllers same = sym (length-map controllers state_of) ∙ ap length same ∙ length-map plans controller_of
+pub controllers-few : (plans : List Plan) (controllers : List Controller)
+    → map state_of controllers ≡ map controller_of plans → length controllers ≡ length plans
+controllers-few plans controllers same =
+    sym (length-map controllers state_of) ∙ ap length same ∙ length-map plans controller_of
 
 -- ---- the first world
 
 -- A world that is made of the parts of a scenario's first world is seen as that.
 made : TracedState → List Entry → ℕ → List ControllerState → List Actor → Option Actor → WorldState
-made s h n controllers schedule last = record { kernel = kernel_of s h n; controllers = controllers; schedule = schedule; last = last }
+made s h n controllers schedule last =
+    record { kernel = kernel_of s h n; controllers = controllers; schedule = schedule; last = last }
 
-pub first-seen : (s : Scenario) (w : WorldOf Kernel) → w.kernel.state ≡ first_state s.programs (stored s.files) s.spawns → w.kernel.history ≡ [] → w.kernel.places ≡ s.turns → w.controllers ≡ controllers_of s → w.schedule ≡ s.schedule → w.last ≡ None → seen kern_view w ≡ first_world s
+pub first-seen : (s : Scenario) (w : WorldOf Kernel) → w.kernel.state ≡ first_state s.programs (stored s.files) s.spawns
+    → w.kernel.history ≡ [] → w.kernel.places ≡ s.turns → w.controllers ≡ controllers_of s → w.schedule ≡ s.schedule
+    → w.last ≡ None → seen kern_view w ≡ first_world s
 unfolding first_world made
 first-seen s w state history places controllers schedule last =
     ap (λ x. made x w.kernel.history w.kernel.places w.controllers w.schedule w.last) state
@@ -64,12 +70,20 @@ first-seen s w state history places controllers schedule last =
     ∙ ap (λ x. made (first_state_of s) [] s.turns (controllers_of s) s.schedule x) last
 
 -- The world that is made of a kernel and the parts of a scenario is its first world.
-pub first-made : (r : Result (WorldOf Kernel) NoMemory) (s : Scenario) (k : Kernel) (controllers : List ControllerState) (schedule : List Actor) → k.state ≡ first_state s.programs (stored s.files) s.spawns → k.history ≡ [] → k.places ≡ s.turns → controllers ≡ controllers_of s → schedule ≡ s.schedule
-    → IfOk r (λ world. world ≡ record { kernel = k; controllers = controllers; schedule = schedule; last = None; made = false }) → IfOk r (λ world. seen kern_view world ≡ first_world s)
+pub first-made : (r : Result (WorldOf Kernel) NoMemory) (s : Scenario) (k : Kernel) (controllers : List ControllerState)
+    (schedule : List Actor) → k.state ≡ first_state s.programs (stored s.files) s.spawns → k.history ≡ []
+    → k.places ≡ s.turns → controllers ≡ controllers_of s → schedule ≡ s.schedule
+    → IfOk r
+    (λ world. world
+    ≡ record { kernel = k; controllers = controllers; schedule = schedule; last = None; made = false })
+    → IfOk r (λ world. seen kern_view world ≡ first_world s)
 first-made (Ok w) s k controllers schedule state history places all acts is =
     first-seen s w
-    (ap (λ (x : WorldOf Kernel). x.kernel.state) is ∙ state) (ap (λ (x : WorldOf Kernel). x.kernel.history) is ∙ history) (ap (λ (x : WorldOf Kernel). x.kernel.places) is ∙ places)
-    (ap (λ (x : WorldOf Kernel). x.controllers) is ∙ all) (ap (λ (x : WorldOf Kernel). x.schedule) is ∙ acts) (ap (λ (x : WorldOf Kernel). x.last) is)
+    (ap (λ (x : WorldOf Kernel). x.kernel.state) is ∙ state)
+    (ap (λ (x : WorldOf Kernel). x.kernel.history) is ∙ history)
+    (ap (λ (x : WorldOf Kernel). x.kernel.places) is ∙ places)
+    (ap (λ (x : WorldOf Kernel). x.controllers) is ∙ all) (ap (λ (x : WorldOf Kernel). x.schedule) is ∙ acts)
+    (ap (λ (x : WorldOf Kernel). x.last) is)
 first-made (Err e) s k controllers schedule state history places all acts is = tt
 
 pub seen-told : (s : Scenario) (w : WorldState) → w ≡ first_world s → TellsMachine w
@@ -80,7 +94,9 @@ seen-fresh s w is = subst IsFresh (sym is) (first-fresh s)
 
 -- The moves of the first world are the run.
 pub run-is : (s : Scenario) (w : WorldState) → w ≡ first_world s → after_moves w.kernel.places w ≡ run_of s
-run-is s w is = ap (λ (x : WorldState). after_moves x.kernel.places x) is ∙ ap (λ (n : ℕ). after_moves n (first_world s)) (first_world-places s)
+run-is s w is =
+    ap (λ (x : WorldState). after_moves x.kernel.places x) is
+    ∙ ap (λ (n : ℕ). after_moves n (first_world s)) (first_world-places s)
 
 -- ---- the end of a run
 
@@ -92,16 +108,21 @@ ended-is w end is = of (goes_on w) refl
     of true goes = cc
     of false goes = cc
 
-pub last-is : (first w : WorldState) → TellsMachine first → IsFresh first → (TellsMachine first → w ≡ end_of_run first) → w ≡ after_moves first.kernel.places first
+pub last-is : (first w : WorldState) → TellsMachine first → IsFresh first → (TellsMachine first → w ≡ end_of_run first)
+    → w ≡ after_moves first.kernel.places first
 last-is first w told fresh is =
     let none = ap length fresh.history in
-    is told ∙ ap (λ (n : ℕ). after_moves n first) {x = first.kernel.places - length first.kernel.history} {y = first.kernel.places} (omega (arith, none))
+    is told ∙ ap
+    (λ (n : ℕ). after_moves n first) {x = first.kernel.places - length first.kernel.history}
+    {y = first.kernel.places} (omega (arith, none))
 
-pub run-stopped : (r : Result End NoMemory) (first w : WorldState) → TellsMachine first → OnErr r (StoppedIn first w) → length w.kernel.history ≤ w.kernel.places → OnErr r (IsWorldsWay first w.kernel.history)
+pub run-stopped : (r : Result End NoMemory) (first w : WorldState) → TellsMachine first → OnErr r (StoppedIn first w)
+    → length w.kernel.history ≤ w.kernel.places → OnErr r (IsWorldsWay first w.kernel.history)
 run-stopped (Ok end) first w told stopped within = tt
 run-stopped (Err e) first w told s within =
     let history : w.kernel.history ≡ s.world.kernel.history = ap (λ (k : KernelView). k.history) s.kernel in
-    let places : w.kernel.places ≡ first.kernel.places = ap (λ (k : KernelView). k.places) s.kernel ∙ run-places s.made first s.world s.runs in
+    let places : w.kernel.places ≡ first.kernel.places =
+    ap (λ (k : KernelView). k.places) s.kernel ∙ run-places s.made first s.world s.runs in
     let long = ap length history ∙ run-longer s.made first s.world s.runs in
     record {
       moves = s.made;
@@ -111,6 +132,7 @@ run-stopped (Err e) first w told s within =
 
 -- The last world of a run is on its way.
 pub last-way : (first w : WorldState) → w ≡ after_moves first.kernel.places first → IsWorldsWay first w.kernel.history
-last-way first w is = record { moves = first.kernel.places; within = omega arith; is = ap (λ (x : WorldState). x.kernel.history) is }
+last-way first w is =
+    record { moves = first.kernel.places; within = omega arith; is = ap (λ (x : WorldState). x.kernel.history) is }
 
 pub ruleset runs = (first_world-places, spawns-few, spawns-map, own-names, controllers-few)

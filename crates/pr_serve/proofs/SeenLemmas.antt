@@ -92,7 +92,8 @@ untraced-plain s who is none =
 -- steps that are not hidden, with their trace
 pub steps-seen : (who : Hiders) (t : TracedState) (h : List Entry) (steps : List Step) (n : ℕ)
     → steps ≡ hidden_steps who t h
-    → plain_run_text steps (flat_map traced_step steps) n ≡ plain_run_text (hidden_steps who t h) (hidden_trace who t h) n
+    → plain_run_text steps (flat_map traced_step steps) n
+    ≡ plain_run_text (hidden_steps who t h) (hidden_trace who t h) n
 steps-seen who t h steps n is =
     ap (λ (xs : List Step). plain_run_text xs (flat_map traced_step xs) n) is
     ∙ ap (λ (trace : List Step). plain_run_text (hidden_steps who t h) trace n) (sym (hidden-traced who t h))

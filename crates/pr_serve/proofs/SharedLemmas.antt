@@ -52,17 +52,30 @@ full turns n places over within same = of (nat_lt n places) refl
     of false not_less = omega (arith, ltb-false n places not_less, within, same)
 
 -- A world that does not go on has ended, and no two causes hold of it.
-over-ends : (w : WorldState) (turns : ℕ) → IsLawful w.kernel → goes_on w ≡ false → length w.kernel.history ≤ w.kernel.places → w.kernel.places ≡ turns → EndsAs turns w (end_status (end_of w))
+over-ends : (w : WorldState) (turns : ℕ) → IsLawful w.kernel → goes_on w ≡ false
+    → length w.kernel.history ≤ w.kernel.places → w.kernel.places ≡ turns → EndsAs turns w (end_status (end_of w))
 unfolding end_of goes_on end_status
 over-ends w turns lawful over within places = of (next_actor w) refl over
   where
-    of : (next : Option Actor) → next_actor w ≡ next → (nat_lt (length w.kernel.history) w.kernel.places && is_some next) ≡ false → EndsAs turns w (end_status (end_with w next))
+    of : (next : Option Actor) → next_actor w ≡ next
+        → (nat_lt (length w.kernel.history) w.kernel.places && is_some next) ≡ false
+        → EndsAs turns w (end_status (end_with w next))
     of None rest over = by (all_finished w) refl
       where
         by : (b : Bool) → all_finished w ≡ b → EndsAs turns w (end_status (quiet_end b))
         by true finished = inl (refl, record { rest = λ actor. all-rest w actor lawful rest; finished = finished })
-        by false unfinished = inr (inr (refl, record { rest = λ actor. all-rest w actor lawful rest; unfinished = unfinished }))
-    of (Some actor) next over = inr (inl (refl, record { mover = actor; can_move = next-acts w actor next; full = full turns (length w.kernel.history) w.kernel.places over within places }))
+        by false unfinished =
+            inr (inr (refl, record { rest = λ actor. all-rest w actor lawful rest; unfinished = unfinished }))
+    of (Some actor) next over =
+        inr (inl (
+          refl,
+          record {
+            mover = actor;
+            can_move = next-acts w actor next;
+            full =
+                full turns (length w.kernel.history) w.kernel.places over within places;
+          },
+        ))
 
 end-ends : (s : Scenario) (w : WorldState) → IsEndOf s w → EndsAs s.turns w (end_status (end_of w))
 end-ends s w e = over-ends w s.turns (signalled-lawful w e.told) e.over e.within (led-places s w e.came)
@@ -77,33 +90,56 @@ shown-status : (text : RunText) (w : WorldState) → (ran text w).status ≡ end
 unfolding ran ran_so
 shown-status text w = refl
 
-left-stopped : (s : Scenario) (w : WorldState) (h : List Entry) (old new : Option (List ℕ)) → CameFrom (first_world s) w → length w.kernel.history ≤ w.kernel.places → LeftWith w.kernel.history h old new → StoppedThreads s h old new
+left-stopped : (s : Scenario) (w : WorldState) (h : List Entry) (old new : Option (List ℕ)) → CameFrom (first_world s) w
+    → length w.kernel.history ≤ w.kernel.places → LeftWith w.kernel.history h old new → StoppedThreads s h old new
 left-stopped s w h old new came within left = record {
   unwritten = left.unwritten;
-  so_far = inr (record { world = w; came = came; is = left.is; within = omega (arith, within, ap length left.is, led-places s w came) });
+  so_far =
+      inr (record
+      { world = w; came = came; is = left.is; within = omega (arith, within, ap length left.is, led-places s w came) });
 }
 
-responds-left : (answer : Answer) (s : Scenario) (w : WorldState) (status : Status) (h : List Entry) (old new : Option (List ℕ)) (before after : ℕ) → CameFrom (first_world s) w → length w.kernel.history ≤ w.kernel.places → Responds answer (LeftWith w.kernel.history h old new) status h old new before after → Responds answer (StoppedThreads s h old new) status h old new before after
+responds-left : (answer : Answer) (s : Scenario) (w : WorldState) (status : Status) (h : List Entry)
+    (old new : Option (List ℕ)) (before after : ℕ) → CameFrom (first_world s) w
+    → length w.kernel.history ≤ w.kernel.places
+    → Responds answer (LeftWith w.kernel.history h old new) status h old new before after
+    → Responds answer (StoppedThreads s h old new) status h old new before after
 responds-left answer s w status h old new before after came within r = record {
   whole = r.whole;
   cut = r.cut;
   rose = r.rose;
-  memory = λ m. ⊎_elim (λ (left : LeftWith w.kernel.history h old new). inl (left-stopped s w h old new came within left)) (λ late. inr late) (r.memory m);
+  memory =
+      λ m. ⊎_elim (λ (left : LeftWith w.kernel.history h old new). inl (left-stopped s w h old new came within left))
+      (λ late. inr late) (r.memory m);
   no_fault = r.no_fault;
   read = r.read;
 }
 
 -- The run that led to a world was shown, or memory had run out in it.
-pub shown-one : (showing : Showing) (s : Scenario) (w : WorldState) (end : Result End NoMemory) (status : Status) (h : List Entry) (old new : Option (List ℕ)) (before after : ℕ) → CameFrom (first_world s) w → TellsMachine w → length w.kernel.history ≤ w.kernel.places → IfOk end (λ end. ended_as w ≡ Some end)
-    → OnOk end (Responds (ran (run_shown showing) w) (LeftWith w.kernel.history h old new) status h old new before after) → OnErr end (StopsEarly (LeftWith w.kernel.history h old new) status before after) → RespondsOne (ShowsEnd showing s) (StoppedThreads s h old new) status h old new before after
+pub shown-one : (showing : Showing) (s : Scenario) (w : WorldState) (end : Result End NoMemory) (status : Status)
+    (h : List Entry) (old new : Option (List ℕ)) (before after : ℕ) → CameFrom (first_world s) w → TellsMachine w
+    → length w.kernel.history ≤ w.kernel.places → IfOk end (λ end. ended_as w ≡ Some end)
+    → OnOk end
+    (Responds (ran (run_shown showing) w) (LeftWith w.kernel.history h old new) status h old new before after)
+    → OnErr end (StopsEarly (LeftWith w.kernel.history h old new) status before after)
+    → RespondsOne (ShowsEnd showing s) (StoppedThreads s h old new) status h old new before after
 shown-one showing s w (Ok end) status h old new before after came told within ended shown stopped =
     inl (record {
       answer = ran (run_shown showing) w;
-      may = record { world = w; ends = record { came = came; told = told; over = is-over w end ended; within = within }; is = refl };
+      may = record {
+        world = w;
+        ends = record { came = came; told = told; over = is-over w end ended; within = within };
+        is = refl;
+      };
       responds = responds-left (ran (run_shown showing) w) s w status h old new before after came within shown;
     })
 shown-one showing s w (Err e) status h old new before after came told within ended shown stopped =
-    inr (record { status_is = stopped.status_is; left = left-stopped s w h old new came within stopped.left; no_fault = stopped.no_fault })
+    inr (record {
+      status_is = stopped.status_is;
+      left = left-stopped s w h old new came within stopped.left;
+      no_fault =
+          stopped.no_fault;
+    })
 
 -- ---- the history is kept
 
@@ -120,42 +156,60 @@ module _ (showing : Showing) where
         within = omega (arith, shown.ends.within, ap length same, led-places s w shown.ends.came);
       }
 
-  of_led : (old new input : Option (List ℕ)) (h : List Entry) → Took scenario_limit old new input → IsMadeByThreads input h → HistoryIsKept by_threads old new h
+  of_led : (old new input : Option (List ℕ)) (h : List Entry) → Took scenario_limit old new input
+      → IsMadeByThreads input h → HistoryIsKept by_threads old new h
   of_led old new input h took made =
       let range = input-range input made.scenario made.read in
-      let kept = subst (λ (x : List Entry). IsKept made.scenario x) (sym made.led.is) (came-kept made.scenario made.led.world range made.led.came) in
-      inr (record { input = input; took = took; made = made; kept = kept; hiders = kept-unseen made.scenario h range kept })
+      let kept =
+      subst (λ (x : List Entry). IsKept made.scenario x) (sym made.led.is)
+      (came-kept made.scenario made.led.world range made.led.came) in
+      inr (record
+      { input = input; took = took; made = made; kept = kept; hiders = kept-unseen made.scenario h range kept })
 
-  of_read : (old new input : Option (List ℕ)) (s : Result Scenario ScenFault) (answer : Answer) (h : List Entry) → scenario_of_input input ≡ s → Took scenario_limit old new input → MayAnswerRead showing s answer → h ≡ answer.history → HistoryIsKept by_threads old new h
+  of_read : (old new input : Option (List ℕ)) (s : Result Scenario ScenFault) (answer : Answer) (h : List Entry)
+      → scenario_of_input input ≡ s → Took scenario_limit old new input → MayAnswerRead showing s answer
+      → h ≡ answer.history → HistoryIsKept by_threads old new h
   unfolding refused_at
   of_read old new input (Err fault) answer h read took may is = inl (is ∙ ap (λ (a : Answer). a.history) may)
   of_read old new input (Ok s) answer h read took may is =
       of_led old new input h took
       (record { scenario = s; read = read; led = led-shown s answer h may is })
 
-  of_answer : (old new input : Option (List ℕ)) (answer : Answer) (h : List Entry) → Took scenario_limit old new input → MayAnswer showing input answer → h ≡ answer.history → HistoryIsKept by_threads old new h
-  of_answer old new input answer h took may is = of_read old new input (scenario_of_input input) answer h refl took may is
+  of_answer : (old new input : Option (List ℕ)) (answer : Answer) (h : List Entry) → Took scenario_limit old new input
+      → MayAnswer showing input answer → h ≡ answer.history → HistoryIsKept by_threads old new h
+  of_answer old new input answer h took may is =
+      of_read old new input (scenario_of_input input) answer h refl took may is
 
-  of_so_far : (old new input : Option (List ℕ)) (h : List Entry) → Took scenario_limit old new input → (h ≡ []) ⊎ IsMadeByThreads input h → HistoryIsKept by_threads old new h
+  of_so_far : (old new input : Option (List ℕ)) (h : List Entry) → Took scenario_limit old new input
+      → (h ≡ []) ⊎ IsMadeByThreads input h → HistoryIsKept by_threads old new h
   of_so_far old new input h took (inl none) = inl none
   of_so_far old new input h took (inr made) = of_led old new input h took made
 
-  of_memory : (old new : Ends) (h : List Entry) → RanOutReading old new h ⊎ RanOutAfter scenario_limit (MayAnswer showing) by_threads old new h → HistoryIsKept by_threads old.left new.left h
+  of_memory : (old new : Ends) (h : List Entry)
+      → RanOutReading old new h ⊎ RanOutAfter scenario_limit (MayAnswer showing) by_threads old new h
+      → HistoryIsKept by_threads old.left new.left h
   of_memory old new h (inl early) = inl early.nothing.no_history
   of_memory old new h (inr after) =
       ⊎_elim
-      (λ (early : RanOutEarly by_threads after.input h old.written new.written). of_so_far old.left new.left after.input h after.took early.left)
-      (λ (late : OneRanOut (MayAnswer showing after.input) h old.written new.written). of_answer old.left new.left after.input late.answer h after.took late.may late.ran_out.history_is)
+      (λ (early : RanOutEarly by_threads after.input h old.written new.written).
+      of_so_far old.left new.left after.input h after.took early.left)
+      (λ (late : OneRanOut (MayAnswer showing after.input) h old.written new.written).
+      of_answer old.left new.left after.input late.answer h after.took late.may late.ran_out.history_is)
       after.ran_out
 
 -- Whatever the status is, the history is kept.
-pub shared-kept : (showing : Showing) (old new : Ends) (status : Status) (h : List Entry) → Reads scenario_limit (MayAnswer showing) by_threads old new status h → HistoryIsKept by_threads old.left new.left h
+pub shared-kept : (showing : Showing) (old new : Ends) (status : Status) (h : List Entry)
+    → Reads scenario_limit (MayAnswer showing) by_threads old new status h
+    → HistoryIsKept by_threads old.left new.left h
 shared-kept showing old new status h r = by (status_cases status)
   where
-    by : IsWhole status ⊎ ((status ≡ ReadFailed) ⊎ ((status ≡ WriteFailed) ⊎ (status ≡ OutOfMemory))) → HistoryIsKept by_threads old.left new.left h
-    by (inl s) = let a = r.answered s in of_answer showing old.left new.left a.input a.gives.answer h a.took a.gives.may a.gives.given.history_is
+    by : IsWhole status ⊎ ((status ≡ ReadFailed) ⊎ ((status ≡ WriteFailed) ⊎ (status ≡ OutOfMemory)))
+        → HistoryIsKept by_threads old.left new.left h
+    by (inl s) = let a = r.answered s in
+        of_answer showing old.left new.left a.input a.gives.answer h a.took a.gives.may a.gives.given.history_is
     by (inr (inl s)) = inl (r.not_read s).no_history
-    by (inr (inr (inl s))) = let c = r.cut s in of_answer showing old.left new.left c.input c.answer h c.took c.may c.cut.history_is
+    by (inr (inr (inl s))) = let c = r.cut s in
+        of_answer showing old.left new.left c.input c.answer h c.took c.may c.cut.history_is
     by (inr (inr (inr s))) = of_memory showing old new h (r.memory s)
 
 -- ---- a scenario is run
@@ -273,15 +327,18 @@ module _ (showing : Showing) (old new : Ends) (status : Status) (h : List Entry)
 
     memory-known : RanOutReading old new h ⊎ RanOutAfter scenario_limit (MayAnswer showing) by_threads old new h
         → Unsaid (taken_of scenario_limit left) ⊎ Became MayKnown ran_out
-    memory-known (inl early) = inl (record { unwritten = early.nothing.unwritten; so_far = inl early.nothing.no_history })
+    memory-known (inl early) =
+        inl (record { unwritten = early.nothing.unwritten; so_far = inl early.nothing.no_history })
     memory-known (inr after) =
         ⊎_elim
-        (λ (early : RanOutEarly by_threads after.input h old.written new.written). inl (early-known after.input after.took early))
+        (λ (early : RanOutEarly by_threads after.input h old.written new.written).
+        inl (early-known after.input after.took early))
         (λ (late : OneRanOut (MayAnswer showing after.input) h old.written new.written).
         inr (late.answer, may-known after.input late.answer after.took late.may, late.ran_out))
         after.ran_out
 
-    gives-known : Reads scenario_limit (MayAnswer showing) by_threads old new status h → Gives (taken_of scenario_limit left) MayKnown
+    gives-known : Reads scenario_limit (MayAnswer showing) by_threads old new status h
+        → Gives (taken_of scenario_limit left) MayKnown
     gives-known r = record {
       whole = λ whole. subst (λ (o : Option (List ℕ)). IfSome o (λ input.
           GivesOne (MayAnswer showing (taken_of scenario_limit input)) status h old.written new.written))
@@ -311,7 +368,9 @@ shares-scenario showing old new status h r = of old.left refl
 -- ---- the parts of an answer to an input
 
 -- One answer that takes no memory before it is told.
-pub one-answer : (May : Answer → Type 0) (answer : Answer) (early : Type 0) (status : Status) (h : List Entry) (old new : Option (List ℕ)) (before after : ℕ) → May answer → Responds answer ⊥ status h old new before after → RespondsOne May early status h old new before after
+pub one-answer : (May : Answer → Type 0) (answer : Answer) (early : Type 0) (status : Status) (h : List Entry)
+    (old new : Option (List ℕ)) (before after : ℕ) → May answer → Responds answer ⊥ status h old new before after
+    → RespondsOne May early status h old new before after
 one-answer May answer early status h old new before after may r = inl (record {
   answer = answer;
   may = may;
@@ -326,7 +385,9 @@ one-answer May answer early status h old new before after may r = inl (record {
 })
 
 -- the answers of which one may come are also of another kind, and what is left is too
-pub one-else : (May Other : Answer → Type 0) (early other : Type 0) (status : Status) (h : List Entry) (old new : Option (List ℕ)) (before after : ℕ) → ((a : Answer) → May a → Other a) → (early → other) → RespondsOne May early status h old new before after → RespondsOne Other other status h old new before after
+pub one-else : (May Other : Answer → Type 0) (early other : Type 0) (status : Status) (h : List Entry)
+    (old new : Option (List ℕ)) (before after : ℕ) → ((a : Answer) → May a → Other a) → (early → other)
+    → RespondsOne May early status h old new before after → RespondsOne Other other status h old new before after
 one-else May Other early other status h old new before after so left (inl one) = inl (record {
   answer = one.answer;
   may = so one.answer one.may;
@@ -339,10 +400,12 @@ one-else May Other early other status h old new before after so left (inl one) =
     read = one.responds.read;
   };
 })
-one-else May Other early other status h old new before after so left (inr stops) = inr (record { status_is = stops.status_is; left = left stops.left; no_fault = stops.no_fault })
+one-else May Other early other status h old new before after so left (inr stops) =
+    inr (record { status_is = stops.status_is; left = left stops.left; no_fault = stops.no_fault })
 
 -- What threads made of a scenario is made of the input that it was read of.
-pub threads-left : (input : Option (List ℕ)) (s : Scenario) (h : List Entry) (old new : Option (List ℕ)) → scenario_of_input input ≡ Ok s → StoppedThreads s h old new → RanOutEarly by_threads input h old new
+pub threads-left : (input : Option (List ℕ)) (s : Scenario) (h : List Entry) (old new : Option (List ℕ))
+    → scenario_of_input input ≡ Ok s → StoppedThreads s h old new → RanOutEarly by_threads input h old new
 threads-left input s h old new read stopped = record { unwritten = stopped.unwritten; left = of stopped.so_far }
   where
     of : (h ≡ []) ⊎ IsLedTo s h → (h ≡ []) ⊎ IsMadeByThreads input h

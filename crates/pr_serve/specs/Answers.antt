@@ -80,8 +80,8 @@ run_shown Quiet history reports status = run_text true history reports status
 abbrev pub run_text_of : Showing → CommandText
 run_text_of showing s = run_shown showing
 
--- what programs see of a run from this state, where these controllers hide what they do: the steps of its history and its
--- trace, each without what is hidden, and the status
+-- what programs see of a run from this state, where these controllers hide what they do: the steps of its history and
+-- its trace, each without what is hidden, and the status
 unfoldable pub seen_shown : Hiders → TracedState → RunText
 seen_shown who first history reports status =
     plain_run_text (hidden_steps who first history) (hidden_trace who first history) status

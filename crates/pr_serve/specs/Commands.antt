@@ -13,9 +13,9 @@ use Rattle.pr_serve.specs.declared.commands.Work.TheVariants.{Checks, Explains, 
 
 -- What the words after the program's name ask for: the run of a scenario on one thread or on several, of which the
 -- history is written, or not; the run of a scenario on one thread, of which is written what the machine without
--- controllers makes of its history; the judging of a history; the writing of a scenario for so many children; the text of
--- a tool over a core. The shapes are run, run -q, run -j N, run -q -j N, run -j N -q, check, plain, gen N and core TOOL;
--- words of no other shape ask for anything, and get the usage line.
+-- controllers makes of its history; the judging of a history; the writing of a scenario for so many children; the text
+-- of a tool over a core. The shapes are run, run -q, run -j N, run -q -j N, run -j N -q, check, plain, gen N and core
+-- TOOL; words of no other shape ask for anything, and get the usage line.
 
 -- The number from 1 on, of so many, that a word writes in decimal. No numeral has a leading zero or a sign.
 unfoldable pub number_up_to : ℕ → List ℕ → Option ℕ

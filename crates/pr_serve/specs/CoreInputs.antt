@@ -28,8 +28,8 @@ unfoldable pub core_parts_at : List ℕ → ℕ → Result ReadCore Wrong
 core_parts_at text place =
     both_read wrong.Core (programs_of (take place text)) (core_of (line_below text place) (text_below Core text place))
 
--- The programs and the core of an input; or the first line that is refused. The line `%core` is missing: that is said of
--- the whole input, for which line 0 stands, whatever its lines are.
+-- The programs and the core of an input; or the first line that is refused. The line `%core` is missing: that is said
+-- of the whole input, for which line 0 stands, whatever its lines are.
 unfoldable pub core_input_of : List ℕ → Result ReadCore Wrong
 core_input_of text = by (mark_place Core core_limit text)
   where

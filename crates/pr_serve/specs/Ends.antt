@@ -23,4 +23,5 @@ pub record IsStuck (w : WorldState) : Type 0 where
   pub unfinished : all_finished w ≡ false
 
 abbrev pub EndsAs : ℕ → WorldState → Status → Type 0
-EndsAs turns w status = ((status ≡ Done) × IsOver w) ⊎ (((status ≡ Spent) × IsFull turns w) ⊎ ((status ≡ Stuck) × IsStuck w))
+EndsAs turns w status =
+    ((status ≡ Done) × IsOver w) ⊎ (((status ≡ Spent) × IsFull turns w) ⊎ ((status ≡ Stuck) × IsStuck w))

@@ -37,7 +37,8 @@ pub record RanOutLate (answer : Answer) (history : List Entry) (old new : Option
 
 -- How an answer is given: whole; or a write failed, and the count of faults rose; or memory ran out, early, of which
 -- the caller says what holds then, or late. Only a write that failed raises the count. The input was read before.
-pub record Responds (answer : Answer) (early : Type 0) (status : Status) (history : List Entry) (old new : Option (List ℕ)) (before after : ℕ) : Type 0 where
+pub record Responds (answer : Answer) (early : Type 0) (status : Status) (history : List Entry)
+    (old new : Option (List ℕ)) (before after : ℕ) : Type 0 where
   pub whole : status ≢ WriteFailed → status ≢ OutOfMemory → IsGiven answer status history old new
   pub cut : status ≡ WriteFailed → IsCutShort answer history old new
   pub rose : status ≡ WriteFailed → Rose before after
@@ -47,7 +48,8 @@ pub record Responds (answer : Answer) (early : Type 0) (status : Status) (histor
 
 -- ---- one of several answers
 
-pub record RespondsWith (May : Answer → Type 0) (early : Type 0) (status : Status) (history : List Entry) (old new : Option (List ℕ)) (before after : ℕ) : Type 0 where
+pub record RespondsWith (May : Answer → Type 0) (early : Type 0) (status : Status) (history : List Entry)
+    (old new : Option (List ℕ)) (before after : ℕ) : Type 0 where
   pub answer : Answer
   pub may : May answer
   pub responds : Responds answer early status history old new before after
@@ -59,8 +61,10 @@ pub record StopsEarly (early : Type 0) (status : Status) (before after : ℕ) : 
   pub no_fault : after ≡ before
 
 -- one of the answers that may come is given, or memory ran out before there was one
-abbrev pub RespondsOne : (Answer → Type 0) → Type 0 → Status → List Entry → Option (List ℕ) → Option (List ℕ) → ℕ → ℕ → Type 0
-RespondsOne May early status history old new before after = RespondsWith May early status history old new before after ⊎ StopsEarly early status before after
+abbrev pub RespondsOne : (Answer → Type 0) → Type 0 → Status → List Entry → Option (List ℕ) → Option (List ℕ) → ℕ → ℕ
+    → Type 0
+RespondsOne May early status history old new before after =
+    RespondsWith May early status history old new before after ⊎ StopsEarly early status before after
 
 -- ---- statuses
 

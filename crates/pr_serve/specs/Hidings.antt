@@ -20,8 +20,8 @@ use Rattle.pr_scen.specs.declared.plans.Plan.TheVariants as plan
 abbrev pub patch_of : Function → Patch
 patch_of f = record { at = f.at; bytes = f.code }
 
--- What a controller hides, a row a kind: a truss its breakpoints, at the functions whose calls it shows, and apfiles its
--- agent. What scripts, the other tools and gcore do is not hidden.
+-- What a controller hides, a row a kind: a truss its breakpoints, at the functions whose calls it shows, and apfiles
+-- its agent. What scripts, the other tools and gcore do is not hidden.
 unfoldable pub hider_of : Plan → Hider
 hider_of (plan.Script script) = Nothing
 hider_of (plan.Truss options) = Functions (map patch_of options.functions)
@@ -40,9 +40,9 @@ pub record IsOf (s : Scenario) (h : List Entry) : Type 0 where
   pub few : length h < 2 ^ 32
   pub legal : IsLegal (length s.controllers) (first_state_of s) h
 
--- Programs see nothing of those who hide in a history, on three conditions: other calls are passive, programs leave alone
--- what is hidden, and those who hide are tidy. Then the steps that are not hidden are a run of the machine without
--- controllers, and its trace is that of the history without what is hidden.
+-- Programs see nothing of those who hide in a history, on three conditions: other calls are passive, programs leave
+-- alone what is hidden, and those who hide are tidy. Then the steps that are not hidden are a run of the machine
+-- without controllers, and its trace is that of the history without what is hidden.
 pub record AreUnseen (s : Scenario) (h : List Entry) : Type 0 where
   pub unseen : IsPassiveBut (hiders_in s) h → IsSparing (hiders_in s) (first_state_of s) h
       → IsTidy (hiders_in s) (first_state_of s) h → IsHidden (hiders_in s) (first_state_of s) h

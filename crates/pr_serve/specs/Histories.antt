@@ -50,7 +50,8 @@ IsLeft in_rounds input history = (history ≡ []) ⊎ IsAfterMoves input history
 IsLeft by_threads input history = (history ≡ []) ⊎ IsMadeByThreads input history
 
 -- Memory ran out before the text was begun: nothing was written.
-pub record RanOutEarly (making : Making) (input : Option (List ℕ)) (history : List Entry) (old new : Option (List ℕ)) : Type 0 where
+pub record RanOutEarly (making : Making) (input : Option (List ℕ)) (history : List Entry)
+    (old new : Option (List ℕ)) : Type 0 where
   pub unwritten : new ≡ old
   pub left : IsLeft making input history
 

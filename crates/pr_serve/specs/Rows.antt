@@ -27,8 +27,8 @@ use Rattle.pr_serve.specs.declared.outcomes.Status.TheVariants.{ReadFailed, Writ
 
 -- A command says the same whatever the input is: it reads nothing and takes no memory. Or it reads an input, up to a
 -- limit, and answers it; where it makes a run, that is left as far as it was made where memory ran out. Or it reads a
--- scenario and makes its run on several threads: what they may answer is then not one answer. Or it reads programs and a
--- core, and a tool shows the core.
+-- scenario and makes its run on several threads: what they may answer is then not one answer. Or it reads programs and
+-- a core, and a tool shows the core.
 pub data Row : Type 0 where
   says : Answer → Row
   reads : ℕ → (Option (List ℕ) → Answer) → Making → Row
@@ -74,7 +74,14 @@ pub record Ends : Type 0 where
 
 -- what a source and a sink tell, by what each of them tells
 abbrev pub ends_of : {S K : Type 0} → (S → Option (List ℕ)) → (S → ℕ) → (K → Option (List ℕ)) → (K → ℕ) → S → K → Ends
-ends_of left read_faults written write_faults source sink = record { left = left source; read_faults = read_faults source; written = written sink; write_faults = write_faults sink }
+ends_of left read_faults written write_faults source sink =
+    record {
+      left = left source;
+      read_faults = read_faults source;
+      written = written sink;
+      write_faults =
+          write_faults sink;
+    }
 
 -- ---- a command that reads nothing
 
@@ -92,19 +99,22 @@ abbrev pub IsThe : (Option (List ℕ) → Answer) → Option (List ℕ) → Answ
 IsThe answer input given = given ≡ answer input
 
 -- One of the answers that may come was given whole.
-pub record GivesOne (May : Answer → Type 0) (status : Status) (history : List Entry) (old new : Option (List ℕ)) : Type 0 where
+pub record GivesOne (May : Answer → Type 0) (status : Status) (history : List Entry)
+    (old new : Option (List ℕ)) : Type 0 where
   pub answer : Answer
   pub may : May answer
   pub given : IsGiven answer status history old new
 
 -- Where nothing failed: an answer to what was read was given whole.
-pub record Answered (limit : ℕ) (May : Option (List ℕ) → Answer → Type 0) (old new : Ends) (status : Status) (history : List Entry) : Type 0 where
+pub record Answered (limit : ℕ) (May : Option (List ℕ) → Answer → Type 0) (old new : Ends) (status : Status)
+    (history : List Entry) : Type 0 where
   pub input : Option (List ℕ)
   pub took : Took limit old.left new.left input
   pub gives : GivesOne (May input) status history old.written new.written
 
 -- Where a write failed.
-pub record CutShort (limit : ℕ) (May : Option (List ℕ) → Answer → Type 0) (old new : Ends) (history : List Entry) : Type 0 where
+pub record CutShort (limit : ℕ) (May : Option (List ℕ) → Answer → Type 0) (old new : Ends)
+    (history : List Entry) : Type 0 where
   pub input : Option (List ℕ)
   pub took : Took limit old.left new.left input
   pub answer : Answer
@@ -128,19 +138,23 @@ pub record OneRanOut (May : Answer → Type 0) (history : List Entry) (old new :
   pub ran_out : RanOutLate answer history old new
 
 -- Where memory ran out after the reading: before the text was begun, or while it was written.
-pub record RanOutAfter (limit : ℕ) (May : Option (List ℕ) → Answer → Type 0) (making : Making) (old new : Ends) (history : List Entry) : Type 0 where
+pub record RanOutAfter (limit : ℕ) (May : Option (List ℕ) → Answer → Type 0) (making : Making) (old new : Ends)
+    (history : List Entry) : Type 0 where
   pub input : Option (List ℕ)
   pub took : Took limit old.left new.left input
-  pub ran_out : RanOutEarly making input history old.written new.written ⊎ OneRanOut (May input) history old.written new.written
+  pub ran_out : RanOutEarly making input history old.written new.written
+      ⊎ OneRanOut (May input) history old.written new.written
 
 -- How it ends, where these are the answers that may come to an input. Where nothing failed, one to what was read was
 -- given; and where the bytes that were left are known, one to them. A read failed: no more bytes than the limit came,
 -- and the others are left; nothing was written, and there is no history. A write failed: the history is that of an
 -- answer, and a prefix of its text was written. Memory ran out in the reading, or after it. Only a read that failed
 -- raises the count of the source, and only a write that failed that of the sink.
-pub record Reads (limit : ℕ) (May : Option (List ℕ) → Answer → Type 0) (making : Making) (old new : Ends) (status : Status) (history : List Entry) : Type 0 where
+pub record Reads (limit : ℕ) (May : Option (List ℕ) → Answer → Type 0) (making : Making) (old new : Ends)
+    (status : Status) (history : List Entry) : Type 0 where
   pub answered : IsWhole status → Answered limit May old new status history
-  pub answers : IsWhole status → IfSome old.left (λ left. GivesOne (May (taken_of limit left)) status history old.written new.written)
+  pub answers : IsWhole status
+      → IfSome old.left (λ left. GivesOne (May (taken_of limit left)) status history old.written new.written)
   pub not_read : status ≡ ReadFailed → LeftNothing old new history
   pub read_within : status ≡ ReadFailed → CameWithin limit old.left new.left
   pub read_failed : status ≡ ReadFailed → Rose old.read_faults new.read_faults
@@ -157,7 +171,8 @@ pub record Reads (limit : ℕ) (May : Option (List ℕ) → Answer → Type 0) (
 abbrev pub EndsBy : Row → Ends → Ends → Status → List Entry → Type 0
 EndsBy (says answer) old new status history = Says answer old new status history
 EndsBy (reads limit answer making) old new status history = Reads limit (IsThe answer) making old new status history
-EndsBy (shares showing) old new status history = Reads scenario_limit (MayAnswer showing) by_threads old new status history
+EndsBy (shares showing) old new status history =
+    Reads scenario_limit (MayAnswer showing) by_threads old new status history
 EndsBy (shows_core kind) old new status history = Reads core_limit (MayShowCore kind) no_run old new status history
 
 -- The history of a call is that of a world to which the first one of a scenario was led, and the status says how that
@@ -196,7 +211,8 @@ pub record TellsEndOfOne (showing : Showing) (s : Scenario) (old new : Ends) (st
 
 -- The judgement of a history was given: it is legal from the first state of the scenario, with its controllers, or this
 -- entry is the first that is not.
-pub record IsJudged (s : Scenario) (entries : List Entry) (old new : Ends) (status : Status) (history : List Entry) : Type 0 where
+pub record IsJudged (s : Scenario) (entries : List Entry) (old new : Ends) (status : Status)
+    (history : List Entry) : Type 0 where
   pub first : Option ℕ
   pub judges : Judges (length s.controllers) (first_state_of s) entries first
   pub given : IsGiven (judged (length entries) first) status history old.written new.written
@@ -212,7 +228,10 @@ pub record TellsEnd (s : Scenario) (answer : Answer) (status : Status) : Type 0 
 -- An input that is a scenario: its run is made in rounds, and the status says how that ended.
 abbrev pub EndsRounds : CommandText → Option (List ℕ) → Status → Type 0
 EndsRounds text left status =
-    IfSome left (λ input. IfOk (scenario_of_input (taken_of scenario_limit input)) (λ scenario. TellsEnd scenario (answer_to text (taken_of scenario_limit input)) status))
+    IfSome left
+    (λ input.
+    IfOk (scenario_of_input (taken_of scenario_limit input))
+    (λ scenario. TellsEnd scenario (answer_to text (taken_of scenario_limit input)) status))
 
 -- What is done of an input, unless a read or a write failed or memory ran out: one that is a scenario is run, and the
 -- status says how that ended; one that is a scenario and a history is judged.
@@ -223,7 +242,10 @@ DoesWork (Shares showing workers) old new status history =
     IfSome old.left (λ left. IfOk (scenario_of_input (taken_of scenario_limit left)) (λ scenario.
     TellsEndOfOne showing scenario old new status history))
 DoesWork Checks old new status history =
-    IfSome old.left (λ left. IfOk (checked_of_input (taken_of checked_limit left)) (λ read. IsWhole status → IsJudged read.0 read.1 old new status history))
+    IfSome old.left
+    (λ left.
+    IfOk (checked_of_input (taken_of checked_limit left))
+    (λ read. IsWhole status → IsJudged read.0 read.1 old new status history))
 DoesWork _ old new status history = Unit {0}
 
 -- How a call ends that does this work, by the number with which the process ends.

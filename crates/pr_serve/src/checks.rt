@@ -1,5 +1,5 @@
-//! What the command `check` is given: a scenario, the line `%history`, and a history, of which each entry is judged as it
-//! is read, and none is kept.
+//! What the command `check` is given: a scenario, the line `%history`, and a history, of which each entry is judged as
+//! it is read, and none is kept.
 ghost use Rattle.std.specs.Prelude.{◌≡◌, ◌≤◌, ◌<◌, ◌+◌, ◌^◌, [], length, IfOk, IfSome};
 ghost use Rattle.pr_judge.specs.Hearings.{HasHeard};
 ghost use Rattle.pr_num.specs.Limits.{checked_limit};

@@ -80,8 +80,9 @@ fn kern_of(alloc: Global, scenario: Scenario, places: u32) -> Result<Kern, NoMem
 }
 
 /// The untraced steps of a history of a scenario without what its controllers hide: of each truss the breakpoints at
-/// the functions whose calls it shows, and the faults of stepping over these; and of apfiles its agent. The history is a
-/// legal one of that scenario, whether a run made it or not. It is played on a new kernel, of which memory may run out.
+/// the functions whose calls it shows, and the faults of stepping over these; and of apfiles its agent. The history is
+/// a legal one of that scenario, whether a run made it or not. It is played on a new kernel, of which memory may run
+/// out.
 pub fn strip_hidden(alloc: Global, scenario: Scenario, history: &History) -> Result<Steps, NoMemory>
     requires limits { IsWithinLimits scenario }
     requires few { length history.now.entries < 2 ^ 32 }

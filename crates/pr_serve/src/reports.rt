@@ -34,7 +34,10 @@ fn add_report(
     reports: &mut Vec<Report>,
 ) -> Result<(), NoMemory>
     requires { controller < length world.now.controllers }
-    ensures { OnOk result (ForSome (slice_get world.now.controllers controller) (λ core. reports.new.items ≡ reports.old.items ++ report_of world.now.kernel.state.system.programs controller core)) }
+    ensures { OnOk result
+        (ForSome (slice_get world.now.controllers controller)
+        (λ core. reports.new.items
+        ≡ reports.old.items ++ report_of world.now.kernel.state.system.programs controller core)) }
 {
     let Some(printer) = printer_of(world.controller(controller)) else {
         return Ok(());

@@ -41,7 +41,8 @@ pub fn show_ran<W: Shows, K: Sink>(
     sink: &mut K,
 ) -> Ending
     requires { W.fits showing history.entries }
-    ensures { Responds (ran_so (W.text showing) ran.end history.entries ran.reports.items) ⊥ result.status result.history.entries
+    ensures { Responds
+        (ran_so (W.text showing) ran.end history.entries ran.reports.items) ⊥ result.status result.history.entries
         (K.written sink.old) (K.written sink.new) (K.faults sink.old) (K.faults sink.new) }
 {
     let status = end_status(ran.end);

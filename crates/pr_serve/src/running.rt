@@ -50,7 +50,8 @@ fn run<S: Source, K: Sink>(alloc: Global, showing: Showing, source: &mut S, sink
     }
 }
 
-/// Reads a scenario, makes its run on one thread, and writes what programs see of it; or writes why the input is refused.
+/// Reads a scenario, makes its run on one thread, and writes what programs see of it; or writes why the input is
+/// refused.
 fn strip<S: Source, K: Sink>(alloc: Global, source: &mut S, sink: &mut K) -> Ending
     ensures { Reads scenario_limit (IsThe (answer_to plain_shown)) in_rounds
         (ends_of S.left S.faults K.written K.faults source.old sink.old)

@@ -116,8 +116,10 @@ fn finish(alloc: Global, world: &mut World<Kern>) -> Result<Ran, NoMemory>
     requires told { TellsMachine (seen kern_view world.old) }
     requires fresh { IsFresh (seen kern_view world.old) }
     ensures ended { IfOk result (λ ran. ran.end ≡ end_of (after_moves world.old.kernel.places (seen kern_view world.old))) }
-    ensures reports { IfOk result (λ ran. ran.reports.items ≡ reports_of (after_moves world.old.kernel.places (seen kern_view world.old))) }
-    ensures history { OnOk result (world.new.kernel.history ≡ (after_moves world.old.kernel.places (seen kern_view world.old)).kernel.history) }
+    ensures reports { IfOk result
+        (λ ran. ran.reports.items ≡ reports_of (after_moves world.old.kernel.places (seen kern_view world.old))) }
+    ensures history { OnOk result
+        (world.new.kernel.history ≡ (after_moves world.old.kernel.places (seen kern_view world.old)).kernel.history) }
     ensures stopped { OnErr result (IsWorldsWay (seen kern_view world.old) world.new.kernel.history) }
 {
     let ended = run_one(world);
@@ -132,8 +134,10 @@ fn run_world(alloc: Global, mut world: World<Kern>) -> Made
     requires told { TellsMachine (seen kern_view world) }
     requires fresh { IsFresh (seen kern_view world) }
     ensures ended { IfOk result.ran (λ ran. ran.end ≡ end_of (after_moves world.kernel.places (seen kern_view world))) }
-    ensures reports { IfOk result.ran (λ ran. ran.reports.items ≡ reports_of (after_moves world.kernel.places (seen kern_view world))) }
-    ensures history { OnOk result.ran (result.history.entries ≡ (after_moves world.kernel.places (seen kern_view world)).kernel.history) }
+    ensures reports { IfOk result.ran
+        (λ ran. ran.reports.items ≡ reports_of (after_moves world.kernel.places (seen kern_view world))) }
+    ensures history { OnOk result.ran
+        (result.history.entries ≡ (after_moves world.kernel.places (seen kern_view world)).kernel.history) }
     ensures stopped { OnErr result.ran (IsWorldsWay (seen kern_view world) result.history.entries) }
 {
     let ran = finish(alloc, &mut world);

@@ -12,17 +12,17 @@ use std::alloc::Global;
 use std::sync::Wait;
 use std::thread::Threads;
 
-/// Does what the words after the program's name ask for, from `source` to `sink`. The workers of a run on several threads
-/// pass `gate` before each of their turns.
+/// Does what the words after the program's name ask for, from `source` to `sink`. The workers of a run on several
+/// threads pass `gate` before each of their turns.
 ///
 /// `run`, `run -q` and `plain` make the run of a scenario on one thread; `run -j N`, with or without `-q`, makes it on
 /// several, waits for them, and ends as a run does in which the actors moved in some order; `check` says whether a
-/// history is legal; `core TOOL` writes what a tool shows of a core; `gen N` writes a scenario, reads nothing and takes no
-/// memory. Status 0, 3 and 4 of a run: it was made and written; no actor could move and all controllers had finished, or
-/// the history had all its entries, or no actor could move and a controller had not finished. Status 0 and 8 of `check`:
-/// all entries are legal, or one is not. Status 0 of `core`: the text was written. Status 2: the input was refused. Status
-/// 5: a read failed. Status 6: a write failed. Status 7: memory ran out. All other words get the usage line and status 1, or 6 where a write failed; nothing is read then,
-/// and no memory taken.
+/// history is legal; `core TOOL` writes what a tool shows of a core; `gen N` writes a scenario, reads nothing and takes
+/// no memory. Status 0, 3 and 4 of a run: it was made and written; no actor could move and all controllers had
+/// finished, or the history had all its entries, or no actor could move and a controller had not finished. Status 0 and
+/// 8 of `check`: all entries are legal, or one is not. Status 0 of `core`: the text was written. Status 2: the input
+/// was refused. Status 5: a read failed. Status 6: a write failed. Status 7: memory ran out. All other words get the
+/// usage line and status 1, or 6 where a write failed; nothing is read then, and no memory taken.
 pub fn serve<R: Threads + Wait + Sync, S: Source, K: Sink, G: Gate + Sync>(
     rt: &R,
     alloc: Global,
@@ -32,8 +32,8 @@ pub fn serve<R: Threads + Wait + Sync, S: Source, K: Sink, G: Gate + Sync>(
     gate: &G,
 ) -> Outcome
     // What was read and written, the status and the history are those of the row of the command. An input that is a
-    // scenario is run, and the status says how that ended; one that is a scenario and a history is judged; of one that is
-    // programs and a core the text of the tool over that core is written.
+    // scenario is run, and the status says how that ended; one that is a scenario and a history is judged; of one that
+    // is programs and a core the text of the tool over that core is written.
     ensures ends { EndsWith (work_of (map string_bytes words.now))
         (ends_of S.left S.faults K.written K.faults source.old sink.old)
         (ends_of S.left S.faults K.written K.faults source.new sink.new)
@@ -50,7 +50,8 @@ pub fn serve<R: Threads + Wait + Sync, S: Source, K: Sink, G: Gate + Sync>(
     // conditions of `ShowsItsEvents`, and all else that `IsTrussKept` says is so of it; the memory in a line is that of
     // the state in which truss read it; and each tool that has finished, and was not refused, prints what stands in one
     // state.
-    ensures kept { HistoryIsKept (making_of (work_of (map string_bytes words.now))) (S.left source.old) (S.left source.new) result.history.entries }
+    ensures kept { HistoryIsKept (making_of (work_of (map string_bytes words.now))) (S.left source.old)
+        (S.left source.new) result.history.entries }
 {
     outcome_of(carry_out(rt, alloc, work_of(words), source, sink, gate))
 }

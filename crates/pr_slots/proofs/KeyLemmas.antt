@@ -54,7 +54,8 @@ position-places_of : {T : Type 0} → (slab : Slab T) → (keys : List (Option �
     → position_from is_none at (places_of slab keys) ≡ position_from is_none at keys
 position-places_of slab [] at there = refl
 position-places_of slab (key ∷ keys) at there =
-    rw (none-thing_of slab key (there 0)) (ap (cond (is_none key) (Some at)) (position-places_of slab keys (at + 1) (λ n k is. there (suc n) k is)))
+    rw (none-thing_of slab key (there 0))
+    (ap (cond (is_none key) (Some at)) (position-places_of slab keys (at + 1) (λ n k is. there (suc n) k is)))
 
 -- the least number whose place is free is the least that has no key
 pub least_seen : {T : Type 0} → (slab : Slab T) → (keys : List (Option ℕ)) → (places : List (Option T))
@@ -78,7 +79,13 @@ free_from (None ∷ keys) at number found =
     record { place = 0; stands = omega arith; inside = omega arith; free = refl }
 free_from (Some key ∷ keys) at number found =
     let later = free_from keys (at + 1) number found in
-    record { place = suc later.place; stands = omega (arith, later.stands); inside = omega (arith, later.inside); free = later.free }
+    record {
+      place = suc later.place;
+      stands = omega (arith, later.stands);
+      inside = omega (arith, later.inside);
+      free =
+          later.free;
+    }
 
 module _ {T : Type 0} (slab : Slab T) (keys : List (Option ℕ)) (places : List (Option T))
     (seen : places_of slab keys ≡ places) (number : ℕ) (found : position is_none keys ≡ Some number) where
@@ -119,7 +126,8 @@ places_of-set old new (x ∷ keys) zero key kept =
     ap (λ ps. thing_of new key ∷ ps) (places_of-same old new keys (λ m k is. kept (suc m) k (λ e. omega arith) is))
 places_of-set old new (x ∷ keys) (suc number) key kept =
     ap (λ p. p ∷ places_of new (set keys number key)) (thing_of-same old new x (λ k is. kept 0 k (λ e. omega arith) is))
-    ∙ ap (λ ps. thing_of old x ∷ ps) (places_of-set old new keys number key (λ m k differs is. kept (suc m) k (λ e. differs (omega arith)) is))
+    ∙ ap (λ ps. thing_of old x ∷ ps)
+    (places_of-set old new keys number key (λ m k differs is. kept (suc m) k (λ e. differs (omega arith)) is))
 
 -- 1 for a key
 abbrev one_if : Option ℕ → ℕ
@@ -136,7 +144,13 @@ count-free : (keys : List (Option ℕ)) (number : ℕ) → number < length keys 
     → count_by is_some keys + 1 ≤ length keys
 count-free keys number inside none =
     let one = count-set keys number (Some 0) inside in
-    omega (arith, one, ap one_if none, count_by-le-length is_some (set keys number (Some 0)), length-set keys number (Some 0))
+    omega (
+      arith,
+      one,
+      ap one_if none,
+      count_by-le-length is_some (set keys number (Some 0)),
+      length-set keys number (Some 0),
+    )
 
 -- ---- a place is filled
 
@@ -152,7 +166,9 @@ module _ {T : Type 0} (slab : Slab T) (keys : List (Option ℕ)) (places : List 
       by : (key : Option ℕ) → get_or keys number None ≡ key → key ≡ None
       by None is = refl
       by (Some key) is =
-          absurd (false≢true (sym (ap is_some (sym (seen_at slab keys places seen number (Some key) is) ∙ free)) ∙ keyed.there number key is))
+          absurd (false≢true
+          (sym (ap is_some (sym (seen_at slab keys places seen number (Some key) is) ∙ free))
+          ∙ keyed.there number key is))
 
   pub has_room : slab_len slab + 1 ≤ slab.capacity
   has_room = omega (arith, count-free keys number number_inside no_key_yet, keyed.counted, keyed.room)
@@ -174,26 +190,45 @@ module _ {T : Type 0} (slab : Slab T) (keys : List (Option ℕ)) (places : List 
     key_at : (m k : ℕ) → get_or (set keys number (Some key)) m None ≡ Some k
         → ((m ≡ number) × (k ≡ key)) ⊎ ((m ≢ number) × (get_or keys m None ≡ Some k))
     key_at m k is =
-        elim (cases_eq m number) [ inl same ↦ inl (same, same_Some k key (sym is ∙ ap (λ (n : ℕ). get_or (set keys number (Some key)) n None) same ∙ get_or-set_same keys number (Some key) None number_inside)) | inr differs ↦ inr (differs, sym (get_or-set_other keys number m (Some key) None differs) ∙ is) ]
+        elim (cases_eq m number) [
+          | inl same ↦
+              inl (
+                same,
+                same_Some k key
+                    (sym is ∙ ap (λ (n : ℕ). get_or (set keys number (Some key)) n None) same
+                    ∙ get_or-set_same keys number (Some key) None number_inside),
+              )
+          | inr differs ↦ inr (differs, sym (get_or-set_other keys number m (Some key) None differs) ∙ is)
+        ]
 
     pub filled_keyed : IsKeyed new (set keys number (Some key))
     filled_keyed = record {
       room = omega (arith, keyed.room, capacity, length-set keys number (Some key));
-      counted = omega (arith, size, keyed.counted, count-set keys number (Some key) number_inside, ap one_if no_key_yet);
-      there = λ m k is. elim (key_at m k is) [ inl new_one ↦ ap (λ (j : ℕ). is_some (get new j)) new_one.1 ∙ ap is_some updates.changed | inr old_one ↦ ap is_some (updates.others k (not_new m k old_one.1)) ∙ keyed.there m k old_one.1 ];
-      apart = λ m n k here there. elim (key_at m k here) [ inl a ↦ elim (key_at n k there) [ inl b ↦ a.0 ∙ sym b.0 | inr b ↦ absurd (not_new n k b.1 a.1) ] | inr a ↦ elim (key_at n k there) [ inl b ↦ absurd (not_new m k a.1 b.1) | inr b ↦ keyed.apart m n k a.1 b.1 ] ];
+      counted =
+          omega (arith, size, keyed.counted, count-set keys number (Some key) number_inside, ap one_if no_key_yet);
+      there = λ m k is. elim (key_at m k is) [
+        | inl new_one ↦ ap (λ (j : ℕ). is_some (get new j)) new_one.1 ∙ ap is_some updates.changed
+        | inr old_one ↦ ap is_some (updates.others k (not_new m k old_one.1)) ∙ keyed.there m k old_one.1
+      ];
+      apart = λ m n k here there. elim (key_at m k here) [
+        | inl a ↦ elim (key_at n k there) [ inl b ↦ a.0 ∙ sym b.0 | inr b ↦ absurd (not_new n k b.1 a.1) ]
+        | inr a ↦ elim (key_at n k there)
+            [ inl b ↦ absurd (not_new m k a.1 b.1) | inr b ↦ keyed.apart m n k a.1 b.1 ]
+      ];
     }
 
 -- ---- a place is freed
 
 -- the slab has one thing less, that of a number
 module _ {T : Type 0} (old new : Slab T) (keys : List (Option ℕ)) (places : List (Option T))
-    (seen : places_of old keys ≡ places) (keyed : IsKeyed old keys) (key number : ℕ) (updates : Updates old new key None)
+    (seen : places_of old keys ≡ places) (keyed : IsKeyed old keys) (key number : ℕ)
+    (updates : Updates old new key None)
     (size : OnSome (get old key) (slab_len new + 1 ≡ slab_len old)) (capacity : new.capacity ≡ old.capacity)
     (here : get_or keys number None ≡ Some key) where
   inside : number < length keys
   inside =
-      elim (cases_lt number (length keys)) [ inl below ↦ below | inr past ↦ absurd (none-some key (sym (get_or_past keys number None past) ∙ here)) ]
+      elim (cases_lt number (length keys))
+      [ inl below ↦ below | inr past ↦ absurd (none-some key (sym (get_or_past keys number None past) ∙ here)) ]
 
   one_less : slab_len new + 1 ≡ slab_len old
   one_less = by (get old key) (keyed.there number key here) size
@@ -213,13 +248,21 @@ module _ {T : Type 0} (old new : Slab T) (keys : List (Option ℕ)) (places : Li
 
   key_left : (m k : ℕ) → get_or (set keys number None) m None ≡ Some k → (m ≢ number) × (get_or keys m None ≡ Some k)
   key_left m k is =
-      elim (cases_eq m number) [ inl same ↦ absurd (none-some k (sym (ap (λ (n : ℕ). get_or (set keys number None) n None) same ∙ get_or-set_same keys number None None inside) ∙ is)) | inr differs ↦ (differs, sym (get_or-set_other keys number m None None differs) ∙ is) ]
+      elim (cases_eq m number) [
+        | inl same ↦
+            absurd (none-some k
+            (sym (ap (λ (n : ℕ). get_or (set keys number None) n None) same
+            ∙ get_or-set_same keys number None None inside) ∙ is))
+        | inr differs ↦ (differs, sym (get_or-set_other keys number m None None differs) ∙ is)
+      ]
 
   pub freed_keyed : IsKeyed new (set keys number None)
   freed_keyed = record {
     room = omega (arith, keyed.room, capacity, length-set keys number None);
     counted = omega (arith, one_less, keyed.counted, count-set keys number None inside, ap one_if here);
-    there = λ m k is. (let left = key_left m k is in ap is_some (updates.others k (other_key m k left.0 left.1)) ∙ keyed.there m k left.1);
+    there = λ m k is.
+        (let left = key_left m k is in
+        ap is_some (updates.others k (other_key m k left.0 left.1)) ∙ keyed.there m k left.1);
     apart = λ m n k here there. keyed.apart m n k (key_left m k here).1 (key_left n k there).1;
   }
 
@@ -237,12 +280,19 @@ module _ {T : Type 0} (old : Slab T) (keys : List (Option ℕ)) (places : List (
     (here : get_or keys number None ≡ Some key) (w : T) where
   has_slot : key < length old.slots
   has_slot =
-      elim (cases_lt key (length old.slots)) [ inl below ↦ below | inr past ↦ absurd (false≢true (sym (ap is_some (get_or_past old.slots key None past)) ∙ keyed.there number key here)) ]
+      elim (cases_lt key (length old.slots)) [
+        | inl below ↦ below
+        | inr past ↦
+            absurd (false≢true (sym (ap is_some (get_or_past old.slots key None past)) ∙ keyed.there number key here))
+      ]
 
   pub written_places : places_of (with_value old key w) keys ≡ set places number (Some w)
   written_places =
       ap (places_of (with_value old key w)) (sym (set-get_or keys number None) ∙ ap (set keys number) here)
-      ∙ places_of-set old (with_value old key w) keys number (Some key) (λ m k differs is. get_or-set_other old.slots key k (Some w) None (λ e. differs (keyed.apart m number key (is ∙ ap Some e) here)))
+      ∙ places_of-set old (with_value old key w) keys number (Some key)
+      (λ m k differs is.
+      get_or-set_other old.slots key k (Some w) None
+      (λ e. differs (keyed.apart m number key (is ∙ ap Some e) here)))
       ∙ ap (set (places_of old keys) number) (get_or-set_same old.slots key (Some w) None has_slot)
       ∙ ap (λ ps. set ps number (Some w)) seen
 
@@ -294,13 +344,15 @@ get_or-wider (key ∷ keys) (suc m) = get_or-wider keys m
 
 count-wider : (keys : List (Option ℕ)) → count_by is_some (keys ++ None ∷ []) ≡ count_by is_some keys
 count-wider keys =
-    let all : count_by is_some (keys ++ None ∷ []) ≡ count_by is_some keys + 0 = sum_by-append (λ k. cond (is_some k) 1 0) keys (None ∷ []) in
+    let all : count_by is_some (keys ++ None ∷ []) ≡ count_by is_some keys + 0 =
+    sum_by-append (λ k. cond (is_some k) 1 0) keys (None ∷ []) in
     omega (arith, all)
 
 length-wider : (keys : List (Option ℕ)) → length (keys ++ None ∷ []) ≡ length keys + 1
 length-wider keys = length-append keys (None ∷ [])
 
-places_of-wider : {T : Type 0} → (slab : Slab T) → (keys : List (Option ℕ)) → places_of slab (keys ++ None ∷ []) ≡ places_of slab keys ++ None ∷ []
+places_of-wider : {T : Type 0} → (slab : Slab T) → (keys : List (Option ℕ))
+    → places_of slab (keys ++ None ∷ []) ≡ places_of slab keys ++ None ∷ []
 places_of-wider slab [] = refl
 places_of-wider slab (key ∷ keys) = ap (λ ps. thing_of slab key ∷ ps) (places_of-wider slab keys)
 
@@ -327,7 +379,8 @@ module _ {T : Type 0} (old new : Slab T) (keys : List (Option ℕ)) (keyed : IsK
     apart = keyed.apart;
   }
 
-  pub widened_places : (places : List (Option T)) → places_of old keys ≡ places → places_of new (keys ++ None ∷ []) ≡ places ++ None ∷ []
+  pub widened_places : (places : List (Option T)) → places_of old keys ≡ places
+      → places_of new (keys ++ None ∷ []) ≡ places ++ None ∷ []
   widened_places places seen =
       places_of-wider new keys ∙ ap (λ ps. ps ++ None ∷ []) (reserved_places ∙ seen)
 
@@ -336,9 +389,11 @@ module _ {T : Type 0} (old new : Slab T) (keys : List (Option ℕ)) (keyed : IsK
     room = omega (arith, room, length-wider keys);
     counted = same_len ∙ keyed.counted ∙ sym (count-wider keys);
     there = λ m k is. ap is_some (same_get k) ∙ keyed.there m k (sym (get_or-wider keys m) ∙ is);
-    apart = λ m n k here there. keyed.apart m n k (sym (get_or-wider keys m) ∙ here) (sym (get_or-wider keys n) ∙ there);
+    apart = λ m n k here there.
+        keyed.apart m n k (sym (get_or-wider keys m) ∙ here) (sym (get_or-wider keys n) ∙ there);
   }
 
 -- the slab has no more things than there are numbers
-pub few_things : {T : Type 0} → (slab : Slab T) → (keys : List (Option ℕ)) → IsKeyed slab keys → slab_len slab ≤ length keys
+pub few_things : {T : Type 0} → (slab : Slab T) → (keys : List (Option ℕ)) → IsKeyed slab keys
+    → slab_len slab ≤ length keys
 few_things slab keys keyed = omega (arith, keyed.counted, count_by-le-length is_some keys)

@@ -8,7 +8,8 @@ use Rattle.pr_num.proofs.ByIdLemmas.{rises_from-head, under-below}
 
 -- ---- rising ids
 
-pub rises_from-entries : {X : Type 0} (low k : ℕ) (ps : List (Option X)) → low ≤ k → rises_from low (entries_from k ps) ≡ true
+pub rises_from-entries : {X : Type 0} (low k : ℕ) (ps : List (Option X)) → low ≤ k
+    → rises_from low (entries_from k ps) ≡ true
 rises_from-entries low k [] least = refl
 rises_from-entries low k (None ∷ ps) least = rises_from-entries low (k + 1) ps (omega arith)
 rises_from-entries low k (Some x ∷ ps) least =
@@ -42,7 +43,8 @@ not_below : {X : Type 0} (n k : ℕ) (ps : List (Option X)) → n < k → under 
 not_below n k ps less = under-below k n (entries_from k ps) (rises_from-entries k k ps (omega arith)) less
 
 -- the place at i is that of the id k + i
-under-entries_from : {X : Type 0} (k i n : ℕ) (ps : List (Option X)) → n ≡ k + i → under n (entries_from k ps) ≡ get_or ps i None
+under-entries_from : {X : Type 0} (k i n : ℕ) (ps : List (Option X)) → n ≡ k + i
+    → under n (entries_from k ps) ≡ get_or ps i None
 under-entries_from k zero n [] at = refl
 under-entries_from k (suc i) n [] at = refl
 under-entries_from k zero n (None ∷ ps) at = not_below n (k + 1) ps (omega arith)
@@ -57,13 +59,15 @@ under-entries id ps = under-entries_from 0 id id ps (omega arith)
 -- ---- the first id from one on
 
 -- the same from any number on that is not above the first
-first_from-low : {X : Type 0} (low m n : ℕ) (es : List (ℕ × X)) → rises_from low es ≡ true → m ≤ low → n ≤ low → first_from m es ≡ first_from n es
+first_from-low : {X : Type 0} (low m n : ℕ) (es : List (ℕ × X)) → rises_from low es ≡ true → m ≤ low → n ≤ low
+    → first_from m es ≡ first_from n es
 first_from-low low m n [] rises one other = refl
 first_from-low low m n (e ∷ es) rises one other =
     let least = rises_from-head low e es rises in
     rw (le-ltb e.0 m (omega arith), le-ltb e.0 n (omega arith)) refl
 
-here_from : {X : Type 0} (k i n : ℕ) (x : X) (ps : List (Option X)) → n ≡ k + i → get_or ps i None ≡ Some x → first_from n (entries_from k ps) ≡ Some (n, x)
+here_from : {X : Type 0} (k i n : ℕ) (x : X) (ps : List (Option X)) → n ≡ k + i → get_or ps i None ≡ Some x
+    → first_from n (entries_from k ps) ≡ Some (n, x)
 here_from k zero n x [] at here = absurd (none-some x here)
 here_from k (suc i) n x [] at here = absurd (none-some x here)
 here_from k zero n x (None ∷ ps) at here = absurd (none-some x here)
@@ -74,11 +78,13 @@ here_from k (suc i) n x (None ∷ ps) at here = here_from (k + 1) i n x ps (omeg
 here_from k (suc i) n x (Some y ∷ ps) at here =
     rw (lt-ltb k n (omega arith)) (here_from (k + 1) i n x ps (omega arith) here)
 
-passed_from : {X : Type 0} (k i n : ℕ) (ps : List (Option X)) → n ≡ k + i → get_or ps i None ≡ None → first_from n (entries_from k ps) ≡ first_from (n + 1) (entries_from k ps)
+passed_from : {X : Type 0} (k i n : ℕ) (ps : List (Option X)) → n ≡ k + i → get_or ps i None ≡ None
+    → first_from n (entries_from k ps) ≡ first_from (n + 1) (entries_from k ps)
 passed_from k zero n [] at free = refl
 passed_from k (suc i) n [] at free = refl
 passed_from k zero n (None ∷ ps) at free =
-    first_from-low (k + 1) n (n + 1) (entries_from (k + 1) ps) (rises_from-entries (k + 1) (k + 1) ps (omega arith)) (omega arith) (omega arith)
+    first_from-low (k + 1) n (n + 1) (entries_from (k + 1) ps) (rises_from-entries (k + 1) (k + 1) ps (omega arith))
+    (omega arith) (omega arith)
 passed_from k zero n (Some y ∷ ps) at free = absurd (none-some y (sym free))
 passed_from k (suc i) n (None ∷ ps) at free = passed_from (k + 1) i n ps (omega arith) free
 passed_from k (suc i) n (Some y ∷ ps) at free =
@@ -103,52 +109,63 @@ module _ {X : Type 0} (n : ℕ) (ps : List (Option X)) where
 
 -- ---- a thing is changed
 
-put_under-from : {X : Type 0} (k i n : ℕ) (x w : X) (ps : List (Option X)) → n ≡ k + i → get_or ps i None ≡ Some x → entries_from k (set ps i (Some w)) ≡ put_under n w (entries_from k ps)
+put_under-from : {X : Type 0} (k i n : ℕ) (x w : X) (ps : List (Option X)) → n ≡ k + i → get_or ps i None ≡ Some x
+    → entries_from k (set ps i (Some w)) ≡ put_under n w (entries_from k ps)
 put_under-from k zero n x w [] at here = refl
 put_under-from k (suc i) n x w [] at here = refl
 put_under-from k zero n x w (None ∷ ps) at here = absurd (none-some x here)
 put_under-from k zero n x w (Some y ∷ ps) at here = rw (eq-eqb k n (omega arith)) refl
 put_under-from k (suc i) n x w (None ∷ ps) at here = put_under-from (k + 1) i n x w ps (omega arith) here
 put_under-from k (suc i) n x w (Some y ∷ ps) at here =
-    rw (ne_eqb k n (λ same. absurd (omega arith))) (ap (λ es. (k, y) ∷ es) (put_under-from (k + 1) i n x w ps (omega arith) here))
+    rw (ne_eqb k n (λ same. absurd (omega arith)))
+    (ap (λ es. (k, y) ∷ es) (put_under-from (k + 1) i n x w ps (omega arith) here))
 
-pub entries-put_under : {X : Type 0} (id : ℕ) (x w : X) (ps : List (Option X)) → get_or ps id None ≡ Some x → entries_from 0 (set ps id (Some w)) ≡ put_under id w (entries_from 0 ps)
+pub entries-put_under : {X : Type 0} (id : ℕ) (x w : X) (ps : List (Option X)) → get_or ps id None ≡ Some x
+    → entries_from 0 (set ps id (Some w)) ≡ put_under id w (entries_from 0 ps)
 entries-put_under id x w ps here = put_under-from 0 id id x w ps (omega arith) here
 
 -- ---- one goes
 
-without_id-from : {X : Type 0} (k i n : ℕ) (x : X) (ps : List (Option X)) → n ≡ k + i → get_or ps i None ≡ Some x → entries_from k (set ps i None) ≡ without_id n (entries_from k ps)
+without_id-from : {X : Type 0} (k i n : ℕ) (x : X) (ps : List (Option X)) → n ≡ k + i → get_or ps i None ≡ Some x
+    → entries_from k (set ps i None) ≡ without_id n (entries_from k ps)
 without_id-from k zero n x [] at here = refl
 without_id-from k (suc i) n x [] at here = refl
 without_id-from k zero n x (None ∷ ps) at here = absurd (none-some x here)
 without_id-from k zero n x (Some y ∷ ps) at here = rw (eq-eqb k n (omega arith)) refl
 without_id-from k (suc i) n x (None ∷ ps) at here = without_id-from (k + 1) i n x ps (omega arith) here
 without_id-from k (suc i) n x (Some y ∷ ps) at here =
-    rw (ne_eqb k n (λ same. absurd (omega arith))) (ap (λ es. (k, y) ∷ es) (without_id-from (k + 1) i n x ps (omega arith) here))
+    rw (ne_eqb k n (λ same. absurd (omega arith)))
+    (ap (λ es. (k, y) ∷ es) (without_id-from (k + 1) i n x ps (omega arith) here))
 
-pub entries-without_id : {X : Type 0} (id : ℕ) (x : X) (ps : List (Option X)) → get_or ps id None ≡ Some x → entries_from 0 (set ps id None) ≡ without_id id (entries_from 0 ps)
+pub entries-without_id : {X : Type 0} (id : ℕ) (x : X) (ps : List (Option X)) → get_or ps id None ≡ Some x
+    → entries_from 0 (set ps id None) ≡ without_id id (entries_from 0 ps)
 entries-without_id id x ps here = without_id-from 0 id id x ps (omega arith) here
 
 -- ---- one comes
 
 -- before all that stand
-inserted-first : {X : Type 0} (n low : ℕ) (x : X) (es : List (ℕ × X)) → rises_from low es ≡ true → n < low → inserted n x es ≡ (n, x) ∷ es
+inserted-first : {X : Type 0} (n low : ℕ) (x : X) (es : List (ℕ × X)) → rises_from low es ≡ true → n < low
+    → inserted n x es ≡ (n, x) ∷ es
 inserted-first n low x [] rises below = refl
 inserted-first n low x (e ∷ es) rises below =
     let least = rises_from-head low e es rises in
     rw (le-ltb e.0 n (omega arith)) refl
 
-inserted-from : {X : Type 0} (k i n : ℕ) (x : X) (ps : List (Option X)) → n ≡ k + i → i < length ps → get_or ps i None ≡ None → entries_from k (set ps i (Some x)) ≡ inserted n x (entries_from k ps)
+inserted-from : {X : Type 0} (k i n : ℕ) (x : X) (ps : List (Option X)) → n ≡ k + i → i < length ps
+    → get_or ps i None ≡ None → entries_from k (set ps i (Some x)) ≡ inserted n x (entries_from k ps)
 inserted-from k i n x [] at inside free = absurd (omega arith)
 inserted-from k zero n x (None ∷ ps) at inside free =
     let same : k ≡ n = omega arith in
-    sym (inserted-first n (k + 1) x (entries_from (k + 1) ps) (rises_from-entries (k + 1) (k + 1) ps (omega arith)) (omega arith) ∙ ap (λ (m : ℕ). (m, x) ∷ entries_from (k + 1) ps) (sym same))
+    sym (inserted-first n (k + 1) x (entries_from (k + 1) ps) (rises_from-entries (k + 1) (k + 1) ps (omega arith))
+    (omega arith) ∙ ap (λ (m : ℕ). (m, x) ∷ entries_from (k + 1) ps) (sym same))
 inserted-from k zero n x (Some y ∷ ps) at inside free = absurd (none-some y (sym free))
 inserted-from k (suc i) n x (None ∷ ps) at inside free = inserted-from (k + 1) i n x ps (omega arith) (omega arith) free
 inserted-from k (suc i) n x (Some y ∷ ps) at inside free =
-    rw (lt-ltb k n (omega arith)) (ap (λ es. (k, y) ∷ es) (inserted-from (k + 1) i n x ps (omega arith) (omega arith) free))
+    rw (lt-ltb k n (omega arith))
+    (ap (λ es. (k, y) ∷ es) (inserted-from (k + 1) i n x ps (omega arith) (omega arith) free))
 
-pub entries-inserted : {X : Type 0} (id : ℕ) (x : X) (ps : List (Option X)) → id < length ps → get_or ps id None ≡ None → entries_from 0 (set ps id (Some x)) ≡ inserted id x (entries_from 0 ps)
+pub entries-inserted : {X : Type 0} (id : ℕ) (x : X) (ps : List (Option X)) → id < length ps → get_or ps id None ≡ None
+    → entries_from 0 (set ps id (Some x)) ≡ inserted id x (entries_from 0 ps)
 entries-inserted id x ps inside free = inserted-from 0 id id x ps (omega arith) inside free
 
 -- a free place more behind the last changes nothing
@@ -179,7 +196,8 @@ module _ {X : Type 0} (ps : List (Option X)) (es : List (ℕ × X)) (seen : entr
   pub passed_seen : get_or ps n None ≡ None → first_from n es ≡ first_from (n + 1) es
   passed_seen free = ap (first_from n) (sym seen) ∙ first-passed n ps free ∙ ap (first_from (n + 1)) seen
 
-  pub inserted_seen : (x : X) → n < length ps → get_or ps n None ≡ None → entries_from 0 (set ps n (Some x)) ≡ inserted n x es
+  pub inserted_seen : (x : X) → n < length ps → get_or ps n None ≡ None
+      → entries_from 0 (set ps n (Some x)) ≡ inserted n x es
   inserted_seen x inside free = entries-inserted n x ps inside free ∙ ap (inserted n x) seen
 
   module _ (x : X) (here : get_or ps n None ≡ Some x) where

@@ -10,8 +10,8 @@ use pr_num::NoMemory;
 use std::alloc::Global;
 use std::marker::Model;
 
-/// Things under ids, in a slab, seen by contracts as the list of pairs of an id and its thing, by rising id. The id is a
-/// key and no part of the thing, so a thing may be lent and changed.
+/// Things under ids, in a slab, seen by contracts as the list of pairs of an id and its thing, by rising id. The id is
+/// a key and no part of the thing, so a thing may be lent and changed.
 ///
 /// A thing is found by its id at once, and no other one moves when it comes or goes. There is a place of a few words
 /// for each id up to the highest that ever stood, so ids are to be small numbers.

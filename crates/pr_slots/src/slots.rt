@@ -9,8 +9,8 @@ use std::marker::Model;
 
 /// Things by number, seen by contracts as the list of the places for them: place 0 first, a free one `None`.
 ///
-/// Room for all places is there, so that nothing but a constructor and `add_place` takes memory. No other thing moves when a
-/// place is filled or freed.
+/// Room for all places is there, so that nothing but a constructor and `add_place` takes memory. No other thing moves
+/// when a place is filled or freed.
 #[derive(Drop)]
 pub struct Slots<T> {
     things: Slab<T>,
@@ -111,8 +111,8 @@ impl<T> Slots<T> {
         self.keys[number] = Some(key);
     }
 
-    /// Takes the thing of a number, whose place is free then. There is none where it was free already, or where there is
-    /// no such place.
+    /// Takes the thing of a number, whose place is free then. There is none where it was free already, or where there
+    /// is no such place.
     pub fn take(&mut self, number: usize) -> Option<T>
         ensures value { result ≡ slice_index_or self.old number None }
         ensures rest { self.new ≡ slice_set self.old number None }

@@ -9,16 +9,19 @@ use Rattle.pr_model.specs.UntracedMachine.{traced_step}
 use Rattle.pr_model.specs.UntracedSteps.{trace_of}
 use Rattle.pr_model.specs.declared.steps.Step.{Step}
 
-pub trace-next : (i : ℕ) (h : List Entry) (e : Entry) → slice_get h i ≡ Some e → flat_map trace_of (take (i + 1) h) ≡ flat_map trace_of (take i h) ++ trace_of e
+pub trace-next : (i : ℕ) (h : List Entry) (e : Entry) → slice_get h i ≡ Some e
+    → flat_map trace_of (take (i + 1) h) ≡ flat_map trace_of (take i h) ++ trace_of e
 trace-next i h e is =
     ap (flat_map trace_of) (take-next i h e is)
     ∙ flat_map-append trace_of (take i h) (e ∷ [])
     ∙ ap (λ steps. flat_map trace_of (take i h) ++ steps) (append-nil (trace_of e))
 
-pub trace-past : (i : ℕ) (h : List Entry) → slice_get h i ≡ None → flat_map trace_of (take (i + 1) h) ≡ flat_map trace_of (take i h)
+pub trace-past : (i : ℕ) (h : List Entry) → slice_get h i ≡ None
+    → flat_map trace_of (take (i + 1) h) ≡ flat_map trace_of (take i h)
 trace-past i h is = ap (flat_map trace_of) (take-past i h is)
 
-pub steps-next : (i : ℕ) (steps : List Step) (step : Step) → slice_get steps i ≡ Some step → flat_map traced_step (take (i + 1) steps) ≡ flat_map traced_step (take i steps) ++ traced_step step
+pub steps-next : (i : ℕ) (steps : List Step) (step : Step) → slice_get steps i ≡ Some step
+    → flat_map traced_step (take (i + 1) steps) ≡ flat_map traced_step (take i steps) ++ traced_step step
 steps-next i steps step is =
     ap (flat_map traced_step) (take-next i steps step is)
     ∙ flat_map-append traced_step (take i steps) (step ∷ [])

@@ -43,11 +43,13 @@ record OfBytes (x : Option ℕ) (rest : Option (List ℕ)) (bs : List ℕ) : Typ
   all : bs ≡ byte ∷ others
 
 with_byte-parts : (x : Option ℕ) (rest : Option (List ℕ)) (bs : List ℕ) → with_byte x rest ≡ Some bs → OfBytes x rest bs
-with_byte-parts (Some byte) (Some others) bs e = record { byte = byte; others = others; first = refl; behind = refl; all = cc }
+with_byte-parts (Some byte) (Some others) bs e =
+    record { byte = byte; others = others; first = refl; behind = refl; all = cc }
 with_byte-parts (Some byte) None bs e = cc
 with_byte-parts None rest bs e = cc
 
-byte_of-digits : (b : ℕ) → IsByte b → byte_of (digit_value (digit_glyph false (b / 16))) (digit_value (digit_glyph false (b % 16))) ≡ Some b
+byte_of-digits : (b : ℕ) → IsByte b
+    → byte_of (digit_value (digit_glyph false (b / 16))) (digit_value (digit_glyph false (b % 16))) ≡ Some b
 byte_of-digits b fits =
     ap (λ x. byte_of x (digit_value (digit_glyph false (b % 16)))) (digit_value-glyph (b / 16) (omega arith))
     ∙ ap (λ y. byte_of (Some (b / 16)) y) (digit_value-glyph (b % 16) (omega arith))
@@ -61,11 +63,14 @@ bytes_of_digits-digits (b ∷ bs) h =
     ∙ ap (λ rest. with_byte (Some b) rest) (bytes_of_digits-digits bs h.1)
 
 -- two digits are those of the byte that they make
-pair-digits : (c d high low b : ℕ) → IsGlyphOf c high → IsGlyphOf d low → b ≡ 16 * high + low → byte_digits b ≡ c ∷ d ∷ []
+pair-digits : (c d high low b : ℕ) → IsGlyphOf c high → IsGlyphOf d low → b ≡ 16 * high + low
+    → byte_digits b ≡ c ∷ d ∷ []
 unfolding byte_digits
 pair-digits c d high low b first second is =
-    let upper : digit_glyph false (b / 16) ≡ c = ap (digit_glyph false) {x = b / 16} {y = high} (omega (arith, first.small, second.small)) ∙ first.is in
-    let lower : digit_glyph false (b % 16) ≡ d = ap (digit_glyph false) {x = b % 16} {y = low} (omega (arith, first.small, second.small)) ∙ second.is in
+    let upper : digit_glyph false (b / 16) ≡ c =
+    ap (digit_glyph false) {x = b / 16} {y = high} (omega (arith, first.small, second.small)) ∙ first.is in
+    let lower : digit_glyph false (b % 16) ≡ d =
+    ap (digit_glyph false) {x = b % 16} {y = low} (omega (arith, first.small, second.small)) ∙ second.is in
     ap (λ x. x ∷ digit_glyph false (b % 16) ∷ []) upper ∙ ap (λ y. c ∷ y ∷ []) lower
 
 -- no other digits say them
@@ -77,7 +82,9 @@ digits-bytes_of_digits (c ∷ d ∷ rest) bs e =
     let read = with_byte-parts (byte_of (digit_value c) (digit_value d)) (bytes_of_digits rest) bs e in
     let pair = byte_of-parts (digit_value c) (digit_value d) read.byte read.first in
     ap digits_of_bytes read.all
-    ∙ ap (λ front. front ++ digits_of_bytes read.others) (pair-digits c d pair.high pair.low read.byte (glyph-digit_value c pair.high pair.first) (glyph-digit_value d pair.low pair.second) pair.byte)
+    ∙ ap (λ front. front ++ digits_of_bytes read.others)
+    (pair-digits c d pair.high pair.low read.byte (glyph-digit_value c pair.high pair.first)
+    (glyph-digit_value d pair.low pair.second) pair.byte)
     ∙ ap (λ behind. c ∷ d ∷ behind) (digits-bytes_of_digits rest read.others read.behind)
 
 -- ---- what is read are bytes

@@ -66,7 +66,8 @@ with_digit-is : (value b n : ℕ) → with_digit 10 value b ≡ Some n → IsDig
 unfolding with_digit
 with_digit-is value b n e = by (leb 48 b && leb b 57) refl
   where
-    other : (o : Option ℕ) → digit_of b ≡ o → (leb 48 b && leb b 57) ≡ false → option_and_then (with_ten value) o ≡ Some n → IsDigitOf value b n
+    other : (o : Option ℕ) → digit_of b ≡ o → (leb 48 b && leb b 57) ≡ false
+        → option_and_then (with_ten value) o ≡ Some n → IsDigitOf value b n
     other None read not_digit found = cc
     other (Some d) read not_digit found =
         let ten = with_ten-is value d n found in
@@ -75,17 +76,21 @@ with_digit-is value b n e = by (leb 48 b && leb b 57) refl
 
     by : (t : Bool) → (leb 48 b && leb b 57) ≡ t → IsDigitOf value b n
     by true is =
-        let found : with_ten value (b - 48) ≡ Some n = ap (option_and_then (with_ten value)) (sym (digit_of-digit b is)) ∙ e in
+        let found : with_ten value (b - 48) ≡ Some n =
+        ap (option_and_then (with_ten value)) (sym (digit_of-digit b is)) ∙ e in
         let ten = with_ten-is value (b - 48) n found in
         record { digit = is; small = ten.small; is = ten.is }
     by false is = other (digit_of b) refl is e
 
-with_digit-digit : (value b : ℕ) → (leb 48 b && leb b 57) ≡ true → value * 10 + (b - 48) < 2 ^ 64 → with_digit 10 value b ≡ Some (value * 10 + (b - 48))
+with_digit-digit : (value b : ℕ) → (leb 48 b && leb b 57) ≡ true → value * 10 + (b - 48) < 2 ^ 64
+    → with_digit 10 value b ≡ Some (value * 10 + (b - 48))
 unfolding with_digit
 with_digit-digit value b digit small =
     let last = leb-true b 57 (and_parts (leb 48 b) (leb b 57) digit).1 in
     ap (option_and_then (with_ten value)) (digit_of-digit b digit)
-    ∙ ap (λ t. cond t (Some (value * 10 + (b - 48))) None) (and_from (ltb (b - 48) 10) (ltb (value * 10 + (b - 48)) (2 ^ 64)) (lt-ltb (b - 48) 10 (omega arith)) (lt-ltb (value * 10 + (b - 48)) (2 ^ 64) small))
+    ∙ ap (λ t. cond t (Some (value * 10 + (b - 48))) None)
+    (and_from (ltb (b - 48) 10) (ltb (value * 10 + (b - 48)) (2 ^ 64)) (lt-ltb (b - 48) 10 (omega arith))
+    (lt-ltb (value * 10 + (b - 48)) (2 ^ 64) small))
 
 pub record AreDigitsOf (value : ℕ) (ds : List ℕ) (n : ℕ) : Type 0 where
   pub digits : are_digits ds ≡ true
@@ -98,7 +103,8 @@ unfolding number_from
 number_from-is value [] n e = let same : value ≡ n = cc in record { digits = refl; is = same; small = λ h. omega arith }
 number_from-is value (b ∷ bs) n e = by (λ v found. number_from-is v bs n found) (with_digit 10 value b) refl e
   where
-    by : ((v : ℕ) → number_from 10 v bs ≡ Some n → AreDigitsOf v bs n) → (o : Option ℕ) → with_digit 10 value b ≡ o → option_and_then (λ v. number_from 10 v bs) o ≡ Some n → AreDigitsOf value (b ∷ bs) n
+    by : ((v : ℕ) → number_from 10 v bs ≡ Some n → AreDigitsOf v bs n) → (o : Option ℕ) → with_digit 10 value b ≡ o
+        → option_and_then (λ v. number_from 10 v bs) o ≡ Some n → AreDigitsOf value (b ∷ bs) n
     by rest (Some v) is found =
         let first = with_digit-is value b v is in
         let others = rest v found in
@@ -110,12 +116,14 @@ number_from-is value (b ∷ bs) n e = by (λ v found. number_from-is v bs n foun
     by rest None is found = cc
 
 -- and digits of a small value are read
-number_from-digits : (value : ℕ) (ds : List ℕ) → are_digits ds ≡ true → value_from value ds < 2 ^ 64 → number_from 10 value ds ≡ Some (value_from value ds)
+number_from-digits : (value : ℕ) (ds : List ℕ) → are_digits ds ≡ true → value_from value ds < 2 ^ 64
+    → number_from 10 value ds ≡ Some (value_from value ds)
 unfolding number_from
 number_from-digits value [] h small = refl
 number_from-digits value (b ∷ bs) h small =
     let p = and_parts (leb 48 b && leb b 57) (are_digits bs) h in
-    ap (option_and_then (λ v. number_from 10 v bs)) (with_digit-digit value b p.0 (omega (arith, grows (value * 10 + (b - 48)) bs)))
+    ap (option_and_then (λ v. number_from 10 v bs))
+    (with_digit-digit value b p.0 (omega (arith, grows (value * 10 + (b - 48)) bs)))
     ∙ number_from-digits (value * 10 + (b - 48)) bs p.1 small
 
 -- ---- words
@@ -134,7 +142,8 @@ zero_word : number_of (48 ∷ []) ≡ Some 0
 unfolding number_of number_after_zero
 zero_word = refl
 
-by_digits : (n : ℕ) (ds : List ℕ) → n < 2 ^ 64 → are_digits ds ≡ true → value_from 0 ds ≡ n → 0 < length ds → 48 < get_or ds 0 0 → number_of ds ≡ Some n
+by_digits : (n : ℕ) (ds : List ℕ) → n < 2 ^ 64 → are_digits ds ≡ true → value_from 0 ds ≡ n → 0 < length ds
+    → 48 < get_or ds 0 0 → number_of ds ≡ Some n
 by_digits n ds fits digits is some lead =
     number_of-led ds some (ne_eqb (get_or ds 0 0) 48 (λ e. absurd (omega arith)))
     ∙ number_from-digits 0 ds digits (omega arith) ∙ ap (λ m. Some m) is
@@ -143,12 +152,14 @@ by_digits n ds fits digits is some lead =
 pub number_of-decimal : (n : ℕ) → n < 2 ^ 64 → number_of (decimal n) ≡ Some n
 number_of-decimal zero fits = ap number_of (decimal_digit 0 (omega arith)) ∙ zero_word
 number_of-decimal (suc n) fits =
-    by_digits (suc n) (decimal (suc n)) fits (decimal-digits (suc n) fits) (digits_value-decimal numerals (suc n) fits) (decimal_nonempty (suc n) fits) (first_decimal (suc n) (omega arith) fits)
+    by_digits (suc n) (decimal (suc n)) fits (decimal-digits (suc n) fits) (digits_value-decimal numerals (suc n) fits)
+    (decimal_nonempty (suc n) fits) (first_decimal (suc n) (omega arith) fits)
 
 pub id_of-decimal : (n : ℕ) → n < 2 ^ 32 → id_of (decimal n) ≡ Some n
 unfolding id_of
 id_of-decimal n fits =
-    ap (option_and_then (λ m. cond (ltb m (2 ^ 32)) (Some m) None)) (number_of-decimal n (omega arith)) ∙ ap (λ t. cond t (Some n) None) (lt-ltb n (2 ^ 32) fits)
+    ap (option_and_then (λ m. cond (ltb m (2 ^ 32)) (Some m) None)) (number_of-decimal n (omega arith))
+    ∙ ap (λ t. cond t (Some n) None) (lt-ltb n (2 ^ 32) fits)
 
 -- ---- bytes of numbers
 
@@ -161,12 +172,14 @@ digit_bounds b h = let p = and_parts (leb 48 b) (leb b 57) h in (leb-true 48 b p
 
 pub decimal-each : (n : ℕ) → n < 2 ^ 64 → All IsDigit (decimal n)
 decimal-each n fits =
-    All-weaker (λ b. is_digit b ≡ true) IsDigit digit_bounds (decimal n) (AllPass-from_list_all is_digit (decimal n) (decimal-digits n fits))
+    All-weaker (λ b. is_digit b ≡ true) IsDigit digit_bounds (decimal n)
+    (AllPass-from_list_all is_digit (decimal n) (decimal-digits n fits))
 
 -- none is a byte below them, as those that join numbers are
 pub decimal-apart : (c : ℕ) → (c < 48) → (n : ℕ) → n < 2 ^ 64 → All (λ b. eqb b c ≡ false) (decimal n)
 decimal-apart c low n fits =
-    All-weaker IsDigit (λ b. eqb b c ≡ false) (λ b h. ne_eqb b c (λ e. absurd (omega (arith, h.0)))) (decimal n) (decimal-each n fits)
+    All-weaker IsDigit (λ b. eqb b c ≡ false) (λ b h. ne_eqb b c (λ e. absurd (omega (arith, h.0)))) (decimal n)
+    (decimal-each n fits)
 
 first_of : (ds : List ℕ) → 0 < length ds → All IsDigit ds → (rest : List ℕ) → IsDigit (get_or (ds ++ rest) 0 0)
 first_of [] some all rest = absurd (omega arith)

@@ -19,7 +19,8 @@ use Rattle.pr_text.proofs.SpacedLemmas.{IsToken, all_pass, is_plain, plain_token
 
 -- ---- bytes that are plain
 
-plain_from : (b : ℕ) → eqb b 32 ≡ false → eqb b 9 ≡ false → eqb b 44 ≡ false → eqb b 34 ≡ false → eqb b 10 ≡ false → is_plain b ≡ true
+plain_from : (b : ℕ) → eqb b 32 ≡ false → eqb b 9 ≡ false → eqb b 44 ≡ false → eqb b 34 ≡ false → eqb b 10 ≡ false
+    → is_plain b ≡ true
 plain_from b blank tab comma quote newline =
     ap (λ v. not (v || (eqb b 9 || eqb b 44)) && (not (eqb b 34) && not (eqb b 10))) blank
     ∙ ap (λ v. not (v || eqb b 44) && (not (eqb b 34) && not (eqb b 10))) tab
@@ -30,7 +31,9 @@ plain_from b blank tab comma quote newline =
 -- each byte from the digits on
 above_plain : (b : ℕ) → 48 ≤ b → is_plain b ≡ true
 above_plain b low =
-    plain_from b (ne_eqb b 32 (λ e. absurd (omega arith))) (ne_eqb b 9 (λ e. absurd (omega arith))) (ne_eqb b 44 (λ e. absurd (omega arith))) (ne_eqb b 34 (λ e. absurd (omega arith))) (ne_eqb b 10 (λ e. absurd (omega arith)))
+    plain_from b (ne_eqb b 32 (λ e. absurd (omega arith))) (ne_eqb b 9 (λ e. absurd (omega arith)))
+    (ne_eqb b 44 (λ e. absurd (omega arith))) (ne_eqb b 34 (λ e. absurd (omega arith)))
+    (ne_eqb b 10 (λ e. absurd (omega arith)))
 
 -- ---- numbers
 
@@ -48,15 +51,19 @@ lwp_text-slash : (pid lwp : ℕ) → lwp_text pid lwp ≡ decimal pid ++ 47 ∷ 
 unfolding lwp_text
 lwp_text-slash pid lwp = append_assoc (decimal pid) (47 ∷ []) (decimal lwp)
 
-pub split_lwp : (pid lwp : ℕ) → pid < 2 ^ 64 → lwp < 2 ^ 64 → slice_split (λ b. eqb b 47) (lwp_text pid lwp) ≡ decimal pid ∷ decimal lwp ∷ []
+pub split_lwp : (pid lwp : ℕ) → pid < 2 ^ 64 → lwp < 2 ^ 64
+    → slice_split (λ b. eqb b 47) (lwp_text pid lwp) ≡ decimal pid ∷ decimal lwp ∷ []
 split_lwp pid lwp p l =
     ap (slice_split (λ b. eqb b 47)) (lwp_text-slash pid lwp)
     ∙ slice_split_at (λ b. eqb b 47) (decimal pid) 47 (decimal lwp) (decimal-apart 47 (omega arith) pid p) refl
-    ∙ ap (λ ws. decimal pid ∷ ws) (slice_split_none (λ b. eqb b 47) (decimal lwp) (decimal-apart 47 (omega arith) lwp l))
+    ∙ ap (λ ws. decimal pid ∷ ws)
+    (slice_split_none (λ b. eqb b 47) (decimal lwp) (decimal-apart 47 (omega arith) lwp l))
 
 pub lwp_text-plain : (pid lwp : ℕ) → pid < 2 ^ 64 → lwp < 2 ^ 64 → list_all is_plain (lwp_text pid lwp) ≡ true
 lwp_text-plain pid lwp p l =
-    ap (list_all is_plain) (lwp_text-slash pid lwp) ∙ list_all-append is_plain (decimal pid) (47 ∷ decimal lwp) ∙ and_from (list_all is_plain (decimal pid)) (list_all is_plain (decimal lwp)) (decimal-plain pid p) (decimal-plain lwp l)
+    ap (list_all is_plain) (lwp_text-slash pid lwp) ∙ list_all-append is_plain (decimal pid) (47 ∷ decimal lwp)
+    ∙ and_from (list_all is_plain (decimal pid)) (list_all is_plain (decimal lwp)) (decimal-plain pid p)
+    (decimal-plain lwp l)
 
 pub lwp_text-some : (pid lwp : ℕ) → 0 < length (lwp_text pid lwp)
 lwp_text-some pid lwp =
@@ -71,11 +78,14 @@ lwp_text-first pid lwp p =
     let P : List ℕ → Type 0 = λ w. IsDigit (get_or w 0 0) in
     subst P (sym (lwp_text-slash pid lwp)) (decimal-first pid p (47 ∷ decimal lwp))
 
-pub lwp_text-apart : (c : ℕ) → (c < 47) → (pid lwp : ℕ) → pid < 2 ^ 64 → lwp < 2 ^ 64 → All (λ b. eqb b c ≡ false) (lwp_text pid lwp)
+pub lwp_text-apart : (c : ℕ) → (c < 47) → (pid lwp : ℕ) → pid < 2 ^ 64 → lwp < 2 ^ 64
+    → All (λ b. eqb b c ≡ false) (lwp_text pid lwp)
 lwp_text-apart c low pid lwp p l =
     let P : ℕ → Type 0 = λ b. eqb b c ≡ false in
     let Q : List ℕ → Type 0 = λ w. All P w in
-    subst Q (sym (lwp_text-slash pid lwp)) (All-append P (decimal pid) (47 ∷ decimal lwp) (decimal-apart c (omega arith) pid p) (All-cons P 47 (decimal lwp) (ne_eqb 47 c (λ e. absurd (omega arith))) (decimal-apart c (omega arith) lwp l)))
+    subst Q (sym (lwp_text-slash pid lwp))
+    (All-append P (decimal pid) (47 ∷ decimal lwp) (decimal-apart c (omega arith) pid p)
+    (All-cons P 47 (decimal lwp) (ne_eqb 47 c (λ e. absurd (omega arith))) (decimal-apart c (omega arith) lwp l)))
 
 -- ---- bytes in hex
 
@@ -86,7 +96,11 @@ pub digits_of_bytes-plain : (bs : List ℕ) → list_all is_plain (digits_of_byt
 unfolding byte_digits
 digits_of_bytes-plain [] = refl
 digits_of_bytes-plain (b ∷ bs) =
-    and_from (is_plain (digit_glyph false (b / 16))) (is_plain (digit_glyph false (b % 16)) && list_all is_plain (digits_of_bytes bs)) (above_plain (digit_glyph false (b / 16)) (glyph_low (b / 16))) (and_from (is_plain (digit_glyph false (b % 16))) (list_all is_plain (digits_of_bytes bs)) (above_plain (digit_glyph false (b % 16)) (glyph_low (b % 16))) (digits_of_bytes-plain bs))
+    and_from (is_plain (digit_glyph false (b / 16)))
+    (is_plain (digit_glyph false (b % 16)) && list_all is_plain (digits_of_bytes bs))
+    (above_plain (digit_glyph false (b / 16)) (glyph_low (b / 16)))
+    (and_from (is_plain (digit_glyph false (b % 16))) (list_all is_plain (digits_of_bytes bs))
+    (above_plain (digit_glyph false (b % 16)) (glyph_low (b % 16))) (digits_of_bytes-plain bs))
 
 -- the word of some bytes
 pub bytes_token : (b : ℕ) (bs : List ℕ) → IsToken (digits_of_bytes (b ∷ bs))
@@ -96,12 +110,14 @@ bytes_token b bs = plain_token (digits_of_bytes (b ∷ bs)) (omega arith) (digit
 -- ---- names
 
 apart_from : (c b : ℕ) → is_name_byte c ≡ false → is_name_byte b ≡ true → eqb b c ≡ false
-apart_from c b no_name name = ne_eqb b c (λ e. let P : ℕ → Type 0 = λ x. is_name_byte x ≡ true in let here = subst P e name in cc)
+apart_from c b no_name name =
+    ne_eqb b c (λ e. let P : ℕ → Type 0 = λ x. is_name_byte x ≡ true in let here = subst P e name in cc)
 
 name_byte_plain : (b : ℕ) → is_name_byte b ≡ true → is_plain b ≡ true
 unfolding is_name_byte
 name_byte_plain b h =
-    plain_from b (apart_from 32 b refl h) (apart_from 9 b refl h) (apart_from 44 b refl h) (apart_from 34 b refl h) (apart_from 10 b refl h)
+    plain_from b (apart_from 32 b refl h) (apart_from 9 b refl h) (apart_from 44 b refl h) (apart_from 34 b refl h)
+    (apart_from 10 b refl h)
 
 -- what holds of a name
 pub record IsNamed (name : List ℕ) : Type 0 where
@@ -130,7 +146,9 @@ by_or false y P h left right = right h
 -- a letter is above the digits
 letter_above : (b : ℕ) → is_letter b ≡ true → 65 ≤ b
 letter_above b h =
-    by_or (leb 97 b && leb b 122) (leb 65 b && leb b 90) (65 ≤ b) h (λ low. let le = leb-true 97 b (and_parts (leb 97 b) _ low).0 in omega arith) (λ up. leb-true 65 b (and_parts (leb 65 b) _ up).0)
+    by_or (leb 97 b && leb b 122) (leb 65 b && leb b 90) (65 ≤ b) h
+    (λ low. let le = leb-true 97 b (and_parts (leb 97 b) _ low).0 in omega arith)
+    (λ up. leb-true 65 b (and_parts (leb 65 b) _ up).0)
 
 pub by_cond : {A : Type 0} (b : Bool) (P : A → Type 0) (x y : A) → (b ≡ true → P x) → (b ≡ false → P y) → P (cond b x y)
 by_cond true P x y then other = then refl
@@ -142,8 +160,10 @@ unfolding with_digit digit_of
 no_digit b above =
     let f : ℕ → Option ℕ = λ d. cond (ltb d 10 && ltb (0 * 10 + d) (2 ^ 64)) (Some (0 * 10 + d)) None in
     let P : Option ℕ → Type 0 = λ o. option_and_then f o ≡ None in
-    let high : (d : ℕ) → 10 ≤ d → P (Some d) = λ d le. ap (λ v. cond (v && ltb (0 * 10 + d) (2 ^ 64)) (Some (0 * 10 + d)) None) (le-ltb d 10 le) in
-    by_cond (leb 48 b && leb b 57) P _ _ (λ digit. let le = leb-true b 57 (and_parts (leb 48 b) _ digit).1 in absurd (omega arith))
+    let high : (d : ℕ) → 10 ≤ d → P (Some d) =
+    λ d le. ap (λ v. cond (v && ltb (0 * 10 + d) (2 ^ 64)) (Some (0 * 10 + d)) None) (le-ltb d 10 le) in
+    by_cond (leb 48 b && leb b 57) P _ _
+    (λ digit. let le = leb-true b 57 (and_parts (leb 48 b) _ digit).1 in absurd (omega arith))
     (λ _. by_cond (leb 97 b && leb b 102) P _ _ (λ low. high (b - 97 + 10) (omega arith))
     (λ _. by_cond (leb 65 b && leb b 70) P _ _ (λ up. high (b - 65 + 10) (omega arith)) (λ _. refl)))
 
@@ -153,7 +173,8 @@ name-no_number [] h = absurd (let n = named [] h in let some = n.some in omega a
 name-no_number (b ∷ bs) h =
     let n = named (b ∷ bs) h in
     let above = letter_above b n.letter in
-    number_of-led (b ∷ bs) n.some (ne_eqb b 48 (λ e. absurd (omega arith))) ∙ ap (λ o. option_and_then (λ v. number_from 10 v bs) o) (no_digit b above)
+    number_of-led (b ∷ bs) n.some (ne_eqb b 48 (λ e. absurd (omega arith)))
+    ∙ ap (λ o. option_and_then (λ v. number_from 10 v bs) o) (no_digit b above)
 
 -- what begins with a name begins no comment
 pub name-no_comment : (name rest : List ℕ) → is_name name ≡ true → begins_comment (name ++ rest) ≡ false
@@ -161,4 +182,5 @@ unfolding begins_comment
 name-no_comment name rest h =
     let n = named name h in
     let above = letter_above (get_or name 0 0) n.letter in
-    ap (λ b. eqb b 35) (get_or_append_left name rest 0 0 n.some) ∙ ne_eqb (get_or name 0 0) 35 (λ e. absurd (omega arith))
+    ap (λ b. eqb b 35) (get_or_append_left name rest 0 0 n.some)
+    ∙ ne_eqb (get_or name 0 0) 35 (λ e. absurd (omega arith))

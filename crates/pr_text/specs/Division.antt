@@ -21,14 +21,18 @@ pub record IsQuotedWord (line : List ℕ) (w : Word) : Type 0 where
   pub some : w.start < w.end
   pub inside : w.end ≤ length line
   pub quoted : is_quote (slice_index line w.start) ≡ true
-  pub unclosed : (k : ℕ) → w.start ≤ k → k + 2 < w.end → closes_quotes (slice_index line k) (slice_index line (k + 1)) ≡ false
-  pub closed : w.end < length line → (k : ℕ) × (w.start ≤ k) × (k + 2 ≡ w.end) × (closes_quotes (slice_index line k) (slice_index line (k + 1)) ≡ true)
+  pub unclosed : (k : ℕ) → w.start ≤ k → k + 2 < w.end
+      → closes_quotes (slice_index line k) (slice_index line (k + 1)) ≡ false
+  pub closed : w.end < length line
+      → (k : ℕ) × (w.start ≤ k) × (k + 2 ≡ w.end)
+      × (closes_quotes (slice_index line k) (slice_index line (k + 1)) ≡ true)
 
 -- from a place on, a line is these words in this order, with nothing but blanks, tabs and commas before, between and
 -- after them
 abbrev pub DividesFrom : List ℕ → ℕ → List Word → Type 0
 DividesFrom line at [] = OnlyParts line at (length line)
-DividesFrom line at (w ∷ ws) = (at ≤ w.start) × OnlyParts line at w.start × (IsPlainWord line w ⊎ IsQuotedWord line w) × DividesFrom line w.end ws
+DividesFrom line at (w ∷ ws) =
+    (at ≤ w.start) × OnlyParts line at w.start × (IsPlainWord line w ⊎ IsQuotedWord line w) × DividesFrom line w.end ws
 
 -- a word has a byte, and ends within its line
 abbrev pub StandsIn : List ℕ → Word → Type 0

@@ -12,7 +12,8 @@ digit_of b =
 -- a number with one more digit after it, where the digit is one of the base and the number stays a word
 unfoldable pub with_digit : ℕ → ℕ → ℕ → Option ℕ
 with_digit base value b =
-    option_and_then (λ d. if nat_lt d base && nat_lt (value * base + d) (2 ^ 64) then Some (value * base + d) else None) (digit_of b)
+    option_and_then (λ d. if nat_lt d base && nat_lt (value * base + d) (2 ^ 64) then Some (value * base + d) else None)
+    (digit_of b)
 
 -- the number that digits of a base make after those of a value
 unfoldable pub number_from : ℕ → ℕ → List ℕ → Option ℕ

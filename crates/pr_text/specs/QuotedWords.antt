@@ -31,7 +31,8 @@ unfoldable mutual
   hex_bytes [] = None
   hex_bytes (h ∷ []) = None
   hex_bytes (h ∷ l ∷ bs) =
-      option_and_then (λ high. option_and_then (λ low. before (high * 16 + low) (bytes_between bs)) (digit_of l)) (digit_of h)
+      option_and_then (λ high. option_and_then (λ low. before (high * 16 + low) (bytes_between bs)) (digit_of l))
+      (digit_of h)
 
 -- The bytes of a text in quotes. The last byte of the word is the quote that closes it, and belongs to no escape.
 unfoldable pub quoted_bytes : List ℕ → Option (List ℕ)

@@ -10,7 +10,9 @@ use Rattle.pr_text.specs.Bytes.{blank, quote, backslash, letter_x, tilde}
 unfoldable pub quoted_byte : ℕ → List ℕ
 quoted_byte b =
     if b == quote || b == backslash then backslash ∷ b ∷ []
-    else (if nat_le blank b && nat_le b tilde then b ∷ [] else backslash ∷ letter_x ∷ digit_glyph false (b / 16) ∷ digit_glyph false (b % 16) ∷ [])
+    else (if nat_le blank b
+    && nat_le b tilde then b ∷ [] else backslash ∷ letter_x ∷ digit_glyph false (b / 16)
+    ∷ digit_glyph false (b % 16) ∷ [])
 
 -- whether .. stands after the quotes: the bytes are more than are shown, or are known to go on
 abbrev pub has_dots : List ℕ → Bool → Bool

@@ -44,7 +44,8 @@ pub fn three<K: Copy>(mut operands: Tokens<'_>, kind: K) -> Result<(&[u8], &[u8]
 
 /// Four operands, no more and no less.
 pub fn four<K: Copy>(mut operands: Tokens<'_>, kind: K) -> Result<(&[u8], &[u8], &[u8], &[u8]), K>
-    ensures { result_map_both (λ x. (x.0.now, x.1.now, x.2.now, x.3.now)) (λ kind. kind) result ≡ four kind operands.entry }
+    ensures { result_map_both (λ x. (x.0.now, x.1.now, x.2.now, x.3.now)) (λ kind. kind) result
+        ≡ four kind operands.entry }
 {
     let a = operands.next().ok_or(kind)?;
     let (b, c, d) = three(operands, kind)?;

@@ -62,8 +62,8 @@ fn bytes_between(alloc: Global, text: &[u8]) -> Result<Option<Bytes>, NoMemory>
     Ok(Some(Bytes::from_vec(bytes)))
 }
 
-/// The bytes of a text in quotes, if the word is one. The last byte of the word is the quote that closes it, and belongs
-/// to no escape.
+/// The bytes of a text in quotes, if the word is one. The last byte of the word is the quote that closes it, and
+/// belongs to no escape.
 #[tactic(auto, unfolding(crate::specs::QuotedWords::quoted_bytes))]
 pub fn quoted_bytes(alloc: Global, word: &[u8]) -> Result<Option<Bytes>, NoMemory>
     ensures { IfOk result (λ bytes. bytes ≡ quoted_bytes word.now) }

@@ -25,10 +25,13 @@ pub name_back : (name : List ℕ) → length name ≡ 32 → All IsByte name →
 name_back name whole small = words_bytes-front_words 4 name small (omega arith) ∙ take_all 32 name (omega arith)
 
 -- words at the front that are in their ranges are what is read
-front-read : (ranges : List Range) (bytes words : List ℕ) → 8 * length ranges ≤ length bytes → words ≡ front_words (length ranges) bytes → AreRanged ranges (front_words (length ranges) bytes) → record_read ranges bytes ≡ Ok words
+front-read : (ranges : List Range) (bytes words : List ℕ) → 8 * length ranges ≤ length bytes
+    → words ≡ front_words (length ranges) bytes → AreRanged ranges (front_words (length ranges) bytes)
+    → record_read ranges bytes ≡ Ok words
 front-read ranges bytes words enough whole ranged =
     let P : List ℕ → Type 0 = AreRanged ranges in
-    record_read-whole ranges bytes words None enough whole (sym (first_out-ranged ranges words 0 (subst P (sym whole) ranged)))
+    record_read-whole ranges bytes words None enough whole
+    (sym (first_out-ranged ranges words 0 (subst P (sym whole) ranged)))
 
 -- a kind of descriptor
 kind-ranged : (w : ℕ) → 1 ≤ w → w ≤ 3 → a_file_kind w ≡ true
@@ -39,7 +42,9 @@ same-word : (words others : List ℕ) (k : ℕ) → words ≡ others → get_or 
 same-word words others k same = ap (λ ws. get_or ws k 0) same
 
 -- a descriptor
-pub fd_entry-read : (bytes words : List ℕ) → All IsByte bytes → 64 ≤ length bytes → words ≡ front_words 8 bytes → get_or words 0 0 < 64 → 1 ≤ get_or words 1 0 → get_or words 1 0 ≤ 3 → get_or words 2 0 < 3 → record_read fd_entry_ranges bytes ≡ Ok words
+pub fd_entry-read : (bytes words : List ℕ) → All IsByte bytes → 64 ≤ length bytes → words ≡ front_words 8 bytes
+    → get_or words 0 0 < 64 → 1 ≤ get_or words 1 0 → get_or words 1 0 ≤ 3 → get_or words 2 0 < 3
+    → record_read fd_entry_ranges bytes ≡ Ok words
 fd_entry-read bytes words small enough whole number low high access =
     let front : List ℕ = front_words 8 bytes in
     let zeroth : get_or words 0 0 ≡ get_or front 0 0 = same-word words front 0 whole in
@@ -47,16 +52,24 @@ fd_entry-read bytes words small enough whole number low high access =
     let second : get_or words 2 0 ≡ get_or front 2 0 = same-word words front 2 whole in
     let others : List ℕ = drop 8 (drop 8 (drop 8 bytes)) in
     let bytes' : All IsByte others = All-drop IsByte 8 _ (All-drop IsByte 8 _ (All-drop IsByte 8 bytes small)) in
-    front-read fd_entry_ranges bytes words enough whole
-    (lt-ltb (get_or front 0 0) 64 (omega (arith, zeroth, number)), (kind-ranged (get_or front 1 0) (omega (arith, first, low)) (omega (arith, first, high)), (lt-ltb (get_or front 2 0) 3 (omega (arith, second, access)), front_words-ranged 5 others bytes')))
+    front-read fd_entry_ranges bytes words enough whole (
+      lt-ltb (get_or front 0 0) 64 (omega (arith, zeroth, number)),
+      (
+        kind-ranged (get_or front 1 0) (omega (arith, first, low)) (omega (arith, first, high)),
+        (lt-ltb (get_or front 2 0) 3 (omega (arith, second, access)), front_words-ranged 5 others bytes'),
+      ),
+    )
 
 -- a process of a list
-pub list_entry-read : (bytes words : List ℕ) → All IsByte bytes → 48 ≤ length bytes → words ≡ front_words 6 bytes → get_or words 0 0 < 4294967296 → get_or words 1 0 < 4294967296 → record_read list_entry_ranges bytes ≡ Ok words
+pub list_entry-read : (bytes words : List ℕ) → All IsByte bytes → 48 ≤ length bytes → words ≡ front_words 6 bytes
+    → get_or words 0 0 < 4294967296 → get_or words 1 0 < 4294967296 → record_read list_entry_ranges bytes ≡ Ok words
 list_entry-read bytes words small enough whole id parent =
     let front : List ℕ = front_words 6 bytes in
     let zeroth : get_or words 0 0 ≡ get_or front 0 0 = same-word words front 0 whole in
     let first : get_or words 1 0 ≡ get_or front 1 0 = same-word words front 1 whole in
     let others : List ℕ = drop 8 (drop 8 bytes) in
     let bytes' : All IsByte others = All-drop IsByte 8 _ (All-drop IsByte 8 bytes small) in
-    front-read list_entry_ranges bytes words enough whole
-    (lt-ltb _ _ (omega (arith, zeroth, id)), (lt-ltb _ _ (omega (arith, first, parent)), front_words-ranged 4 others bytes'))
+    front-read list_entry_ranges bytes words enough whole (
+      lt-ltb _ _ (omega (arith, zeroth, id)),
+      (lt-ltb _ _ (omega (arith, first, parent)), front_words-ranged 4 others bytes'),
+    )

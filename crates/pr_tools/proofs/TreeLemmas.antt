@@ -3,7 +3,9 @@ use Rattle.std.proofs.Common.{◌≡◌, ◌<◌, ◌-◌, ℕ, zero, suc, List,
 use Rattle.std.specs.List.{flat_map}
 use Rattle.pr_tools.specs.Ptree.{branch_lines, deeper, lines_below}
 
-pub lines_below-step : (levels depth : ℕ) (processes : List (List ℕ)) (parent : ℕ) → 0 < levels → lines_below levels depth processes parent ≡ flat_map (branch_lines depth parent (lines_below (levels - 1) (deeper depth) processes)) processes
+pub lines_below-step : (levels depth : ℕ) (processes : List (List ℕ)) (parent : ℕ) → 0 < levels
+    → lines_below levels depth processes parent
+    ≡ flat_map (branch_lines depth parent (lines_below (levels - 1) (deeper depth) processes)) processes
 unfolding lines_below
 lines_below-step zero depth processes parent some = absurd (omega arith)
 lines_below-step (suc levels) depth processes parent some =

@@ -13,7 +13,8 @@ with_entry (Some words) others = option_map (λ rest. words ∷ rest) others
 -- the words of the first so many records in bytes; none where one of them is malformed
 unfoldable pub entries_from : List Range → ℕ → List ℕ → Option (List (List ℕ))
 entries_from ranges zero bytes = Some []
-entries_from ranges (suc n) bytes = with_entry (result_ok (record_read ranges bytes)) (entries_from ranges n (drop (8 * length ranges) bytes))
+entries_from ranges (suc n) bytes =
+    with_entry (result_ok (record_read ranges bytes)) (entries_from ranges n (drop (8 * length ranges) bytes))
 
 -- how many bytes a record has
 abbrev pub size_of : List Range → ℕ
@@ -30,7 +31,8 @@ lwp_places bytes = (length bytes - 8) / lwpstatus_size
 
 -- whether the status of all lwps has as many as it says (proc(4), "lstatus")
 unfoldable pub counts_lwps : List ℕ → Bool
-counts_lwps bytes = nat_le 8 (length bytes) && ((length bytes - 8) % lwpstatus_size == 0) && (word_at bytes 0 == lwp_places bytes)
+counts_lwps bytes =
+    nat_le 8 (length bytes) && ((length bytes - 8) % lwpstatus_size == 0) && (word_at bytes 0 == lwp_places bytes)
 
 -- the words of the status of each lwp; none where that is malformed
 unfoldable pub lwps_in : List ℕ → Option (List (List ℕ))

@@ -71,7 +71,8 @@ why_text words = stop_text (entry_at stop_reasons (slice_index words 2)) (slice_
 
 -- the line of an lwp
 unfoldable pub lwp_line : List ℕ → List ℕ
-lwp_line words = lwp_label (slice_index words 1) ++ codes " " ++ flags_text (slice_index words 0) ++ why_text words ++ line_end
+lwp_line words =
+    lwp_label (slice_index words 1) ++ codes " " ++ flags_text (slice_index words 0) ++ why_text words ++ line_end
 
 -- the lines of the lwps, where their status is not malformed
 abbrev pub lwp_lines : Option (List (List ℕ)) → List ℕ

@@ -17,7 +17,9 @@ access_letter prot access letter = if has_flags prot access then letter else cod
 
 -- a protection by the letters of reading, writing and executing
 unfoldable pub prot_text : ℕ → List ℕ
-prot_text prot = access_letter prot prot_read (codes "r") ++ access_letter prot prot_write (codes "w") ++ access_letter prot prot_exec (codes "x")
+prot_text prot =
+    access_letter prot prot_read (codes "r") ++ access_letter prot prot_write (codes "w")
+    ++ access_letter prot prot_exec (codes "x")
 
 -- what a mapping is for
 unfoldable pub kind_name : MappingKind → List ℕ

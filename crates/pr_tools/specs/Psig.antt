@@ -17,7 +17,8 @@ disposition_text word Caught = codes "caught " ++ hex_text word
 
 -- the line of a signal
 unfoldable pub signal_line : Sig → ℕ → List ℕ
-signal_line signal word = codes " " ++ signal_name signal ++ codes " " ++ disposition_text word (disposition_of word) ++ line_end
+signal_line signal word =
+    codes " " ++ signal_name signal ++ codes " " ++ disposition_text word (disposition_of word) ++ line_end
 
 -- the lines of signals, each with its word
 abbrev pub signal_lines : List Sig → List ℕ → List ℕ
@@ -27,4 +28,6 @@ signal_lines (s ∷ ss) (w ∷ ws) = signal_line s w ++ signal_lines ss ws
 
 -- the text of a process, of its dispositions; they are malformed where they are not a word for each signal
 unfoldable pub psig_text : ℕ → List ℕ → List ℕ
-psig_text pid bytes = header pid ++ (if length bytes == 8 * signal_count then signal_lines signals (front_words signal_count bytes) else [])
+psig_text pid bytes =
+    header pid
+    ++ (if length bytes == 8 * signal_count then signal_lines signals (front_words signal_count bytes) else [])

@@ -52,4 +52,5 @@ stack_texts program frames (Some lwps) = flat_map (stack_text program frames) lw
 
 -- the text of a process, of the status of all its lwps, its first instruction, and the frames of their stacks
 unfoldable pub pstack_text : ℕ → List ℕ → Option (List ℕ) → List CallFrame → List Program → List ℕ
-pstack_text pid bytes first frames programs = header pid ++ stack_texts (program_of programs first) frames (lwps_in bytes)
+pstack_text pid bytes first frames programs =
+    header pid ++ stack_texts (program_of programs first) frames (lwps_in bytes)

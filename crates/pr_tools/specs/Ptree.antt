@@ -18,7 +18,8 @@ deepest = 32
 -- the line of a process, with two blanks for each level of its depth
 unfoldable pub process_line : ℕ → List ℕ → List ℕ
 process_line depth words =
-    replicate (2 * depth) blank ++ decimal (slice_index words 0) ++ codes " " ++ name_of_words (drop 2 words) ++ line_end
+    replicate (2 * depth) blank ++ decimal (slice_index words 0) ++ codes " " ++ name_of_words (drop 2 words)
+    ++ line_end
 
 -- a process that is a child of this one, and the lines of its own children, by its id; nothing of any other process
 unfoldable pub branch_lines : ℕ → ℕ → (ℕ → List ℕ) → List ℕ → List ℕ

@@ -45,7 +45,8 @@ walk_from bytes at =
 -- before the first frame of the first stack that has one, of so many lwps whose status begins at a byte
 unfoldable pub walk_among : ℕ → List ℕ → ℕ → Option Walk
 walk_among zero bytes at = None
-walk_among (suc n) bytes at = if frame_pointer bytes at == 0 then walk_among n bytes (at + lwpstatus_size) else Some (walk_from bytes at)
+walk_among (suc n) bytes at =
+    if frame_pointer bytes at == 0 then walk_among n bytes (at + lwpstatus_size) else Some (walk_from bytes at)
 
 -- the same of all lwps whose status begins at that byte or later
 unfoldable pub walk_in : List ℕ → ℕ → Option Walk
@@ -67,7 +68,8 @@ goes_on walk answer = is_frame answer && nat_lt 1 walk.left && nat_lt 0 (word_at
 -- the next frame of the same stack, else the first of a later one
 unfoldable pub walk_after : List ℕ → Walk → List ℕ → Option Walk
 walk_after bytes walk answer =
-    if goes_on walk answer then Some (record walk { left = walk.left - 1; frame = word_at answer 0 }) else walk_in bytes (walk.at + lwpstatus_size)
+    if goes_on walk answer then Some (record walk { left = walk.left - 1; frame = word_at answer 0 }) else walk_in bytes
+    (walk.at + lwpstatus_size)
 
 -- frames with one more, where there is room
 unfoldable pub with_frame : ℕ → List CallFrame → Walk → List ℕ → List CallFrame

@@ -133,13 +133,15 @@ with_record s bytes = record s { bytes = take (record_room s.kind) bytes }
 
 -- the first instruction of the process; where fewer bytes are mapped, none
 unfoldable pub with_first : ToolState → List ℕ → ToolState
-with_first s bytes = record s { first = if nat_le short_read (length bytes) then Some (take short_read bytes) else None }
+with_first s bytes =
+    record s { first = if nat_le short_read (length bytes) then Some (take short_read bytes) else None }
 
 -- what an answer makes of the frames of a walk, and of the walk
 unfoldable pub with_answer : ToolState → List ℕ → Option Walk → ToolState
 with_answer s answer None = with_run_next s
 with_answer s answer (Some walk) =
-    with_walk (record s { frames = with_frame (frame_room s.kind) s.frames walk answer }) (walk_after s.bytes walk answer)
+    with_walk (record s { frames = with_frame (frame_room s.kind) s.frames walk answer })
+    (walk_after s.bytes walk answer)
 
 -- a file was closed
 unfoldable pub with_closed : ToolState → ToolState

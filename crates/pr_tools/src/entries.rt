@@ -119,7 +119,8 @@ pub fn entries_from<R: Record + Drop>(
     bytes: &[u8],
     count: usize,
 ) -> Result<Option<Vec<R>>, NoMemory>
-    ensures value { IfOk result (λ read. option_map (λ entries. map R.words entries.items) read ≡ entries_from R.ranges count bytes.now) }
+    ensures value { IfOk result
+        (λ read. option_map (λ entries. map R.words entries.items) read ≡ entries_from R.ranges count bytes.now) }
     ensures count { IfOk result (λ read. IfSome read (λ entries. length entries.items ≡ count)) }
 {
     let mut entries = Vec::new(alloc);
@@ -140,7 +141,8 @@ pub fn entries_from<R: Record + Drop>(
 #[tactic(auto, unfolding(crate::specs::Entries::entries_in))]
 pub fn entries_in<R: Record + Drop>(alloc: Global, bytes: &[u8]) -> Result<Option<Vec<R>>, NoMemory>
     ensures value { IfOk result (λ read. option_map (λ entries. map R.words entries.items) read ≡ entries_in R.ranges bytes.now) }
-    ensures count { IfOk result (λ read. IfSome read (λ entries. length entries.items ≡ length bytes.now / (8 * length R.ranges))) }
+    ensures count { IfOk result
+        (λ read. IfSome read (λ entries. length entries.items ≡ length bytes.now / (8 * length R.ranges))) }
 {
     let size = R::size();
     if bytes.len() % size != 0 {

@@ -52,7 +52,8 @@ fn push_below(
     parent: u32,
 ) -> Result<(), NoMemory>
     requires { depth ≤ 32 }
-    ensures { OnOk result (text.new ≡ text.old ++ lines_below levels depth (map list_entry_words_of processes.now) parent) }
+    ensures { OnOk result
+        (text.new ≡ text.old ++ lines_below levels depth (map list_entry_words_of processes.now) parent) }
 {
     if levels == 0 {
         return Ok(());

@@ -95,7 +95,8 @@ fn push_frames(
     frames: &[CallFrame],
     lwp: u64,
 ) -> Result<(), NoMemory>
-    ensures { OnOk result (text.new ≡ text.old ++ flat_map (frame_line_of (option_copied program.entry) lwp) frames.now) }
+    ensures { OnOk result
+        (text.new ≡ text.old ++ flat_map (frame_line_of (option_copied program.entry) lwp) frames.now) }
 {
     for frame in frames {
         if frame.lwp == lwp {
@@ -113,7 +114,8 @@ fn push_stack(
     frames: &[CallFrame],
     lwp: &LwpStatus,
 ) -> Result<(), NoMemory>
-    ensures { OnOk result (text.new ≡ text.old ++ stack_text (option_copied program.entry) frames.now (lwpstatus_words_of lwp.now)) }
+    ensures { OnOk result
+        (text.new ≡ text.old ++ stack_text (option_copied program.entry) frames.now (lwpstatus_words_of lwp.now)) }
 {
     let id = u64::from(lwp.id);
     push_label(text, id)?;
@@ -129,7 +131,10 @@ fn push_stacks(
     frames: &[CallFrame],
     lwps: &[LwpStatus],
 ) -> Result<(), NoMemory>
-    ensures { OnOk result (text.new ≡ text.old ++ flat_map (stack_text (option_copied program.entry) frames.now) (map lwpstatus_words_of lwps.now)) }
+    ensures { OnOk result
+        (text.new
+        ≡ text.old
+        ++ flat_map (stack_text (option_copied program.entry) frames.now) (map lwpstatus_words_of lwps.now)) }
 {
     for lwp in lwps {
         push_stack(text, program, frames, lwp)?;

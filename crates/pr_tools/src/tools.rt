@@ -60,9 +60,22 @@ impl Model for Tool {
 
     ghost Value = { ToolState };
 
-    ghost view = { λ t. record { kind = t.kind; pid = t.pid; opened = t.opened; step = t.step; until = t.until; stood = t.stood; bytes = t.bytes.items; first = t.first; walk = t.walk; frames = t.frames.items; refusal = t.refusal } };
+    ghost view = { λ t. record {
+      kind = t.kind;
+      pid = t.pid;
+      opened = t.opened;
+      step = t.step;
+      until = t.until;
+      stood = t.stood;
+      bytes = t.bytes.items;
+      first = t.first;
+      walk = t.walk;
+      frames = t.frames.items;
+      refusal = t.refusal;
+    } };
 
-    ghost invariant = { λ t. (length t.bytes.items ≤ record_room t.kind) × (record_room t.kind ≤ vec_capacity t.bytes) × (frame_room t.kind ≤ vec_capacity t.frames) };
+    ghost invariant = { λ t. (length t.bytes.items ≤ record_room t.kind) × (record_room t.kind ≤ vec_capacity t.bytes)
+        × (frame_room t.kind ≤ vec_capacity t.frames) };
 }
 
 /// The address of the frame that comes next.
@@ -273,7 +286,8 @@ impl Tool {
     /// Keeps the frame of an answer, where it is one and there is room.
     #[tactic(auto, unfolding(crate::specs::Stacks::with_frame))]
     fn keep_frame(&mut self, walk: &Walk, answer: &[u8])
-        ensures { self.new ≡ record self.old { frames = with_frame (frame_room self.old.kind) self.old.frames walk.now answer.now } }
+        ensures { self.new
+            ≡ record self.old { frames = with_frame (frame_room self.old.kind) self.old.frames walk.now answer.now } }
     {
         if !is_frame(answer) || self.frames.len() >= frame_room(self.kind) {
             return;

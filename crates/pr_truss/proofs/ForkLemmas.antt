@@ -31,7 +31,8 @@ with_forks-is calls c =
     let n : ℕ = syscall_number c in
     has_number-with (with_number calls (syscall_number Fork)) (syscall_number Vfork) n (call_number-range Vfork).0
     (call_number-range c).0
-    ∙ ap (λ b. b || (n == syscall_number Vfork)) (has_number-with calls (syscall_number Fork) n (call_number-range Fork).0
+    ∙ ap (λ b. b || (n == syscall_number Vfork))
+    (has_number-with calls (syscall_number Fork) n (call_number-range Fork).0
     (call_number-range c).0)
     ∙ or_assoc (has_number calls n) (n == syscall_number Fork) (n == syscall_number Vfork)
     ∙ ap (λ b. has_number calls n || b) (forks-numbered c)

@@ -44,20 +44,32 @@ pub lwp_back : (l : LwpStatus) → HasArraySizes l → lwp_of (lwpstatus_words_o
 unfolding lwp_of
 lwp_back l sizes =
     same_lwpstatus _ l (record { arguments = refl; regs = refl }) sizes
-    (rw (reason_back _ (reason_small l.why), signal_back _ (signal_small l.signal), fault_back _ (fault_small l.fault), call_back _ (call_small l.call), errno_back _ (an_errno-field l.errno), disposition_back l.disposition) refl)
+    (rw (
+      reason_back _ (reason_small l.why),
+      signal_back _ (signal_small l.signal),
+      fault_back _ (fault_small l.fault),
+      call_back _ (call_small l.call),
+      errno_back _ (an_errno-field l.errno),
+      disposition_back l.disposition,
+    ) refl)
 
-pub lwp_found : (bytes : List ℕ) (l : LwpStatus) → HasArraySizes l → record_read lwpstatus_ranges bytes ≡ Ok (lwpstatus_words_of l) → lwp_in bytes ≡ Some l
+pub lwp_found : (bytes : List ℕ) (l : LwpStatus) → HasArraySizes l
+    → record_read lwpstatus_ranges bytes ≡ Ok (lwpstatus_words_of l) → lwp_in bytes ≡ Some l
 unfolding lwp_in
 lwp_found bytes l sizes is = ap (λ r. option_map lwp_of (result_ok r)) is ∙ ap Some (lwp_back l sizes)
 
-pub lwp_missed : (bytes : List ℕ) (fault : RecFault) → record_read lwpstatus_ranges bytes ≡ Err fault → lwp_in bytes ≡ None
+pub lwp_missed : (bytes : List ℕ) (fault : RecFault) → record_read lwpstatus_ranges bytes ≡ Err fault
+    → lwp_in bytes ≡ None
 unfolding lwp_in
 lwp_missed bytes fault is = ap (λ r. option_map lwp_of (result_ok r)) is
 
-pub status_found : (bytes : List ℕ) (s : Status) → HasArraySizes s.lwp → record_read status_ranges bytes ≡ Ok (status_words_of s) → status_lwp bytes ≡ Some s.lwp
+pub status_found : (bytes : List ℕ) (s : Status) → HasArraySizes s.lwp
+    → record_read status_ranges bytes ≡ Ok (status_words_of s) → status_lwp bytes ≡ Some s.lwp
 unfolding status_lwp
-status_found bytes s sizes is = ap (λ r. option_map (λ words. lwp_of (drop 13 words)) (result_ok r)) is ∙ ap Some (lwp_back s.lwp sizes)
+status_found bytes s sizes is =
+    ap (λ r. option_map (λ words. lwp_of (drop 13 words)) (result_ok r)) is ∙ ap Some (lwp_back s.lwp sizes)
 
-pub status_missed : (bytes : List ℕ) (fault : RecFault) → record_read status_ranges bytes ≡ Err fault → status_lwp bytes ≡ None
+pub status_missed : (bytes : List ℕ) (fault : RecFault) → record_read status_ranges bytes ≡ Err fault
+    → status_lwp bytes ≡ None
 unfolding status_lwp
 status_missed bytes fault is = ap (λ r. option_map (λ words. lwp_of (drop 13 words)) (result_ok r)) is

@@ -98,10 +98,12 @@ row_of_call call count errors = if_any count (two_counts_row (syscall_name call)
 
 -- the row of a call in tables of the counts of calls and of errors
 abbrev pub call_row_in : List ℕ → List ℕ → Sysno → List ℕ
-call_row_in counts errors call = row_of_call call (slice_index counts (syscall_number call)) (slice_index errors (syscall_number call))
+call_row_in counts errors call =
+    row_of_call call (slice_index counts (syscall_number call)) (slice_index errors (syscall_number call))
 
 unfoldable pub call_row : List Report → Sysno → List ℕ
-call_row reports call = row_of_call call (count_of reports Calls (syscall_number call)) (count_of reports Errors (syscall_number call))
+call_row reports call =
+    row_of_call call (count_of reports Calls (syscall_number call)) (count_of reports Errors (syscall_number call))
 
 unfoldable pub total_row : List Report → List ℕ
 total_row reports = two_counts_row (codes "total") (total_of reports Calls) (total_of reports Errors)
@@ -125,7 +127,8 @@ fault_row reports fault = row_of (fault_name fault) (count_of reports Faults (fa
 
 -- the calls with their errors, by number, and their total
 unfoldable pub call_counts : List Report → List ℕ
-call_counts reports = codes "syscall calls errors" ++ newline ∷ [] ++ flat_map (call_row reports) syscalls ++ total_row reports
+call_counts reports =
+    codes "syscall calls errors" ++ newline ∷ [] ++ flat_map (call_row reports) syscalls ++ total_row reports
 
 -- the signals and then the faults, by number
 unfoldable pub other_counts : List Report → List ℕ

@@ -62,13 +62,15 @@ at_step s place None = with_next_opening s
 at_step s place (Some step) = with_stage s (Opening place step)
 
 unfoldable pub with_step_done : TrussState → ℕ → Reply → OpeningStep → TrussState
-with_step_done s place r step = at_step (with_traced s place (learnt (traced_at s place) r step)) place (step_after s.options r step)
+with_step_done s place r step =
+    at_step (with_traced s place (learnt (traced_at s place) r step)) place (step_after s.options r step)
 
 -- ---- refusals
 
 -- A refusal is reported, and what was opened of the process is closed.
 unfoldable pub with_refused_step : TrussState → ℕ → Errno → TrussState
-with_refused_step s place errno = with_stage (with_report s (CannotTrace (traced_at s place).pid errno)) (Closing place OpenNext)
+with_refused_step s place errno =
+    with_stage (with_report s (CannotTrace (traced_at s place).pid errno)) (Closing place OpenNext)
 
 -- The stop on which a process stands was looked at, or stood before truss came: it is not reported any more.
 unfoldable pub with_stop_seen : TrussState → ℕ → TrussState
@@ -85,7 +87,8 @@ with_step_answered s place opening r (Refused errno) = with_refused_step s place
 
 -- a process is traced from now on, and its opening goes on with its status
 unfoldable pub with_control : TrussState → ℕ → ℕ → TrussState
-with_control s pid control = with_stage (with_opened s (newly_traced pid control)) (Opening (length s.traced) OpenStatus)
+with_control s pid control =
+    with_stage (with_opened s (newly_traced pid control)) (Opening (length s.traced) OpenStatus)
 
 unfoldable pub with_refused_control : TrussState → ℕ → Errno → TrussState
 with_refused_control s pid errno = with_next_opening (with_report s (CannotTrace pid errno))

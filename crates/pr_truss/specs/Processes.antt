@@ -6,7 +6,18 @@ use Rattle.pr_truss.specs.declared.processes.Traced.{Traced}
 
 -- a process of which just the control file is open
 unfoldable pub newly_traced : ℕ → ℕ → Traced
-newly_traced pid control = record { pid = pid; control = control; status = None; lstatus = None; memory = None; attached = false; old = 0; seen = false; marks = no_marks }
+newly_traced pid control =
+    record {
+      pid = pid;
+      control = control;
+      status = None;
+      lstatus = None;
+      memory = None;
+      attached = false;
+      old = 0;
+      seen = false;
+      marks = no_marks;
+    }
 
 -- the handle of the file that was opened last: `ctl`, `status`, `lstatus` and `as` are opened in this order
 unfoldable pub last_handle : Traced → ℕ

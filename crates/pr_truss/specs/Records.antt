@@ -52,7 +52,8 @@ status_lwp bytes = option_map (λ words. lwp_of (drop 13 words)) (result_ok (rec
 -- so many statuses of lwps, one after another, and nothing else
 unfoldable pub lwps_in : ℕ → List ℕ → Option (List LwpStatus)
 lwps_in zero bytes = if length bytes == 0 then Some [] else None
-lwps_in (suc n) bytes = option_and_then (λ lwp. option_map (λ more. lwp ∷ more) (lwps_in n (drop lwpstatus_size bytes))) (lwp_in bytes)
+lwps_in (suc n) bytes =
+    option_and_then (λ lwp. option_map (λ more. lwp ∷ more) (lwps_in n (drop lwpstatus_size bytes))) (lwp_in bytes)
 
 -- the lwps of a process: their number, and the status of each
 unfoldable pub lstatus_lwps : List ℕ → Option (List LwpStatus)
@@ -77,7 +78,8 @@ abbrev pub Sees : Option Stops → Option (List LwpStatus) → Type 0
 Sees None None = Unit {0}
 Sees None (Some lwps) = ⊥
 Sees (Some stops) None = ⊥
-Sees (Some stops) (Some lwps) = (stops.count ≡ length (filter is_on_event lwps)) × (stops.first ≡ slice_get (filter is_on_event lwps) 0)
+Sees (Some stops) (Some lwps) =
+    (stops.count ≡ length (filter is_on_event lwps)) × (stops.first ≡ slice_get (filter is_on_event lwps) 0)
 
 -- ---- the exit of a call that makes a child
 

@@ -16,7 +16,8 @@ use Rattle.pr_truss.specs.declared.stages.Stage.TheVariants.{ReadingText}
 
 -- a refusal of something, whose errno ends the line
 abbrev pub refusal_text : List ℕ → List ℕ → Errno → List ℕ
-refusal_text cause name errno = codes "truss: cannot " ++ cause ++ name ++ codes ": " ++ errno_name errno ++ newline ∷ []
+refusal_text cause name errno =
+    codes "truss: cannot " ++ cause ++ name ++ codes ": " ++ errno_name errno ++ newline ∷ []
 
 -- the line of a call of a function
 abbrev pub call_line : Options → ℕ → ℕ → List ℕ → Option Function → List ℕ

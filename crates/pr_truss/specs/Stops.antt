@@ -60,11 +60,13 @@ asked_range o e = if o.count then None else text_range e
 abbrev pub with_event : TrussState → ℕ → LwpStatus → Option Event → TrussState
 with_event s place l None = with_stop_over s place
 with_event s place l (Some e) =
-    if is_selected s.options e then with_text_or_shown s place l (asked_range s.options e) else with_event_over s place l
+    if is_selected s.options e then with_text_or_shown s place l
+    (asked_range s.options e) else with_event_over s place l
 
 -- one old stop less of a process
 unfoldable pub with_old_stop_over : TrussState → ℕ → TrussState
-with_old_stop_over s place = with_stop_over (with_traced s place (record (traced_at s place) { old = (traced_at s place).old - 1 })) place
+with_old_stop_over s place =
+    with_stop_over (with_traced s place (record (traced_at s place) { old = (traced_at s place).old - 1 })) place
 
 -- What truss does at a stop. A stop on request is no event. An old stop, and one that was looked at already, is not
 -- reported, and its child is not opened.
@@ -93,10 +95,12 @@ unfoldable pub after_text : TrussState → ℕ → LwpStatus → Answer → Trus
 after_text s place l Accepted = with_event_over s place l
 after_text s place l (Refused errno) = with_event_over s place l
 after_text s place l Gone = with_closing s place
-after_text s place l Interrupted = if s.leaving then with_event_over s place l else with_interrupt (with_stop_seen s place)
+after_text s place l Interrupted =
+    if s.leaving then with_event_over s place l else with_interrupt (with_stop_seen s place)
 
 unfoldable pub with_text_answered : TrussState → ℕ → LwpStatus → ℕ → Reply → TrussState
-with_text_answered s place l len r = after_text (with_event_shown s place l (text_of len (bytes_in r))) place l (answer_of r)
+with_text_answered s place l len r =
+    after_text (with_event_shown s place l (text_of len (bytes_in r))) place l (answer_of r)
 
 -- The reply to the read of a status. Where it was refused for another reason than an end or an interrupt, no event is
 -- known.
@@ -116,7 +120,8 @@ with_polled s (Some place) = with_stage s (ReadingStatus place)
 
 -- The reply to a poll: the status of the process that it names is read. After a refusal truss polls again.
 unfoldable pub with_poll_answered : TrussState → Reply → Answer → TrussState
-with_poll_answered s r Accepted = with_polled s (option_and_then (λ handle. position (has_control handle) s.traced) (ready_in r))
+with_poll_answered s r Accepted =
+    with_polled s (option_and_then (λ handle. position (has_control handle) s.traced) (ready_in r))
 with_poll_answered s r (Refused errno) = s
 with_poll_answered s r Gone = s
 with_poll_answered s r Interrupted = with_interrupt s

@@ -12,5 +12,7 @@ pub record IsText (bytes : List ℕ) (len : ℕ) : Type 0 where
   pub front : padded asked_limit (take len bytes) ≡ bytes
 
 -- whatever is made of the places and the number of bytes is made of what is shown
-pub text_back : {X : Type 0} (bytes : List ℕ) (len : ℕ) → IsText bytes len → (f : List ℕ → ℕ → X) → f (padded asked_limit (take len bytes)) (length (take len bytes)) ≡ f bytes len
-text_back bytes len h f = ap (λ bs. f bs (length (take len bytes))) h.front ∙ ap (f bytes) (length-take-le len bytes (omega arith))
+pub text_back : {X : Type 0} (bytes : List ℕ) (len : ℕ) → IsText bytes len → (f : List ℕ → ℕ → X)
+    → f (padded asked_limit (take len bytes)) (length (take len bytes)) ≡ f bytes len
+text_back bytes len h f =
+    ap (λ bs. f bs (length (take len bytes))) h.front ∙ ap (f bytes) (length-take-le len bytes (omega arith))

@@ -73,7 +73,17 @@ opening_or s others (Some pid) = record s { stage = OpeningControl pid; begun = 
 
 -- before anything was done
 abbrev pub idle : Options → TrussState
-idle options = record { options = options; begun = 0; traced = []; stage = Finished; aside = Nothing; leaving = false; reports = [] }
+idle options =
+    record {
+      options = options;
+      begun = 0;
+      traced = [];
+      stage = Finished;
+      aside = Nothing;
+      leaving = false;
+      reports =
+          [];
+    }
 
 abbrev pub first_of_program : Options → Option (List ℕ) → TrussState
 first_of_program options None = opening_or (idle options) (idle options) (slice_get options.pids 0)

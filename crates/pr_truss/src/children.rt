@@ -62,7 +62,9 @@ impl Truss {
 
     /// Closes what was opened of a child, and then runs its parent.
     fn close_child(&mut self, parent: usize, place: usize)
-        ensures { self.new ≡ record self.old { state = with_stage self.old.state (Stage.Closing place (AfterClosing.RunParent parent)) } }
+        ensures { self.new
+            ≡ record self.old
+            { state = with_stage self.old.state (Stage.Closing place (AfterClosing.RunParent parent)) } }
     {
         self.go_to(Stage::Closing {
             place,

@@ -74,7 +74,8 @@ fn write_event(
     lwp: &LwpStatus,
     text: &Option<Text>,
 ) -> Result<(), NoMemory>
-    ensures { OnOk result (out.new.items ≡ out.old.items ++ event_text options.now pid lwp.now text.now ++ newline ∷ []) }
+    ensures { OnOk result
+        (out.new.items ≡ out.old.items ++ event_text options.now pid lwp.now text.now ++ newline ∷ []) }
 {
     let came = match text {
         Some(text) => Some((text.as_slice(), text.is_short())),

@@ -21,8 +21,8 @@ pub enum Report {
         lwp: LwpStatus,
         text: Option<Text>,
     },
-    /// A call of a function (`-u`), by its place in the options' list, whose first instruction an lwp has run; with r1 to
-    /// r3 before that instruction.
+    /// A call of a function (`-u`), by its place in the options' list, whose first instruction an lwp has run; with r1
+    /// to r3 before that instruction.
     Called {
         pid: u32,
         lwp: u32,

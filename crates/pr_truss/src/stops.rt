@@ -226,7 +226,8 @@ impl Truss {
 
     /// The process that a poll named.
     fn polled(&self, reply: &Reply) -> Option<usize>
-        ensures { result ≡ option_and_then (λ handle. position (has_control handle) self.now.state.traced) (ready_in reply.now) }
+        ensures { result
+            ≡ option_and_then (λ handle. position (has_control handle) self.now.state.traced) (ready_in reply.now) }
     {
         match ready_in(reply) {
             Some(control) => place_of(&self.traced, control),

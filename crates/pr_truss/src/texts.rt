@@ -31,7 +31,8 @@ impl Model for Text {
 }
 
 impl Text {
-    /// What a read gave that asked for so many bytes: the first `ASKED_LIMIT`, or all where they are fewer. Takes no memory.
+    /// What a read gave that asked for so many bytes: the first `ASKED_LIMIT`, or all where they are fewer. Takes no
+    /// memory.
     pub(crate) fn new(read: &[u8], asked: u64) -> Text
         ensures { result ≡ (take asked_limit read.now, nat_lt (length read.now) asked) }
     {

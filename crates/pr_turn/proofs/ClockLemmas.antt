@@ -15,7 +15,8 @@ use Rattle.pr_turn.specs.declared.making.Made.{Made}
 -- A turn leaves the clock.
 
 -- one of two systems that have it
-either-clock : (b : Bool) (s t : TracedSystem) (clock : ℕ) → s.clock ≡ clock → t.clock ≡ clock → (cond b s t).clock ≡ clock
+either-clock : (b : Bool) (s t : TracedSystem) (clock : ℕ) → s.clock ≡ clock → t.clock ≡ clock
+    → (cond b s t).clock ≡ clock
 either-clock true s t clock h k = h
 either-clock false s t clock h k = k
 
@@ -40,27 +41,33 @@ passed-clock pid p s =
 
 -- ---- ends
 
-pub this_ended-clock : (pid : ℕ) (p : TracedProcess) (status : ℕ) (s : TracedSystem) → (with_this_ended traced pid p status s).clock ≡ s.clock
+pub this_ended-clock : (pid : ℕ) (p : TracedProcess) (status : ℕ) (s : TracedSystem)
+    → (with_this_ended traced pid p status s).clock ≡ s.clock
 unfolding with_this_ended with_parent_signalled with_process
 this_ended-clock pid p status s =
     let passed = passed-clock pid p _ in
     either-clock (p.parent == 0) _ _ s.clock passed passed
 
-if_live-clock : (pid status : ℕ) (s : TracedSystem) (o : Option TracedProcess) → (ended_if_live traced pid status s o).clock ≡ s.clock
+if_live-clock : (pid status : ℕ) (s : TracedSystem) (o : Option TracedProcess)
+    → (ended_if_live traced pid status s o).clock ≡ s.clock
 if_live-clock pid status s None = refl
 if_live-clock pid status s (Some p) = this_ended-clock pid p status s
 
-pub generated-clock : (pid : ℕ) (target : Option ℕ) (g : Sig) (info : Info) (s : TracedSystem) → (generated traced pid target g info s).clock ≡ s.clock
+pub generated-clock : (pid : ℕ) (target : Option ℕ) (g : Sig) (info : Info) (s : TracedSystem)
+    → (generated traced pid target g info s).clock ≡ s.clock
 unfolding generated with_ended with_process
-generated-clock pid target g info s = either-clock (is_kill g) _ _ s.clock (if_live-clock pid (signal_number g) s (live_process s pid)) refl
+generated-clock pid target g info s =
+    either-clock (is_kill g) _ _ s.clock (if_live-clock pid (signal_number g) s (live_process s pid)) refl
 
 module _ (pid : ℕ) (p : TracedProcess) (id : ℕ) (l : TracedLwp) where
   changed-clock : (c : Change) (s : TracedSystem) → (changed traced pid p id l c s).clock ≡ s.clock
   unfolding changed with_process with_lwp_of with_child with_made with_reaped
   changed-clock (files_are files fds) s = refl
   changed-clock (space_is space) s = refl
-  changed-clock (signals target g info) s = either-clock (is_kill g && (target == pid)) _ _ s.clock refl (generated-clock target None g info s)
-  changed-clock (signals_itself g info) s = either-clock (is_kill g) _ _ s.clock refl (generated-clock pid (Some id) g info s)
+  changed-clock (signals target g info) s =
+      either-clock (is_kill g && (target == pid)) _ _ s.clock refl (generated-clock target None g info s)
+  changed-clock (signals_itself g info) s =
+      either-clock (is_kill g) _ _ s.clock refl (generated-clock pid (Some id) g info s)
   changed-clock (takes_shared g) s = refl
   changed-clock (job_stops g) s = refl
   changed-clock (disposition_is g disposition) s = refl
@@ -88,7 +95,9 @@ module _ (pid : ℕ) (p : TracedProcess) (id : ℕ) (l : TracedLwp) where
   unfolding after_transition with_lwp_of with_process
   transition-clock t s = ended-clock t.ending _ ∙ all_changed-clock t.changes s
 
-pub clock-after : (s new counted met : TracedSystem) (pid id : ℕ) (did : Made) (stop : Bool) (f g : TracedProcess → TracedProcess) → TurnMakes s new pid id did stop → counted ≡ with_process pid f new → met ≡ with_process pid g counted → met.clock ≡ s.clock
+pub clock-after : (s new counted met : TracedSystem) (pid id : ℕ) (did : Made) (stop : Bool)
+    (f g : TracedProcess → TracedProcess) → TurnMakes s new pid id did stop → counted ≡ with_process pid f new
+    → met ≡ with_process pid g counted → met.clock ≡ s.clock
 unfolding with_process
 clock-after s new counted met pid id did stop f g makes e h =
     ap (λ (t : TracedSystem). t.clock) h

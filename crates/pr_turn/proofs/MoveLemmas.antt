@@ -41,13 +41,15 @@ pub ruleset room_laws = (fault_signal-room)
 
 -- ---- results
 
-pub stored-kept : (call : Sysno) (v : ℕ) (regs : List ℕ) → keeps_registers call ≡ true → stored call (Value v) regs ≡ regs
+pub stored-kept : (call : Sysno) (v : ℕ) (regs : List ℕ) → keeps_registers call ≡ true
+    → stored call (Value v) regs ≡ regs
 unfolding stored
 stored-kept Sigreturn v regs e = refl
 stored-kept Exec v regs e = refl
 stored-kept _ v regs e = absurd (cc)
 
-pub stored-other : (call : Sysno) (r : Res) (regs : List ℕ) → keeps_registers call ≡ false → stored call r regs ≡ with_result r regs
+pub stored-other : (call : Sysno) (r : Res) (regs : List ℕ) → keeps_registers call ≡ false
+    → stored call r regs ≡ with_result r regs
 unfolding stored
 stored-other Sigreturn r regs e = absurd (cc)
 stored-other Exec r regs e = absurd (cc)
@@ -69,7 +71,8 @@ pub ruleset stored_laws = (stored-kept, stored-other, stored-error, stored-ended
 
 -- ---- instructions
 
-finished-moved : (e : InstructionEffect) (l : TracedLwp) → finished (stepped (outcome_of e) l).effect (stepped (outcome_of e) l).lwp ≡ executed_by e l
+finished-moved : (e : InstructionEffect) (l : TracedLwp)
+    → finished (stepped (outcome_of e) l).effect (stepped (outcome_of e) l).lwp ≡ executed_by e l
 unfolding finished stepped ran executed_by executed_move moved traced fault_incurred step_taken
 finished-moved (runs regs store) l = by l.control.step
   where
@@ -79,17 +82,22 @@ finished-moved (runs regs store) l = by l.control.step
     unmarked : List ℕ → TracedLwp → Stepped Pending
     unmarked regs l = record { lwp = with_regs regs l; effect = Ran }
 
-    by : (b : Bool) → finished (cond b (marked regs l) (unmarked regs l)).effect (cond b (marked regs l) (unmarked regs l)).lwp ≡ moved traced (cond b (traps Trace (pc_of regs) regs) (move.runs regs)) l
+    by : (b : Bool)
+        → finished (cond b (marked regs l) (unmarked regs l)).effect (cond b (marked regs l) (unmarked regs l)).lwp
+        ≡ moved traced (cond b (traps Trace (pc_of regs) regs) (move.runs regs)) l
     by true = refl
     by false = refl
 finished-moved (calls call regs) l = refl
 finished-moved (faults f address) l = refl
 finished-moved (runs_into_watch address regs store) l = refl
 
-pub executed-lwp : (e : InstructionEffect) (l l1 : TracedLwp) (x : Effect) → (let r : Stepped Pending = record { lwp = l1; effect = x } in r) ≡ stepped (outcome_of e) l → finished x l1 ≡ executed_by e l
+pub executed-lwp : (e : InstructionEffect) (l l1 : TracedLwp) (x : Effect)
+    → (let r : Stepped Pending = record { lwp = l1; effect = x } in r) ≡ stepped (outcome_of e) l
+    → finished x l1 ≡ executed_by e l
 executed-lwp e l l1 x s = ap (λ (r : Stepped Pending). finished r.effect r.lwp) s ∙ finished-moved e l
 
-pub executed-effect : (e : InstructionEffect) (l l1 : TracedLwp) (x : Effect) → (let r : Stepped Pending = record { lwp = l1; effect = x } in r) ≡ stepped (outcome_of e) l → x ≡ effect_of l e
+pub executed-effect : (e : InstructionEffect) (l l1 : TracedLwp) (x : Effect)
+    → (let r : Stepped Pending = record { lwp = l1; effect = x } in r) ≡ stepped (outcome_of e) l → x ≡ effect_of l e
 unfolding effect_of
 executed-effect e l l1 x s = ap (λ (r : Stepped Pending). r.effect) s
 

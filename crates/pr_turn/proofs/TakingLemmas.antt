@@ -24,7 +24,8 @@ use Rattle.pr_turn.specs.declared.next.NextTurn.TheVariants.{Row as ThisRow, Per
 
 -- ---- an instruction that stores bytes
 
-executed-takes : (p : TracedProcess) (l : TracedLwp) (e : InstructionEffect) → stores_bytes e ≡ true → row_takes (executed_row p l e) ≡ true
+executed-takes : (p : TracedProcess) (l : TracedLwp) (e : InstructionEffect) → stores_bytes e ≡ true
+    → row_takes (executed_row p l e) ≡ true
 unfolding row_takes executed_row ran_row watched_row ran trapped stored_in
 executed-takes p l (runs regs None) stores = absurd (cc)
 executed-takes p l (runs regs (Some store)) stores =
@@ -34,7 +35,8 @@ executed-takes p l (faults f address) stores = absurd (cc)
 executed-takes p l (runs_into_watch address regs None) stores = absurd (cc)
 executed-takes p l (runs_into_watch address regs (Some store)) stores = refl
 
-pub instruction-takes : (p : TracedProcess) (l : TracedLwp) → stores_bytes (instruction_effect p.space p.control.areas l.regs) ≡ true → row_takes (row_of p l Executed) ≡ true
+pub instruction-takes : (p : TracedProcess) (l : TracedLwp)
+    → stores_bytes (instruction_effect p.space p.control.areas l.regs) ≡ true → row_takes (row_of p l Executed) ≡ true
 unfolding row_of
 instruction-takes p l stores = executed-takes p l (instruction_effect p.space p.control.areas l.regs) stores
 
@@ -42,7 +44,8 @@ pub ruleset taking = (instruction-takes)
 
 -- ---- a call
 
-performed-takes : (woken : Bool) (sysno : Sysno) (args : List ℕ) (since : ℕ) (e : Effect) → takes_memory sysno ≡ true → may_lack_memory e ≡ true → row_takes (performed_row woken sysno args since e) ≡ true
+performed-takes : (woken : Bool) (sysno : Sysno) (args : List ℕ) (since : ℕ) (e : Effect) → takes_memory sysno ≡ true
+    → may_lack_memory e ≡ true → row_takes (performed_row woken sysno args since e) ≡ true
 unfolding row_takes performed_row performed
 performed-takes true sysno args since (does result changes) takes lacks = rw (takes, lacks) refl
 performed-takes false sysno args since (does result changes) takes lacks = rw (takes, lacks) refl
@@ -51,21 +54,28 @@ performed-takes woken sysno args since (ends how) takes lacks = absurd (cc)
 
 -- ---- the turn
 
-next-takes : (s : TracedSystem) (pid id : ℕ) (next : NextTurn) (is : IsNext s pid id next) → row_takes (row_of_turn s pid is.process id is.lwp next) ≡ true → may_take_memory s pid id ≡ true
+next-takes : (s : TracedSystem) (pid id : ℕ) (next : NextTurn) (is : IsNext s pid id next)
+    → row_takes (row_of_turn s pid is.process id is.lwp next) ≡ true → may_take_memory s pid id ≡ true
 unfolding may_take_memory
 next-takes s pid id next is takes = rw (is.found, is.stands) (ap row_takes (sym is.row) ∙ takes)
 
-pub row-takes : (s : TracedSystem) (pid id : ℕ) (next : Next) (p : TracedProcess) → IsNext s pid id (ThisRow next) → under pid s.processes ≡ Some p → ((l : TracedLwp) → lwp_of p id ≡ Some l → row_takes (row_of p l next) ≡ true) → may_take_memory s pid id ≡ true
+pub row-takes : (s : TracedSystem) (pid id : ℕ) (next : Next) (p : TracedProcess) → IsNext s pid id (ThisRow next)
+    → under pid s.processes ≡ Some p → ((l : TracedLwp) → lwp_of p id ≡ Some l → row_takes (row_of p l next) ≡ true)
+    → may_take_memory s pid id ≡ true
 row-takes s pid id next p is there takes =
     let same : p ≡ is.process = same_Some p is.process (sym there ∙ live_process-found s pid is.process is.found) in
     let stands : lwp_of p id ≡ Some is.lwp = ap (λ q. lwp_of q id) same ∙ is.stands in
     next-takes s pid id (ThisRow next) is (ap (λ q. row_takes (row_of q is.lwp next)) (sym same) ∙ takes is.lwp stands)
 
 -- a call in which memory ran out, as that of no call that takes none does
-pub call-takes : (s : TracedSystem) (woken : Bool) (r : Request) → IsNext s r.pid r.lwp (Performs woken r.call r.args r.since) → (takes_memory r.call ≡ false → ⊥) → ((p : TracedProcess) → live_process s r.pid ≡ Some p → (l : TracedLwp) → lwp_of p r.lwp ≡ Some l → may_lack_memory (effect_of s p l r) ≡ true) → may_take_memory s r.pid r.lwp ≡ true
+pub call-takes : (s : TracedSystem) (woken : Bool) (r : Request)
+    → IsNext s r.pid r.lwp (Performs woken r.call r.args r.since) → (takes_memory r.call ≡ false → ⊥)
+    → ((p : TracedProcess) → live_process s r.pid ≡ Some p → (l : TracedLwp) → lwp_of p r.lwp ≡ Some l
+    → may_lack_memory (effect_of s p l r) ≡ true) → may_take_memory s r.pid r.lwp ≡ true
 call-takes s woken r is sure lacks =
     elim (cases_Bool (takes_memory r.call)) [
       | inl takes ↦ next-takes s r.pid r.lwp (Performs woken r.call r.args r.since) is
-          (performed-takes woken r.call r.args r.since (effect_of s is.process is.lwp r) takes (lacks is.process is.found is.lwp is.stands))
+          (performed-takes woken r.call r.args r.since (effect_of s is.process is.lwp r) takes
+          (lacks is.process is.found is.lwp is.stands))
       | inr none ↦ absurd (sure none)
     ]

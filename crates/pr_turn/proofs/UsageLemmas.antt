@@ -44,11 +44,14 @@ counted-one n d begun u h =
     let i : instructions_in begun ≤ 1 = instructions_in-one begun in
     record { calls = omega arith; signals = omega arith; faults = omega arith; instructions = omega arith }
 
-AllUsedAtMost-counted : (n pid : ℕ) (d : Did) (begun : Bool) (s : TracedSystem) → AllUsedAtMost n s → AllUsedAtMost (n + 1) (with_process pid (with_counted d begun) s)
+AllUsedAtMost-counted : (n pid : ℕ) (d : Did) (begun : Bool) (s : TracedSystem) → AllUsedAtMost n s
+    → AllUsedAtMost (n + 1) (with_process pid (with_counted d begun) s)
 unfolding with_process with_counted
 AllUsedAtMost-counted n pid d begun s h = record {
   each =
-      All-change_under (HasUsedAtMost (n + 1)) pid (with_counted d begun) s.processes (λ p at within. counted-one n d begun p.control.usage (AllUsedAtMost-under n pid s p at h)) (AllUsedAtMost-more n (n + 1) s (omega arith) h).each;
+      All-change_under (HasUsedAtMost (n + 1)) pid (with_counted d begun) s.processes
+      (λ p at within. counted-one n d begun p.control.usage (AllUsedAtMost-under n pid s p at h))
+      (AllUsedAtMost-more n (n + 1) s (omega arith) h).each;
 }
 
 -- ---- the stop at what was met
@@ -57,13 +60,19 @@ others-usage : (p : TracedProcess) → (with_others_directed p).control.usage �
 unfolding with_others_directed with_all_directed
 others-usage p = elim (cases_Bool (has_flags p.control.modes async_mode)) [ inl e ↦ rw e refl | inr e ↦ rw e refl ]
 
-meeting-usage : (point : Option Point) (id : ℕ) (p : TracedProcess) → (after_meeting point id p).control.usage ≡ p.control.usage
+meeting-usage : (point : Option Point) (id : ℕ) (p : TracedProcess)
+    → (after_meeting point id p).control.usage ≡ p.control.usage
 unfolding after_meeting with_stop_at with_lwp
 meeting-usage None id p = refl
 meeting-usage (Some point) id p =
-    elim (cases_Bool (is_traced p.control point)) [ inl e ↦ rw e (others-usage (with_lwp id (stopped_at point) p)) | inr e ↦ rw e refl ]
+    elim (cases_Bool (is_traced p.control point))
+    [ inl e ↦ rw e (others-usage (with_lwp id (stopped_at point) p)) | inr e ↦ rw e refl ]
 
 -- a turn adds at most 1 to each count
-pub used-after : (n : ℕ) (s counted met : TracedSystem) (pid id : ℕ) (d : Did) (begun : Bool) (point : Option Point) → AllUsedAtMost n s → counted ≡ with_process pid (with_counted d begun) s → met ≡ with_process pid (after_meeting point id) counted → AllUsedAtMost (n + 1) met
+pub used-after : (n : ℕ) (s counted met : TracedSystem) (pid id : ℕ) (d : Did) (begun : Bool) (point : Option Point)
+    → AllUsedAtMost n s → counted ≡ with_process pid (with_counted d begun) s
+    → met ≡ with_process pid (after_meeting point id) counted → AllUsedAtMost (n + 1) met
 used-after n s counted met pid id d begun point h e f =
-    subst (AllUsedAtMost (n + 1)) (sym f) (AllUsedAtMost-with_process (n + 1) pid (after_meeting point id) counted (meeting-usage point id) (subst (AllUsedAtMost (n + 1)) (sym e) (AllUsedAtMost-counted n pid d begun s h)))
+    subst (AllUsedAtMost (n + 1)) (sym f)
+    (AllUsedAtMost-with_process (n + 1) pid (after_meeting point id) counted (meeting-usage point id)
+    (subst (AllUsedAtMost (n + 1)) (sym e) (AllUsedAtMost-counted n pid d begun s h)))

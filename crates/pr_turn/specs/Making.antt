@@ -38,7 +38,8 @@ made_of l Requested = quiet did.Stopped
 made_of l (Posted f address) = quiet (did.Posted f)
 made_of l (Gave woken call args result) = at_point (call_finished woken call result) (point.Exit call)
 made_of l (Ends what status) = quiet what
-made_of l (Returned call) = if l.control.step then at_point (did.Faulted Trace) (point.Fault Trace) else quiet (did.Returned call)
+made_of l (Returned call) =
+    if l.control.step then at_point (did.Faulted Trace) (point.Fault Trace) else quiet (did.Returned call)
 made_of l Executed = quiet did.Ran
 made_of l (TookOwn g) = at_point (did.Took g) (point.Signal g)
 made_of l (TookShared g) = at_point (did.Took g) (point.Signal g)

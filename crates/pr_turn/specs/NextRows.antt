@@ -62,12 +62,13 @@ abbrev pub is_in_program : Phase → Bool
 is_in_program phase.User = true
 is_in_program _ = false
 
--- Whether an lwp has nothing to do but to run an instruction of its program, where these signals pend for its process: it
--- is not directed to stop, and has no signal to act on or to take.
+-- Whether an lwp has nothing to do but to run an instruction of its program, where these signals pend for its process:
+-- it is not directed to stop, and has no signal to act on or to take.
 unfoldable pub runs_on : ℕ → TracedLwp → Bool
 runs_on shared l =
     is_in_program l.phase
-    && (not l.control.directed && (not (is_some l.current) && not (is_some (takeable_signal (pending_set l.pending) shared l.held))))
+    && (not l.control.directed
+    && (not (is_some l.current) && not (is_some (takeable_signal (pending_set l.pending) shared l.held))))
 
 -- the row of the next turn of an lwp
 abbrev pub row_of_turn : TracedSystem → ℕ → TracedProcess → ℕ → TracedLwp → NextTurn → Row

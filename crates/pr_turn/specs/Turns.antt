@@ -46,7 +46,8 @@ pub record IsTurned (s new : TracedSystem) (pid id : ℕ) (turned : Turned) : Ty
   pub stop : Bool
   pub after : TracedSystem
   pub makes : TurnMakes s after pid id did stop
-  pub settled : new ≡ with_process pid (after_meeting did.point id) (with_process pid (with_counted did.did did.begun) after)
+  pub settled : new
+      ≡ with_process pid (after_meeting did.point id) (with_process pid (with_counted did.did did.begun) after)
   pub told : turned ≡ record { did = did.did; stop = stop }
 
 -- whether an instruction can have done this: it ran, or came to a system call or to a fault

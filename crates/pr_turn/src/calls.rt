@@ -105,7 +105,8 @@ pub fn perform_next(
     request: &Request,
 ) -> Result<(Made, bool), NoMemory>
     requires lawful { IsLawfulSystem sys.old }
-    requires next { IsNext sys.old request.now.pid request.now.lwp (NextTurn.Performs woken request.now.call request.now.args request.now.since) }
+    requires next { IsNext sys.old request.now.pid request.now.lwp
+        (NextTurn.Performs woken request.now.call request.now.args request.now.since) }
     ensures ok { IfOk result (λ made. TurnMakes sys.old sys.new request.now.pid request.now.lwp made.0 made.1) }
     ensures memory { OnErr result (may_take_memory sys.old request.now.pid request.now.lwp ≡ true) }
     ensures err { OnErr result (sys.new ≡ sys.old) }

@@ -54,14 +54,26 @@ fn run_under(
 ) -> Result<Option<Effect>, NoMemory>
     requires { IsSome (under id lwps.old) }
     ensures runs { IfOk result (λ ran. IfSome ran (λ effect. ForSome (under id lwps.old) (λ l. runs_on shared l ≡ true))) }
-    ensures lwps { IfOk result (λ ran. IfSome ran (λ effect. ForSome (under id lwps.old) (λ l. lwps.new ≡ change_under id (executed_by (instruction_effect space.old areas.now l.regs)) lwps.old))) }
-    ensures space { IfOk result (λ ran. IfSome ran (λ effect. ForSome (under id lwps.old) (λ l. space.new ≡ space_after (instruction_effect space.old areas.now l.regs) space.old))) }
-    ensures effect { IfOk result (λ ran. IfSome ran (λ effect. ForSome (under id lwps.old) (λ l. effect ≡ effect_of l (instruction_effect space.old areas.now l.regs)))) }
+    ensures lwps { IfOk result
+        (λ ran. IfSome ran
+        (λ effect.
+        ForSome (under id lwps.old)
+        (λ l. lwps.new ≡ change_under id (executed_by (instruction_effect space.old areas.now l.regs)) lwps.old))) }
+    ensures space { IfOk result
+        (λ ran. IfSome ran
+        (λ effect.
+        ForSome (under id lwps.old)
+        (λ l. space.new ≡ space_after (instruction_effect space.old areas.now l.regs) space.old))) }
+    ensures effect { IfOk result
+        (λ ran. IfSome ran
+        (λ effect.
+        ForSome (under id lwps.old) (λ l. effect ≡ effect_of l (instruction_effect space.old areas.now l.regs)))) }
     ensures other_lwps { IfOk result (λ ran. IfNone ran (lwps.new ≡ lwps.old)) }
     ensures other_space { IfOk result (λ ran. IfNone ran (space.new ≡ space.old)) }
     ensures rests { IfOk result (λ ran. IfNone ran (ForSome (under id lwps.old) (λ l. runs_on shared l ≡ false))) }
     ensures ran { OnErr result (ForSome (under id lwps.old) (λ l. runs_on shared l ≡ true)) }
-    ensures memory { OnErr result (ForSome (under id lwps.old) (λ l. stores_bytes (instruction_effect space.old areas.now l.regs) ≡ true)) }
+    ensures memory { OnErr result
+        (ForSome (under id lwps.old) (λ l. stores_bytes (instruction_effect space.old areas.now l.regs) ≡ true)) }
     ensures kept_lwps { OnErr result (lwps.new ≡ lwps.old) }
     ensures kept_space { OnErr result (space.new ≡ space.old) }
 {
@@ -77,13 +89,28 @@ fn run_under(
 #[tactic(auto, using(crate::proofs::MakeLemmas::making, crate::proofs::TakingLemmas::taking))]
 fn run_in(process: &mut Proc, id: u32) -> Result<Option<Effect>, NoMemory>
     requires { IsSome (lwp_of process.old id) }
-    ensures runs { IfOk result (λ ran. IfSome ran (λ effect. ForSome (lwp_of process.old id) (λ l. runs_on (pending_set process.old.pending) l ≡ true))) }
-    ensures process { IfOk result (λ ran. IfSome ran (λ effect. ForSome (lwp_of process.old id) (λ l. process.new ≡ process_after id (row_of process.old l Next.Executed).transition process.old))) }
-    ensures made { IfOk result (λ ran. IfSome ran (λ effect. ForSome (lwp_of process.old id) (λ l. made_by effect ≡ of_row (row_of process.old l Next.Executed)))) }
+    ensures runs { IfOk result
+        (λ ran. IfSome ran
+        (λ effect. ForSome (lwp_of process.old id) (λ l. runs_on (pending_set process.old.pending) l ≡ true))) }
+    ensures process { IfOk result
+        (λ ran. IfSome ran
+        (λ effect.
+        ForSome (lwp_of process.old id)
+        (λ l. process.new ≡ process_after id (row_of process.old l Next.Executed).transition process.old))) }
+    ensures made { IfOk result
+        (λ ran. IfSome ran
+        (λ effect.
+        ForSome (lwp_of process.old id) (λ l. made_by effect ≡ of_row (row_of process.old l Next.Executed)))) }
     // with the address of a fault, of which no row tells
-    ensures effect { IfOk result (λ ran. IfSome ran (λ effect. ForSome (lwp_of process.old id) (λ l. effect ≡ effect_of l (instruction_effect process.old.space process.old.control.areas l.regs)))) }
+    ensures effect { IfOk result
+        (λ ran. IfSome ran
+        (λ effect.
+        ForSome (lwp_of process.old id)
+        (λ l. effect ≡ effect_of l (instruction_effect process.old.space process.old.control.areas l.regs)))) }
     ensures other { IfOk result (λ ran. IfNone ran (process.new ≡ process.old)) }
-    ensures rests { IfOk result (λ ran. IfNone ran (ForSome (lwp_of process.old id) (λ l. runs_on (pending_set process.old.pending) l ≡ false))) }
+    ensures rests { IfOk result
+        (λ ran. IfNone ran
+        (ForSome (lwp_of process.old id) (λ l. runs_on (pending_set process.old.pending) l ≡ false))) }
     ensures ran { OnErr result (ForSome (lwp_of process.old id) (λ l. runs_on (pending_set process.old.pending) l ≡ true)) }
     ensures memory { OnErr result (ForSome (lwp_of process.old id) (λ l. row_takes (row_of process.old l Next.Executed) ≡ true)) }
     ensures err { OnErr result (process.new ≡ process.old) }
@@ -124,20 +151,25 @@ fn finish(process: &mut Proc, id: u32, effect: Effect) -> Turned
     }
 }
 
-/// The turn of an lwp that can have one, if it runs an instruction, before which no signal is acted on or taken. `None`:
-/// the turn is another one, and the system stays as it is. Where memory runs out, it stays so too; only an instruction
-/// that stores bytes takes any.
+/// The turn of an lwp that can have one, if it runs an instruction, before which no signal is acted on or taken.
+/// `None`: the turn is another one, and the system stays as it is. Where memory runs out, it stays so too; only an
+/// instruction that stores bytes takes any.
 pub fn run_instruction(sys: &mut Sys, pid: u32, id: u32) -> Result<Option<Turned>, NoMemory>
     requires movable { can_move sys.old pid id ≡ true }
     // the counts of use do not wrap
     requires room { AllUsedAtMost (2 ^ 64 - 2) sys.old }
-    ensures ok { IfOk result (λ ran. IfSome ran (λ turned. turn_of sys.old pid id ≡ Some (record { system = sys.new; turned = turned }))) }
+    ensures ok { IfOk result
+        (λ ran. IfSome ran (λ turned. turn_of sys.old pid id ≡ Some (record { system = sys.new; turned = turned }))) }
     ensures did { IfOk result (λ ran. IfSome ran (λ turned. is_of_instruction turned.did ≡ true)) }
     // a turn adds at most 1 to each count
-    ensures used { IfOk result (λ ran. IfSome ran (λ turned. (n : ℕ) → AllUsedAtMost n sys.old → AllUsedAtMost (n + 1) sys.new)) }
+    ensures used { IfOk result
+        (λ ran. IfSome ran (λ turned. (n : ℕ) → AllUsedAtMost n sys.old → AllUsedAtMost (n + 1) sys.new)) }
     ensures clock { IfOk result (λ ran. IfSome ran (λ turned. sys.new.clock ≡ sys.old.clock)) }
     ensures other { IfOk result (λ ran. IfNone ran (sys.new ≡ sys.old)) }
-    ensures rests { IfOk result (λ ran. IfNone ran (ForSome (live_process sys.old pid) (λ p. ForSome (lwp_of p id) (λ l. runs_on (pending_set p.pending) l ≡ false)))) }
+    ensures rests { IfOk result
+        (λ ran. IfNone ran
+        (ForSome (live_process sys.old pid)
+        (λ p. ForSome (lwp_of p id) (λ l. runs_on (pending_set p.pending) l ≡ false)))) }
     ensures sure { may_take_memory sys.old pid id ≡ false → IsOk result }
     ensures err { OnErr result (sys.new ≡ sys.old) }
 {

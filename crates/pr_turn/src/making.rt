@@ -121,10 +121,18 @@ fn execute_under(
     areas: &Areas,
 ) -> Result<Made, NoMemory>
     requires { IsSome (under id lwps.old) }
-    ensures lwps { OnOk result (ForSome (under id lwps.old) (λ l. lwps.new ≡ change_under id (executed_by (instruction_effect space.old areas.now l.regs)) lwps.old)) }
-    ensures space { OnOk result (ForSome (under id lwps.old) (λ l. space.new ≡ space_after (instruction_effect space.old areas.now l.regs) space.old)) }
-    ensures made { IfOk result (λ made. ForSome (under id lwps.old) (λ l. made ≡ made_by (effect_of l (instruction_effect space.old areas.now l.regs)))) }
-    ensures memory { OnErr result (ForSome (under id lwps.old) (λ l. stores_bytes (instruction_effect space.old areas.now l.regs) ≡ true)) }
+    ensures lwps { OnOk result
+        (ForSome (under id lwps.old)
+        (λ l. lwps.new ≡ change_under id (executed_by (instruction_effect space.old areas.now l.regs)) lwps.old)) }
+    ensures space { OnOk result
+        (ForSome (under id lwps.old)
+        (λ l. space.new ≡ space_after (instruction_effect space.old areas.now l.regs) space.old)) }
+    ensures made { IfOk result
+        (λ made.
+        ForSome (under id lwps.old)
+        (λ l. made ≡ made_by (effect_of l (instruction_effect space.old areas.now l.regs)))) }
+    ensures memory { OnErr result
+        (ForSome (under id lwps.old) (λ l. stores_bytes (instruction_effect space.old areas.now l.regs) ≡ true)) }
     ensures kept_lwps { OnErr result (lwps.new ≡ lwps.old) }
     ensures kept_space { OnErr result (space.new ≡ space.old) }
 {
@@ -171,14 +179,17 @@ fn stop_by_job(process: &mut Proc, id: u32, signal: Sig)
     drop_current_under(&mut process.lwps, id);
 }
 
-/// Runs the instruction at pc of the lwp of an id in a process, and answers what it did. Only one that stores bytes takes
-/// memory; where that runs out nothing is changed.
+/// Runs the instruction at pc of the lwp of an id in a process, and answers what it did. Only one that stores bytes
+/// takes memory; where that runs out nothing is changed.
 #[tactic(auto, using(crate::proofs::MakeLemmas::making, crate::proofs::TakingLemmas::taking))]
 #[inline]
 fn execute(process: &mut Proc, id: u32) -> Result<Made, NoMemory>
     requires { IsSome (lwp_of process.old id) }
-    ensures process { OnOk result (ForSome (lwp_of process.old id) (λ l. process.new ≡ process_after id (row_of process.old l Next.Executed).transition process.old)) }
-    ensures made { IfOk result (λ made. ForSome (lwp_of process.old id) (λ l. made ≡ of_row (row_of process.old l Next.Executed))) }
+    ensures process { OnOk result
+        (ForSome (lwp_of process.old id)
+        (λ l. process.new ≡ process_after id (row_of process.old l Next.Executed).transition process.old)) }
+    ensures made { IfOk result
+        (λ made. ForSome (lwp_of process.old id) (λ l. made ≡ of_row (row_of process.old l Next.Executed))) }
     ensures memory { OnErr result (ForSome (lwp_of process.old id) (λ l. row_takes (row_of process.old l Next.Executed) ≡ true)) }
     ensures err { OnErr result (process.new ≡ process.old) }
 {
@@ -197,7 +208,9 @@ pub fn make(process: &mut Proc, id: u32, next: Next) -> Result<Made, NoMemory>
     requires found { IsSome (lwp_of process.old id) }
     requires lives { ends next ≡ false }
     requires fits { ForSome (lwp_of process.old id) (λ l. fits l next ≡ true) }
-    ensures process { OnOk result (ForSome (lwp_of process.old id) (λ l. process.new ≡ process_after id (row_of process.old l next).transition process.old)) }
+    ensures process { OnOk result
+        (ForSome (lwp_of process.old id)
+        (λ l. process.new ≡ process_after id (row_of process.old l next).transition process.old)) }
     ensures made { IfOk result (λ made. ForSome (lwp_of process.old id) (λ l. made ≡ of_row (row_of process.old l next))) }
     ensures memory { OnErr result (ForSome (lwp_of process.old id) (λ l. row_takes (row_of process.old l next) ≡ true)) }
     ensures err { OnErr result (process.new ≡ process.old) }
@@ -222,9 +235,13 @@ pub fn make_and_ask(process: &mut Proc, id: u32, next: Next) -> Result<(Made, bo
     requires found { IsSome (lwp_of process.old id) }
     requires lives { ends next ≡ false }
     requires fits { ForSome (lwp_of process.old id) (λ l. fits l next ≡ true) }
-    ensures process { OnOk result (ForSome (lwp_of process.old id) (λ l. process.new ≡ process_after id (row_of process.old l next).transition process.old)) }
+    ensures process { OnOk result
+        (ForSome (lwp_of process.old id)
+        (λ l. process.new ≡ process_after id (row_of process.old l next).transition process.old)) }
     ensures made { IfOk result (λ made. ForSome (lwp_of process.old id) (λ l. made.0 ≡ of_row (row_of process.old l next))) }
-    ensures stop { IfOk result (λ made. ForSome (lwp_of process.old id) (λ l. made.1 ≡ meets process.old.control (row_of process.old l next).point)) }
+    ensures stop { IfOk result
+        (λ made.
+        ForSome (lwp_of process.old id) (λ l. made.1 ≡ meets process.old.control (row_of process.old l next).point)) }
     ensures memory { OnErr result (ForSome (lwp_of process.old id) (λ l. row_takes (row_of process.old l next) ≡ true)) }
     ensures err { OnErr result (process.new ≡ process.old) }
 {

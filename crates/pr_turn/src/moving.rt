@@ -201,8 +201,8 @@ fn finish(lwp: &mut Lwp, effect: Effect)
     }
 }
 
-/// Runs the instruction at pc, and brings the lwp to the system call or the fault to which it came. Memory runs out only
-/// for what it stores; nothing is changed then.
+/// Runs the instruction at pc, and brings the lwp to the system call or the fault to which it came. Memory runs out
+/// only for what it stores; nothing is changed then.
 #[tactic(auto, using(crate::proofs::MoveLemmas::executed_laws))]
 pub fn execute_lwp(lwp: &mut Lwp, space: &mut Space, areas: &Areas) -> Result<Effect, NoMemory>
     ensures lwp { OnOk result (lwp.new ≡ executed_by (instruction_effect space.old areas.now lwp.old.regs) lwp.old) }

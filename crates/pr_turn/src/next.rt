@@ -118,9 +118,13 @@ fn interrupted(woken: bool, call: Sysno, args: [u64; 6]) -> Next
 /// An lwp in a system call, since some moment, performs it; one whose call was aborted gets EINTR.
 #[tactic(auto, using(crate::proofs::NextLemmas::performing))]
 fn at_call(lwp: &Lwp, woken: bool, call: Sysno, args: [u64; 6], since: u64) -> NextTurn
-    ensures row { (s : TracedSystem) (pid : ℕ) (p : TracedProcess) (id : ℕ) → row_of_turn s pid p id lwp.now result ≡ call_row s pid p id lwp.now woken call args since }
+    ensures row { (s : TracedSystem) (pid : ℕ) (p : TracedProcess) (id : ℕ)
+        → row_of_turn s pid p id lwp.now result ≡ call_row s pid p id lwp.now woken call args since }
     ensures fits { turn_fits lwp.now result ≡ true }
-    ensures asks { (clock pid id : ℕ) → request_in clock pid id lwp.now lwp.now.phase ≡ Some (record { pid = pid; lwp = id; since = since; call = call; args = args }) → Asks clock pid id lwp.now result }
+    ensures asks { (clock pid id : ℕ)
+        → request_in clock pid id lwp.now lwp.now.phase
+        ≡ Some (record { pid = pid; lwp = id; since = since; call = call; args = args })
+        → Asks clock pid id lwp.now result }
 {
     if lwp.control.abort {
         return NextTurn::Row(interrupted(woken, call, args));
@@ -188,7 +192,9 @@ fn acted(process: &Proc, lwp: &Lwp, current: Current) -> Next
 /// The row of the signal that an lwp takes, if there is one: from those that pend for it alone first.
 #[tactic(auto, unfolding(crate::specs::NextRows::row_of, pr_model::specs::Signals::own_takeable, pr_model::specs::Signals::shared_takeable, pr_model::specs::Signals::takeable, pr_parts::specs::SignalRules::takeable_signal, pr_num::specs::Signals::least_signal))]
 fn taken(process: &Proc, lwp: &Lwp) -> Option<Next>
-    ensures row { (s : TracedSystem) (pid id : ℕ) (otherwise : Row) → row_or process.now lwp.now result otherwise ≡ taken_or s pid process.now id lwp.now (own_takeable lwp.now) (shared_takeable process.now lwp.now) otherwise }
+    ensures row { (s : TracedSystem) (pid id : ℕ) (otherwise : Row)
+        → row_or process.now lwp.now result otherwise
+        ≡ taken_or s pid process.now id lwp.now (own_takeable lwp.now) (shared_takeable process.now lwp.now) otherwise }
     ensures fits { IfSome result (λ next. fits lwp.now next ≡ true) }
 {
     if let Some(signal) = lwp.pending.set().minus(lwp.held).first() {
@@ -202,7 +208,10 @@ fn taken(process: &Proc, lwp: &Lwp) -> Option<Next>
 /// decides.
 fn taken_or(process: &Proc, lwp: &Lwp, otherwise: Next) -> Next
     requires { fits lwp.now otherwise ≡ true }
-    ensures row { (s : TracedSystem) (pid id : ℕ) → row_of process.now lwp.now result ≡ taken_or s pid process.now id lwp.now (own_takeable lwp.now) (shared_takeable process.now lwp.now) (row_of process.now lwp.now otherwise) }
+    ensures row { (s : TracedSystem) (pid id : ℕ)
+        → row_of process.now lwp.now result
+        ≡ taken_or s pid process.now id lwp.now (own_takeable lwp.now) (shared_takeable process.now lwp.now)
+        (row_of process.now lwp.now otherwise) }
     ensures fits { fits lwp.now result ≡ true }
 {
     match taken(process, lwp) {
@@ -213,9 +222,15 @@ fn taken_or(process: &Proc, lwp: &Lwp, otherwise: Next) -> Next
 
 /// An lwp that sleeps takes a signal, or its call is over.
 fn asleep(process: &Proc, lwp: &Lwp, call: Sysno, args: [u64; 6], since: u64) -> NextTurn
-    ensures row { (s : TracedSystem) (pid id : ℕ) → row_of_turn s pid process.now id lwp.now result ≡ taken_or s pid process.now id lwp.now (own_takeable lwp.now) (shared_takeable process.now lwp.now) (call_row s pid process.now id lwp.now true call args since) }
+    ensures row { (s : TracedSystem) (pid id : ℕ)
+        → row_of_turn s pid process.now id lwp.now result
+        ≡ taken_or s pid process.now id lwp.now (own_takeable lwp.now) (shared_takeable process.now lwp.now)
+        (call_row s pid process.now id lwp.now true call args since) }
     ensures fits { turn_fits lwp.now result ≡ true }
-    ensures asks { (clock pid id : ℕ) → request_in clock pid id lwp.now lwp.now.phase ≡ Some (record { pid = pid; lwp = id; since = since; call = call; args = args }) → Asks clock pid id lwp.now result }
+    ensures asks { (clock pid id : ℕ)
+        → request_in clock pid id lwp.now lwp.now.phase
+        ≡ Some (record { pid = pid; lwp = id; since = since; call = call; args = args })
+        → Asks clock pid id lwp.now result }
 {
     match taken(process, lwp) {
         Some(next) => NextTurn::Row(next),
@@ -225,7 +240,10 @@ fn asleep(process: &Proc, lwp: &Lwp, call: Sysno, args: [u64; 6], since: u64) ->
 
 /// An lwp in its program takes a signal, or runs an instruction.
 fn in_program(process: &Proc, lwp: &Lwp) -> Next
-    ensures row { (s : TracedSystem) (pid id : ℕ) → row_of process.now lwp.now result ≡ taken_or s pid process.now id lwp.now (own_takeable lwp.now) (shared_takeable process.now lwp.now) (row_of process.now lwp.now Next.Executed) }
+    ensures row { (s : TracedSystem) (pid id : ℕ)
+        → row_of process.now lwp.now result
+        ≡ taken_or s pid process.now id lwp.now (own_takeable lwp.now) (shared_takeable process.now lwp.now)
+        (row_of process.now lwp.now Next.Executed) }
     ensures fits { fits lwp.now result ≡ true }
 {
     taken_or(process, lwp, Next::Executed)
@@ -233,7 +251,10 @@ fn in_program(process: &Proc, lwp: &Lwp) -> Next
 
 /// An lwp on its way out of a call takes a signal, or goes back to its program.
 fn leaving(process: &Proc, lwp: &Lwp, call: Sysno) -> Next
-    ensures row { (s : TracedSystem) (pid id : ℕ) → row_of process.now lwp.now result ≡ taken_or s pid process.now id lwp.now (own_takeable lwp.now) (shared_takeable process.now lwp.now) (row_of process.now lwp.now (Next.Returned call)) }
+    ensures row { (s : TracedSystem) (pid id : ℕ)
+        → row_of process.now lwp.now result
+        ≡ taken_or s pid process.now id lwp.now (own_takeable lwp.now) (shared_takeable process.now lwp.now)
+        (row_of process.now lwp.now (Next.Returned call)) }
     ensures fits { fits lwp.now result ≡ true }
 {
     taken_or(process, lwp, Next::Returned(call))
@@ -242,7 +263,9 @@ fn leaving(process: &Proc, lwp: &Lwp, call: Sysno) -> Next
 /// An lwp takes a signal, or its phase decides; one at a call that it has not made takes none.
 #[tactic(auto, using(crate::proofs::NextLemmas::phases))]
 fn in_phase(clock: u64, process: &Proc, lwp: &Lwp) -> NextTurn
-    ensures row { (s : TracedSystem) (pid id : ℕ) → s.clock ≡ clock → row_of_turn s pid process.now id lwp.now result ≡ signal_row_or s pid process.now id lwp.now lwp.now.phase (row_in s pid process.now id lwp.now lwp.now.phase) }
+    ensures row { (s : TracedSystem) (pid id : ℕ) → s.clock ≡ clock
+        → row_of_turn s pid process.now id lwp.now result
+        ≡ signal_row_or s pid process.now id lwp.now lwp.now.phase (row_in s pid process.now id lwp.now lwp.now.phase) }
     ensures fits { turn_fits lwp.now result ≡ true }
     ensures asks { (pid id : ℕ) → Asks clock pid id lwp.now result }
 {
@@ -269,7 +292,8 @@ fn unposted_fault(phase: Phase) -> Option<(Flt, u64)>
 /// current signal is acted on; a signal is taken; and then the phase decides.
 #[tactic(auto, using(crate::proofs::NextLemmas::rows))]
 pub fn next_row(clock: u64, process: &Proc, lwp: &Lwp) -> NextTurn
-    ensures row { (s : TracedSystem) (pid id : ℕ) → s.clock ≡ clock → row_of_turn s pid process.now id lwp.now result ≡ row_for s pid process.now id lwp.now }
+    ensures row { (s : TracedSystem) (pid id : ℕ) → s.clock ≡ clock
+        → row_of_turn s pid process.now id lwp.now result ≡ row_for s pid process.now id lwp.now }
     ensures fits { turn_fits lwp.now result ≡ true }
     ensures asks { (pid id : ℕ) → Asks clock pid id lwp.now result }
 {

@@ -98,7 +98,9 @@ pub fn settle(process: &mut Proc, id: u32, made: Made)
 #[tactic(auto, unfolding(pr_model::specs::LwpTurns::may_wake))]
 #[inline(never)]
 fn may_wake(sys: &Sys, process: &Proc, lwp: &Lwp, request: &Request) -> bool
-    ensures { result ≡ may_wake sys.now request.now.pid process.now request.now.lwp lwp.now request.now.since request.now.call request.now.args }
+    ensures { result
+        ≡ may_wake sys.now request.now.pid process.now request.now.lwp lwp.now request.now.since request.now.call
+        request.now.args }
 {
     lwp.control.directed
         || lwp.current.is_some()
@@ -200,7 +202,8 @@ fn turn_in(sys: &mut Sys, pid: u32, id: u32, next: Next) -> Result<Turned, NoMem
 #[tactic(auto, using(crate::proofs::SettleLemmas::settling))]
 fn settle_under(sys: &mut Sys, pid: u32, id: u32, made: Made)
     requires { AllUsedAtMost (2 ^ 64 - 2) sys.old }
-    ensures { sys.new ≡ with_process pid (after_meeting made.point id) (with_process pid (with_counted made.did made.begun) sys.old) }
+    ensures { sys.new
+        ≡ with_process pid (after_meeting made.point id) (with_process pid (with_counted made.did made.begun) sys.old) }
 {
     if let Some(process) = sys.processes.find_mut(pid) {
         settle(process, id, made);
@@ -242,7 +245,8 @@ fn turn_in_call(
     request: &Request,
 ) -> Result<Turned, NoMemory>
     requires lawful { IsLawfulSystem sys.old }
-    requires next { IsNext sys.old request.now.pid request.now.lwp (NextTurn.Performs woken request.now.call request.now.args request.now.since) }
+    requires next { IsNext sys.old request.now.pid request.now.lwp
+        (NextTurn.Performs woken request.now.call request.now.args request.now.since) }
     requires room { AllUsedAtMost (2 ^ 64 - 2) sys.old }
     ensures ok { IfOk result (λ turned. IsTurned sys.old sys.new request.now.pid request.now.lwp turned) }
     ensures memory { OnErr result (may_take_memory sys.old request.now.pid request.now.lwp ≡ true) }

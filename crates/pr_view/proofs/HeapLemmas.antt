@@ -14,7 +14,13 @@ heap_size-mapped : (space : Space) → heap_size space ≤ mapped_size space
 heap_size-mapped [] = omega arith
 heap_size-mapped (m ∷ space) =
     let cons : (f : Mapping → ℕ) → sum_by f (m ∷ space) ≡ f m + sum_by f space = λ f. sum_by-cons f m space in
-    omega (arith, cons (λ n. cond (is_heap n.kind) (length n.bytes) 0), cons (λ n. length n.bytes), part (is_heap m.kind) (length m.bytes), heap_size-mapped space)
+    omega (
+      arith,
+      cons (λ n. cond (is_heap n.kind) (length n.bytes) 0),
+      cons (λ n. length n.bytes),
+      part (is_heap m.kind) (length m.bytes),
+      heap_size-mapped space,
+    )
 
 -- its size is a word
 pub IsSpace-heap : (space : Space) → IsSpace space → heap_size space < 2 ^ 64

@@ -6,7 +6,8 @@ use Rattle.pr_stop.specs.Classes.{id_found, lwp_found}
 
 -- The status of the representative lwp, by its id and by itself.
 
-pub status-found : (p : TracedProcess) (o : Option (ℕ × TracedLwp)) (id : ℕ) (l : TracedLwp) → Some id ≡ id_found o → Some l ≡ lwp_found o → lwpstatus_of p id l ≡ status_of_found p o
+pub status-found : (p : TracedProcess) (o : Option (ℕ × TracedLwp)) (id : ℕ) (l : TracedLwp) → Some id ≡ id_found o
+    → Some l ≡ lwp_found o → lwpstatus_of p id l ≡ status_of_found p o
 status-found p None id l e there = absurd (cc)
 status-found p (Some r) id l e there =
     let same_id : id ≡ r.0 = cc in

@@ -54,7 +54,8 @@ fn fds_of(alloc: Global, files: &Files, fds: &Fds) -> Result<Vec<FdEntry>, NoMem
 /// The bytes of the open descriptors of a process. They decode to these.
 pub fn fds_bytes(alloc: Global, files: &Files, fds: &Fds) -> Result<Bytes, NoMemory>
     ensures bytes { IfOk result (λ bytes. bytes ≡ fds_bytes (fd_entries_from files.now 0 fds.now)) }
-    ensures decodes { IfOk result (λ bytes. HasEntries fd_entry_ranges fd_entry_words_of (fd_entries_from files.now 0 fds.now) bytes) }
+    ensures decodes { IfOk result
+        (λ bytes. HasEntries fd_entry_ranges fd_entry_words_of (fd_entries_from files.now 0 fds.now) bytes) }
 {
     let entries = fds_of(alloc, files, fds)?;
     write_fds(alloc, &entries)

@@ -31,11 +31,13 @@ fn lstatus_of(alloc: Global, process: &Proc) -> Result<Vec<LwpStatus>, NoMemory>
     Ok(statuses)
 }
 
-/// The bytes of the statuses of all lwps of a process, after their number. They decode to these, where the information of
-/// each current signal is one that a record can hold.
+/// The bytes of the statuses of all lwps of a process, after their number. They decode to these, where the information
+/// of each current signal is one that a record can hold.
 pub fn lstatus_bytes(alloc: Global, process: &Proc) -> Result<Bytes, NoMemory>
     ensures bytes { IfOk result (λ bytes. bytes ≡ lstatus_bytes (lstatus_of process.now)) }
-    ensures decodes { IfOk result (λ bytes. All (λ l. IsInfo l.info) (lstatus_of process.now) → HasEntries lwpstatus_ranges lwpstatus_words_of (lstatus_of process.now) (drop 8 bytes)) }
+    ensures decodes { IfOk result
+        (λ bytes. All (λ l. IsInfo l.info) (lstatus_of process.now)
+        → HasEntries lwpstatus_ranges lwpstatus_words_of (lstatus_of process.now) (drop 8 bytes)) }
 {
     let statuses = lstatus_of(alloc, process)?;
     write_lstatus(alloc, &statuses)

@@ -33,20 +33,22 @@ fn part_of(alloc: Global, bytes: &[u8], at: u64, len: u64) -> Result<Reply, NoMe
     Ok(Reply::Bytes(Bytes::from_vec(Vec::from_slice(alloc, read)?)))
 }
 
-/// The bytes of the status of a process of a system, with its id. They decode to that status, where the information of the
-/// representative's current signal is one that a record can hold.
+/// The bytes of the status of a process of a system, with its id. They decode to that status, where the information of
+/// the representative's current signal is one that a record can hold.
 pub fn status_bytes(sys: &Sys, pid: u32, process: &Proc) -> [u8; 368]
     ensures bytes { result ≡ status_bytes (status_of sys.now pid process.now) }
-    ensures decodes { IsInfo (status_of sys.now pid process.now).lwp.info → BeginsWith status_ranges result (status_words_of (status_of sys.now pid process.now)) }
+    ensures decodes { IsInfo (status_of sys.now pid process.now).lwp.info
+        → BeginsWith status_ranges result (status_words_of (status_of sys.now pid process.now)) }
 {
     status_of(sys, pid, process).encode()
 }
 
-/// The bytes of the status of an lwp of a process, with its id. They decode to that status, where the information of its
-/// current signal is one that a record can hold.
+/// The bytes of the status of an lwp of a process, with its id. They decode to that status, where the information of
+/// its current signal is one that a record can hold.
 pub fn lwpstatus_bytes(process: &Proc, id: u32, lwp: &Lwp) -> [u8; LwpStatus::SIZE]
     ensures bytes { result ≡ lwpstatus_bytes (lwpstatus_of process.now id lwp.now) }
-    ensures decodes { IsInfo (lwpstatus_of process.now id lwp.now).info → BeginsWith lwpstatus_ranges result (lwpstatus_words_of (lwpstatus_of process.now id lwp.now)) }
+    ensures decodes { IsInfo (lwpstatus_of process.now id lwp.now).info
+        → BeginsWith lwpstatus_ranges result (lwpstatus_words_of (lwpstatus_of process.now id lwp.now)) }
 {
     lwpstatus_of(process, id, lwp).encode()
 }

@@ -14,8 +14,8 @@ is_watched kind areas byte = list_any (watches kind byte) areas
 abbrev pub traps_after : Area → Bool
 traps_after a = has_flags a.flags watch_trap_after
 
--- The byte is the least watched one of so many bytes from an address on, and `after` says whether the area that watches it
--- has TRAPAFTER.
+-- The byte is the least watched one of so many bytes from an address on, and `after` says whether the area that watches
+-- it has TRAPAFTER.
 pub record IsLeastWatched (kind : ℕ) (areas : List Area) (address size byte : ℕ) (after : Bool) : Type 0 where
   pub from : address ≤ byte
   pub to : byte < address + size

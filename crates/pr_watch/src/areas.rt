@@ -131,16 +131,16 @@ impl Areas {
         }
     }
 
-    /// The first byte of an access that is watched for its kind, and whether its area has TRAPAFTER. The access has `size`
-    /// bytes from `at` on, and goes on at 0 after the last address.
+    /// The first byte of an access that is watched for its kind, and whether its area has TRAPAFTER. The access has
+    /// `size` bytes from `at` on, and goes on at 0 after the last address.
     pub fn hit_by(&self, at: u64, size: u64, kind: AccessKind) -> Option<(u64, bool)>
         ensures { result ≡ hit_in (access_flag kind) self.now at size }
     {
         hits::hit_in(self.as_slice(), at, size, kind.flag())
     }
 
-    /// The same, where the kind is given by its flag: 1 for a read, 2 for a write, 4 for an instruction that is fetched.
-    /// Any other number is no kind of access, and hits nothing.
+    /// The same, where the kind is given by its flag: 1 for a read, 2 for a write, 4 for an instruction that is
+    /// fetched. Any other number is no kind of access, and hits nothing.
     pub fn hit(&self, at: u64, size: u64, kind: u8) -> Option<(u64, bool)>
         ensures { result ≡ (if is_access_flag kind then hit_in kind self.now at size else None) }
     {

@@ -1,5 +1,5 @@
-//! What no clause says: that ends are read and written where there is memory, what errors say, and that errors of readers
-//! and writers of std are counted.
+//! What no clause says: that ends are read and written where there is memory, what errors say, and that errors of
+//! readers and writers of std are counted.
 use pr_io::{Failed, MemSource, ReadEnd, Source, StdSink, StdSource, read_all, write_all};
 use pr_num::{Bytes, NoMemory};
 use std::alloc::Global;

@@ -1,5 +1,5 @@
-//! What no clause says: messages as bytes written by hand, both ways, where they stand in no case; and bytes that are no
-//! message, each with its fault, of which a case shows that the answer is EINVAL.
+//! What no clause says: messages as bytes written by hand, both ways, where they stand in no case; and bytes that are
+//! no message, each with its fault, of which a case shows that the answer is EINVAL.
 use hex::FromHexError;
 use pr_msg::*;
 use std::alloc::{AllocError, Global};

@@ -16,10 +16,15 @@ range-none : (k n : ℕ) → n ≤ k → range_with_len k (n - k) ≡ []
 range-none k n h = let e : n - k ≡ 0 = omega arith in ap (range_with_len k) e
 
 pub search-here : (q : ℕ → Bool) (k n : ℕ) → k < n → q k ≡ true → find q (range_with_len k (n - k)) ≡ Some k
-search-here q k n h passes = ap (find q) (range-more k n h) ∙ ap (λ (b : Bool). cond b (Some k) (find q (range_with_len (k + 1) (n - (k + 1))))) passes
+search-here q k n h passes =
+    ap (find q) (range-more k n h)
+    ∙ ap (λ (b : Bool). cond b (Some k) (find q (range_with_len (k + 1) (n - (k + 1))))) passes
 
-pub search-on : (q : ℕ → Bool) (k n : ℕ) → k < n → q k ≡ false → find q (range_with_len k (n - k)) ≡ find q (range_with_len (k + 1) (n - (k + 1)))
-search-on q k n h fails = ap (find q) (range-more k n h) ∙ ap (λ (b : Bool). cond b (Some k) (find q (range_with_len (k + 1) (n - (k + 1))))) fails
+pub search-on : (q : ℕ → Bool) (k n : ℕ) → k < n → q k ≡ false
+    → find q (range_with_len k (n - k)) ≡ find q (range_with_len (k + 1) (n - (k + 1)))
+search-on q k n h fails =
+    ap (find q) (range-more k n h)
+    ∙ ap (λ (b : Bool). cond b (Some k) (find q (range_with_len (k + 1) (n - (k + 1))))) fails
 
 pub search-end : (q : ℕ → Bool) (k n : ℕ) → n ≤ k → find q (range_with_len k (n - k)) ≡ None
 search-end q k n h = ap (find q) (range-none k n h)
@@ -29,6 +34,8 @@ pub ruleset searches = (search-here, search-on, search-end)
 -- Behind the last controller the lwps come.
 pub no_more-controllers : (w : WorldState) (k : ℕ) → length w.controllers ≤ k → from_controller w k ≡ from_lwp w None
 unfolding from_controller first_controller
-no_more-controllers w k past = ap (λ (o : Option ℕ). option_or (option_map Controller o) (from_lwp w None)) (search-end (controller_acts w) k (length w.controllers) past)
+no_more-controllers w k past =
+    ap (λ (o : Option ℕ). option_or (option_map Controller o) (from_lwp w None))
+    (search-end (controller_acts w) k (length w.controllers) past)
 
 pub ruleset rounds = (no_more-controllers, cores-length)

@@ -81,4 +81,5 @@ awaits_clock clock c = awaits_after clock (next_call c)
 
 -- The clock can move where an lwp or a controller waits for it: an lwp in the call sleep, or a controller.
 unfoldable pub is_clock_awaited : ℕ → Bool → List ControllerState → Bool
-is_clock_awaited clock sleeper controllers = nat_lt clock clock_limit && (sleeper || list_any (awaits_clock clock) controllers)
+is_clock_awaited clock sleeper controllers =
+    nat_lt clock clock_limit && (sleeper || list_any (awaits_clock clock) controllers)

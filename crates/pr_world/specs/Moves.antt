@@ -43,8 +43,8 @@ abbrev pub entry_of : Actor → Act → Entry
 entry_of actor act = record { actor = actor; act = act }
 
 -- A move of an actor that can move leads from one world to another: its one entry is added, and a controller gets its
--- reply. The places, the schedule and the round stay. Of a machine that is told the entry is legal, and the state becomes
--- the one after it.
+-- reply. The places, the schedule and the round stay. Of a machine that is told the entry is legal, and the state
+-- becomes the one after it.
 pub record Leads (w : WorldState) (actor : Actor) (v : WorldState) : Type 0 where
   pub act : Act
   pub acts : can_act w actor ≡ true
@@ -57,7 +57,8 @@ pub record Leads (w : WorldState) (actor : Actor) (v : WorldState) : Type 0 wher
   pub machine : IfSome w.kernel.machine (IsMachines (length w.controllers) (entry_of actor act) v.kernel.machine)
   pub lawful : IsLawful v.kernel
 
--- A move, whatever the kernel: a reply also has the shape of its call. A machine's replies have it in each lawful state.
+-- A move, whatever the kernel: a reply also has the shape of its call. A machine's replies have it in each lawful
+-- state.
 pub record Moves (w : WorldState) (actor : Actor) (v : WorldState) : Type 0 where
   pub leads : Leads w actor v
   pub shaped : IsShaped leads.act
@@ -70,7 +71,8 @@ with_entry s e w = record w { kernel = kernel_of s (w.kernel.history ++ e ∷ []
 
 -- the world after the machine answered a controller's call: the kernel has its entry, and the controller the reply
 unfoldable pub with_answer : WorldState → ℕ → Call → Answer → WorldState
-with_answer w k c a = record (with_entry a.state (call_entry k c a.reply) w) { controllers = with_fed k a.reply w.controllers }
+with_answer w k c a =
+    record (with_entry a.state (call_entry k c a.reply) w) { controllers = with_fed k a.reply w.controllers }
 
 -- A controller makes its next call. None: it has finished, or its call is not ready.
 abbrev pub after_call_by : TracedState → WorldState → ℕ → Option Call → Option WorldState

@@ -14,7 +14,8 @@ use Rattle.pr_world.specs.ControllerStates.{ControllerState}
 
 -- A history of a machine that began in this state is legal and follows the protocol of its controllers, and the machine
 -- is now in the state after it.
-pub record IsMachineRun (controllers : List ControllerState) (h : List Entry) (now : Option TracedState) (first : TracedState) : Type 0 where
+pub record IsMachineRun (controllers : List ControllerState) (h : List Entry) (now : Option TracedState)
+    (first : TracedState) : Type 0 where
   pub legal : IsLegal (length controllers) first h
   pub follows : Follows controllers first h
   pub state : now ≡ Some (state_after first h)

@@ -58,7 +58,8 @@ controller_acts w k = can_act w (Controller k)
 
 -- the first controller from a number on that can move
 unfoldable pub first_controller : WorldState → ℕ → Option Actor
-first_controller w from = option_map Controller (find (controller_acts w) (range_with_len from (length w.controllers - from)))
+first_controller w from =
+    option_map Controller (find (controller_acts w) (range_with_len from (length w.controllers - from)))
 
 -- the lwp of a process's id and its own
 abbrev pub as_lwp : ℕ × ℕ → Actor

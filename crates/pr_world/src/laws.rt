@@ -10,7 +10,8 @@ ghost use Rattle.pr_world.specs.Worlds.{WorldState, can_act, next_actor};
 /// replies that it got, and over a machine that is told the history is legal and follows the protocol.
 pub fn a_move_goes_on_from_where_a_world_came()
     ensures first { (first : WorldState) → CameFrom first first }
-    ensures next { (first w v : WorldState) (actor : AnyActor) → IsLawful w.kernel → CameFrom first w → Moves w actor v → CameFrom first v }
+    ensures next { (first w v : WorldState) (actor : AnyActor) → IsLawful w.kernel → CameFrom first w → Moves w actor v
+        → CameFrom first v }
 {}
 
 /// The same of a run, however many steps it makes.
@@ -31,5 +32,6 @@ pub fn next_is_who_can_move()
 
 /// A fresh world over a machine, in which an actor can move after so many moves, has made just so many entries.
 pub fn each_move_is_an_entry()
-    ensures { (first : WorldState) (n : ℕ) → TellsMachine first → IsFresh first → is_some (next_actor (after_moves n first)) ≡ true → length (after_moves n first).kernel.history ≡ n }
+    ensures { (first : WorldState) (n : ℕ) → TellsMachine first → IsFresh first
+        → is_some (next_actor (after_moves n first)) ≡ true → length (after_moves n first).kernel.history ≡ n }
 {}

@@ -1,5 +1,5 @@
-//! Who can move, and which controllers have finished. A question takes no memory once the next call of each controller is
-//! made.
+//! Who can move, and which controllers have finished. A question takes no memory once the next call of each controller
+//! is made.
 ghost use Rattle.std.specs.Prelude.{◌≡◌, ◌<◌, true, All, length, map, slice_get, IfOk, IsOk, OnErr, OnOk};
 ghost use Rattle.std.specs.Option.{ForSome};
 ghost use Rattle.std.specs.List.{list_all, list_any};
@@ -82,7 +82,8 @@ impl<Q> World<Q> {
     /// The same where calls are still to be made: it makes them first.
     pub fn finished(&mut self, controller: u32) -> Result<bool, NoMemory>
         requires { controller < length self.old.controllers }
-        ensures value { IfOk result (λ finished. ForSome (slice_get self.old.controllers controller) (λ core. finished ≡ has_finished core)) }
+        ensures value { IfOk result
+            (λ finished. ForSome (slice_get self.old.controllers controller) (λ core. finished ≡ has_finished core)) }
         ensures made { OnOk result (self.new ≡ record self.old { made = true }) }
         ensures err { OnErr result (self.new ≡ self.old) }
         ensures sure { self.old.made ≡ true → IsOk result }
@@ -109,7 +110,9 @@ impl<Q: Kernel> World<Q> {
     #[tactic(auto, unfolding(crate::specs::Controllers::is_clock_awaited))]
     pub(crate) fn is_clock_awaited(&self) -> bool
         requires { self.now.made ≡ true }
-        ensures { result ≡ is_clock_awaited (Q.view self.now.kernel).clock (Q.view self.now.kernel).has_sleeper self.now.controllers }
+        ensures { result
+            ≡ is_clock_awaited (Q.view self.now.kernel).clock
+            (Q.view self.now.kernel).has_sleeper self.now.controllers }
     {
         let clock = self.kern.clock();
         if clock >= CLOCK_LIMIT {

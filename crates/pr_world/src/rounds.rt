@@ -92,7 +92,8 @@ impl<Q: Kernel> World<Q> {
     fn pick_scheduled(&mut self) -> Option<Actor>
         requires { self.old.made ≡ true }
         ensures value { result ≡ option_map actor_of (first_scheduled (seen Q.view self.old) self.old.schedule) }
-        ensures place { seen Q.view self.new ≡ picked (first_scheduled (seen Q.view self.old) self.old.schedule) (seen Q.view self.old) }
+        ensures place { seen Q.view self.new
+            ≡ picked (first_scheduled (seen Q.view self.old) self.old.schedule) (seen Q.view self.old) }
         ensures kernel { self.new.kernel ≡ self.old.kernel }
         ensures made { self.new.made ≡ true }
     {
@@ -180,7 +181,9 @@ impl<Q: Kernel> World<Q> {
 
     /// How a world has ended in which an actor can move: all places are taken, or it goes on.
     fn spent_places(&self) -> Option<End>
-        ensures { result ≡ (if nat_lt (length (Q.view self.now.kernel).history) (Q.view self.now.kernel).places then None else Some End.Spent) }
+        ensures { result
+            ≡ (if nat_lt (length (Q.view self.now.kernel).history)
+            (Q.view self.now.kernel).places then None else Some End.Spent) }
     {
         if self.kern.entries() < self.kern.places() {
             None

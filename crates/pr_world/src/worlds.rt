@@ -14,9 +14,9 @@ use pr_num::{Bytes, NoMemory};
 use std::alloc::Global;
 use std::marker::Model;
 
-/// A kernel and its controllers, at most 64. The actors of a schedule move first, and then all in rounds: controllers by
-/// number, lwps by process and lwp id, the clock. Contracts see a plain record of the kernel, the controllers, what is
-/// left of the schedule, who was picked last in the rounds, and whether the next call of each controller was made.
+/// A kernel and its controllers, at most 64. The actors of a schedule move first, and then all in rounds: controllers
+/// by number, lwps by process and lwp id, the clock. Contracts see a plain record of the kernel, the controllers, what
+/// is left of the schedule, who was picked last in the rounds, and whether the next call of each controller was made.
 #[derive(Drop)]
 pub struct World<Q> {
     pub(crate) alloc: Global,
@@ -38,7 +38,14 @@ impl<Q> Model for World<Q> {
 
     ghost Value = { WorldOf Q };
 
-    ghost view = { λ a. record { kernel = a.kern; controllers = map core_in a.callers.items; schedule = drop a.spent a.schedule.items; last = a.last; made = a.made } };
+    ghost view = { λ a. record {
+      kernel = a.kern;
+      controllers = map core_in a.callers.items;
+      schedule =
+          drop a.spent a.schedule.items;
+      last = a.last;
+      made = a.made;
+    } };
 
     ghost invariant = { λ a. (length a.callers.items ≤ controller_limit) × (a.made ≡ true → All IsMade a.callers.items) };
 }
@@ -66,7 +73,16 @@ impl<Q> World<Q> {
     where
         Q: Drop,
         requires { length controllers.items ≤ controller_limit }
-        ensures { IfOk result (λ world. world ≡ record { kernel = kernel; controllers = map state_of controllers.items; schedule = schedule.items; last = None; made = false }) }
+        ensures { IfOk result
+            (λ world. world
+            ≡ record {
+              kernel = kernel;
+              controllers = map state_of controllers.items;
+              schedule = schedule.items;
+              last =
+                  None;
+              made = false;
+            }) }
     {
         let callers = callers_of(alloc, controllers)?;
         Ok(World {
@@ -116,7 +132,8 @@ impl<Q> World<Q> {
     #[tactic(auto, using(crate::proofs::CallerLemmas::cores))]
     pub fn print(&self, controller: u32, programs: &[Program]) -> Result<Bytes, NoMemory>
         requires { controller < length self.now.controllers }
-        ensures { IfOk result (λ text. ForSome (slice_get self.now.controllers controller) (λ core. text ≡ printed core programs.now)) }
+        ensures { IfOk result
+            (λ text. ForSome (slice_get self.now.controllers controller) (λ core. text ≡ printed core programs.now)) }
     {
         self.callers[controller as usize].print(self.alloc, programs)
     }

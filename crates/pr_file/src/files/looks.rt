@@ -57,8 +57,8 @@ impl Files {
         Ok(copy_front(out, held))
     }
 
-    /// The descriptors that the read end and the write end of a new pipe would get. `NoPlace` and `TableFull` come where
-    /// they come from `pipe`, which makes it.
+    /// The descriptors that the read end and the write end of a new pipe would get. `NoPlace` and `TableFull` come
+    /// where they come from `pipe`, which makes it.
     #[tactic(auto, unfolding(pr_parts::specs::FileCalls::piped, pr_parts::specs::FileCalls::made_pipe))]
     pub fn pipe_ends(&self, fds: &Fds) -> Result<(u64, u64), FileNo>
         ensures { result ≡ (piped self.now fds.now).answer }

@@ -84,7 +84,8 @@ impl Files {
         bytes: &[u8],
     ) -> Result<usize, FileNo>
         requires { length bytes.now ≤ transfer_limit }
-        ensures { (record { files = self.new; fds = fds.now; answer = result }) ≡ unless_no_memory self.old fds.now result (write_fd self.old fds.now fd bytes.now) }
+        ensures { (record { files = self.new; fds = fds.now; answer = result })
+            ≡ unless_no_memory self.old fds.now result (write_fd self.old fds.now fd bytes.now) }
     {
         let Some((place, file)) = self.open_for_writing(fds, fd) else {
             return Err(FileNo::BadFd);
@@ -112,7 +113,8 @@ impl Files {
         requires place { place < length self.old.opens }
         requires target { file.target ≡ Target.File target }
         requires in_order { IsOpenFile self.old.files self.old.pipes file }
-        ensures { (record { files = self.new; fds = fds.now; answer = result }) ≡ unless_no_memory self.old fds.now result (write_file self.old fds.now place file target bytes.now) }
+        ensures { (record { files = self.new; fds = fds.now; answer = result })
+            ≡ unless_no_memory self.old fds.now result (write_file self.old fds.now place file target bytes.now) }
     {
         let offset = file.offset + bytes.len() as u64;
         if offset > FILE_SIZE_LIMIT {
@@ -129,7 +131,8 @@ impl Files {
     fn write_pipe(&mut self, fds: &Fds, pipe: u32, bytes: &[u8]) -> Result<usize, FileNo>
         requires short { length bytes.now ≤ transfer_limit }
         requires stands { is_some (at_place self.old.pipes pipe) ≡ true }
-        ensures { (record { files = self.new; fds = fds.now; answer = result }) ≡ unless_no_memory self.old fds.now result (write_pipe self.old fds.now pipe bytes.now) }
+        ensures { (record { files = self.new; fds = fds.now; answer = result })
+            ≡ unless_no_memory self.old fds.now result (write_pipe self.old fds.now pipe bytes.now) }
     {
         if !self.tables.has_reader(pipe) {
             return Err(FileNo::NoReader);

@@ -57,7 +57,8 @@ impl Files {
     #[tactic(auto, using(crate::proofs::WaitLemmas::writing_pipes))]
     fn write_pipe_waits(&self, pipe: u32, len: usize) -> bool
         requires { len ≤ transfer_limit }
-        ensures { (fds : Descriptors) (bytes : List ℕ) → length bytes ≡ len → result ≡ waits (write_pipe self.now fds pipe bytes).answer }
+        ensures { (fds : Descriptors) (bytes : List ℕ) → length bytes ≡ len
+            → result ≡ waits (write_pipe self.now fds pipe bytes).answer }
     {
         if !self.tables.has_reader(pipe) {
             return false;

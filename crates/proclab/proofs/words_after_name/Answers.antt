@@ -7,4 +7,5 @@ use Rattle.proclab.proofs.words_after_name.Goals as goal
 pub returns : goal.returns
 returns c =
     let all = YieldsList-from_vec (into_iter_items c.args.arguments) (search rules) (search rules) in
-    items_from_collect c.collect.result c.collect.ensures.ran (YieldsList-from_skip {s = c.skip.result} 1 all c.skip.ensures.count)
+    items_from_collect c.collect.result c.collect.ensures.ran
+    (YieldsList-from_skip {s = c.skip.result} 1 all c.skip.ensures.count)

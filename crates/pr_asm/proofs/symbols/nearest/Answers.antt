@@ -7,8 +7,11 @@ nearer-best-requires-clause-place c =
     label_at c.args.labels.now c.loop-label.label-index c.label-item.result _ c.label-item.is (omega arith) c.requires
 
 pub loop-label-preserved : goal.loop-label-preserved
-loop-label-preserved c =
-    (nearest-step c.args.pc c.loop-label.label-index c.args.labels.now _ _ _ c.label-item.result _ c.label-item.is (omega arith) c.nearer-best.ensures.value c.loop-label.invariant.0, c.nearer-best.ensures.below)
+loop-label-preserved c = (
+  nearest-step c.args.pc c.loop-label.label-index c.args.labels.now _ _ _ c.label-item.result _ c.label-item.is
+      (omega arith) c.nearer-best.ensures.value c.loop-label.invariant.0,
+  c.nearer-best.ensures.below,
+)
 
 pub returns-clause-value : goal.returns-clause-value
 returns-clause-value c =

@@ -4,7 +4,9 @@ use Rattle.pr_call.proofs.files.pipe.Goals as goal
 
 pub returns-in-Ok-pipe-clause-effect : goal.returns-in-Ok-pipe-clause-effect
 returns-in-Ok-pipe-clause-effect c lacks =
-    pipe-made _ _ _ _ _ _ (sym c.can_write.ensures ∙ c.if-not-can_write.false) _ _ _ _ c.in-Ok.ensures c.in-Ok-pipe.ensures c.in_ok-stored.ensures
+    pipe-made _ _ _ _ _ _
+    (sym c.can_write.ensures ∙ c.if-not-can_write.false) _ _ _ _ c.in-Ok.ensures c.in-Ok-pipe.ensures
+    c.in_ok-stored.ensures
 
 pub returns-in-Err-clause-effect : goal.returns-in-Err-clause-effect
 returns-in-Err-clause-effect c lacks =

@@ -10,7 +10,10 @@ use Rattle.pr_call.proofs.processes.exec_by.Goals as goal
 
 pub returns-in-Ok-exec-clause-system : goal.returns-in-Ok-exec-clause-system
 returns-in-Ok-exec-clause-system c p found l stands =
-    run-system c.args.sys.now c.exec.new.sys c.args.pid p c.args.id l (exec_effect c.args.sys.now p c.args.id c.args.at) c.in-Ok.place c.in-Ok.ensures.within (c.in-Ok.ensures.effect p found) (λ g at. c.in-Ok-exec.ensures.ok p found l stands g at) (λ g at. c.in-Ok-exec.ensures.refused p found g at)
+    run-system c.args.sys.now c.exec.new.sys c.args.pid p c.args.id l
+    (exec_effect c.args.sys.now p c.args.id c.args.at) c.in-Ok.place c.in-Ok.ensures.within
+    (c.in-Ok.ensures.effect p found) (λ g at. c.in-Ok-exec.ensures.ok p found l stands g at)
+    (λ g at. c.in-Ok-exec.ensures.refused p found g at)
 
 pub returns-in-Ok-exec-clause-outcome : goal.returns-in-Ok-exec-clause-outcome
 returns-in-Ok-exec-clause-outcome c p found =

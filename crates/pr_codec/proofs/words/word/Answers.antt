@@ -12,4 +12,6 @@ returns-clause-value c =
 pub returns-clause-spelled : goal.returns-clause-spelled
 returns-clause-spelled c =
     let value : c.read_u64.result ≡ word_at c.args.bytes.now c.args.at = returns-clause-value c in
-    ap word_bytes value ∙ word_bytes-word_at c.args.bytes.now c.args.at (omega arith) (All-from_get_or IsByte c.args.bytes.now 0 (λ i inside. let fits = c.type_inv.bytes i in omega arith))
+    ap word_bytes value
+    ∙ word_bytes-word_at c.args.bytes.now c.args.at (omega arith)
+    (All-from_get_or IsByte c.args.bytes.now 0 (λ i inside. let fits = c.type_inv.bytes i in omega arith))

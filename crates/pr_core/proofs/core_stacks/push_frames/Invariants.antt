@@ -11,7 +11,8 @@ use Rattle.pr_core.proofs.core_stacks.push_frames.Given as goal
 abbrev pub invariant-loop-left : goal.invariant-loop-left
 invariant-loop-left l =
     l.text ++ flat_map (frame_line (option_copied l.program)) (returns_from (space_in l.space) l.left l.frame)
-    ≡ l.fn.text ++ flat_map (frame_line (option_copied l.program)) (returns_from (space_in l.space) read_frames l.pointer)
+    ≡ l.fn.text
+    ++ flat_map (frame_line (option_copied l.program)) (returns_from (space_in l.space) read_frames l.pointer)
 
 abbrev pub decreases-loop-left : goal.decreases-loop-left
 decreases-loop-left l = l.left

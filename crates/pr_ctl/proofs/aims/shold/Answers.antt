@@ -10,4 +10,5 @@ unfolding message_answer lwp_changed
 returns c tail x found =
     c.change_aimed.ensures x found
     ∙ aimed-on_lwp c.args.sys.now c.args.pid x c.args.length (with_held_set c.of_word.result) c.args.lwp
-    ∙ ap (λ signals. on_lwp c.args.sys.now c.args.pid x (aim_at c.args.lwp) c.args.length (with_held_set signals)) c.of_word.ensures
+    ∙ ap (λ signals. on_lwp c.args.sys.now c.args.pid x (aim_at c.args.lwp) c.args.length (with_held_set signals))
+    c.of_word.ensures

@@ -7,4 +7,5 @@ use Rattle.pr_ctl.proofs.aims.svaddr.Goals as goal
 pub returns : goal.returns
 unfolding message_answer lwp_changed
 returns c tail x found =
-    c.change_stopped.ensures x found ∙ aimed-on_stopped c.args.sys.now c.args.pid x c.args.length (with_address c.args.pc) c.args.lwp
+    c.change_stopped.ensures x found
+    ∙ aimed-on_stopped c.args.sys.now c.args.pid x c.args.length (with_address c.args.pc) c.args.lwp

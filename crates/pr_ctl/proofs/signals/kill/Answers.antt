@@ -9,4 +9,5 @@ unfolding message_answer kill_answer
 returns c tail x found =
     c.kill_by_id.ensures x found
     ∙ kill-by_id c.args.sys.now c.args.pid x c.args.lwp c.args.length c.in-Some.signal
-    ∙ ap (kill_by c.args.sys.now c.args.pid x (aim_at c.args.lwp) c.args.length) (sym c.in-Some.is ∙ c.from_number.ensures)
+    ∙ ap (kill_by c.args.sys.now c.args.pid x (aim_at c.args.lwp) c.args.length)
+    (sym c.in-Some.is ∙ c.from_number.ensures)

@@ -9,7 +9,8 @@ pub returns-then-is_kill : goal.returns-then-is_kill
 unfolding message_answer
 returns-then-is_kill c tail x found =
     c.kill_process.ensures x found
-    ∙ ssig-kill c.args.sys.now c.args.pid x (aim_at c.args.lwp) c.args.number c.args.length c.from_number-signal.result c.from_number-signal.ensures
+    ∙ ssig-kill c.args.sys.now c.args.pid x
+    (aim_at c.args.lwp) c.args.number c.args.length c.from_number-signal.result c.from_number-signal.ensures
     (sym (c.is_kill.ensures c.args.sys.now c.args.pid x) ∙ c.if-is_kill.true)
 
 -- any other becomes the current one
@@ -17,5 +18,6 @@ pub returns : goal.returns
 unfolding message_answer
 returns c tail x found =
     c.set_signal.ensures x found
-    ∙ ssig-set c.args.sys.now c.args.pid x c.args.lwp c.args.number c.args.length c.from_number-signal.result c.from_number-signal.ensures
+    ∙ ssig-set c.args.sys.now c.args.pid x c.args.lwp c.args.number c.args.length c.from_number-signal.result
+    c.from_number-signal.ensures
     (sym (c.is_kill.ensures c.args.sys.now c.args.pid x) ∙ c.if-is_kill.false)

@@ -40,7 +40,8 @@ pub play_legal-requires-clause-legal : goal.play_legal-requires-clause-legal
 play_legal-requires-clause-legal c =
     let history = c.args.history.now.entries in
     let there : c.get.result ≡ Some c.unwrap-entry.result = search rules in
-    let here : slice_get history c.loop-i.i ≡ Some c.unwrap-entry.result.now = sym c.get.ensures ∙ ap option_copied there in
+    let here : slice_get history c.loop-i.i ≡ Some c.unwrap-entry.result.now =
+    sym c.get.ensures ∙ ap option_copied there in
     subst (λ (s : TracedState). IsLegalEntry c.args.controllers s c.unwrap-entry.result.now)
     (sym c.loop-i.invariant.0.state_is)
     (legal-at c.args.controllers c.args.kern.state history c.loop-i.i c.unwrap-entry.result.now c.requires.legal here)
@@ -50,7 +51,8 @@ loop-i-preserved c =
     let who = hiders_of c.args.who.now in
     let history = c.args.history.now.entries in
     let there : c.get.result ≡ Some c.unwrap-entry.result = search rules in
-    let here : slice_get history c.loop-i.i ≡ Some c.unwrap-entry.result.now = sym c.get.ensures ∙ ap option_copied there in
+    let here : slice_get history c.loop-i.i ≡ Some c.unwrap-entry.result.now =
+    sym c.get.ensures ∙ ap option_copied there in
     let places = c.in_ok-play_legal.ensures.places in
     let longer = c.in_ok-play_legal.ensures.history in
     let so_far = c.loop-i.invariant in (

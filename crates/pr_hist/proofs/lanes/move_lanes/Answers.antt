@@ -6,4 +6,5 @@ use Rattle.pr_hist.proofs.lanes.move_lanes.Goals as goal
 pub loop-i-preserved : goal.loop-i-preserved
 loop-i-preserved c =
     rw c.lane_after.ensures
-    (map_step (lane_after c.args.entry.now) c.args.lanes.now c.loop-i.lanes c.loop-i.i _ (omega arith) c.loop-i.invariant)
+    (map_step (lane_after c.args.entry.now) c.args.lanes.now c.loop-i.lanes c.loop-i.i _
+    (omega arith) c.loop-i.invariant)

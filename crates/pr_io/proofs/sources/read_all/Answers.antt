@@ -6,7 +6,8 @@ use Rattle.pr_io.proofs.sources.read_all.Goals as goal
 pub returns-then-n-eq0-clause-all : goal.returns-then-n-eq0-clause-all
 returns-then-n-eq0-clause-all g c =
     let none = rw c.if-n-eq0.true at c.in_ok-n.ensures.moved in
-    rw c.from_vec.ensures (ReadsAll-at_end _ _ _ _ c.loop-piece.invariant.front none (c.in_ok-n.ensures.end c.if-n-eq0.true))
+    rw c.from_vec.ensures
+    (ReadsAll-at_end _ _ _ _ c.loop-piece.invariant.front none (c.in_ok-n.ensures.end c.if-n-eq0.true))
 
 pub loop-piece-preserved : goal.loop-piece-preserved
 loop-piece-preserved g c = record {

@@ -10,4 +10,6 @@ generate-requires-clause-room c = (c.in-Sent.ensures.sent _ _ refl).room
 
 pub returns-in-Sent : goal.returns-in-Sent
 returns-in-Sent c =
-    kill-sent c.args.state.now c.args.pid c.in-Sent.id c.args.number c.in-Sent.signal c.killed_by.result c.generate.new.sys c.killed_by.ensures c.generate.ensures c.in-Sent.ensures.value (c.in-Sent.ensures.sent _ _ refl).named
+    kill-sent c.args.state.now c.args.pid c.in-Sent.id c.args.number c.in-Sent.signal c.killed_by.result
+    c.generate.new.sys c.killed_by.ensures c.generate.ensures c.in-Sent.ensures.value
+    (c.in-Sent.ensures.sent _ _ refl).named

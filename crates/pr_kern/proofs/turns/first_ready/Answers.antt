@@ -3,7 +3,8 @@ use Rattle.pr_kern.proofs.turns.first_ready.Goals as goal
 
 pub loop-pid-init : goal.loop-pid-init
 loop-pid-init c =
-    all-ready _ _ c.requires c.all-ready.ensures.movable c.all-ready.ensures.at_pipes c.all-ready.ensures.dozing c.all-ready.ensures.moments
+    all-ready _ _ c.requires c.all-ready.ensures.movable c.all-ready.ensures.at_pipes c.all-ready.ensures.dozing
+    c.all-ready.ensures.moments
 
 pub loop-pid-preserved : goal.loop-pid-preserved
 loop-pid-preserved c =

@@ -19,7 +19,8 @@ after_instruction-requires-clause-ran c only small =
 pub returns-in-None-clause-used : goal.returns-in-None-clause-used
 returns-in-None-clause-used c =
     subst
-    (λ (s : TracedSystem). OnOk c.any_turn.result ((n : ℕ) → AllUsedAtMost n s → AllUsedAtMost (n + 1) c.any_turn.new.sys))
+    (λ (s : TracedSystem).
+    OnOk c.any_turn.result ((n : ℕ) → AllUsedAtMost n s → AllUsedAtMost (n + 1) c.any_turn.new.sys))
     (none-has _ _ _ c.in-None.is c.in_ok-run_instruction.ensures.other) c.any_turn.ensures.used
 
 pub returns-in-Some-clause-looks : goal.returns-in-Some-clause-looks

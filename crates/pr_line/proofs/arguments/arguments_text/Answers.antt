@@ -12,10 +12,14 @@ returns-in_err-text-clause-too_long c =
     let i = c.loop-i.i in
     let passes = c.in_err-text.ensures.too_long.0 refl in
     let place = ap length c.separator.ensures in
-    let more = ap length (arguments_text-more a.size (came_of a.text) a.arguments.now a.kinds.now i Dec c.loop-i-test.true) in
-    let written : length (c.loop-i.line ++ arguments_text a.size (came_of a.text) a.arguments.now (drop i a.kinds.now) i) ≡ length (a.line.now ++ arguments_text a.size (came_of a.text) a.arguments.now a.kinds.now 0) =
+    let more =
+    ap length (arguments_text-more a.size (came_of a.text) a.arguments.now a.kinds.now i Dec c.loop-i-test.true) in
+    let written : length
+    (c.loop-i.line ++ arguments_text a.size (came_of a.text) a.arguments.now (drop i a.kinds.now) i)
+    ≡ length (a.line.now ++ arguments_text a.size (came_of a.text) a.arguments.now a.kinds.now 0) =
     ap length c.loop-i.invariant.written in
-    let long : line_limit < length a.line.now + length (arguments_text a.size (came_of a.text) a.arguments.now a.kinds.now 0) =
+    let long : line_limit
+    < length a.line.now + length (arguments_text a.size (came_of a.text) a.arguments.now a.kinds.now 0) =
     omega (arith, length-append {A = ℕ}) in
     (λ _. long, λ _. c.from_residual.ensures.0)
 
@@ -26,9 +30,13 @@ returns-in_err-argument-clause-too_long c =
     let passes = c.in_err-argument.ensures.too_long.0 refl in
     let separated = ap length c.in_ok-text.ensures.ok in
     let place = ap length c.separator.ensures in
-    let more = ap length (arguments_text-more a.size (came_of a.text) a.arguments.now a.kinds.now i Dec c.loop-i-test.true) in
-    let written : length (c.loop-i.line ++ arguments_text a.size (came_of a.text) a.arguments.now (drop i a.kinds.now) i) ≡ length (a.line.now ++ arguments_text a.size (came_of a.text) a.arguments.now a.kinds.now 0) =
+    let more =
+    ap length (arguments_text-more a.size (came_of a.text) a.arguments.now a.kinds.now i Dec c.loop-i-test.true) in
+    let written : length
+    (c.loop-i.line ++ arguments_text a.size (came_of a.text) a.arguments.now (drop i a.kinds.now) i)
+    ≡ length (a.line.now ++ arguments_text a.size (came_of a.text) a.arguments.now a.kinds.now 0) =
     ap length c.loop-i.invariant.written in
-    let long : line_limit < length a.line.now + length (arguments_text a.size (came_of a.text) a.arguments.now a.kinds.now 0) =
+    let long : line_limit
+    < length a.line.now + length (arguments_text a.size (came_of a.text) a.arguments.now a.kinds.now 0) =
     omega (arith, length-append {A = ℕ}) in
     (λ _. long, λ _. c.from_residual-in_err-argument.ensures.0)

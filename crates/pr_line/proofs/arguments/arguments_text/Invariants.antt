@@ -5,7 +5,8 @@ use Rattle.pr_line.proofs.arguments.arguments_text.Given as goal
 
 abbrev pub invariant-loop-i : goal.invariant-loop-i
 invariant-loop-i l = record {
-  written : l.line ++ arguments_text l.size (came_of l.text) l.arguments (drop l.i l.kinds) l.i ≡ l.initial.line ++ arguments_text l.size (came_of l.text) l.arguments l.kinds 0;
+  written : l.line ++ arguments_text l.size (came_of l.text) l.arguments (drop l.i l.kinds) l.i
+      ≡ l.initial.line ++ arguments_text l.size (came_of l.text) l.arguments l.kinds 0;
   kept : take (length l.initial.line) l.line ≡ l.initial.line;
   within : length l.line ≤ line_limit;
 }

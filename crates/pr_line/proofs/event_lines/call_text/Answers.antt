@@ -21,7 +21,10 @@ pub returns-in_err-arguments_text-clause-err : goal.returns-in_err-arguments_tex
 returns-in_err-arguments_text-clause-err c =
     let before = c.in_ok-text.ensures.ok in
     let after = c.in_ok-text-2.ensures.ok in
-    kept_on_err c.from_residual-in_err-arguments_text.result c.args.line.now (c.as_bytes.result.now ++ 40 ∷ []) c.text-2.new.self c.arguments_text.new.line (after ∙ ap (λ xs. xs ++ 40 ∷ []) before ∙ append_assoc c.args.line.now c.as_bytes.result.now (40 ∷ [])) c.in_err-arguments_text.ensures.err
+    kept_on_err c.from_residual-in_err-arguments_text.result c.args.line.now
+    (c.as_bytes.result.now ++ 40 ∷ []) c.text-2.new.self c.arguments_text.new.line
+    (after ∙ ap (λ xs. xs ++ 40 ∷ []) before ∙ append_assoc c.args.line.now c.as_bytes.result.now (40 ∷ []))
+    c.in_err-arguments_text.ensures.err
 
 pub returns-clause-short : goal.returns-clause-short
 returns-clause-short c =

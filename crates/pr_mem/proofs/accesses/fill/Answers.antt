@@ -16,11 +16,18 @@ run_at-requires-clause-place c = c.loop-done.invariant.next.place (omega arith)
 pub returns-in_err-run-clause-answer : goal.returns-in_err-run-clause-answer
 returns-in_err-run-clause-answer c =
     let p = err_from_is_err_and c.from_residual.result c.from_residual.ensures.1 in
-    let kept = IsFilled-checked c.args.need c.args.mappings.now c.args.at c.loop-done.out c.loop-done.done c.loop-done.invariant.bytes in
-    rw (p.1, p.2, ← c.loop-done.auto.out) (sym (IsChecked-fails c.args.need c.args.mappings.now c.args.at (length c.loop-done.out) c.loop-done.done c.in_err-run.field-0.0 kept c.loop-done-test.true c.in_err-run.ensures.err))
+    let kept =
+    IsFilled-checked c.args.need c.args.mappings.now c.args.at c.loop-done.out c.loop-done.done
+    c.loop-done.invariant.bytes in
+    rw (p.1, p.2, ← c.loop-done.auto.out)
+    (sym (IsChecked-fails c.args.need c.args.mappings.now c.args.at
+    (length c.loop-done.out) c.loop-done.done c.in_err-run.field-0.0 kept c.loop-done-test.true
+    c.in_err-run.ensures.err))
 
 pub loop-done-preserved : goal.loop-done-preserved
 loop-done-preserved c = record {
-  bytes = IsFilled-more c.args.need c.args.mappings.now c.args.at c.loop-done.out c.loop-done.done _ c.in_ok-run.run'.now c.copy_from_slice.new.self _ c.loop-done.invariant.bytes refl c.in_ok-run.ensures.ok (omega arith) c.copy_from_slice.ensures.after;
+  bytes = IsFilled-more c.args.need c.args.mappings.now c.args.at c.loop-done.out c.loop-done.done _
+      c.in_ok-run.run'.now c.copy_from_slice.new.self _ c.loop-done.invariant.bytes refl c.in_ok-run.ensures.ok
+      (omega arith) c.copy_from_slice.ensures.after;
   next = record { place = λ near. c.next_place-place.ensures (omega arith) };
 }

@@ -8,5 +8,7 @@ pub returns : goal.returns
 returns c =
     let space = c.args.mappings.now in
     let address = c.args.address in
-    let point = IsPartitionPoint-from_clause (ends_before address) space _ c.partition_point.ensures.partitioned (are_partitioned space address c.requires) (λ a r f k. search rules) in
+    let point =
+    IsPartitionPoint-from_clause (ends_before address) space _ c.partition_point.ensures.partitioned
+    (are_partitioned space address c.requires) (λ a r f k. search rules) in
     IsPlace-searched space address c.partition_point.result c.partition_point.ensures.bound point

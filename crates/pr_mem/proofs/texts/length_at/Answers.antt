@@ -19,21 +19,27 @@ run_at-requires-clause-place c = c.loop-done.invariant.next.place c.loop-done-te
 pub returns-in_err-run : goal.returns-in_err-run
 returns-in_err-run c =
     let p = err_from_is_err_and c.from_residual.result c.from_residual.ensures.1 in
-    rw (p.1, p.2) (sym (IsOpen-fails c.args.mappings.now c.args.at c.args.most c.loop-done.done c.in_err-run.field-0.0 c.loop-done.invariant.text c.loop-done-test.true c.in_err-run.ensures.err))
+    rw (p.1, p.2)
+    (sym (IsOpen-fails c.args.mappings.now c.args.at c.args.most c.loop-done.done c.in_err-run.field-0.0
+    c.loop-done.invariant.text c.loop-done-test.true c.in_err-run.ensures.err))
 
 pub returns-in-Some : goal.returns-in-Some
 returns-in-Some c =
     let run = c.in_ok-run.run'.now in
     let at = sym c.zero_in.ensures ∙ c.in-Some.is in
-    sym (IsOpen-found c.args.mappings.now c.args.at c.args.most c.loop-done.done _ run c.in-Some.end c.loop-done.invariant.text refl c.in_ok-run.ensures.ok (place-some is_zero run c.in-Some.end at) (position-within is_zero run c.in-Some.end at))
+    sym (IsOpen-found c.args.mappings.now c.args.at c.args.most c.loop-done.done _ run c.in-Some.end
+    c.loop-done.invariant.text refl c.in_ok-run.ensures.ok (place-some is_zero run c.in-Some.end at)
+    (position-within is_zero run c.in-Some.end at))
 
 pub loop-done-preserved : goal.loop-done-preserved
 loop-done-preserved c =
     let run = c.in_ok-run.run'.now in
     record {
-      text = IsOpen-more c.args.mappings.now c.args.at c.args.most c.loop-done.done _ run c.loop-done.invariant.text refl c.in_ok-run.ensures.ok (sym (place-none is_zero run (sym c.zero_in.ensures ∙ c.in_default.is)));
+      text = IsOpen-more c.args.mappings.now c.args.at c.args.most c.loop-done.done _ run c.loop-done.invariant.text
+          refl c.in_ok-run.ensures.ok (sym (place-none is_zero run (sym c.zero_in.ensures ∙ c.in_default.is)));
       next = record { place = λ near. c.next_place-place.ensures (omega arith) };
     }
 
 pub returns : goal.returns
-returns c = sym (IsOpen-end c.args.mappings.now c.args.at c.args.most c.loop-done.done c.loop-done.invariant.text (omega arith))
+returns c =
+    sym (IsOpen-end c.args.mappings.now c.args.at c.args.most c.loop-done.done c.loop-done.invariant.text (omega arith))

@@ -10,13 +10,18 @@ loop-place-init c = is_written-start c.args.at c.args.bytes.now c.args.mappings.
 
 pub loop-place-preserved : goal.loop-place-preserved
 loop-place-preserved c =
-    rw c.in_ok-write.ensures.ok (map_step (with_written c.args.at c.args.bytes.now) c.args.mappings.now c.loop-place.mappings c.loop-place.place _ (omega arith) c.loop-place.invariant)
+    rw c.in_ok-write.ensures.ok
+    (map_step
+    (with_written c.args.at c.args.bytes.now) c.args.mappings.now c.loop-place.mappings c.loop-place.place _
+    (omega arith) c.loop-place.invariant)
 
 pub returns-else-at-end : goal.returns-else-at-end
 returns-else-at-end c =
     let same = ap (λ (n : Mapping). n.at) c.index-mappings-place.is in
-    is_written-reached c.args.at c.args.bytes.now c.args.mappings.now c.loop-place.mappings c.loop-place.place c.index-mappings-place.result c.requires.space c.loop-place.invariant (omega arith) (omega (arith, same))
+    is_written-reached c.args.at c.args.bytes.now c.args.mappings.now c.loop-place.mappings c.loop-place.place
+    c.index-mappings-place.result c.requires.space c.loop-place.invariant (omega arith) (omega (arith, same))
 
 pub returns-after-loop-place : goal.returns-after-loop-place
 returns-after-loop-place c =
-    is_written-all c.args.at c.args.bytes.now c.args.mappings.now c.loop-place.mappings c.loop-place.place c.loop-place.invariant (omega arith)
+    is_written-all c.args.at c.args.bytes.now c.args.mappings.now c.loop-place.mappings c.loop-place.place
+    c.loop-place.invariant (omega arith)

@@ -20,5 +20,6 @@ returns-else-entry-id-clause-none g c =
     let es = c.args.items.now in
     let within : c.place_from-place.result < length es = omega arith in
     let here = slice_get_read es _ _ _ (refl {a = length es}) within c.index-items-place.is in
-    let there : slice_get es (place_from c.args.id es) ≡ Some c.index-items-place.result = ap (slice_get es) (sym c.place_from-place.ensures.place) ∙ here in
+    let there : slice_get es (place_from c.args.id es) ≡ Some c.index-items-place.result =
+    ap (slice_get es) (sym c.place_from-place.ensures.place) ∙ here in
     under-passed c.args.id es _ c.requires there c.if-entry-id.false

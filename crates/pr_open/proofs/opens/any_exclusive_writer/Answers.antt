@@ -9,13 +9,16 @@ loop-number-init c = refl
 pub loop-number-preserved : goal.loop-number-preserved
 loop-number-preserved c =
     let inside : c.loop-number.number < length c.args.held.now = omega arith in
-    passed (is_exclusive_writer c.args.pid) c.args.held.now c.loop-number.number inside c.loop-number.invariant (c.if-is_exclusive_writer.ensures ∙ ap (is_exclusive_writer c.args.pid) (c.copied.ensures ∙ c.get.ensures))
+    passed (is_exclusive_writer c.args.pid) c.args.held.now c.loop-number.number inside c.loop-number.invariant
+    (c.if-is_exclusive_writer.ensures ∙ ap (is_exclusive_writer c.args.pid) (c.copied.ensures ∙ c.get.ensures))
 
 pub returns-then-is_exclusive_writer : goal.returns-then-is_exclusive_writer
 returns-then-is_exclusive_writer c =
     let inside : c.loop-number.number < length c.args.held.now = omega arith in
-    found (is_exclusive_writer c.args.pid) c.args.held.now c.loop-number.number inside c.loop-number.invariant (c.if-is_exclusive_writer.ensures ∙ ap (is_exclusive_writer c.args.pid) (c.copied.ensures ∙ c.get.ensures))
+    found (is_exclusive_writer c.args.pid) c.args.held.now c.loop-number.number inside c.loop-number.invariant
+    (c.if-is_exclusive_writer.ensures ∙ ap (is_exclusive_writer c.args.pid) (c.copied.ensures ∙ c.get.ensures))
 
 pub returns : goal.returns
 returns c =
-    none_found (is_exclusive_writer c.args.pid) c.args.held.now c.loop-number.number (omega arith) c.loop-number.invariant
+    none_found (is_exclusive_writer c.args.pid) c.args.held.now c.loop-number.number
+    (omega arith) c.loop-number.invariant

@@ -5,7 +5,9 @@ use Rattle.pr_output.proofs.lines.fill_block.Goals as goal
 
 pub returns-then-len-ge-BLOCK : goal.returns-then-len-ge-BLOCK
 returns-then-len-ge-BLOCK c =
-    let here : slice_get c.args.history.now.entries c.loop-at.at ≡ Some c.unwrap-entry.result.now = found-value c.get.result c.args.history.now.entries c.loop-at.at c.unwrap-entry.result (search rules) c.get.ensures in
+    let here : slice_get c.args.history.now.entries c.loop-at.at ≡ Some c.unwrap-entry.result.now =
+    found-value c.get.result c.args.history.now.entries c.loop-at.at c.unwrap-entry.result
+    (search rules) c.get.ensures in
     record {
       goes_on = omega (arith, c.loop-at.auto.at);
       within = omega (arith, c.loop-at-test.true, c.loop-at.invariant.end);
@@ -16,7 +18,9 @@ returns-then-len-ge-BLOCK c =
 
 pub loop-at-preserved : goal.loop-at-preserved
 loop-at-preserved c =
-    let here : slice_get c.args.history.now.entries c.loop-at.at ≡ Some c.unwrap-entry.result.now = found-value c.get.result c.args.history.now.entries c.loop-at.at c.unwrap-entry.result (search rules) c.get.ensures in
+    let here : slice_get c.args.history.now.entries c.loop-at.at ≡ Some c.unwrap-entry.result.now =
+    found-value c.get.result c.args.history.now.entries c.loop-at.at c.unwrap-entry.result
+    (search rules) c.get.ensures in
     record {
       lines = block-more _ _ _ _ _ _ here c.loop-at.invariant.lines c.in_ok-write_entry.ensures.written;
       end = c.loop-at.invariant.end;

@@ -24,10 +24,15 @@ loop-at-preserved g c =
 
 pub returns-in_err-next : goal.returns-in_err-next
 returns-in_err-next g c =
-    rw (entries_text-parts c.loop-at.at c.args.history.now.entries) (Puts-second _ _ _ _ _ _ _ _ _ c.loop-at.invariant.lines c.loop-at.invariant.faults (Puts-nothing _ _ _ _ (search rules)))
+    rw (entries_text-parts c.loop-at.at c.args.history.now.entries)
+    (Puts-second _ _ _ _ _ _ _ _ _ c.loop-at.invariant.lines c.loop-at.invariant.faults
+    (Puts-nothing _ _ _ _ (search rules)))
 
 pub returns-in_err-put : goal.returns-in_err-put
 returns-in_err-put g c =
     let block = c.in_ok-next.ensures in
     let put = rw c.deref.ensures.value at c.in_err-put.ensures.puts in
-    rw (entries_text-block c.loop-at.at c.in_ok-next.next c.args.history.now.entries c.fill_block.new.block.items block.lines) (Puts-second _ _ _ _ _ _ _ _ _ c.loop-at.invariant.lines c.loop-at.invariant.faults (Puts-cut _ _ _ _ _ _ _ _ (search rules) put))
+    rw (entries_text-block c.loop-at.at c.in_ok-next.next c.args.history.now.entries c.fill_block.new.block.items
+    block.lines)
+    (Puts-second _ _ _ _ _ _ _ _ _ c.loop-at.invariant.lines c.loop-at.invariant.faults
+    (Puts-cut _ _ _ _ _ _ _ _ (search rules) put))

@@ -7,7 +7,8 @@ use Rattle.pr_output.proofs.lines.put_entries.Given as goal
 abbrev pub invariant-loop-at : goal.invariant-loop-at
 invariant-loop-at g l = record {
   within : l.at ≤ length l.history.entries;
-  lines : g.K.Sink.written l.sink ≡ with_end (g.K.Sink.written l.fn.sink) (entries_text 0 (take l.at l.history.entries));
+  lines : g.K.Sink.written l.sink
+      ≡ with_end (g.K.Sink.written l.fn.sink) (entries_text 0 (take l.at l.history.entries));
   faults : g.K.Sink.faults l.sink ≡ g.K.Sink.faults l.fn.sink;
 }
 

@@ -15,12 +15,15 @@ pub loop-report-preserved : goal.loop-report-preserved
 loop-report-preserved g c =
     let put = c.in_ok-put_report.ensures in
     record {
-      lines = rw (flat_map-next report_text c.loop-report.report-index c.args.reports.now c.report-item.result (search rules) c.report-item.is) (with_end-second _ _ _ _ _ c.loop-report.invariant.lines put.all);
+      lines = rw (flat_map-next report_text c.loop-report.report-index c.args.reports.now c.report-item.result
+          (search rules) c.report-item.is) (with_end-second _ _ _ _ _ c.loop-report.invariant.lines put.all);
       faults = put.no_fault (λ is. cc) ∙ c.loop-report.invariant.faults;
     }
 
 pub returns-in_err-put_report : goal.returns-in_err-put_report
 unfolding reports_text
 returns-in_err-put_report g c =
-    rw (flat_map-parts report_text c.loop-report.report-index c.args.reports.now c.report-item.result (search rules) c.report-item.is)
-    (Puts-second _ _ _ _ _ _ _ _ _ c.loop-report.invariant.lines c.loop-report.invariant.faults (Puts-cut _ _ _ _ _ _ _ _ (search rules) c.in_err-put_report.ensures))
+    rw (flat_map-parts report_text c.loop-report.report-index c.args.reports.now c.report-item.result
+    (search rules) c.report-item.is)
+    (Puts-second _ _ _ _ _ _ _ _ _ c.loop-report.invariant.lines c.loop-report.invariant.faults
+    (Puts-cut _ _ _ _ _ _ _ _ (search rules) c.in_err-put_report.ensures))

@@ -20,7 +20,8 @@ loop-id-preserved c = record {
       ∙ each-orphaned c.args.parent c.in-Some.id c.loop-id.processes (ap is_some c.in-Some.ensures.found)
       ∙ c.loop-id.invariant.same;
   idle =
-      subst (λ (es : List (ℕ × TracedProcess)). AreIdle c.args.parent es (c.in-Some.id + 1)) (sym c.orphan_under.ensures)
+      subst (λ (es : List (ℕ × TracedProcess)). AreIdle c.args.parent es (c.in-Some.id + 1))
+      (sym c.orphan_under.ensures)
       (idle-next c.args.parent c.loop-id.low c.in-Some.id c.loop-id.processes c.loop-id.invariant.idle
       c.in-Some.ensures.least);
 }

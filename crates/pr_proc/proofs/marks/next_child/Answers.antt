@@ -5,14 +5,16 @@ use Rattle.pr_proc.proofs.MarkLemmas.{if-none, none-before, none-end, none-furth
 use Rattle.pr_proc.proofs.marks.next_child.Goals as goal
 
 pub loop-start-init : goal.loop-start-init
-loop-start-init c = record { behind = omega arith; none = none-passed any_process c.args.parent c.args.table.now c.args.low }
+loop-start-init c =
+    record { behind = omega arith; none = none-passed any_process c.args.parent c.args.table.now c.args.low }
 
 -- no process stands from there on
 pub returns-in_err-id-clause-none : goal.returns-in_err-id-clause-none
 returns-in_err-id-clause-none c =
     if-none c.from_residual.result
     (none-end any_process c.args.parent c.args.table.now c.ids_rise.ensures c.args.low c.in-Some.start
-    (none-further any_process c.args.parent c.args.table.now c.args.low c.loop-start.at c.in-Some.start c.loop-start.invariant.none
+    (none-further any_process c.args.parent c.args.table.now c.args.low c.loop-start.at c.in-Some.start
+    c.loop-start.invariant.none
     (c.in-Some.ensures.passed any_process c.requires)) c.in_err-id.ensures.none)
 
 pub returns-then-process-parent-clause-found : goal.returns-then-process-parent-clause-found
@@ -25,7 +27,8 @@ pub returns-then-process-parent-clause-least : goal.returns-then-process-parent-
 returns-then-process-parent-clause-least c =
     none-before any_process c.args.parent c.args.table.now c.ids_rise.ensures c.args.low c.in-Some.start c.in_ok-id.id
     c.in_ok-id.process.now
-    (none-further any_process c.args.parent c.args.table.now c.args.low c.loop-start.at c.in-Some.start c.loop-start.invariant.none
+    (none-further any_process c.args.parent c.args.table.now c.args.low c.loop-start.at c.in-Some.start
+    c.loop-start.invariant.none
     (c.in-Some.ensures.passed any_process c.requires)) c.in_ok-id.ensures.next
 
 -- this one is no child
@@ -36,8 +39,10 @@ loop-start-preserved c =
     let was = c.loop-start.invariant.behind in record {
       behind = omega arith;
       none =
-          none-with any_process c.args.parent c.args.table.now c.ids_rise.ensures c.args.low c.in-Some.start c.in_ok-id.id
+          none-with any_process c.args.parent c.args.table.now c.ids_rise.ensures c.args.low c.in-Some.start
+          c.in_ok-id.id
           c.in_ok-id.process.now
           (none-further any_process c.args.parent c.args.table.now c.args.low c.loop-start.at c.in-Some.start
-          c.loop-start.invariant.none (c.in-Some.ensures.passed any_process c.requires)) c.in_ok-id.ensures.next (λ meant. c.if-process-parent.false);
+          c.loop-start.invariant.none (c.in-Some.ensures.passed any_process c.requires)) c.in_ok-id.ensures.next
+          (λ meant. c.if-process-parent.false);
     }

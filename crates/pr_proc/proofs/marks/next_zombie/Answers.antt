@@ -7,7 +7,8 @@ use Rattle.pr_proc.proofs.MarkLemmas.{if-none, is-zombie, no-zombie, none-before
 use Rattle.pr_proc.proofs.marks.next_zombie.Goals as goal
 
 pub loop-start-init : goal.loop-start-init
-loop-start-init c = record { behind = omega arith; none = none-passed has_ended c.args.parent c.args.table.now c.args.low }
+loop-start-init c =
+    record { behind = omega arith; none = none-passed has_ended c.args.parent c.args.table.now c.args.low }
 
 -- no process stands from there on
 pub returns-in_err-id-clause-none : goal.returns-in_err-id-clause-none
@@ -29,7 +30,8 @@ returns-in-Some-zombie_status-clause-child c = λ p there.
     let found =
     under-next 0 c.in-Some.start c.args.table.now (c.in_ok-id.id, c.in_ok-id.process.now) c.ids_rise.ensures
     c.in_ok-id.ensures.next in
-    let told = is-zombie c.args.parent _ c.in_ok-id.process.now (sym c.zombie_status.ensures ∙ c.in-Some-zombie_status.is) in
+    let told =
+    is-zombie c.args.parent _ c.in_ok-id.process.now (sym c.zombie_status.ensures ∙ c.in-Some-zombie_status.is) in
     ap (λ (x : TracedProcess). x.parent) (sym (same_Some c.in_ok-id.process.now p (sym found ∙ there))) ∙ told.0
 
 -- and has ended
@@ -38,7 +40,8 @@ returns-in-Some-zombie_status-clause-ended c = λ p there.
     let found =
     under-next 0 c.in-Some.start c.args.table.now (c.in_ok-id.id, c.in_ok-id.process.now) c.ids_rise.ensures
     c.in_ok-id.ensures.next in
-    let told = is-zombie c.args.parent _ c.in_ok-id.process.now (sym c.zombie_status.ensures ∙ c.in-Some-zombie_status.is) in
+    let told =
+    is-zombie c.args.parent _ c.in_ok-id.process.now (sym c.zombie_status.ensures ∙ c.in-Some-zombie_status.is) in
     ap (λ (x : TracedProcess). x.ended) (sym (same_Some c.in_ok-id.process.now p (sym found ∙ there))) ∙ told.1
 
 -- none stands before this one
@@ -61,5 +64,6 @@ loop-start-preserved c =
           c.in_ok-id.process.now
           (none-further has_ended c.args.parent c.args.table.now c.args.low c.loop-start.at c.in-Some.start
           c.loop-start.invariant.none (c.in-Some.ensures.passed has_ended c.requires)) c.in_ok-id.ensures.next
-          (no-zombie c.args.parent c.in_ok-id.process.now (sym c.zombie_status.ensures ∙ c.in_default-zombie_status.is));
+          (no-zombie c.args.parent c.in_ok-id.process.now
+          (sym c.zombie_status.ensures ∙ c.in_default-zombie_status.is));
     }

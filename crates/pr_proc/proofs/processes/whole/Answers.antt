@@ -9,8 +9,10 @@ overflow_add-result c =
 
 pub returns-clause-sum : goal.returns-clause-sum
 returns-clause-sum c =
-    ap (λ (n : ℕ). c.args.others + n) c.size_under.ensures.size ∙ whole-sum c.args.others c.args.out c.args.table.now c.ids_rise.ensures c.requires
+    ap (λ (n : ℕ). c.args.others + n) c.size_under.ensures.size
+    ∙ whole-sum c.args.others c.args.out c.args.table.now c.ids_rise.ensures c.requires
 
 pub returns-clause-small : goal.returns-clause-small
 returns-clause-small c =
-    whole-small c.args.others c.args.out c.size_under.result c.args.table.now c.ids_rise.ensures c.requires c.size_under.ensures.size c.size_under.ensures.limit
+    whole-small c.args.others c.args.out c.size_under.result c.args.table.now c.ids_rise.ensures c.requires
+    c.size_under.ensures.size c.size_under.ensures.limit

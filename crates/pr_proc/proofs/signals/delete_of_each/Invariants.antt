@@ -6,4 +6,5 @@ use Rattle.pr_proc.proofs.signals.delete_of_each.Given as goal
 -- the lwps so far are changed, and the others are as they were
 abbrev pub invariant-loop-place : goal.invariant-loop-place
 invariant-loop-place l =
-    (l.lwps ≡ map_each (lwp_without_pending l.signals) (take l.place l.fn.lwps) ++ drop l.place l.fn.lwps) × (length l.lwps ≡ length l.fn.lwps)
+    (l.lwps ≡ map_each (lwp_without_pending l.signals) (take l.place l.fn.lwps) ++ drop l.place l.fn.lwps)
+    × (length l.lwps ≡ length l.fn.lwps)

@@ -16,7 +16,9 @@ returns-clause-covers g c =
     (grows-next _ _ _ c.look_if_small.ensures.grows c.look_at_kin_of-2.ensures.grows))
     (each-either (g.Q.Question.answer c.args.question.now) c.args.sys.now (λ pid. is_id pid c.args.around.target)
     (is_in_kin_of c.args.around.target_kin) _
-    (each-more (g.Q.Question.answer c.args.question.now) c.args.sys.now _ _ _ c.look_if_small.ensures.covers c.look_at_kin_of-2.ensures.grows)
+    (each-more
+    (g.Q.Question.answer c.args.question.now) c.args.sys.now _ _ _ c.look_if_small.ensures.covers
+    c.look_at_kin_of-2.ensures.grows)
     c.look_at_kin_of-2.ensures.covers))
 
 pub returns-clause-grows : goal.returns-clause-grows

@@ -6,4 +6,5 @@ use Rattle.pr_rec.proofs.columns.fill.Goals as goal
 
 pub returns : goal.returns
 returns c =
-    words-front_words c.read_words.new.out c.args.bytes.now _ c.read_words.ensures (omega arith) (All-from_get_or IsWord c.read_words.new.out 0 (λ i inside. let fits = c.type_inv.words i in omega arith))
+    words-front_words c.read_words.new.out c.args.bytes.now _ c.read_words.ensures (omega arith)
+    (All-from_get_or IsWord c.read_words.new.out 0 (λ i inside. let fits = c.type_inv.words i in omega arith))

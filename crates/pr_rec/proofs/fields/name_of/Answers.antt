@@ -8,9 +8,14 @@ use Rattle.pr_rec.proofs.fields.name_of.Goals as goal
 
 pub returns-clause-words : goal.returns-clause-words
 returns-clause-words c =
-    sym (words-front_words c.args.words.now c.put_words.new.out 4 (sym c.put_words.ensures) c.requires (All-from_get_or IsWord c.args.words.now 0 (λ i inside. let fits = c.type_inv.words i in omega arith)))
+    sym (words-front_words c.args.words.now c.put_words.new.out 4 (sym c.put_words.ensures) c.requires
+    (All-from_get_or IsWord c.args.words.now 0 (λ i inside. let fits = c.type_inv.words i in omega arith)))
 
 pub returns-clause-name : goal.returns-clause-name
 returns-clause-name c =
     let e = c.put_words.ensures in
-    record { whole = omega (arith, ap length e, length-words_bytes c.args.words.now); bytes = subst (All IsByte) (sym e) (AreBytes-words_bytes c.args.words.now) }
+    record {
+      whole = omega (arith, ap length e, length-words_bytes c.args.words.now);
+      bytes =
+          subst (All IsByte) (sym e) (AreBytes-words_bytes c.args.words.now);
+    }

@@ -24,20 +24,30 @@ pub returns-clause-number_of_lwps : goal.returns-clause-number_of_lwps
 unfolding lstatus_bytes statuses number
 returns-clause-number_of_lwps c lwps small =
     let many : length (map lwpstatus_words_of lwps) ≡ length lwps = length-map lwps lwpstatus_words_of in
-    ap word_of (take_at (number lwps) (statuses lwps) 8 (length-word_bytes (length (map lwpstatus_words_of lwps)))) ∙ word_of-word_bytes (length (map lwpstatus_words_of lwps)) (omega arith) ∙ many
+    ap word_of (take_at (number lwps) (statuses lwps) 8 (length-word_bytes (length (map lwpstatus_words_of lwps))))
+    ∙ word_of-word_bytes (length (map lwpstatus_words_of lwps)) (omega arith) ∙ many
 
 pub returns-clause-lwp : goal.returns-clause-lwp
 unfolding lstatus_bytes statuses number
 returns-clause-lwp c lwps i l there h =
     let stands = stands_at lwpstatus_words_of lwpstatus_word_count (λ _. refl) lwps i l there in
-    let along : drop (8 + lwpstatus_size * i) (number lwps ++ statuses lwps) ≡ drop (lwpstatus_size * i) (statuses lwps) =
-    sym (drop-drop (lwpstatus_size * i) 8 (number lwps ++ statuses lwps)) ∙ ap (drop (lwpstatus_size * i)) (drop_at (number lwps) (statuses lwps) 8 (length-word_bytes (length (map lwpstatus_words_of lwps)))) in
-    ranged-begins lwpstatus_ranges (lwpstatus_words_of l) _ stands.more refl (lwpstatus-ranged l h) (along ∙ stands.place)
+    let along : drop (8 + lwpstatus_size * i) (number lwps ++ statuses lwps)
+    ≡ drop (lwpstatus_size * i) (statuses lwps) =
+    sym (drop-drop (lwpstatus_size * i) 8 (number lwps ++ statuses lwps))
+    ∙ ap (drop (lwpstatus_size * i))
+    (drop_at (number lwps) (statuses lwps) 8 (length-word_bytes (length (map lwpstatus_words_of lwps)))) in
+    ranged-begins lwpstatus_ranges (lwpstatus_words_of l) _ stands.more refl (lwpstatus-ranged l h)
+    (along ∙ stands.place)
 
 pub returns-clause-lstatus_length : goal.returns-clause-lstatus_length
 unfolding lstatus_bytes statuses number
 returns-clause-lstatus_length c lwps =
-    length-append (number lwps) (statuses lwps) ∙ omega (arith, length-word_bytes (length (map lwpstatus_words_of lwps)), length-entries lwpstatus_words_of lwpstatus_word_count (λ _. refl) lwps)
+    length-append (number lwps) (statuses lwps)
+    ∙ omega (
+      arith,
+      length-word_bytes (length (map lwpstatus_words_of lwps)),
+      length-entries lwpstatus_words_of lwpstatus_word_count (λ _. refl) lwps,
+    )
 
 pub returns-clause-mapping : goal.returns-clause-mapping
 unfolding map_bytes

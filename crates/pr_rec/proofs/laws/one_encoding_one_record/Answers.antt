@@ -18,16 +18,20 @@ returns-clause-usage c bytes x y here there =
 
 pub returns-clause-psinfo : goal.returns-clause-psinfo
 returns-clause-psinfo c bytes x y x_whole y_whole here there =
-    same_psinfo x y x_whole y_whole (same_encoded psinfo_ranges psinfo_take bytes (psinfo_words_of x) (psinfo_words_of y) here there)
+    same_psinfo x y x_whole y_whole
+    (same_encoded psinfo_ranges psinfo_take bytes (psinfo_words_of x) (psinfo_words_of y) here there)
 
 pub returns-clause-mapping : goal.returns-clause-mapping
 returns-clause-mapping c bytes x y x_whole y_whole here there =
-    same_map_entry x y x_whole y_whole (same_encoded map_entry_ranges map_entry_take bytes (map_entry_words_of x) (map_entry_words_of y) here there)
+    same_map_entry x y x_whole y_whole
+    (same_encoded map_entry_ranges map_entry_take bytes (map_entry_words_of x) (map_entry_words_of y) here there)
 
 pub returns-clause-lwpstatus : goal.returns-clause-lwpstatus
 returns-clause-lwpstatus c bytes x y x_sizes y_sizes here there =
-    same_lwpstatus x y x_sizes y_sizes (same_encoded lwpstatus_ranges lwpstatus_take bytes (lwpstatus_words_of x) (lwpstatus_words_of y) here there)
+    same_lwpstatus x y x_sizes y_sizes
+    (same_encoded lwpstatus_ranges lwpstatus_take bytes (lwpstatus_words_of x) (lwpstatus_words_of y) here there)
 
 pub returns-clause-status : goal.returns-clause-status
 returns-clause-status c bytes x y x_sizes y_sizes here there =
-    same_status x y x_sizes y_sizes (same_encoded status_ranges status_take bytes (status_words_of x) (status_words_of y) here there)
+    same_status x y x_sizes y_sizes
+    (same_encoded status_ranges status_take bytes (status_words_of x) (status_words_of y) here there)

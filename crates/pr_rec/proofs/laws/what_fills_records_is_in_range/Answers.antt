@@ -13,7 +13,15 @@ flag_if-le false bit = omega arith
 
 pub returns-clause-lwp_flags : goal.returns-clause-lwp_flags
 returns-clause-lwp_flags c m =
-    omega (arith, flag_if-le m.stopped 1, flag_if-le m.on_event 2, flag_if-le m.directed 4, flag_if-le m.step 8, flag_if-le m.asleep 16, flag_if-le m.agent 32)
+    omega (
+      arith,
+      flag_if-le m.stopped 1,
+      flag_if-le m.on_event 2,
+      flag_if-le m.directed 4,
+      flag_if-le m.step 8,
+      flag_if-le m.asleep 16,
+      flag_if-le m.agent 32,
+    )
 
 pub returns-clause-process_flags : goal.returns-clause-process_flags
 returns-clause-process_flags c modes system lent few = omega (arith, flag_if-le system 16, flag_if-le lent 32)
@@ -29,10 +37,12 @@ returns-clause-call c call = syscall_number-lt call
 
 pub returns-clause-name : goal.returns-clause-name
 returns-clause-name c name short bytes =
-    let zeros : length (replicate {A = ℕ} (32 - length name) 0) ≡ 32 - length name = length-replicate (32 - length name) 0 in
+    let zeros : length (replicate {A = ℕ} (32 - length name) 0) ≡ 32 - length name =
+    length-replicate (32 - length name) 0 in
     record {
       whole = length-append name (replicate (32 - length name) 0) ∙ omega arith;
-      bytes = All-append IsByte name (replicate (32 - length name) 0) bytes (All-replicate IsByte (32 - length name) 0 (omega arith));
+      bytes = All-append IsByte name (replicate (32 - length name) 0) bytes
+          (All-replicate IsByte (32 - length name) 0 (omega arith));
     }
 
 pub returns-clause-no_lwp : goal.returns-clause-no_lwp

@@ -16,7 +16,8 @@ returns-clause-status c s more h = ranged-begins status_ranges (status_words_of 
 
 pub returns-clause-lwpstatus : goal.returns-clause-lwpstatus
 unfolding lwpstatus_bytes
-returns-clause-lwpstatus c l more h = ranged-begins lwpstatus_ranges (lwpstatus_words_of l) _ more refl (lwpstatus-ranged l h) refl
+returns-clause-lwpstatus c l more h =
+    ranged-begins lwpstatus_ranges (lwpstatus_words_of l) _ more refl (lwpstatus-ranged l h) refl
 
 pub returns-clause-psinfo : goal.returns-clause-psinfo
 unfolding psinfo_bytes

@@ -9,4 +9,5 @@ pub returns-clause-encoded : goal.returns-clause-encoded
 returns-clause-encoded c =
     let words = c.args.dispositions.now in
     let size : length words ≡ signal_count = omega arith in
-    ranged-encodes sigact_ranges words _ size (any_words-ranged signal_count words size c.put_record.ensures.words) c.put_record.ensures.bytes
+    ranged-encodes sigact_ranges words _ size
+    (any_words-ranged signal_count words size c.put_record.ensures.words) c.put_record.ensures.bytes

@@ -24,8 +24,12 @@ loop-duty-preserved g c =
       shares = omega (arith, c.join.ensures.shares, one.1, ap length next, so_far.shares);
       own = ap (λ (o : List (ℕ × LoggedEntry)). o ++ flat_map (λ duty. own_of duty.seat) left) own
           ∙ (append_assoc (own_of c.loop-duty.seat) (own_of duty.seat) (flat_map (λ duty. own_of duty.seat) left)
-          ∙ (ap (λ (l : List (Duty _ LoggedEntry)). own_of c.loop-duty.seat ++ flat_map (λ duty. own_of duty.seat) l) (sym next) ∙ so_far.own));
-      over = ap (λ (b : Bool). b || list_any (λ (duty : Duty _ LoggedEntry). saw_over duty.seat) left) c.join.ensures.over
-          ∙ (or-of (saw_over c.loop-duty.seat) (saw_over duty.seat) (list_any (λ (duty : Duty _ LoggedEntry). saw_over duty.seat) left)
-          ∙ (ap (λ (l : List (Duty _ LoggedEntry)). saw_over c.loop-duty.seat || list_any (λ duty. saw_over duty.seat) l) (sym next) ∙ so_far.over));
+          ∙ (ap (λ (l : List (Duty _ LoggedEntry)). own_of c.loop-duty.seat ++ flat_map (λ duty. own_of duty.seat) l)
+          (sym next) ∙ so_far.own));
+      over = ap
+          (λ (b : Bool). b || list_any (λ (duty : Duty _ LoggedEntry). saw_over duty.seat) left) c.join.ensures.over
+          ∙ (or-of (saw_over c.loop-duty.seat) (saw_over duty.seat)
+          (list_any (λ (duty : Duty _ LoggedEntry). saw_over duty.seat) left)
+          ∙ (ap (λ (l : List (Duty _ LoggedEntry)). saw_over c.loop-duty.seat
+          || list_any (λ duty. saw_over duty.seat) l) (sym next) ∙ so_far.over));
     }

@@ -11,6 +11,8 @@ invariant-loop-duty g l = record {
   seat : IsOutside l.seat l.lock;
   rest : All (λ duty. IsOutside duty.seat l.lock × (shares_of duty.seat ≡ 1)) l.duty-iterator.rest.items;
   shares : shares_of l.seat + length l.duty-iterator.rest.items ≡ shares_of l.fn.seat + length l.fn.duties.items;
-  own : own_of l.seat ++ flat_map (λ duty. own_of duty.seat) l.duty-iterator.rest.items ≡ own_of l.fn.seat ++ flat_map (λ duty. own_of duty.seat) l.fn.duties.items;
-  over : (saw_over l.seat || list_any (λ duty. saw_over duty.seat) l.duty-iterator.rest.items) ≡ (saw_over l.fn.seat || list_any (λ duty. saw_over duty.seat) l.fn.duties.items);
+  own : own_of l.seat ++ flat_map (λ duty. own_of duty.seat) l.duty-iterator.rest.items
+      ≡ own_of l.fn.seat ++ flat_map (λ duty. own_of duty.seat) l.fn.duties.items;
+  over : (saw_over l.seat || list_any (λ duty. saw_over duty.seat) l.duty-iterator.rest.items)
+      ≡ (saw_over l.fn.seat || list_any (λ duty. saw_over duty.seat) l.fn.duties.items);
 }

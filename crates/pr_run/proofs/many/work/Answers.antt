@@ -9,5 +9,8 @@ loop-init g c = record {
   finite = tt;
   some = omega (arith, c.max-threads.ensures);
   as_many = refl;
-  duties = all-begin (first_world g.Q.Kernel.view c.args.lock.now) c.args.processors c.args.lock.now c.args.duties.now c.requires.duties;
+  duties =
+      all-begin
+      (first_world g.Q.Kernel.view c.args.lock.now) c.args.processors c.args.lock.now c.args.duties.now
+      c.requires.duties;
 }

@@ -5,4 +5,6 @@ use Rattle.pr_run.proofs.one.run_one.Given as goal
 
 -- so many steps were made
 abbrev pub invariant-loop : goal.invariant-loop
-invariant-loop g l = RunsFor (l.counter - length (g.Q.Kernel.view l.fn.world.kernel).history) (seen g.Q.Kernel.view l.fn.world) (seen g.Q.Kernel.view l.world)
+invariant-loop g l =
+    RunsFor (l.counter - length (g.Q.Kernel.view l.fn.world.kernel).history) (seen g.Q.Kernel.view l.fn.world)
+    (seen g.Q.Kernel.view l.world)

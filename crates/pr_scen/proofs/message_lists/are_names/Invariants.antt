@@ -5,4 +5,5 @@ use Rattle.pr_scen.proofs.message_lists.are_names.Given as goal
 
 abbrev pub invariant-loop-word : goal.invariant-loop-word
 invariant-loop-word l =
-    list_all is_name (map (λ word. word.now) (drop l.word-index l.words)) ≡ list_all is_name (map (λ word. word.now) l.words)
+    list_all is_name (map (λ word. word.now) (drop l.word-index l.words))
+    ≡ list_all is_name (map (λ word. word.now) l.words)

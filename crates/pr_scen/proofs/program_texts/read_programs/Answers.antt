@@ -6,4 +6,10 @@ use Rattle.pr_scen.proofs.program_texts.read_programs.Goals as goal
 
 pub read_parts-requires : goal.read_parts-requires
 read_parts-requires c =
-    omega (arith, ap length c.deref.ensures.value, length-map c.in_ok-lines.lines.items bytes_of, ap length c.in_ok-lines.ensures, few_lines c.args.text.now)
+    omega (
+      arith,
+      ap length c.deref.ensures.value,
+      length-map c.in_ok-lines.lines.items bytes_of,
+      ap length c.in_ok-lines.ensures,
+      few_lines c.args.text.now,
+    )

@@ -5,4 +5,5 @@ use Rattle.pr_scen.proofs.reading.end_of.Given as goal
 
 abbrev pub invariant-loop-i : goal.invariant-loop-i
 invariant-loop-i l =
-    position_from is_end l.i (map (λ line. line.now) (drop l.i l.lines)) ≡ position_from is_end 0 (map (λ line. line.now) l.lines)
+    position_from is_end l.i (map (λ line. line.now) (drop l.i l.lines))
+    ≡ position_from is_end 0 (map (λ line. line.now) l.lines)

@@ -6,7 +6,8 @@ use Rattle.pr_scen.proofs.reading.read_parts.Given as goal
 
 abbrev pub invariant-loop-first : goal.invariant-loop-first
 invariant-loop-first l =
-    (parts_added l.draft (parts_from l.number (map (λ line. line.now) l.rest)) ≡ draft_in (map (λ line. line.now) l.lines)) × (l.number + length l.rest ≡ length l.lines + 1)
+    (parts_added l.draft (parts_from l.number (map (λ line. line.now) l.rest))
+    ≡ draft_in (map (λ line. line.now) l.lines)) × (l.number + length l.rest ≡ length l.lines + 1)
 
 abbrev pub decreases-loop-first : goal.decreases-loop-first
 decreases-loop-first l = length l.rest

@@ -6,5 +6,7 @@ use Rattle.pr_serve.proofs.answers.explain.Goals as goal
 pub returns-clause-responds : goal.returns-clause-responds
 unfolding explained
 returns-clause-responds g c =
-    gives c.write_pieces-written.result explained c.without_history.result.status c.without_history.result.history.entries _ _ _ _
-    whole-usage c.without_history.ensures.history (c.without_history.ensures.status ∙ c.status_after.ensures.after) c.write_pieces-written.ensures.put
+    gives c.write_pieces-written.result explained c.without_history.result.status
+    c.without_history.result.history.entries _ _ _ _
+    whole-usage c.without_history.ensures.history
+    (c.without_history.ensures.status ∙ c.status_after.ensures.after) c.write_pieces-written.ensures.put

@@ -8,7 +8,8 @@ returns-in-Ok g c = read-core c.args.kind c.args.input _ _ _ _ _ _ _ _ c.in-Ok.e
 
 pub returns-in-Err-Wrong : goal.returns-in-Err-Wrong
 returns-in-Err-Wrong g c =
-    let read : core_of_input c.args.input ≡ Err c.in-Err-Wrong.wrong = rw c.in-Err-Wrong.field-0-is at c.in-Err-Wrong.ensures.read in
+    let read : core_of_input c.args.input ≡ Err c.in-Err-Wrong.wrong =
+    rw c.in-Err-Wrong.field-0-is at c.in-Err-Wrong.ensures.read in
     refused-core c.args.kind c.args.input c.in-Err-Wrong.wrong _ _ _ _ _ _ read
     (rw c.in-Err-Wrong.field-0-is at c.refuse_wrong.ensures)
 

@@ -8,5 +8,8 @@ pub returns : goal.returns
 returns g c =
     let digits : c.as_bytes.result.now ≡ decimal c.args.number = search rules in
     let text = numbered c.args.before c.as_bytes.result c.args.behind c.args.number digits in
-    gives c.write_pieces-written.result (said c.args.status c.args.before.now c.args.number c.args.behind.now) c.without_history.result.status c.without_history.result.history.entries _ _ _ _
-    c.requires c.without_history.ensures.history (c.without_history.ensures.status ∙ c.status_after.ensures.after) (puts-same _ _ _ _ _ _ _ text c.write_pieces-written.ensures.put)
+    gives c.write_pieces-written.result
+    (said c.args.status c.args.before.now c.args.number c.args.behind.now) c.without_history.result.status
+    c.without_history.result.history.entries _ _ _ _
+    c.requires c.without_history.ensures.history (c.without_history.ensures.status ∙ c.status_after.ensures.after)
+    (puts-same _ _ _ _ _ _ _ text c.write_pieces-written.ensures.put)

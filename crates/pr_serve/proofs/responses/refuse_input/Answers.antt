@@ -6,5 +6,8 @@ use Rattle.pr_serve.proofs.responses.refuse_input.Goals as goal
 pub returns : goal.returns
 unfolding refused_at
 returns g c =
-    gives c.write_refusal-written.result (refused_at c.args.line c.args.kind.now) c.without_history.result.status c.without_history.result.history.entries _ _ _ _
-    whole-refused c.without_history.ensures.history (c.without_history.ensures.status ∙ c.status_after.ensures.after) c.write_refusal-written.ensures
+    gives c.write_refusal-written.result
+    (refused_at c.args.line c.args.kind.now) c.without_history.result.status
+    c.without_history.result.history.entries _ _ _ _
+    whole-refused c.without_history.ensures.history
+    (c.without_history.ensures.status ∙ c.status_after.ensures.after) c.write_refusal-written.ensures

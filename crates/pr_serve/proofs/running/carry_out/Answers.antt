@@ -81,14 +81,17 @@ unfolding row_of
 returns-in-Generates-clause-kept g c = rw c.in-Generates.is c.generate.ensures.no_history
 
 -- the workers of a run on several threads
-workers : (work : Work) (showing : Showing) (n : ℕ) → work ≡ Shares showing n → HasWorkers work → (1 ≤ n) × (n ≤ worker_limit)
+workers : (work : Work) (showing : Showing) (n : ℕ) → work ≡ Shares showing n → HasWorkers work
+    → (1 ≤ n) × (n ≤ worker_limit)
 workers work showing n is h = rw is at h
 
 pub run_on_threads-requires-clause-some : goal.run_on_threads-requires-clause-some
-run_on_threads-requires-clause-some g c κs within = (workers c.args.work c.in-Shares.showing c.in-Shares.workers c.in-Shares.is c.requires.workers).0
+run_on_threads-requires-clause-some g c κs within =
+    (workers c.args.work c.in-Shares.showing c.in-Shares.workers c.in-Shares.is c.requires.workers).0
 
 pub run_on_threads-requires-clause-most : goal.run_on_threads-requires-clause-most
-run_on_threads-requires-clause-most g c κs within = (workers c.args.work c.in-Shares.showing c.in-Shares.workers c.in-Shares.is c.requires.workers).1
+run_on_threads-requires-clause-most g c κs within =
+    (workers c.args.work c.in-Shares.showing c.in-Shares.workers c.in-Shares.is c.requires.workers).1
 
 pub returns-in-Shares-clause-ends : goal.returns-in-Shares-clause-ends
 unfolding row_of

@@ -8,4 +8,5 @@ use Rattle.pr_serve.proofs.running.check.Goals as goal
 
 pub returns-in-Ok : goal.returns-in-Ok
 returns-in-Ok g c =
-    reads-answered checked_limit (IsThe check_of) no_run _ _ _ _ c.in-Ok.input (check_of c.in-Ok.input) c.in-Ok.ensures.took (c.in-Ok.ensures.no_fault (λ is. cc)) refl c.judge_input.ensures
+    reads-answered checked_limit (IsThe check_of) no_run _ _ _ _ c.in-Ok.input
+    (check_of c.in-Ok.input) c.in-Ok.ensures.took (c.in-Ok.ensures.no_fault (λ is. cc)) refl c.judge_input.ensures

@@ -6,4 +6,5 @@ use Rattle.pr_serve.proofs.running.run_on_threads.Goals as goal
 
 pub returns-in-Ok : goal.returns-in-Ok
 returns-in-Ok g c =
-    reads-one scenario_limit (MayAnswer c.args.showing) by_threads _ _ _ _ c.in-Ok.input c.in-Ok.ensures.took (c.in-Ok.ensures.no_fault (λ is. cc)) c.share.ensures
+    reads-one scenario_limit (MayAnswer c.args.showing) by_threads _ _ _ _ c.in-Ok.input c.in-Ok.ensures.took
+    (c.in-Ok.ensures.no_fault (λ is. cc)) c.share.ensures

@@ -6,4 +6,5 @@ use Rattle.pr_serve.proofs.running.show_over_core.Goals as goal
 
 pub returns-in-Ok : goal.returns-in-Ok
 returns-in-Ok g c =
-    reads-one core_limit (MayShowCore c.args.kind) no_run _ _ _ _ c.in-Ok.input c.in-Ok.ensures.took (c.in-Ok.ensures.no_fault (λ is. cc)) c.show_core.ensures
+    reads-one core_limit (MayShowCore c.args.kind) no_run _ _ _ _ c.in-Ok.input c.in-Ok.ensures.took
+    (c.in-Ok.ensures.no_fault (λ is. cc)) c.show_core.ensures

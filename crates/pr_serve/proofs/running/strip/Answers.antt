@@ -8,4 +8,6 @@ use Rattle.pr_serve.proofs.running.strip.Goals as goal
 
 pub returns-in-Ok : goal.returns-in-Ok
 returns-in-Ok g c =
-    reads-answered scenario_limit (IsThe (answer_to plain_shown)) in_rounds _ _ _ _ c.in-Ok.input (answer_to plain_shown c.in-Ok.input) c.in-Ok.ensures.took (c.in-Ok.ensures.no_fault (λ is. cc)) refl c.strip_input.ensures
+    reads-answered scenario_limit (IsThe (answer_to plain_shown)) in_rounds _ _ _ _ c.in-Ok.input
+    (answer_to plain_shown c.in-Ok.input) c.in-Ok.ensures.took
+    (c.in-Ok.ensures.no_fault (λ is. cc)) refl c.strip_input.ensures

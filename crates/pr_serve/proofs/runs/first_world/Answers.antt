@@ -14,12 +14,17 @@ pub returns : goal.returns
 returns c =
     let parts = c.scenario.inside in
     let kern = c.in_ok-kern.ensures in
-    let state = kern.state ∙ ap (λ (spawns : List ℕ). first_state parts.programs.items (stored parts.files.items) spawns) c.as_slice.ensures.value in
+    let state =
+    kern.state
+    ∙ ap (λ (spawns : List ℕ). first_state parts.programs.items (stored parts.files.items) spawns)
+    c.as_slice.ensures.value in
     subst (λ (s : Scenario). IfOk c.new-2.result (λ world. seen kern_view world ≡ first_world s)) c.scenario.view_is
-    (first-made c.new-2.result _ c.in_ok-kern.kern _ _ state kern.history kern.places c.in_ok-controllers.ensures refl c.new-2.ensures)
+    (first-made c.new-2.result _ c.in_ok-kern.kern _ _ state kern.history kern.places c.in_ok-controllers.ensures refl
+    c.new-2.ensures)
 
 pub new-requires-clause-mapped : goal.new-requires-clause-mapped
 new-requires-clause-mapped c =
     let parts = c.scenario.inside in
-    subst (λ (spawns : List ℕ). sum_by (λ place. size_at_start (slice_get parts.programs.items place)) spawns ≤ all_mappings_limit) (sym c.as_slice.ensures.value)
+    subst (λ (spawns : List ℕ). sum_by (λ place. size_at_start (slice_get parts.programs.items place)) spawns
+    ≤ all_mappings_limit) (sym c.as_slice.ensures.value)
     (spawns-map _ (subst IsWithinLimits (sym c.scenario.view_is) c.requires.limits))

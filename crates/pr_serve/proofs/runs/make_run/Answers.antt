@@ -14,14 +14,17 @@ run_world-requires-clause-fresh c = seen-fresh _ _ c.in-Ok.ensures
 pub returns-in-Ok-clause-ended : goal.returns-in-Ok-clause-ended
 unfolding kernel_of
 returns-in-Ok-clause-ended c =
-    subst (λ (w : WorldState). IfOk c.run_world.result.ran (λ ran. ran.end ≡ end_of w)) (run-is c.args.scenario _ c.in-Ok.ensures) c.run_world.ensures.ended
+    subst (λ (w : WorldState). IfOk c.run_world.result.ran (λ ran. ran.end ≡ end_of w))
+    (run-is c.args.scenario _ c.in-Ok.ensures) c.run_world.ensures.ended
 
 pub returns-in-Ok-clause-reports : goal.returns-in-Ok-clause-reports
 unfolding kernel_of
 returns-in-Ok-clause-reports c =
-    subst (λ (w : WorldState). IfOk c.run_world.result.ran (λ ran. ran.reports.items ≡ reports_of w)) (run-is c.args.scenario _ c.in-Ok.ensures) c.run_world.ensures.reports
+    subst (λ (w : WorldState). IfOk c.run_world.result.ran (λ ran. ran.reports.items ≡ reports_of w))
+    (run-is c.args.scenario _ c.in-Ok.ensures) c.run_world.ensures.reports
 
 pub returns-in-Ok-clause-history : goal.returns-in-Ok-clause-history
 unfolding kernel_of
 returns-in-Ok-clause-history c =
-    subst (λ (w : WorldState). OnOk c.run_world.result.ran (c.run_world.result.history.entries ≡ w.kernel.history)) (run-is c.args.scenario _ c.in-Ok.ensures) c.run_world.ensures.history
+    subst (λ (w : WorldState). OnOk c.run_world.result.ran (c.run_world.result.history.entries ≡ w.kernel.history))
+    (run-is c.args.scenario _ c.in-Ok.ensures) c.run_world.ensures.history

@@ -15,5 +15,9 @@ pub returns-in-Ok-run_many : goal.returns-in-Ok-run_many
 unfolding kernel_of
 returns-in-Ok-run_many g c =
     let w = c.in-Ok-run_many.world in
-    let came = subst (λ (first : WorldState). CameFrom first (seen kern_view w)) c.in-Ok.ensures c.in-Ok-run_many.ensures.came in
-    shown-one c.args.showing c.args.scenario (seen kern_view w) c.in-Ok-run_many.end _ _ _ _ _ _ came (record { machine = w.kernel.state; is = refl }) c.in-Ok-run_many.ensures.within c.in-Ok-run_many.ensures.end c.show_end.ensures.ended c.show_end.ensures.stopped
+    let came =
+    subst (λ (first : WorldState). CameFrom first (seen kern_view w)) c.in-Ok.ensures
+    c.in-Ok-run_many.ensures.came in
+    shown-one c.args.showing c.args.scenario (seen kern_view w) c.in-Ok-run_many.end _ _ _ _ _ _ came
+    (record { machine = w.kernel.state; is = refl }) c.in-Ok-run_many.ensures.within c.in-Ok-run_many.ensures.end
+    c.show_end.ensures.ended c.show_end.ensures.stopped

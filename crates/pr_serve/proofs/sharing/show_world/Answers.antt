@@ -19,12 +19,16 @@ returns-in-Ok g c =
     let history = c.into_history-history.ensures ∙ ap (λ (k : Kernel). k.history) c.into_kernel.ensures in
     let printed : c.in-Ok.reports.items ≡ reports_of w = rw c.in-Ok.is at c.reports_of-reports.ensures in
     let same =
-    ap (λ (e : End). ran_so (run_shown c.args.showing) e c.into_history-history.result.entries c.in-Ok.reports.items) (ended-is w c.args.end c.requires)
+    ap (λ (e : End). ran_so (run_shown c.args.showing) e c.into_history-history.result.entries c.in-Ok.reports.items)
+    (ended-is w c.args.end c.requires)
     ∙ (ap (λ (h : List Entry). ran_so (run_shown c.args.showing) (end_of w) h c.in-Ok.reports.items) history
     ∙ ap (λ (rs : List Report). ran_so (run_shown c.args.showing) (end_of w) c.args.world.kernel.history rs) printed) in
-    gives-else (ran_so (run_shown c.args.showing) c.args.end c.into_history-history.result.entries c.in-Ok.reports.items) (ran (run_shown c.args.showing) w) ⊥ _ _ _ _ _ _ _ same (λ never. absurd never) c.show_ran.ensures
+    gives-else
+    (ran_so (run_shown c.args.showing) c.args.end c.into_history-history.result.entries c.in-Ok.reports.items)
+    (ran (run_shown c.args.showing) w) ⊥ _ _ _ _ _ _ _ same (λ never. absurd never) c.show_ran.ensures
 
 pub returns-in-Err : goal.returns-in-Err
 returns-in-Err g c =
     let history = c.into_history-history.ensures ∙ ap (λ (k : Kernel). k.history) c.into_kernel.ensures in
-    gives-nothing _ _ _ _ _ _ c.out_of_memory.ensures.status (record { unwritten = refl; is = c.out_of_memory.ensures.history ∙ history })
+    gives-nothing _ _ _ _ _ _ c.out_of_memory.ensures.status
+    (record { unwritten = refl; is = c.out_of_memory.ensures.history ∙ history })

@@ -12,13 +12,19 @@ pub returns-in-Ok : goal.returns-in-Ok
 unfolding answer_of answer_to
 returns-in-Ok g c =
     let read = c.in-Ok.ensures.read in
-    gives-else (ran (plain_shown c.in-Ok.scenario) (run_of c.in-Ok.scenario)) (answer_to plain_shown c.args.input) _ _ _ _ _ _ _ _
+    gives-else (ran (plain_shown c.in-Ok.scenario) (run_of c.in-Ok.scenario))
+    (answer_to plain_shown c.args.input) _ _ _ _ _ _ _ _
     (sym (ap (answer_of plain_shown) read)) (λ stopped. stopped-early _ _ _ _ _ read stopped) c.strip_scenario.ensures
 
 pub returns-in-Err-Fault : goal.returns-in-Err-Fault
 unfolding answer_of answer_to
 returns-in-Err-Fault g c =
-    let read : scenario_of_input c.args.input ≡ Err c.in-Err-Fault.fault = rw c.in-Err-Fault.field-0-is at c.in-Err-Fault.ensures.read in
-    let refused : Responds (refused_at c.in-Err-Fault.fault.line (kind_name c.in-Err-Fault.fault.kind)) ⊥ c.refuse_at.result.status c.refuse_at.result.history.entries (g.K.Sink.written c.args.sink.now) (g.K.Sink.written c.refuse_at.new.sink) (g.K.Sink.faults c.args.sink.now) (g.K.Sink.faults c.refuse_at.new.sink) = c.refuse_at.ensures in
-    gives-else (refused_at c.in-Err-Fault.fault.line (kind_name c.in-Err-Fault.fault.kind)) (answer_to plain_shown c.args.input) ⊥ _ _ _ _ _ _ _
+    let read : scenario_of_input c.args.input ≡ Err c.in-Err-Fault.fault =
+    rw c.in-Err-Fault.field-0-is at c.in-Err-Fault.ensures.read in
+    let refused : Responds
+    (refused_at c.in-Err-Fault.fault.line (kind_name c.in-Err-Fault.fault.kind)) ⊥ c.refuse_at.result.status
+    c.refuse_at.result.history.entries (g.K.Sink.written c.args.sink.now) (g.K.Sink.written c.refuse_at.new.sink)
+    (g.K.Sink.faults c.args.sink.now) (g.K.Sink.faults c.refuse_at.new.sink) = c.refuse_at.ensures in
+    gives-else (refused_at c.in-Err-Fault.fault.line (kind_name c.in-Err-Fault.fault.kind))
+    (answer_to plain_shown c.args.input) ⊥ _ _ _ _ _ _ _
     (sym (ap (answer_of plain_shown) read)) (λ never. absurd never) refused

@@ -6,5 +6,6 @@ use Rattle.pr_tools.proofs.decoding.fill.Goals as goal
 
 pub returns : goal.returns
 returns c =
-    words-front_words c.read_words.new.out _ _ c.read_words.ensures (omega arith) (All-from_get_or IsWord c.read_words.new.out 0 (λ i inside. let fits = c.type_inv.words i in omega arith))
+    words-front_words c.read_words.new.out _ _ c.read_words.ensures (omega arith)
+    (All-from_get_or IsWord c.read_words.new.out 0 (λ i inside. let fits = c.type_inv.words i in omega arith))
     ∙ front_words-take _ _ c.args.bytes.now (omega arith)

@@ -6,4 +6,5 @@ use Rattle.pr_tools.proofs.decoding.name_of.Goals as goal
 
 pub returns : goal.returns
 returns c =
-    sym (words-front_words c.args.words.now c.put_words.new.out 4 (sym c.put_words.ensures) c.requires (All-from_get_or IsWord c.args.words.now 0 (λ i inside. let fits = c.type_inv.words i in omega arith)))
+    sym (words-front_words c.args.words.now c.put_words.new.out 4 (sym c.put_words.ensures) c.requires
+    (All-from_get_or IsWord c.args.words.now 0 (λ i inside. let fits = c.type_inv.words i in omega arith)))

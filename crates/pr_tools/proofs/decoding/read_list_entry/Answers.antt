@@ -7,4 +7,6 @@ use Rattle.pr_tools.proofs.decoding.read_list_entry.Goals as goal
 pub returns-then-words-2 : goal.returns-then-words-2
 returns-then-words-2 c =
     ap Some c.list_entry_of.ensures
-    ∙ sym (ap result_ok (list_entry-read c.args.bytes.now c.fill.new.words (AreBytes-fits c.args.bytes.now c.type_inv.bytes) (omega arith) c.fill.ensures (omega arith) (omega arith)))
+    ∙ sym (ap result_ok
+    (list_entry-read c.args.bytes.now c.fill.new.words (AreBytes-fits c.args.bytes.now c.type_inv.bytes)
+    (omega arith) c.fill.ensures (omega arith) (omega arith)))

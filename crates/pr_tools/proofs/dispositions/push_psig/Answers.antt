@@ -12,6 +12,8 @@ pub returns : goal.returns
 unfolding psig_text
 returns c =
     let size : eqb (length c.args.bytes.now) (8 * signal_count) ≡ true = eq-eqb _ (8 * signal_count) (omega arith) in
-    rw size (on_ok_weaker c.push_signals.result (λ e. e ∙ ap (λ ws. c.push_header.new.text ++ signal_lines signals ws) c.fill.ensures
+    rw size (on_ok_weaker c.push_signals.result
+    (λ e. e ∙ ap (λ ws. c.push_header.new.text ++ signal_lines signals ws) c.fill.ensures
     ∙ ap (λ t. t ++ signal_lines signals (front_words signal_count c.args.bytes.now)) c.in_ok-push_header.ensures
-    ∙ append_assoc c.args.text.now (header c.args.pid) (signal_lines signals (front_words signal_count c.args.bytes.now))) c.push_signals.ensures)
+    ∙ append_assoc c.args.text.now (header c.args.pid)
+    (signal_lines signals (front_words signal_count c.args.bytes.now))) c.push_signals.ensures)

@@ -5,7 +5,8 @@ use Rattle.pr_tools.proofs.entries.entries_from.Given as goal
 
 abbrev pub invariant-loop-left : goal.invariant-loop-left
 invariant-loop-left g l =
-    (entries_from g.R.Record.ranges l.fn.count l.fn.bytes ≡ before (map g.R.Record.words l.entries.items) (entries_from g.R.Record.ranges l.left l.rest))
+    (entries_from g.R.Record.ranges l.fn.count l.fn.bytes
+    ≡ before (map g.R.Record.words l.entries.items) (entries_from g.R.Record.ranges l.left l.rest))
     × (length l.entries.items + l.left ≡ l.fn.count)
 
 abbrev pub decreases-loop-left : goal.decreases-loop-left

@@ -6,4 +6,5 @@ use Rattle.pr_tools.proofs.lwp_lines.push_lwps.Goals as goal
 
 pub loop-lwp-preserved : goal.loop-lwp-preserved
 loop-lwp-preserved c =
-    lines-next lwp_line lwpstatus_words_of c.args.lwps.now c.loop-lwp.lwp-index c.lwp-item.result c.args.text.now c.loop-lwp.text c.push_lwp.new.text (omega arith) c.lwp-item.is c.loop-lwp.invariant c.in_ok-push_lwp.ensures
+    lines-next lwp_line lwpstatus_words_of c.args.lwps.now c.loop-lwp.lwp-index c.lwp-item.result c.args.text.now
+    c.loop-lwp.text c.push_lwp.new.text (omega arith) c.lwp-item.is c.loop-lwp.invariant c.in_ok-push_lwp.ensures

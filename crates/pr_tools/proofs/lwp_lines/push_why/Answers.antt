@@ -7,5 +7,6 @@ use Rattle.pr_tools.proofs.lwp_lines.push_why.Goals as goal
 
 pub returns : goal.returns
 returns c =
-    let P : Option StopReason → Type 0 = λ why. OnOk c.push_stop.result (c.push_stop.new.text ≡ c.args.text.now ++ stop_text why c.args.lwp.now.what) in
+    let P : Option StopReason → Type 0 =
+    λ why. OnOk c.push_stop.result (c.push_stop.new.text ≡ c.args.text.now ++ stop_text why c.args.lwp.now.what) in
     subst P (sym (reason_back c.args.lwp.now.why)) c.push_stop.ensures

@@ -9,5 +9,8 @@ decreases-push_below l = l.levels
 
 abbrev pub invariant-loop-process : goal.invariant-loop-process
 invariant-loop-process l =
-    l.text ≡ l.fn.text ++ flat_map (branch_lines l.depth l.parent (lines_below (l.levels - 1) (deeper l.depth) (map list_entry_words_of l.processes)))
+    l.text ≡ l.fn.text
+    ++ flat_map
+    (branch_lines l.depth l.parent
+    (lines_below (l.levels - 1) (deeper l.depth) (map list_entry_words_of l.processes)))
     (map list_entry_words_of (take l.process-index l.processes))

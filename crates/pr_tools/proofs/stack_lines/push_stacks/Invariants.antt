@@ -7,4 +7,5 @@ use Rattle.pr_tools.proofs.stack_lines.push_stacks.Given as goal
 
 abbrev pub invariant-loop-lwp : goal.invariant-loop-lwp
 invariant-loop-lwp l =
-    l.text ≡ l.fn.text ++ flat_map (stack_text (option_copied l.program) l.frames) (map lwpstatus_words_of (take l.lwp-index l.lwps))
+    l.text ≡ l.fn.text
+    ++ flat_map (stack_text (option_copied l.program) l.frames) (map lwpstatus_words_of (take l.lwp-index l.lwps))

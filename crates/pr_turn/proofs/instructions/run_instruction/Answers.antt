@@ -28,7 +28,8 @@ returns-in_err-effect-clause-sure c none =
 pub returns-in_err-effect-clause-err : goal.returns-in_err-effect-clause-err
 returns-in_err-effect-clause-err c =
     on_err _
-    (put-same c.args.sys.now c.args.pid c.get_mut-process.result.now c.run_in.new.process c.get_mut-process.ensures.value
+    (put-same c.args.sys.now c.args.pid c.get_mut-process.result.now c.run_in.new.process
+    c.get_mut-process.ensures.value
     c.in_err-effect.ensures.err)
 
 pub returns-in_default-clause-other : goal.returns-in_default-clause-other

@@ -7,7 +7,9 @@ use Rattle.pr_turn.proofs.turns.turn_to_end.Goals as goal
 pub settle_under-requires : goal.settle_under-requires
 settle_under-requires c =
     makes-used _ _ _ _ _ _ _
-    (makes-end c.args.sys.now c.end.new.sys c.args.pid c.args.id (Ends c.args.did c.args.status) c.args.did c.args.status c.quiet.result c.requires.next c.end.ensures c.quiet.ensures)
+    (makes-end c.args.sys.now c.end.new.sys c.args.pid c.args.id
+    (Ends c.args.did c.args.status) c.args.did c.args.status c.quiet.result c.requires.next c.end.ensures
+    c.quiet.ensures)
     c.requires.room
 
 pub returns : goal.returns
@@ -16,7 +18,9 @@ returns c = record {
   stop = false;
   after = c.end.new.sys;
   makes =
-      makes-end c.args.sys.now c.end.new.sys c.args.pid c.args.id (Ends c.args.did c.args.status) c.args.did c.args.status c.quiet.result c.requires.next c.end.ensures c.quiet.ensures;
+      makes-end c.args.sys.now c.end.new.sys c.args.pid c.args.id
+      (Ends c.args.did c.args.status) c.args.did c.args.status c.quiet.result c.requires.next c.end.ensures
+      c.quiet.ensures;
   settled = c.settle_under.ensures;
   told = ap (λ (m : Made). record { did = m.did; stop = false }) (sym c.quiet.ensures);
 }

@@ -6,4 +6,5 @@ use Rattle.pr_world.proofs.questions.all_finished.Given as goal
 
 -- all controllers so far have finished
 abbrev pub invariant-loop-caller : goal.invariant-loop-caller
-invariant-loop-caller l = list_all has_finished (drop l.caller-index (map core_in l.callers)) ≡ list_all has_finished (map core_in l.callers)
+invariant-loop-caller l =
+    list_all has_finished (drop l.caller-index (map core_in l.callers)) ≡ list_all has_finished (map core_in l.callers)

@@ -6,7 +6,8 @@ use Rattle.pr_world.proofs.questions.make_calls.Goals as goal
 pub returns-in_err-make_next-clause-cores : goal.returns-in_err-make_next-clause-cores
 returns-in_err-make_next-clause-cores c =
     let stays = c.make_next.ensures.core ∙ ap (λ (y : CallerState). y.core) (sym c.caller-item.is) in
-    cores-same c.loop-caller.callers c.loop-caller.caller-index c.caller-item.result c.make_next.new.self c.caller-item.is stays
+    cores-same c.loop-caller.callers c.loop-caller.caller-index c.caller-item.result c.make_next.new.self
+    c.caller-item.is stays
     ∙ c.loop-caller.invariant.cores
 
 pub loop-caller-preserved : goal.loop-caller-preserved
@@ -14,13 +15,16 @@ loop-caller-preserved c =
     let stays = c.make_next.ensures.core ∙ ap (λ (y : CallerState). y.core) (sym c.caller-item.is) in
     record {
       cores =
-          cores-same c.loop-caller.callers c.loop-caller.caller-index c.caller-item.result c.make_next.new.self c.caller-item.is stays
+          cores-same c.loop-caller.callers c.loop-caller.caller-index c.caller-item.result c.make_next.new.self
+          c.caller-item.is stays
           ∙ c.loop-caller.invariant.cores;
       made =
-          made-next c.loop-caller.callers c.loop-caller.caller-index c.make_next.new.self (omega (arith, c.loop-caller-test.true))
+          made-next c.loop-caller.callers c.loop-caller.caller-index c.make_next.new.self
+          (omega (arith, c.loop-caller-test.true))
           c.loop-caller.invariant.made c.in_ok-make_next.ensures.made;
     }
 
 pub returns-clause-made : goal.returns-clause-made
 returns-clause-made c =
-    made-all c.loop-caller.callers c.loop-caller.caller-index (omega (arith, c.loop-caller-test.false)) c.loop-caller.invariant.made
+    made-all c.loop-caller.callers c.loop-caller.caller-index
+    (omega (arith, c.loop-caller-test.false)) c.loop-caller.invariant.made

@@ -9,6 +9,11 @@ returns-in_default-clause-names c = line-refused _ _ _ _ _ c.in_default.is
 pub returns-clause-names : goal.returns-clause-names
 returns-clause-names c =
     elim c.match-placed.branch [
-      | in-Some+in_ok-add w ↦ line-placed c.args.self.now c.match-placed.self w.add.new.self c.args.above c.after.result c.args.line c.args.read.now c.in-Ok.statement c.in-Ok.is c.after.ensures.value _ _ w.self-is (sym w.in-Some.ensures) w.in_ok-add.ensures
-      | in_default-placed w ↦ line-silent c.args.self.now c.match-placed.self c.args.above c.after.result c.args.line c.args.read.now c.in-Ok.statement c.in-Ok.is c.after.ensures.value w.self-is (sym c.placed.ensures ∙ w.in_default-placed.is)
+      | in-Some+in_ok-add w ↦
+          line-placed c.args.self.now c.match-placed.self w.add.new.self c.args.above c.after.result c.args.line
+          c.args.read.now c.in-Ok.statement c.in-Ok.is c.after.ensures.value _ _ w.self-is
+          (sym w.in-Some.ensures) w.in_ok-add.ensures
+      | in_default-placed w ↦
+          line-silent c.args.self.now c.match-placed.self c.args.above c.after.result c.args.line c.args.read.now
+          c.in-Ok.statement c.in-Ok.is c.after.ensures.value w.self-is (sym c.placed.ensures ∙ w.in_default-placed.is)
     ]

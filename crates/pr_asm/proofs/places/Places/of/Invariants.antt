@@ -7,4 +7,6 @@ use Rattle.pr_num.specs.Limits.{code_limit, data_limit}
 abbrev pub invariant-loop-i : goal.invariant-loop-i
 invariant-loop-i l =
     (l.above.code ≤ code_limit) × (l.above.bytes ≤ data_limit)
-    × ((name : List ℕ) → option_or (found l.places name) (place_among (placed_from l.above (l.first + l.i) (drop l.i l.reads)) name) ≡ place_in l.first l.reads name)
+    × ((name : List ℕ)
+    → option_or (found l.places name) (place_among (placed_from l.above (l.first + l.i) (drop l.i l.reads)) name)
+    ≡ place_in l.first l.reads name)

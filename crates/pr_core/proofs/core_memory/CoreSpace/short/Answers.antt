@@ -6,7 +6,8 @@ use Rattle.pr_core.proofs.core_memory.CoreSpace.short.Goals as goal
 
 pub returns-in_default : goal.returns-in_default
 returns-in_default c =
-    sym (mapped-end (space_in c.args.self.now) c.loop-left.address c.loop-left.bytes.items c.loop-left.left (omega arith)
+    sym (mapped-end (space_in c.args.self.now) c.loop-left.address c.loop-left.bytes.items c.loop-left.left
+    (omega arith)
     (sym c.in_default.ensures)) ∙ c.loop-left.invariant
 
 pub loop-left-preserved : goal.loop-left-preserved

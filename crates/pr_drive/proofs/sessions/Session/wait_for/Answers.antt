@@ -14,7 +14,8 @@ loop-at-preserved c =
           waited-more c.wait_end_of-until.result c.args.call.now c.args.self.now c.loop-at.self-inside.rounds
           c.go_round.new.self c.wait_end_of-until.ensures
           c.loop-at.invariant.waited (sym (c.is_answered.ensures
-          ∙ ap (λ (i : Inside). is_answered_now c.args.call.now i.rounds.seats) c.self-inside-in-loop-at.view_is) ∙ c.if-is_answered.false) round;
+          ∙ ap (λ (i : Inside). is_answered_now c.args.call.now i.rounds.seats) c.self-inside-in-loop-at.view_is)
+          ∙ c.if-is_answered.false) round;
       far = omega (
         arith,
         c.loop-at.invariant.far,
@@ -27,14 +28,16 @@ pub returns-then-is_answered : goal.returns-then-is_answered
 returns-then-is_answered c =
     waited-ready c.args.call.now c.args.self.now c.loop-at.self-inside.rounds c.loop-at.invariant.waited
     (sym (c.is_answered.ensures
-    ∙ ap (λ (i : Inside). is_answered_now c.args.call.now i.rounds.seats) c.self-inside-in-loop-at.view_is) ∙ c.if-is_answered.true)
+    ∙ ap (λ (i : Inside). is_answered_now c.args.call.now i.rounds.seats) c.self-inside-in-loop-at.view_is)
+    ∙ c.if-is_answered.true)
 
 pub returns-then-not-moved : goal.returns-then-not-moved
 returns-then-not-moved c =
     waited-never c.wait_end_of-until.result c.args.call.now c.args.self.now c.loop-at.self-inside.rounds
     c.go_round.new.self c.wait_end_of-until.ensures
     c.loop-at.invariant.waited (sym (c.is_answered.ensures
-    ∙ ap (λ (i : Inside). is_answered_now c.args.call.now i.rounds.seats) c.self-inside-in-loop-at.view_is) ∙ c.if-is_answered.false)
+    ∙ ap (λ (i : Inside). is_answered_now c.args.call.now i.rounds.seats) c.self-inside-in-loop-at.view_is)
+    ∙ c.if-is_answered.false)
     (c.in_ok-moved.ensures.rests c.if-not-moved.true)
 
 pub returns : goal.returns

@@ -4,4 +4,5 @@ use Rattle.pr_file.proofs.files.Files.create_file.Goals as goal
 
 pub invariant_of-self-2 : goal.invariant_of-self-2
 invariant_of-self-2 c =
-    rw c.in_ok-place.ensures.ok (IsFileTable-created _ _ _ (omega arith) (rw c.self.view_is c.requires.new_name) c.self.invariant)
+    rw c.in_ok-place.ensures.ok
+    (IsFileTable-created _ _ _ (omega arith) (rw c.self.view_is c.requires.new_name) c.self.invariant)

@@ -17,6 +17,7 @@ returns c =
     c.vec_of-patches.ensures ∙ ap (λ (o : Option (List Patch)). unwrap_or o []) c.remove.ensures.value in
     let put : c.from_vec.result ≡ written (covers_of old pid).patches =
     c.from_vec.ensures ∙ c.in_ok-write_patches.ensures ∙ ap written before in
-    patches-changed old.agents old.patches c.remove.new.self c.insert.new.self pid c.from_vec.result c.remove.ensures.updates
+    patches-changed old.agents old.patches c.remove.new.self c.insert.new.self pid c.from_vec.result
+    c.remove.ensures.updates
     c.in_ok-insert.ensures.updates
     ∙ ap (λ (ps : List Patch). with_cover pid (with_patches ps (covers_of old pid)) (covers_of old)) put

@@ -25,4 +25,5 @@ pub returns-clause-lawful : goal.returns-clause-lawful
 returns-clause-lawful c = subst (λ (k : Kernel). IsLawful k.state) c.self.view_is c.self.invariant.kept.lawful
 
 pub returns-in_err-reply-clause-lawful : goal.returns-in_err-reply-clause-lawful
-returns-in_err-reply-clause-lawful c = subst (λ (k : Kernel). IsLawful k.state) c.self.view_is c.self.invariant.kept.lawful
+returns-in_err-reply-clause-lawful c =
+    subst (λ (k : Kernel). IsLawful k.state) c.self.view_is c.self.invariant.kept.lawful

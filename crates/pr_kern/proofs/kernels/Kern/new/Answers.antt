@@ -27,4 +27,6 @@ first_ready-ready-requires c =
 
 pub returns-clause-lawful : goal.returns-clause-lawful
 returns-clause-lawful c =
-    started-lawful _ _ c.args.programs.items c.args.files.items c.args.spawns.now c.keep_limits.ensures c.deref.ensures.value c.requires.few c.requires.short c.requires.own_names c.requires.spawns c.requires.mapped c.in_ok-state.ensures
+    started-lawful _ _ c.args.programs.items c.args.files.items c.args.spawns.now c.keep_limits.ensures
+    c.deref.ensures.value c.requires.few c.requires.short c.requires.own_names c.requires.spawns c.requires.mapped
+    c.in_ok-state.ensures

@@ -5,8 +5,8 @@ use Rattle.pr_kern.proofs.KeptLemmas.{kept-push, kept-ready, ticked-sound}
 use Rattle.pr_kern.proofs.kernels.Kern.tick.Goals as goal
 use Rattle.pr_ready.proofs.AroundLemmas.{tick-ready}
 
--- a tick leaves the system sound for one step more and the state lawful, and there was a place for the entry; and the sets
--- follow it
+-- a tick leaves the system sound for one step more and the state lawful, and there was a place for the entry; and the
+-- sets follow it
 pub invariant_of-self : goal.invariant_of-self
 invariant_of-self c =
     let place = subst (λ (k : Kernel). length k.history < k.places) (sym c.self.view_is) c.requires.place in

@@ -8,7 +8,8 @@ swap-requires g c =
     let same = c.loop.invariant in (
       search rules,
       omega (arith, here.words),
-      tries g.V.Logged.entries g.V.Logged.over g.V.Logged.comes _ _ _ _ (ap (λ m. m.0.entered) same.me ∙ c.requires.holds_none) (subst (λ m. 0 < m.0.shares) (sym same.me) here.some),
+      tries g.V.Logged.entries g.V.Logged.over g.V.Logged.comes _ _ _ _
+          (ap (λ m. m.0.entered) same.me ∙ c.requires.holds_none) (subst (λ m. 0 < m.0.shares) (sym same.me) here.some),
     )
 
 pub exchange-requires : goal.exchange-requires
@@ -19,5 +20,7 @@ exchange-requires g c =
 pub unreachable-requires : goal.unreachable-requires
 unreachable-requires g c =
     let taken = c.swap.ensures.2.free c.if-swap-eq0.true in
-    subst (λ o. IsSomeAnd o (Took g.V.Logged.entries g.V.Logged.over g.V.Logged.comes c.loop.seat.seat.me c.swap.new.seat.me.0)) c.in_default.is
+    subst (λ o.
+    IsSomeAnd o (Took g.V.Logged.entries g.V.Logged.over g.V.Logged.comes c.loop.seat.seat.me c.swap.new.seat.me.0))
+    c.in_default.is
     (took g.V.Logged.entries g.V.Logged.over g.V.Logged.comes _ _ taken c.exchange.result c.exchange.ensures.2)

@@ -10,5 +10,6 @@ join_seat-requires g c =
       there.table,
       c.requires.other.no_slot,
       omega (arith, here.words),
-      joins g.V.Logged.entries g.V.Logged.over g.V.Logged.comes _ _ _ _ _ here.some c.requires.lock.holds_none c.requires.other.holds_none there.begun,
+      joins g.V.Logged.entries g.V.Logged.over g.V.Logged.comes _ _ _ _ _ here.some c.requires.lock.holds_none
+          c.requires.other.holds_none there.begun,
     )

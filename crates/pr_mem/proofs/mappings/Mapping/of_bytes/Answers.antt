@@ -13,5 +13,7 @@ pub returns : goal.returns
 returns c =
     let bytes = c.args.bytes.now in
     let zeros = c.in_ok-pages.ensures ∙ ap (λ n. replicate {A = ℕ} n 0) c.rounded.ensures in
-    let written : c.write.new.self ≡ whole_pages bytes = c.in_ok-write.ensures.ok ∙ ap (written_bytes c.args.at bytes c.args.at) zeros ∙ whole_pages-written c.args.at bytes in
+    let written : c.write.new.self ≡ whole_pages bytes =
+    c.in_ok-write.ensures.ok ∙ ap (written_bytes c.args.at bytes c.args.at) zeros
+    ∙ whole_pages-written c.args.at bytes in
     ap (made c.args.at c.args.prot c.args.kind) written

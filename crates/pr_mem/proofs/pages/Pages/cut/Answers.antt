@@ -9,11 +9,16 @@ invariant_of-self c =
     let items = c.self.inside.pages.items in
     let size = length-bytes_of c.self.inside.size (map arc_value items) c.self.invariant in
     let less : c.args.size ≤ c.self.inside.size = omega (arith, c.requires, ap length c.self.view_is, size) in
-    AreOf-cut c.args.size c.self.inside.size c.page_count.result (map arc_value items) _ c.self.invariant less c.page_count.ensures (ap (map arc_value) c.truncate.ensures.items ∙ sym (take-map arc_value c.page_count.result items))
+    AreOf-cut c.args.size c.self.inside.size c.page_count.result
+    (map arc_value items) _ c.self.invariant less c.page_count.ensures
+    (ap (map arc_value) c.truncate.ensures.items ∙ sym (take-map arc_value c.page_count.result items))
 
 pub returns : goal.returns
 returns c =
     let items = c.self.inside.pages.items in
     let size = length-bytes_of c.self.inside.size (map arc_value items) c.self.invariant in
     let less : c.args.size ≤ c.self.inside.size = omega (arith, c.requires, ap length c.self.view_is, size) in
-    bytes_of-cut c.args.size c.self.inside.size c.page_count.result (map arc_value items) _ c.self.invariant less c.page_count.ensures (ap (map arc_value) c.truncate.ensures.items ∙ sym (take-map arc_value c.page_count.result items)) ∙ ap (λ (old : List ℕ). take c.args.size old ++ replicate (c.args.size - length old) 0) c.self.view_is
+    bytes_of-cut c.args.size c.self.inside.size c.page_count.result
+    (map arc_value items) _ c.self.invariant less c.page_count.ensures
+    (ap (map arc_value) c.truncate.ensures.items ∙ sym (take-map arc_value c.page_count.result items))
+    ∙ ap (λ (old : List ℕ). take c.args.size old ++ replicate (c.args.size - length old) 0) c.self.view_is

@@ -5,4 +5,5 @@ use Rattle.pr_mem.proofs.pages.Pages.len.Goals as goal
 
 pub returns-clause-value : goal.returns-clause-value
 returns-clause-value c =
-    sym (length-bytes_of c.self.inside.size (map arc_value c.self.inside.pages.items) c.self.invariant) ∙ ap length c.self.view_is
+    sym (length-bytes_of c.self.inside.size (map arc_value c.self.inside.pages.items) c.self.invariant)
+    ∙ ap length c.self.view_is

@@ -5,4 +5,8 @@ use Rattle.pr_mem.proofs.pages.Pages.resize.Goals as goal
 
 pub cut-requires : goal.cut-requires
 cut-requires c =
-    omega (arith, ap length c.self.view_is, length-bytes_of c.self.inside.size (map arc_value c.self.inside.pages.items) c.self.invariant)
+    omega (
+      arith,
+      ap length c.self.view_is,
+      length-bytes_of c.self.inside.size (map arc_value c.self.inside.pages.items) c.self.invariant,
+    )

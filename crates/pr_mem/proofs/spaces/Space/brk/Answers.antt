@@ -6,4 +6,5 @@ use Rattle.pr_mem.proofs.spaces.Space.brk.Goals as goal
 
 pub returns-clause-heap_place : goal.returns-clause-heap_place
 returns-clause-heap_place c =
-    subst (All LeavesHeapPlace) (sym c.in_ok-set_heap.ensures.ok) (LeavesHeapPlace-with_heap c.heap_size-size.result c.args.self.now c.requires.place)
+    subst (All LeavesHeapPlace) (sym c.in_ok-set_heap.ensures.ok)
+    (LeavesHeapPlace-with_heap c.heap_size-size.result c.args.self.now c.requires.place)

@@ -9,9 +9,12 @@ use Rattle.pr_mem.proofs.spaces.Space.first.Goals as goal
 pub invariant_of-result : goal.invariant_of-result
 invariant_of-result c =
     let is = c.in_ok-mappings.ensures in
-    let size = ap mapped_size is in
-    (subst IsSpace (sym is) (IsSpace-first c.args.text.now c.args.bytes.now c.requires.text c.requires.data), omega (arith, mapped_size-first c.args.text.now c.args.bytes.now, c.rounded.ensures, c.rounded-2.ensures))
+    let size = ap mapped_size is in (
+      subst IsSpace (sym is) (IsSpace-first c.args.text.now c.args.bytes.now c.requires.text c.requires.data),
+      omega (arith, mapped_size-first c.args.text.now c.args.bytes.now, c.rounded.ensures, c.rounded-2.ensures),
+    )
 
 pub returns-clause-heap_place : goal.returns-clause-heap_place
 returns-clause-heap_place c =
-    subst (All LeavesHeapPlace) (sym c.in_ok-mappings.ensures) (LeavesHeapPlace-first c.args.text.now c.args.bytes.now c.requires.text c.requires.data)
+    subst (All LeavesHeapPlace) (sym c.in_ok-mappings.ensures)
+    (LeavesHeapPlace-first c.args.text.now c.args.bytes.now c.requires.text c.requires.data)

@@ -14,8 +14,14 @@ invariant_of-self c =
 pub invariant_of-self-2 : goal.invariant_of-self-2
 invariant_of-self-2 c =
     let items = c.self.inside.mappings.items in
-    let now = c.in_ok-write_from.ensures.ok in
-    (subst IsSpace (sym now) (IsSpace-with_bytes c.args.at c.args.bytes.now items c.self.invariant.0), c.self.invariant.1 ∙ sym (ap mapped_size now ∙ mapped_size-with_bytes c.args.at c.args.bytes.now items))
+    let now = c.in_ok-write_from.ensures.ok in (
+      subst IsSpace (sym now) (IsSpace-with_bytes c.args.at c.args.bytes.now items c.self.invariant.0),
+      c.self.invariant.1 ∙ sym (ap mapped_size now ∙ mapped_size-with_bytes c.args.at c.args.bytes.now items),
+    )
 
 pub returns-clause-heap_place : goal.returns-clause-heap_place
-returns-clause-heap_place c = λ leaves. subst (All LeavesHeapPlace) (sym c.in_ok-write_from.ensures.ok) (LeavesHeapPlace-with_bytes c.args.at c.args.bytes.now c.self.inside.mappings.items (subst (All LeavesHeapPlace) (sym c.self.view_is) leaves))
+returns-clause-heap_place c =
+    λ leaves.
+    subst (All LeavesHeapPlace) (sym c.in_ok-write_from.ensures.ok)
+    (LeavesHeapPlace-with_bytes c.args.at c.args.bytes.now c.self.inside.mappings.items
+    (subst (All LeavesHeapPlace) (sym c.self.view_is) leaves))

@@ -8,5 +8,7 @@ returns-then-self-eq0-clause-value g c =
 
 pub returns-clause-none : goal.returns-clause-none
 returns-clause-none g c =
-    let within : c.args.self < 2 ^ length g.T.Numbered.table = rw c.entries.ensures.whole (rw (← c.self.view_is) c.self.invariant) in
-    rw (c.least_of.ensures, c.entries.ensures.value) (least_entry-none g.T.Numbered.number_of g.T.Numbered.table c.args.self c.entries.ensures.counted within)
+    let within : c.args.self < 2 ^ length g.T.Numbered.table =
+    rw c.entries.ensures.whole (rw (← c.self.view_is) c.self.invariant) in
+    rw (c.least_of.ensures, c.entries.ensures.value)
+    (least_entry-none g.T.Numbered.number_of g.T.Numbered.table c.args.self c.entries.ensures.counted within)

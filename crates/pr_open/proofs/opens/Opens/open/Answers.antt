@@ -10,8 +10,12 @@ returns-then-conflicts-clause-answer c =
 
 pub returns-in_default-clause-answer : goal.returns-in_default-clause-answer
 returns-in_default-clause-answer c =
-    ap or_full (sym c.in_default.is) ∙ no_conflict c.args.self.now c.args.h _ (sym c.conflicts.ensures ∙ c.if-conflicts.false) (c.least_free.ensures.least ∙ ap (position is_none) c.self.view_is)
+    ap or_full (sym c.in_default.is)
+    ∙ no_conflict c.args.self.now c.args.h _ (sym c.conflicts.ensures ∙ c.if-conflicts.false)
+    (c.least_free.ensures.least ∙ ap (position is_none) c.self.view_is)
 
 pub returns-clause-answer : goal.returns-clause-answer
 returns-clause-answer c =
-    ap or_full (sym c.in-Some.is) ∙ no_conflict c.args.self.now c.args.h _ (sym c.conflicts.ensures ∙ c.if-conflicts.false) (c.least_free.ensures.least ∙ ap (position is_none) c.self.view_is)
+    ap or_full (sym c.in-Some.is)
+    ∙ no_conflict c.args.self.now c.args.h _ (sym c.conflicts.ensures ∙ c.if-conflicts.false)
+    (c.least_free.ensures.least ∙ ap (position is_none) c.self.view_is)

@@ -12,6 +12,7 @@ returns c = λ p b small.
     let words : List ℕ = c.self.inside.words.items in
     let inside : c.args.pid < length words = subst (λ n. c.args.pid < n) (sym c.self.invariant) c.requires.pid in
     let read = c.index_mut.ensures.value ∙ get_or_default words c.args.pid _ 0 inside in
-    subst (λ w. has_block (slice_set words c.args.pid (bit_and w (bit_not w64 ((1 * 2 ^ c.args.block) % 2 ^ 64)))) p b ≡ (has_block words p b && not (eqb p c.args.pid && eqb b c.args.block)))
+    subst (λ w. has_block (slice_set words c.args.pid (bit_and w (bit_not w64 ((1 * 2 ^ c.args.block) % 2 ^ 64)))) p b
+    ≡ (has_block words p b && not (eqb p c.args.pid && eqb b c.args.block)))
     (sym read) (block-removed words c.args.pid c.args.block p b inside c.requires.block small)
     ∙ ap (λ (words : List ℕ). (has_block words p b && not (eqb p c.args.pid && eqb b c.args.block))) c.self.view_is

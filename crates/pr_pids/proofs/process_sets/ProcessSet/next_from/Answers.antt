@@ -26,7 +26,8 @@ returns-in-Some-clause-next c =
 pub returns-in-None-clause-next : goal.returns-in-None-clause-next
 returns-in-None-clause-next c =
     let from : ℕ = c.args.from in
-    let behind : from ≤ (from / 64 + 1) * 64 = let parts = div-add-mod from 64 in let less = bit-within from in omega arith in
+    let behind : from ≤ (from / 64 + 1) * 64 = let parts = div-add-mod from 64 in let less = bit-within from in
+    omega arith in
     subst (λ (words : List ℕ). IfSome c.next_from_word.result (λ pid. IsNextFrom words from pid)) c.self.view_is
     (if-next-behind c.self.inside.words from (from / 64 + 1)
     (none-here c.self.inside.words from (from / 64) (from % 64)
@@ -37,7 +38,8 @@ returns-in-None-clause-next c =
 pub returns-in-None-clause-none : goal.returns-in-None-clause-none
 returns-in-None-clause-none c =
     let from : ℕ = c.args.from in
-    let behind : from ≤ (from / 64 + 1) * 64 = let parts = div-add-mod from 64 in let less = bit-within from in omega arith in
+    let behind : from ≤ (from / 64 + 1) * 64 = let parts = div-add-mod from 64 in let less = bit-within from in
+    omega arith in
     subst (λ (words : List ℕ). IfNone c.next_from_word.result (HasNoneFrom words from)) c.self.view_is
     (if-none-behind c.self.inside.words from (from / 64 + 1)
     (none-here c.self.inside.words from (from / 64) (from % 64)

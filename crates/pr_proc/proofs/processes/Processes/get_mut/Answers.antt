@@ -11,7 +11,8 @@ get_mut-requires c = rw c.self.view_is c.requires
 pub invariant_of-self-lent : goal.invariant_of-self-lent
 invariant_of-self-lent c =
     λ w. record {
-      total = total-changed c.leave_out-self-inside.result c.args.id w c.self.inside.table c.leave_out-self-inside.ensures.total;
+      total = total-changed c.leave_out-self-inside.result c.args.id w c.self.inside.table
+          c.leave_out-self-inside.ensures.total;
       children = marks-changed any_process c.args.id w _ c.self.inside.table c.leave_out-self-inside.ensures.children;
       zombies = marks-changed has_ended c.args.id w _ c.self.inside.table c.leave_out-self-inside.ensures.zombies;
     }

@@ -5,4 +5,6 @@ use Rattle.pr_rec.proofs.ListEntryLemmas.{fd_entry-typed}
 use Rattle.pr_rec.proofs.entries.FdEntryEntry.append.Goals as goal
 
 pub returns-clause-ranged : goal.returns-clause-ranged
-returns-clause-ranged c = fd_entry-typed c.args.self.now c.words.ensures.descriptor c.words.ensures.name (subst (All IsWord) c.words.ensures.words c.append_words.ensures.words)
+returns-clause-ranged c =
+    fd_entry-typed c.args.self.now c.words.ensures.descriptor c.words.ensures.name
+    (subst (All IsWord) c.words.ensures.words c.append_words.ensures.words)

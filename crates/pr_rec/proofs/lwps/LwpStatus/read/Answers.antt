@@ -12,7 +12,8 @@ returns-in_err-read_record-clause-err c =
 
 pub from_words-requires : goal.from_words-requires
 from_words-requires c =
-    lwpstatus_fields c.read_record.new.words c.read_record.auto.words (read-ranged lwpstatus_ranges c.args.bytes.now c.read_record.new.words c.in_ok-read_record.ensures.ok)
+    lwpstatus_fields c.read_record.new.words c.read_record.auto.words
+    (read-ranged lwpstatus_ranges c.args.bytes.now c.read_record.new.words c.in_ok-read_record.ensures.ok)
 
 pub returns-clause-ok : goal.returns-clause-ok
 returns-clause-ok c =

@@ -12,13 +12,18 @@ returns-in_err-read_record-clause-err c =
     rw (p.1, p.2) (c.in_err-read_record.ensures.err)
 
 pub from_words-requires-clause-prot : goal.from_words-requires-clause-prot
-from_words-requires-clause-prot c = ltb-true _ _ (read-at map_entry_ranges c.args.bytes.now c.read_record.new.words 2 c.in_ok-read_record.ensures.ok)
+from_words-requires-clause-prot c =
+    ltb-true _ _ (read-at map_entry_ranges c.args.bytes.now c.read_record.new.words 2 c.in_ok-read_record.ensures.ok)
 
 pub from_words-requires-clause-from : goal.from_words-requires-clause-from
-from_words-requires-clause-from c = mapping_kind-from _ (read-at map_entry_ranges c.args.bytes.now c.read_record.new.words 3 c.in_ok-read_record.ensures.ok)
+from_words-requires-clause-from c =
+    mapping_kind-from _
+    (read-at map_entry_ranges c.args.bytes.now c.read_record.new.words 3 c.in_ok-read_record.ensures.ok)
 
 pub from_words-requires-clause-to : goal.from_words-requires-clause-to
-from_words-requires-clause-to c = mapping_kind-to _ (read-at map_entry_ranges c.args.bytes.now c.read_record.new.words 3 c.in_ok-read_record.ensures.ok)
+from_words-requires-clause-to c =
+    mapping_kind-to _
+    (read-at map_entry_ranges c.args.bytes.now c.read_record.new.words 3 c.in_ok-read_record.ensures.ok)
 
 pub returns-clause-ok : goal.returns-clause-ok
 returns-clause-ok c =

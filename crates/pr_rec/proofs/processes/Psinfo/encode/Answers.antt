@@ -8,8 +8,12 @@ use Rattle.pr_rec.specs.RecordWords.{psinfo_words_of}
 use Rattle.pr_rec.proofs.processes.Psinfo.encode.Goals as goal
 
 pub returns-clause-ranged : goal.returns-clause-ranged
-returns-clause-ranged c = psinfo-typed c.args.self.now c.words.ensures.id c.words.ensures.parent c.words.ensures.name (subst (All IsWord) c.words.ensures.words c.put_record.ensures.words)
+returns-clause-ranged c =
+    psinfo-typed c.args.self.now c.words.ensures.id c.words.ensures.parent c.words.ensures.name
+    (subst (All IsWord) c.words.ensures.words c.put_record.ensures.words)
 
 pub returns-clause-encoded : goal.returns-clause-encoded
 returns-clause-encoded c =
-    ranged-encodes psinfo_ranges (psinfo_words_of c.args.self.now) _ refl (psinfo-ranged c.args.self.now (returns-clause-ranged c)) (c.put_record.ensures.bytes ∙ ap words_bytes c.words.ensures.words)
+    ranged-encodes psinfo_ranges (psinfo_words_of c.args.self.now) _ refl
+    (psinfo-ranged c.args.self.now (returns-clause-ranged c))
+    (c.put_record.ensures.bytes ∙ ap words_bytes c.words.ensures.words)

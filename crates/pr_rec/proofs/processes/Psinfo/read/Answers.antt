@@ -11,16 +11,20 @@ returns-in_err-read_record-clause-err c =
     rw (p.1, p.2) (c.in_err-read_record.ensures.err)
 
 pub from_words-requires-clause-id : goal.from_words-requires-clause-id
-from_words-requires-clause-id c = ltb-true _ _ (read-at psinfo_ranges c.args.bytes.now c.read_record.new.words 0 c.in_ok-read_record.ensures.ok)
+from_words-requires-clause-id c =
+    ltb-true _ _ (read-at psinfo_ranges c.args.bytes.now c.read_record.new.words 0 c.in_ok-read_record.ensures.ok)
 
 pub from_words-requires-clause-parent : goal.from_words-requires-clause-parent
-from_words-requires-clause-parent c = ltb-true _ _ (read-at psinfo_ranges c.args.bytes.now c.read_record.new.words 1 c.in_ok-read_record.ensures.ok)
+from_words-requires-clause-parent c =
+    ltb-true _ _ (read-at psinfo_ranges c.args.bytes.now c.read_record.new.words 1 c.in_ok-read_record.ensures.ok)
 
 pub from_words-requires-clause-zombie : goal.from_words-requires-clause-zombie
-from_words-requires-clause-zombie c = ltb-true _ _ (read-at psinfo_ranges c.args.bytes.now c.read_record.new.words 3 c.in_ok-read_record.ensures.ok)
+from_words-requires-clause-zombie c =
+    ltb-true _ _ (read-at psinfo_ranges c.args.bytes.now c.read_record.new.words 3 c.in_ok-read_record.ensures.ok)
 
 pub from_words-requires-clause-job_stop : goal.from_words-requires-clause-job_stop
-from_words-requires-clause-job_stop c = ltb-true _ _ (read-at psinfo_ranges c.args.bytes.now c.read_record.new.words 7 c.in_ok-read_record.ensures.ok)
+from_words-requires-clause-job_stop c =
+    ltb-true _ _ (read-at psinfo_ranges c.args.bytes.now c.read_record.new.words 7 c.in_ok-read_record.ensures.ok)
 
 pub returns-clause-ok : goal.returns-clause-ok
 returns-clause-ok c =

@@ -18,9 +18,13 @@ pub returns-clause-ranged : goal.returns-clause-ranged
 returns-clause-ranged c info =
     let own = c.own_words.ensures in
     let lwp = c.words.ensures in
-    status-typed c.args.self.now own.flags own.id own.parent own.pending own.signals own.faults own.entries own.exits own.agent (subst (All IsWord) own.words c.put_two.ensures.first)
-    (lwpstatus-typed c.args.self.now.lwp lwp.sizes lwp.flags lwp.id lwp.what lwp.held lwp.pending (subst (All IsWord) lwp.words c.put_two.ensures.second) info)
+    status-typed c.args.self.now own.flags own.id own.parent own.pending own.signals own.faults own.entries own.exits
+    own.agent (subst (All IsWord) own.words c.put_two.ensures.first)
+    (lwpstatus-typed c.args.self.now.lwp lwp.sizes lwp.flags lwp.id lwp.what lwp.held lwp.pending
+    (subst (All IsWord) lwp.words c.put_two.ensures.second) info)
 
 pub returns-clause-encoded : goal.returns-clause-encoded
 returns-clause-encoded c info =
-    ranged-encodes status_ranges (status_words_of c.args.self.now) _ refl (status-ranged c.args.self.now (returns-clause-ranged c info)) (c.put_two.ensures.bytes ∙ two_parts _ _ _ _ c.own_words.ensures.words c.words.ensures.words)
+    ranged-encodes status_ranges (status_words_of c.args.self.now) _ refl
+    (status-ranged c.args.self.now (returns-clause-ranged c info))
+    (c.put_two.ensures.bytes ∙ two_parts _ _ _ _ c.own_words.ensures.words c.words.ensures.words)

@@ -4,4 +4,5 @@ use Rattle.pr_rec.proofs.usages.Usage.decode.Goals as goal
 
 pub returns-clause-encoded : goal.returns-clause-encoded
 returns-clause-encoded c =
-    usage-decoded c.args.bytes.now c.read.result (AreBytes-fits c.args.bytes.now c.type_inv.bytes) c.read.ensures.ok c.read.ensures.err
+    usage-decoded c.args.bytes.now c.read.result
+    (AreBytes-fits c.args.bytes.now c.type_inv.bytes) c.read.ensures.ok c.read.ensures.err

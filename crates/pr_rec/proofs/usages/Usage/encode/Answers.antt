@@ -8,8 +8,11 @@ use Rattle.pr_rec.specs.RecordWords.{usage_words_of}
 use Rattle.pr_rec.proofs.usages.Usage.encode.Goals as goal
 
 pub returns-clause-ranged : goal.returns-clause-ranged
-returns-clause-ranged c = usage-typed c.args.self.now c.words.ensures.id (subst (All IsWord) c.words.ensures.words c.put_record.ensures.words)
+returns-clause-ranged c =
+    usage-typed c.args.self.now c.words.ensures.id (subst (All IsWord) c.words.ensures.words c.put_record.ensures.words)
 
 pub returns-clause-encoded : goal.returns-clause-encoded
 returns-clause-encoded c =
-    ranged-encodes usage_ranges (usage_words_of c.args.self.now) _ refl (usage-ranged c.args.self.now (returns-clause-ranged c)) (c.put_record.ensures.bytes ∙ ap words_bytes c.words.ensures.words)
+    ranged-encodes usage_ranges (usage_words_of c.args.self.now) _ refl
+    (usage-ranged c.args.self.now (returns-clause-ranged c))
+    (c.put_record.ensures.bytes ∙ ap words_bytes c.words.ensures.words)

@@ -11,7 +11,8 @@ returns-in_err-read_record-clause-err c =
     rw (p.1, p.2) (c.in_err-read_record.ensures.err)
 
 pub from_words-requires : goal.from_words-requires
-from_words-requires c = ltb-true _ _ (read-at usage_ranges c.args.bytes.now c.read_record.new.words 0 c.in_ok-read_record.ensures.ok)
+from_words-requires c =
+    ltb-true _ _ (read-at usage_ranges c.args.bytes.now c.read_record.new.words 0 c.in_ok-read_record.ensures.ok)
 
 pub returns-clause-ok : goal.returns-clause-ok
 returns-clause-ok c =

@@ -12,15 +12,23 @@ returns-in_err-add_inner_line c =
     let lines = c.args.lines.now in
     let i = c.loop-i.i in
     let p = err_from_is_err_and c.from_residual.result c.from_residual.ensures.1 in
-    rw (p.1, p.2) (stops_whole c.in_err-add_inner_line.field-0.0 _ _ c.in_err-add_inner_line.ensures (λ fault stopped. folded-stop script_line_read (c.args.first + i) i c.loop-i.self (get_or lines i no_line).now [] (map bytes_of lines) _ fault (in_lines lines i (omega arith)) (line_at lines i (omega arith)) stopped c.loop-i.invariant))
+    rw (p.1, p.2)
+    (stops_whole c.in_err-add_inner_line.field-0.0 _ _ c.in_err-add_inner_line.ensures
+    (λ fault stopped. folded-stop script_line_read (c.args.first + i) i c.loop-i.self (get_or lines i no_line).now
+    [] (map bytes_of lines) _ fault (in_lines lines i (omega arith))
+    (line_at lines i (omega arith)) stopped c.loop-i.invariant))
 
 pub loop-i-preserved : goal.loop-i-preserved
 loop-i-preserved c =
     let lines = c.args.lines.now in
     let i = c.loop-i.i in
-    folded-more script_line_read (c.args.first + i) i (c.args.first + (i + 1)) c.loop-i.self c.add_inner_line.new.self (get_or lines i no_line).now [] (map bytes_of lines) _ (in_lines lines i (omega arith)) (line_at lines i (omega arith)) c.in_ok-add_inner_line.ensures (omega arith) c.loop-i.invariant
+    folded-more script_line_read (c.args.first + i) i (c.args.first + (i + 1)) c.loop-i.self c.add_inner_line.new.self
+    (get_or lines i no_line).now
+    [] (map bytes_of lines) _ (in_lines lines i (omega arith))
+    (line_at lines i (omega arith)) c.in_ok-add_inner_line.ensures (omega arith) c.loop-i.invariant
 
 pub returns : goal.returns
 returns c =
     let lines = c.args.lines.now in
-    folded-end script_line_read (c.args.first + c.loop-i.i) c.loop-i.i c.loop-i.self (map bytes_of lines) _ (omega (arith, length-map lines bytes_of)) c.loop-i.invariant
+    folded-end script_line_read (c.args.first + c.loop-i.i) c.loop-i.i c.loop-i.self (map bytes_of lines) _
+    (omega (arith, length-map lines bytes_of)) c.loop-i.invariant

@@ -5,4 +5,5 @@ use Rattle.pr_scen.proofs.drafts.Draft.add_script_lines.Given as goal
 
 abbrev pub invariant-loop-i : goal.invariant-loop-i
 invariant-loop-i l =
-    folded script_line_read (l.first + l.i) l.self (drop l.i (map (λ line. line.now) l.lines)) ≡ folded script_line_read l.first l.initial.self (map (λ line. line.now) l.lines)
+    folded script_line_read (l.first + l.i) l.self (drop l.i (map (λ line. line.now) l.lines))
+    ≡ folded script_line_read l.first l.initial.self (map (λ line. line.now) l.lines)

@@ -8,7 +8,11 @@ get_mut-requires g c =
 
 pub returns : goal.returns
 returns g c = (
-  (refl, changed_seen c.self.inside.slots c.args.self.now c.self.view_is c.args.id c.get_mut.result.now c.get_mut.ensures.value),
+  (
+    refl,
+    changed_seen c.self.inside.slots c.args.self.now c.self.view_is c.args.id c.get_mut.result.now
+        c.get_mut.ensures.value,
+  ),
   record {
     writes_back = tt;
     value = under_seen c.self.inside.slots c.args.self.now c.self.view_is c.args.id ∙ c.get_mut.ensures.value;

@@ -7,4 +7,6 @@ pub returns-then-number-places-clause-some : goal.returns-then-number-places-cla
 returns-then-number-places-clause-some g c =
     let slots = c.self.inside.slots in
     let past : length slots ≤ c.args.number = omega arith in
-    ap is_some (sym (under_seen slots c.args.self.now c.self.view_is c.args.number ∙ get_or_past slots c.args.number None past))
+    ap is_some
+    (sym (under_seen slots c.args.self.now c.self.view_is c.args.number
+    ∙ get_or_past slots c.args.number None past))

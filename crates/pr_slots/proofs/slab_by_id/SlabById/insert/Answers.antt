@@ -10,4 +10,6 @@ put-requires-clause-free g c =
 pub returns-clause-ok : goal.returns-clause-ok
 returns-clause-ok g c =
     let seen = c.in_ok-widen.ensures.pairs ∙ c.self.view_is in
-    ap (entries_from 0) c.put.ensures ∙ inserted_seen c.widen.new.slots c.args.self.now seen c.args.id c.args.thing c.in_ok-widen.ensures.ok (free_seen c.widen.new.slots c.args.self.now seen c.args.id c.requires)
+    ap (entries_from 0) c.put.ensures
+    ∙ inserted_seen c.widen.new.slots c.args.self.now seen c.args.id c.args.thing c.in_ok-widen.ensures.ok
+    (free_seen c.widen.new.slots c.args.self.now seen c.args.id c.requires)

@@ -7,7 +7,8 @@ use Rattle.pr_slots.proofs.slots.Slots.least_free.Goals as goal
 pub returns-clause-least : goal.returns-clause-least
 returns-clause-least g c =
     let fields = c.self.inside in
-    c.least_free.ensures ∙ ap (position is_none) c.deref.ensures.value ∙ least_seen fields.things fields.keys.items c.args.self.now c.self.view_is c.self.invariant
+    c.least_free.ensures ∙ ap (position is_none) c.deref.ensures.value
+    ∙ least_seen fields.things fields.keys.items c.args.self.now c.self.view_is c.self.invariant
 
 pub returns-clause-within : goal.returns-clause-within
 returns-clause-within g c = found c.least_free.result refl
@@ -16,7 +17,8 @@ returns-clause-within g c = found c.least_free.result refl
     found None is = tt
     found (Some number) is =
         let fields = c.self.inside in
-        free_inside fields.things fields.keys.items c.args.self.now c.self.view_is number (sym (c.least_free.ensures ∙ ap (position is_none) c.deref.ensures.value) ∙ is)
+        free_inside fields.things fields.keys.items c.args.self.now c.self.view_is number
+        (sym (c.least_free.ensures ∙ ap (position is_none) c.deref.ensures.value) ∙ is)
 
 pub returns-clause-free : goal.returns-clause-free
 returns-clause-free g c = found c.least_free.result refl
@@ -25,4 +27,5 @@ returns-clause-free g c = found c.least_free.result refl
     found None is = tt
     found (Some number) is =
         let fields = c.self.inside in
-        free_place fields.things fields.keys.items c.args.self.now c.self.view_is number (sym (c.least_free.ensures ∙ ap (position is_none) c.deref.ensures.value) ∙ is)
+        free_place fields.things fields.keys.items c.args.self.now c.self.view_is number
+        (sym (c.least_free.ensures ∙ ap (position is_none) c.deref.ensures.value) ∙ is)

@@ -10,7 +10,9 @@ remove-requires g c =
     sym (ap (λ keys. get_or keys c.args.filled None) c.deref.ensures.value) ∙ sym c.key_of.ensures
     ∙ c.unwrap-key.ensures
     in
-    ap is_some (sym (seen_at fields.things fields.keys.items c.args.self.now c.self.view_is c.args.filled (Some c.unwrap-key.result) here))
+    ap is_some
+    (sym (seen_at fields.things fields.keys.items c.args.self.now c.self.view_is c.args.filled
+    (Some c.unwrap-key.result) here))
     ∙ c.requires
 
 pub invariant_of-self : goal.invariant_of-self
@@ -21,7 +23,9 @@ invariant_of-self g c =
     sym (ap (λ keys. get_or keys c.args.filled None) c.deref.ensures.value) ∙ sym c.key_of.ensures
     ∙ c.unwrap-key.ensures
     in
-    let less = subst (λ o. OnSome o (slab_len c.remove.new.self + 1 ≡ slab_len fields.things)) (sym removed.value) removed.len in
+    let less =
+    subst (λ o. OnSome o (slab_len c.remove.new.self + 1 ≡ slab_len fields.things))
+    (sym removed.value) removed.len in
     freed_keyed fields.things c.remove.new.self fields.keys.items c.args.self.now c.self.view_is c.self.invariant
     c.unwrap-key.result c.args.filled removed.updates less removed.capacity here
 
@@ -43,6 +47,8 @@ returns-clause-rest g c =
     sym (ap (λ keys. get_or keys c.args.filled None) c.deref.ensures.value) ∙ sym c.key_of.ensures
     ∙ c.unwrap-key.ensures
     in
-    let less = subst (λ o. OnSome o (slab_len c.remove.new.self + 1 ≡ slab_len fields.things)) (sym removed.value) removed.len in
+    let less =
+    subst (λ o. OnSome o (slab_len c.remove.new.self + 1 ≡ slab_len fields.things))
+    (sym removed.value) removed.len in
     freed_places fields.things c.remove.new.self fields.keys.items c.args.self.now c.self.view_is c.self.invariant
     c.unwrap-key.result c.args.filled removed.updates less removed.capacity here

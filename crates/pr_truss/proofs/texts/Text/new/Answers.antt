@@ -10,4 +10,5 @@ invariant_of-result c =
 pub returns : goal.returns
 returns c =
     rw c.copy_from_slice.ensures.after
-    (ap (λ bytes. (bytes, nat_lt (length c.args.read.now) c.args.asked)) (front_shown c.args.read.now _ c.min.result c.min.ensures))
+    (ap (λ bytes. (bytes, nat_lt (length c.args.read.now) c.args.asked))
+    (front_shown c.args.read.now _ c.min.result c.min.ensures))
