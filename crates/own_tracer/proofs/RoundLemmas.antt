@@ -10,7 +10,7 @@ use Rattle.pr_model.specs.declared.events.Entry.{Entry}
 use Rattle.pr_model.specs.declared.events.Turned.{Turned}
 use Rattle.pr_num.specs.Limits.{clock_limit}
 use Rattle.own_tracer.proofs.GoingLemmas.{last-reply}
-use Rattle.own_tracer.specs.Attaching.{GetsHold, IsKeptOut}
+use Rattle.own_tracer.specs.Attaching.{GetsHold, IsRefused}
 use Rattle.own_tracer.specs.Calls.{open_call}
 use Rattle.own_tracer.specs.Faults.{Injects}
 use Rattle.own_tracer.specs.Going.{TellsState}
@@ -38,7 +38,7 @@ three-more h a b c i j k one two three =
 
 pub kept-out : (pid : ℕ) (a b : KernelView) (called : IsCalled 0 (open_call pid) a b) (control : Option ℕ)
     → control ≡ option_and_then opened_in (last_reply_of b.history) → control ≡ None
-    → IsKeptOut pid a.history b.history
+    → IsRefused pid a.history b.history
 kept-out pid a b called control is none = record {
   reply = called.reply;
   refused = sym (is ∙ ap (option_and_then opened_in) (last-reply (open_call pid) a b called)) ∙ none;

@@ -25,7 +25,7 @@ use Rattle.own_tracer.proofs.GoingLemmas.{IsLegal-append, call-goes, goes-keepin
 use Rattle.own_tracer.proofs.HoldingLemmas.{Opened, holds-kept, holds-lawful, nothing-kept, nothing-lawful, open-holds, plain-holds}
 use Rattle.own_tracer.proofs.OrderLemmas.{opens-control, orders-control, polls-control}
 use Rattle.own_tracer.proofs.RoundLemmas.{no-rounds, rounds-longer, rounds-on}
-use Rattle.own_tracer.specs.Attaching.{Attaches, GetsHold, IsKeptOut}
+use Rattle.own_tracer.specs.Attaching.{Attaches, GetsHold, IsRefused}
 use Rattle.own_tracer.specs.Calls.{open_call, was_taken}
 use Rattle.own_tracer.specs.Faults.{Injected, after_order, order_of}
 use Rattle.own_tracer.specs.Going.{AllLeaveMemory, Goes, Stands, only_controls}
@@ -200,7 +200,7 @@ pub attached-calls : (o : Option Grip) (pid : ℕ) (before after : List Entry) (
 attached-calls o pid before after g is = subst (λ (x : Option Grip). Attaches x pid before after) is
 
 pub kept-calls : (o : Option Grip) (pid : ℕ) (before after : List Entry) → o ≡ None → Attaches o pid before after
-    → IsKeptOut pid before after
+    → IsRefused pid before after
 kept-calls o pid before after is = subst (λ (x : Option Grip). Attaches x pid before after) is
 
 -- ---- from the first state

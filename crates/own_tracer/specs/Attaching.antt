@@ -21,11 +21,11 @@ pub record GetsHold (pid : ℕ) (g : Grip) (before after : List Entry) : Type 0 
       ∷ call_entry 0 (order_call g.control TraceWrites) answer ∷ []
 
 -- it has opened the control file, and that was refused
-pub record IsKeptOut (pid : ℕ) (before after : List Entry) : Type 0 where
+pub record IsRefused (pid : ℕ) (before after : List Entry) : Type 0 where
   pub reply : Reply
   pub refused : opened_in reply ≡ None
   pub history : after ≡ before ++ call_entry 0 (open_call pid) reply ∷ []
 
 abbrev pub Attaches : Option Grip → ℕ → List Entry → List Entry → Type 0
-Attaches None pid before after = IsKeptOut pid before after
+Attaches None pid before after = IsRefused pid before after
 Attaches (Some g) pid before after = GetsHold pid g before after

@@ -6,7 +6,7 @@ use Rattle.pr_model.specs.Legal.{IsLegal, state_after}
 use Rattle.pr_model.specs.State.{TracedState}
 use Rattle.pr_model.specs.declared.events.Entry.{Entry}
 use Rattle.pr_scen.specs.Scenarios.{Scenario}
-use Rattle.own_tracer.specs.Attaching.{GetsHold, IsKeptOut}
+use Rattle.own_tracer.specs.Attaching.{GetsHold, IsRefused}
 use Rattle.own_tracer.specs.Faults.{every_nth}
 use Rattle.own_tracer.specs.Going.{AllLeaveMemory, Goes}
 use Rattle.own_tracer.specs.Rounds.{Moment, RoundsFor, RunsAlone, RunsBeside}
@@ -26,7 +26,7 @@ pub record InHand (g : Grip) (rounds : ℕ) (faults left : Faults) (old new : Mo
 -- or it did nothing but to open the process, which was refused. Nobody else moved meanwhile.
 pub record GotNoHold (pid : ℕ) (old new : Moment) : Type 0 where
   pub why : ((old.kernel.places < length old.kernel.history + 5) × (new.kernel ≡ old.kernel))
-      ⊎ IsKeptOut pid old.kernel.history new.kernel.history
+      ⊎ IsRefused pid old.kernel.history new.kernel.history
   pub last : new.last ≡ old.last
 
 -- The injector got hold of a process, and injected faults into it beside the programs until there was no more to do;

@@ -60,12 +60,12 @@ pub record TellsSo (s : Scenario) (Came : List ℕ → Type 0) : Type 0 where
 -- What came of a scenario, a row for each status: the text of a history of it was written; a write failed, and a prefix
 -- of such a text was written that lacks some bytes; or memory ran out, before anything was written or after a prefix.
 -- Only a write that failed raises the count. No other status comes of writing.
-abbrev pub IsTold : Status → Scenario → Option (List ℕ) → Option (List ℕ) → ℕ → ℕ → Type 0
-IsTold Done s old new before after = TellsSo s (λ text. new ≡ with_end old text) × (after ≡ before)
-IsTold Refused s old new before after = ⊥
-IsTold ReadFailed s old new before after = ⊥
-IsTold WriteFailed s old new before after = TellsSo s (AppendsFront old new) × Rose before after
-IsTold OutOfMemory s old new before after = ((new ≡ old) ⊎ TellsSo s (AppendsSome old new)) × (after ≡ before)
+abbrev pub CameOf : Status → Scenario → Option (List ℕ) → Option (List ℕ) → ℕ → ℕ → Type 0
+CameOf Done s old new before after = TellsSo s (λ text. new ≡ with_end old text) × (after ≡ before)
+CameOf Refused s old new before after = ⊥
+CameOf ReadFailed s old new before after = ⊥
+CameOf WriteFailed s old new before after = TellsSo s (AppendsFront old new) × Rose before after
+CameOf OutOfMemory s old new before after = ((new ≡ old) ⊎ TellsSo s (AppendsSome old new)) × (after ≡ before)
 
 -- ---- the program
 
@@ -96,7 +96,7 @@ pub record Serves (status : Status) (old new : Ends) : Type 0 where
   pub scenario : Scenario
   pub read : WasRead scenario old.left new.left
   pub no_read_fault : new.read_faults ≡ old.read_faults
-  pub tells : IsTold status scenario old.written new.written old.write_faults new.write_faults
+  pub tells : CameOf status scenario old.written new.written old.write_faults new.write_faults
 
 -- how the program ends
 abbrev pub EndsAs : Status → Ends → Ends → Type 0

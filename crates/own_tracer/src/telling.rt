@@ -4,7 +4,7 @@ ghost use Rattle.pr_io.specs.Reading.{ReadsAll};
 ghost use Rattle.pr_num.specs.Limits.{scenario_limit};
 ghost use Rattle.pr_scen.specs.Scenarios.{IsWithinLimits};
 ghost use Rattle.own_tracer.specs.Running.{IsHistoryOf};
-ghost use Rattle.own_tracer.specs.Telling.{EndsAs, IsTold, IsUnread, WasRead, ends_of};
+ghost use Rattle.own_tracer.specs.Telling.{EndsAs, CameOf, IsUnread, WasRead, ends_of};
 
 use crate::faults::Faults;
 use crate::running::run;
@@ -43,7 +43,7 @@ fn history_of(alloc: Global, scenario: Scenario) -> Result<History, NoMemory>
 /// failed, or memory ran out.
 fn tell<K: Sink>(alloc: Global, scenario: Scenario, sink: &mut K) -> Status
     requires limits { IsWithinLimits scenario }
-    ensures { IsTold result scenario (K.written sink.old) (K.written sink.new) (K.faults sink.old) (K.faults sink.new) }
+    ensures { CameOf result scenario (K.written sink.old) (K.written sink.new) (K.faults sink.old) (K.faults sink.new) }
 {
     let Ok(history) = history_of(alloc, scenario) else {
         return Status::OutOfMemory;

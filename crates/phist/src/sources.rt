@@ -13,7 +13,7 @@ use pr_asm::{Program, Statement, statement_of};
 use pr_hist::{Listing, Names};
 use pr_num::NoMemory;
 use pr_scen::Scenario;
-use pr_text::{Refused, Tokens, split_lines};
+use pr_text::{Refused, Tokens, behind, front, split_lines};
 use std::alloc::Global;
 
 /// In which block of a scenario a line stands.
@@ -137,25 +137,6 @@ fn line_numbers(alloc: Global, lines: &[&[u8]]) -> Result<Vec<u32>, NoMemory>
         block = block_after(block, line);
     }
     Ok(numbers)
-}
-
-/// The first numbers, `most` where there are more.
-fn front(numbers: &[u32], most: usize) -> &[u32]
-    ensures { result.now ≡ take most numbers.now }
-{
-    if numbers.len() > most {
-        &numbers[..most]
-    } else {
-        numbers
-    }
-}
-
-/// The numbers behind the first `n`.
-#[tactic(auto, using(std::proofs::lemmas::List::drop_min))]
-fn behind(numbers: &[u32], n: usize) -> &[u32]
-    ensures { result.now ≡ drop n numbers.now }
-{
-    &numbers[n.min(numbers.len())..]
 }
 
 /// A program with the lines of its instructions, which are the first of these.

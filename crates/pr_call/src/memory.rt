@@ -81,6 +81,7 @@ pub fn mprotect(space: &mut Space, at: u64, len: u64, prot: u64) -> Result<u64, 
         → memory_effect result space.new ≡ mprotect_effect s p at len prot }
     ensures err { OnErr result (space.new ≡ space.old) }
 {
+    // Read for its contract: what every address space keeps, also where no mapping is looked at.
     let _mappings = space.mappings();
     if prot > PROT_LIMIT {
         return Err(Errno::Inval);

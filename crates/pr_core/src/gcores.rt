@@ -21,8 +21,8 @@ use pr_msg::Message;
 use pr_num::limits::READ_LIMIT;
 use pr_num::{Bytes, Errno, NoMemory, ProcessFlags};
 use pr_rec::Status;
-use pr_text::Text;
-use pr_tools::{Opened, bytes_read, ctl, front, process_stands, push_refusal, wait};
+use pr_text::{Text, front};
+use pr_tools::{Opened, bytes_read, ctl, process_stands, push_refusal, wait};
 use std::alloc::Global;
 use std::marker::Model;
 

@@ -13,10 +13,10 @@ use crate::pictures::{
     write_picture_cell, write_picture_foot, write_picture_head, write_picture_name,
     write_picture_row,
 };
-use crate::texts::{end_line, front};
+use crate::texts::end_line;
 use pr_model::{Act, Actor, Call, Entry, Reply};
 use pr_num::NoMemory;
-use pr_text::Text;
+use pr_text::{Text, front};
 use std::alloc::Global;
 
 /// The kinds of charts.
@@ -517,6 +517,7 @@ pub fn write_head(
     }
 }
 
+/// What stands below the last row: nothing under lanes, the end of the picture in SVG.
 #[tactic(auto, unfolding(crate::specs::Charts::foot_text))]
 pub fn write_foot(text: &mut Text, chart: Chart) -> Result<(), NoMemory>
     ensures { OnOk result (text.new ≡ text.old ++ foot_text chart) }

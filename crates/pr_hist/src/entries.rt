@@ -26,6 +26,7 @@ pub fn write_actor(text: &mut Text, actor: Actor) -> Result<(), NoMemory>
     }
 }
 
+/// A tick of the clock: `comes to` the time, in milliseconds, that it shows from then on.
 #[tactic(auto, unfolding(crate::specs::Entries::tick_text))]
 pub fn write_tick(text: &mut Text, n: u64) -> Result<(), NoMemory>
     ensures { OnOk result (text.new ≡ text.old ++ tick_text n) }

@@ -7,10 +7,10 @@ use crate::flags::{modes, run_flags, watch_flags};
 use crate::listings::{Listing, write_place};
 use crate::phrases::{Phrase, write_phrase};
 use crate::sets::set_word;
-use crate::texts::{behind, front, write_hex_and_text, write_number, write_size, write_time};
+use crate::texts::{write_hex_and_text, write_number, write_size, write_time};
 use pr_msg::{Message, decode_one};
 use pr_num::{Flt, NoMemory, Sig, Sysno};
-use pr_text::Text;
+use pr_text::{Text, behind, front};
 
 /// The name of a message.
 #[tactic(auto, unfolding(crate::specs::Messages::message_name))]

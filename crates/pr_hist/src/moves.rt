@@ -15,11 +15,13 @@ use pr_text::Text;
 fn note_moved(moved: &mut ById<usize>, pid: u32, number: usize) -> Result<(), NoMemory>
     ensures { OnOk result (moved.new ≡ moved_now pid number moved.old) }
 {
-    if !moved.contains(pid) {
-        return moved.insert(pid, number);
+    match moved.find_mut(pid) {
+        Some(last) => {
+            *last = number;
+            Ok(())
+        }
+        None => moved.insert(pid, number),
     }
-    *moved.get_mut(pid) = number;
-    Ok(())
 }
 
 /// Notes a turn.

@@ -7,9 +7,10 @@ ghost use Rattle.pr_hist.specs.News.{call_news, did_news, inherited, is_psinfo, 
 use crate::lanes::made_by;
 use crate::listings::{Listing, listed_at};
 use crate::names::{Known, Names};
-use crate::texts::{behind, name_in};
+use crate::texts::name_in;
 use pr_model::{Act, Actor, Call, Did, Entry, File, Reply, Res};
 use pr_num::{ById, Sysno};
+use pr_text::behind;
 
 /// What an entry tells of a process.
 #[derive(Clone, Copy)]

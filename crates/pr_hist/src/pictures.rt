@@ -5,9 +5,8 @@ ghost use Rattle.pr_hist.specs.Pictures.{across, act_if, arrow, arrow_if, arrow_
 
 use crate::charts::Marks;
 use crate::lanes::Stand;
-use crate::texts::front;
 use pr_num::NoMemory;
-use pr_text::Text;
+use pr_text::{Text, front};
 
 /// A fixed text between what is drawn, by its name.
 #[derive(Clone, Copy)]
@@ -393,6 +392,7 @@ pub fn write_picture_head(text: &mut Text, rows: u64, lanes: u64) -> Result<(), 
     write_pieces(text, &PAGE)
 }
 
+/// The end of a picture, behind its last row.
 #[tactic(auto, unfolding(crate::specs::Pictures::picture_foot))]
 pub fn write_picture_foot(text: &mut Text) -> Result<(), NoMemory>
     ensures { OnOk result (text.new ≡ text.old ++ picture_foot) }

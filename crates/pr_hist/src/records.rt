@@ -6,11 +6,11 @@ ghost use Rattle.pr_hist.specs.Records.{field_text, has_fields, is_raw, line_sta
 
 use crate::fields::{Kind, Layout, field_kind, field_name, starts_record};
 use crate::listings::Listing;
-use crate::texts::{behind, write_hex_and_text};
+use crate::texts::write_hex_and_text;
 use crate::values::{is_shown, write_value};
 use pr_codec::{WORD, word};
 use pr_num::NoMemory;
-use pr_text::Text;
+use pr_text::{Text, behind};
 
 /// The word at a place, counted in words.
 #[tactic(auto, unfolding(pr_num::specs::Messages::nth_word))]

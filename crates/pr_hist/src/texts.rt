@@ -7,38 +7,9 @@ ghost use Rattle.pr_text.specs.HexWords.{byte_digits, digits_of_bytes};
 ghost use Rattle.pr_text.specs.LwpWords.{lwp_text};
 ghost use Rattle.pr_hist.specs.Texts.{bytes_text, digits_text, name_in, number_text, plus_as_blank, size_text, spaced_text, time_text, trimmed};
 
+use pr_num::NoMemory;
 use pr_num::limits::SHOWN_LIMIT;
-use pr_num::{NoMemory, zero_in};
-use pr_text::{Text, hex_digit};
-
-/// The bytes behind the first `n`.
-#[tactic(auto, using(std::proofs::lemmas::List::drop_min))]
-pub fn behind(bytes: &[u8], n: usize) -> &[u8]
-    ensures { result.now ≡ drop n bytes.now }
-{
-    &bytes[n.min(bytes.len())..]
-}
-
-/// The first bytes, `most` where there are more.
-pub fn front(bytes: &[u8], most: usize) -> &[u8]
-    ensures { result.now ≡ take most bytes.now }
-{
-    if bytes.len() > most {
-        &bytes[..most]
-    } else {
-        bytes
-    }
-}
-
-/// The bytes up to the first zero.
-fn before_zero(bytes: &[u8]) -> &[u8]
-    ensures { result.now ≡ before_first is_zero bytes.now }
-{
-    match zero_in(bytes) {
-        Some(place) => &bytes[..place],
-        None => bytes,
-    }
-}
+use pr_text::{Text, before_zero, behind, front, hex_digit};
 
 /// A name in its 32 bytes.
 #[tactic(auto, unfolding(crate::specs::Texts::name_in))]

@@ -52,6 +52,7 @@ impl Steps {
         Steps { items }
     }
 
+    /// The steps, in their order.
     pub fn as_slice(&self) -> &[Step]
         ensures { result.now ≡ self.now }
     {
@@ -82,6 +83,7 @@ impl Trace {
         Trace { items }
     }
 
+    /// The steps of which the trace tells, in their order.
     pub fn as_slice(&self) -> &[Step]
         ensures { result.now ≡ self.now }
     {

@@ -25,8 +25,8 @@ use pr_num::layout::{STACK_BASE, TEXT_BASE};
 use pr_num::limits::{DESCRIPTOR_LIMIT, READ_LIMIT};
 use pr_num::{Bytes, Errno, FdKind, NoMemory};
 use pr_rec::LwpStatus;
-use pr_text::Text;
-use pr_tools::{Opened, bytes_read, ctl, front, poll, process_stands, push_refusal, wait};
+use pr_text::{Text, front};
+use pr_tools::{Opened, bytes_read, ctl, poll, process_stands, push_refusal, wait};
 use std::alloc::Global;
 use std::marker::Model;
 

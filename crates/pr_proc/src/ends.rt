@@ -110,10 +110,12 @@ fn tell_of_child(process: &mut Proc, pid: u32, status: u64)
 fn tell_parent(sys: &mut Sys, parent: u32, pid: u32, status: u64)
     ensures { sys.new ≡ with_parent_signalled parent pid status sys.old }
 {
-    if parent == 0 || !sys.processes.contains(parent) {
+    if parent == 0 {
         return;
     }
-    tell_of_child(sys.processes.get_mut(parent), pid, status);
+    if let Some(process) = sys.processes.find_mut(parent) {
+        tell_of_child(process, pid, status);
+    }
 }
 
 /// Makes a zombie of the process of an id, whose descriptors are closed. Answers the memory that it had.

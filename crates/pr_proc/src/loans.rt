@@ -44,8 +44,8 @@ pub(crate) fn give_back(
     let Some(lender) = lender else {
         return;
     };
-    if sys.processes.contains(lender) {
-        take_back(sys.processes.get_mut(lender), pid, space, borrower);
+    if let Some(process) = sys.processes.find_mut(lender) {
+        take_back(process, pid, space, borrower);
     }
 }
 
@@ -68,7 +68,7 @@ pub(crate) fn leave_lender(sys: &mut Sys, pid: u32, borrower: Option<u32>, lende
     let Some(borrower) = borrower else {
         return;
     };
-    if sys.processes.contains(borrower) {
-        take_lender(sys.processes.get_mut(borrower), pid, lender);
+    if let Some(process) = sys.processes.find_mut(borrower) {
+        take_lender(process, pid, lender);
     }
 }

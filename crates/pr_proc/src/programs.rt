@@ -85,12 +85,14 @@ impl Programs {
         &self.empty
     }
 
+    /// How many programs there are, at most 256.
     pub fn len(&self) -> u32
         ensures { result ≡ length self.now }
     {
         self.programs.len() as u32
     }
 
+    /// The programs, each at its place.
     pub fn as_slice(&self) -> &[Program]
         ensures { result.now ≡ self.now }
     {

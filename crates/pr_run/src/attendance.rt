@@ -18,6 +18,7 @@ pub struct Attendance {
 }
 
 impl Attendance {
+    /// Nobody has come yet, of so many workers.
     pub fn new(workers: u64) -> Attendance {
         Attendance {
             workers,

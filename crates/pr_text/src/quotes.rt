@@ -4,6 +4,7 @@ ghost use Rattle.pr_text.specs.Quotes.{quoted_byte, quoted_text};
 
 use crate::digits::hex_digit;
 use crate::lines::{Line, TooLong};
+use crate::slices::front;
 use pr_num::limits::{LINE_LIMIT, SHOWN_LIMIT};
 
 /// How many bytes a quoted text shows at most.
@@ -20,13 +21,6 @@ fn quoted_byte(b: u8) -> ([u8; 4], usize)
         b' '..=b'~' => ([b, 0, 0, 0], 1),
         _ => ([b'\\', b'x', hex_digit(b / 16), hex_digit(b % 16)], 4),
     }
-}
-
-// The first bytes, `most` where there are more.
-fn front(b: &[u8], most: usize) -> &[u8]
-    ensures { result.now ≡ take most b.now }
-{
-    if b.len() > most { &b[..most] } else { b }
 }
 
 impl Line {

@@ -10,30 +10,8 @@ use crate::decoding::{read_fd_entry, read_list_entry};
 use pr_codec::{WORD, word};
 use pr_num::NoMemory;
 use pr_rec::{FdEntry, ListEntry, LwpStatus, MapEntry};
+use pr_text::behind;
 use std::alloc::Global;
-
-/// The bytes from a place on, none where the place is past them.
-pub fn bytes_from(bytes: &[u8], place: usize) -> &[u8]
-    ensures { result.now ≡ drop place bytes.now }
-{
-    if place < bytes.len() {
-        &bytes[place..]
-    } else {
-        &[]
-    }
-}
-
-/// The first bytes, `most` where there are more.
-pub fn front(bytes: &[u8], most: usize) -> &[u8]
-    ensures value { result.now ≡ take most bytes.now }
-    ensures within { length result.now ≤ most }
-{
-    if bytes.len() > most {
-        &bytes[..most]
-    } else {
-        bytes
-    }
-}
 
 /// A record of which several stand one after the other.
 pub trait Record {
@@ -131,7 +109,7 @@ pub fn entries_from<R: Record + Drop>(
             None => return Ok(None),
             Some(entry) => entries.push(entry)?,
         }
-        rest = bytes_from(rest, R::size());
+        rest = behind(rest, R::size());
         left -= 1;
     }
     Ok(Some(entries))
@@ -179,5 +157,5 @@ pub fn lwps_in(alloc: Global, bytes: &[u8]) -> Result<Option<Vec<LwpStatus>>, No
     if !counts_lwps(bytes) {
         return Ok(None);
     }
-    entries_from(alloc, bytes_from(bytes, WORD), lwp_places(bytes))
+    entries_from(alloc, behind(bytes, WORD), lwp_places(bytes))
 }

@@ -23,7 +23,6 @@ mod texts;
 mod tools;
 
 pub use calls::{ctl, poll, wait};
-pub use entries::front;
 pub use handles::Opened;
 pub use record_texts::{push_record, text_of_record};
 pub use refusals::push_refusal;

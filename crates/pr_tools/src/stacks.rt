@@ -8,11 +8,12 @@ ghost use Rattle.pr_rec.specs.Reading.{record_read};
 ghost use Rattle.pr_rec.specs.RecordWords.{lwpstatus_words_of};
 ghost use Rattle.pr_tools.specs.Stacks.{stands, stands_in, all_stand, process_stands, walk_from, walk_in, is_frame, frame_in, goes_on, walk_after};
 
-use crate::entries::{bytes_from, counts_lwps, lwp_places};
+use crate::entries::{counts_lwps, lwp_places};
 use crate::steps::READ_FRAMES;
 use pr_codec::{WORD, word};
 use pr_num::StopReason;
 use pr_rec::{LwpFlags, LwpStatus};
+use pr_text::behind;
 
 /// Where a reader of stacks is: in the stack of an lwp whose status begins at a byte of the record of all.
 #[derive(Clone, Copy, Debug, PartialEq, Eq)]
@@ -92,7 +93,7 @@ fn all_stand(count: usize, bytes: &[u8]) -> bool
         if !stands_in(rest) {
             return false;
         }
-        rest = bytes_from(rest, LwpStatus::SIZE);
+        rest = behind(rest, LwpStatus::SIZE);
         left -= 1;
     }
     true
@@ -103,7 +104,7 @@ fn all_stand(count: usize, bytes: &[u8]) -> bool
 pub fn process_stands(bytes: &[u8]) -> bool
     ensures { result ≡ process_stands bytes.now }
 {
-    counts_lwps(bytes) && all_stand(lwp_places(bytes), bytes_from(bytes, WORD))
+    counts_lwps(bytes) && all_stand(lwp_places(bytes), behind(bytes, WORD))
 }
 
 /// The word at a place where one stands.

@@ -7,7 +7,6 @@ ghost use Rattle.pr_tools.specs.Stacks.{with_frame};
 ghost use Rattle.pr_tools.specs.Tools.{first_tool, record_file, memory_file, frame_of, call_of, next_call_of, at_step, with_run_next, with_walk, with_next, advanced, with_record, with_first, with_answer, with_closed, accepted, refused, fed, has_ended, text_of, report, printed};
 
 use crate::calls::{ctl, poll, wait};
-use crate::entries::front;
 use crate::handles::Opened;
 use crate::record_texts::push_record;
 use crate::refusals::push_refusal;
@@ -24,7 +23,7 @@ use pr_msg::Message;
 use pr_num::layout::TEXT_BASE;
 use pr_num::limits::READ_LIMIT;
 use pr_num::{Bytes, Errno, Instruction, NoMemory};
-use pr_text::Text;
+use pr_text::{Text, front};
 use std::alloc::Global;
 use std::marker::Model;
 

@@ -8,7 +8,7 @@ ghost use Rattle.pr_truss.specs.Reports.{refusal_text, call_line, report_text, r
 use crate::Truss;
 use crate::reports::Report;
 use crate::stages::Stage;
-use crate::texts::Text;
+use crate::texts::MemoryRead;
 use itoa::Buffer;
 use pr_line::{Function, Options, event_line, function_line};
 use pr_num::{Errno, NoMemory};
@@ -72,7 +72,7 @@ fn write_event(
     options: &Options,
     pid: u32,
     lwp: &LwpStatus,
-    text: &Option<Text>,
+    text: &Option<MemoryRead>,
 ) -> Result<(), NoMemory>
     ensures { OnOk result
         (out.new.items ≡ out.old.items ++ event_text options.now pid lwp.now text.now ++ newline ∷ []) }

@@ -1,4 +1,4 @@
-use crate::texts::Text;
+use crate::texts::MemoryRead;
 use pr_num::{Errno, Name};
 use pr_rec::LwpStatus;
 
@@ -19,7 +19,7 @@ pub enum Report {
     Event {
         pid: u32,
         lwp: LwpStatus,
-        text: Option<Text>,
+        text: Option<MemoryRead>,
     },
     /// A call of a function (`-u`), by its place in the options' list, whose first instruction an lwp has run; with r1
     /// to r3 before that instruction.

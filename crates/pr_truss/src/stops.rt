@@ -9,7 +9,7 @@ use crate::records::{child_of, event_stops, is_on_event, status_lwp};
 use crate::replies::{Answer, answer_of, ready_in};
 use crate::reports::Report;
 use crate::stages::{FreeingStep, Stage};
-use crate::texts::Text;
+use crate::texts::MemoryRead;
 use pr_line::{Event, Options, event_of, is_selected, text_range};
 use pr_model::{Reply, bytes_in};
 use pr_rec::LwpStatus;
@@ -35,11 +35,11 @@ fn asked_range(options: &Options, event: &Event) -> Option<(u64, u64)>
 }
 
 /// The bytes that a read of memory gave, and whether they are fewer than were asked for.
-fn text_of(len: u64, read: Option<&[u8]>) -> Option<Text>
+fn text_of(len: u64, read: Option<&[u8]>) -> Option<MemoryRead>
     ensures { result ≡ text_of len (option_map (λ bytes. bytes.now) read.entry) }
 {
     match read {
-        Some(bytes) => Some(Text::new(bytes, len)),
+        Some(bytes) => Some(MemoryRead::new(bytes, len)),
         None => None,
     }
 }
@@ -94,7 +94,7 @@ impl Truss {
 
     /// Reports an event.
     #[tactic(auto, unfolding(crate::specs::Stops::with_event_shown))]
-    fn show(&mut self, place: usize, lwp: &LwpStatus, text: Option<Text>)
+    fn show(&mut self, place: usize, lwp: &LwpStatus, text: Option<MemoryRead>)
         requires { 0 < self.old.report_room }
         ensures { self.new.state ≡ with_event_shown self.old.state place lwp.now text }
     {

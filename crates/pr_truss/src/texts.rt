@@ -7,13 +7,13 @@ use std::marker::Model;
 /// What a read of the memory of a process gave: bytes, kept in place, and whether they are fewer than were asked for.
 /// Seen by contracts as the list of the bytes, with that.
 #[derive(Clone, Copy)]
-pub struct Text {
+pub struct MemoryRead {
     bytes: [u8; ASKED_LIMIT],
     len: usize,
     short: bool,
 }
 
-impl Model for Text {
+impl Model for MemoryRead {
     ghost use Rattle.std.specs.Prelude.{ℕ, Bool, List, length, take};
     ghost use Rattle.pr_num.specs.Limits.{asked_limit};
     ghost use Rattle.pr_num.specs.Padding.{padded};
@@ -30,16 +30,16 @@ impl Model for Text {
     ghost inverse_ok = { λ a h. text_back a.bytes a.len h (λ bytes len. record { bytes = bytes; len = len; short = a.short }) };
 }
 
-impl Text {
+impl MemoryRead {
     /// What a read gave that asked for so many bytes: the first `ASKED_LIMIT`, or all where they are fewer. Takes no
     /// memory.
-    pub(crate) fn new(read: &[u8], asked: u64) -> Text
+    pub(crate) fn new(read: &[u8], asked: u64) -> MemoryRead
         ensures { result ≡ (take asked_limit read.now, nat_lt (length read.now) asked) }
     {
         let front = &read[..ASKED_LIMIT.min(read.len())];
         let mut bytes = [0; ASKED_LIMIT];
         bytes[..front.len()].copy_from_slice(front);
-        Text {
+        MemoryRead {
             bytes,
             len: front.len(),
             short: (read.len() as u64) < asked,

@@ -6,7 +6,7 @@ use crate::asides::Aside;
 use crate::processes::Traced;
 use crate::reports::Report;
 use crate::stages::Stage;
-use crate::texts::Text;
+use crate::texts::MemoryRead;
 use pr_line::Options;
 use pr_num::NoMemory;
 use std::alloc::Global;
@@ -137,7 +137,7 @@ impl Truss {
         ensures room { self.new.traced_room ≡ self.old.traced_room }
     {
         // The check of borrows knows the types that a function names, and not those inside the variants of an enum.
-        let _named: Option<Text> = None;
+        let _named: Option<MemoryRead> = None;
         self.reports.push_reserved(*report);
     }
 }

@@ -1,6 +1,6 @@
 use Rattle.std.proofs.Common.{ap, length, nat_lt, take}
 use Rattle.pr_truss.proofs.TextLemmas.{lies_in_front, front_fits, front_shown}
-use Rattle.pr_truss.proofs.texts.Text.new.Goals as goal
+use Rattle.pr_truss.proofs.texts.MemoryRead.new.Goals as goal
 
 pub invariant_of-result : goal.invariant_of-result
 invariant_of-result c =
