@@ -6,7 +6,7 @@ use Rattle.std.specs.Str.{bytes_eq}
 use Rattle.std.proofs.lemmas.Bool.{and_parts, and_from, ltb-true, not-true, eqb-true}
 use Rattle.std.proofs.lemmas.List.Splits.{slice_split_none}
 use Rattle.std.proofs.lemmas.List.Splits.{join_with_byte-slice_split}
-use Rattle.std.proofs.lemmas.Option.{same_Some, none-some}
+use Rattle.std.proofs.lemmas.Option.{same_Some, none-some, cond_some}
 use Rattle.std.specs.List.{join_with_byte}
 use Rattle.pr_text.specs.NumberWords.{digit_of, with_digit, number_from}
 use Rattle.pr_text.specs.NumberWords as number_words
@@ -17,21 +17,17 @@ use Rattle.pr_model.specs.declared.calls.Reply.{Reply}
 use Rattle.pr_model.specs.declared.calls.Reply.TheVariants as reply
 use Rattle.pr_plain.specs.CallReading.{slash, is_slash, lwp_of, target_of, target_at, held_at, arrow, handles_at, open_at, close_at, ctl_at, ctl_wait_at, read_at, poll_at, interrupt_at, spawn_at, kill_at, until_at, call_behind, call_at, handle_at, used_at, half_at, reply_bytes_at, pid_at, ready_at, fail_at, plain_reply_behind, reply_behind, reply_at}
 use Rattle.pr_plain.specs.DecimalWords.{decimal_id_of}
-use Rattle.pr_plain.specs.EntryForms.{is_number, is_id, is_byte, call_form, reply_form}
-use Rattle.pr_model.specs.FileNames.{file_name, mode_name}
-use Rattle.pr_plain.specs.HexWords.{hex_word}
+use Rattle.pr_plain.specs.EntryForms.{is_id, call_form, reply_form}
 use Rattle.pr_text.specs.LwpWords.{lwp_text}
 use Rattle.pr_plain.specs.HistoryText.{target_text, held_words, call_words, reply_words}
 use Rattle.pr_plain.specs.Readings.{◌>>=◌}
-use Rattle.pr_plain.specs.WordReading.{Words, word_at, is_done, number_at, id_at, bytes_at, errno_at, file_at, mode_at, program_at}
+use Rattle.pr_plain.specs.WordReading.{Words, word_at, is_done, id_at}
 use Rattle.pr_text.proofs.NumberLemmas.{decimal-apart}
 use Rattle.pr_text.proofs.PlainLemmas.{split_lwp}
 use Rattle.pr_plain.proofs.DecimalLemmas.{is_number-from_id}
-use Rattle.pr_plain.proofs.FrontLemmas.{word_at-is}
-use Rattle.pr_plain.proofs.RowLemmas.{Takes, Taken, one_word, found_by, pair_of, by_word, one_found, two_found, three_found, one_again, two_again, three_again, taken_as}
-use Rattle.pr_plain.proofs.WordLaws.{ids, number_step, id_step, bytes_step, errno_step, file_step, mode_step, program_step}
+use Rattle.pr_plain.proofs.RowLemmas.{Takes, Taken, TakesBefore, one_word, found_by, pair_of, by_word, taken_as, Row.{done, read, ends}, last, RowOf, row_of, table_again, table_taken}
+use Rattle.pr_plain.proofs.WordLaws.{any, ids, number_step, id_step, bytes_step, errno_step, file_step, mode_step, program_step}
 use Rattle.std.proofs.lemmas.Slice.Eq.{bytes_eq-Decides}
-use Rattle.pr_num.proofs.ListLemmas.{bytes_eq-self}
 
 -- ---- a process and its lwp
 
@@ -70,39 +66,33 @@ pub record IsLwp (w : List ℕ) (x : ℕ × ℕ) : Type 0 where
   pub word : w ≡ lwp_text x.0 x.1
   pub formed : (is_id x.0 && is_id x.1) ≡ true
 
+-- what two ids make, where nothing stands behind them
+abbrev second : ℕ → ℕ × Words → Option (ℕ × ℕ)
+second p l = cond (is_done l.1) (Some (p, l.0)) None
+
 pub lwp_of-is : (w : List ℕ) (x : ℕ × ℕ) → lwp_of w ≡ Some x → IsLwp w x
 unfolding lwp_of lwp_text
 lwp_of-is w x e =
-    let p = found_by (id_at (slice_split is_slash w))
-    (λ p. (id_at p.1 >>= λ l. cond (is_done l.1) (Some (p.0, l.0)) None)) x e in
-    let q = found_by {B = ℕ × ℕ} (id_at p.value.1) (λ l. cond (is_done l.1) (Some (p.value.0, l.0)) None) x p.then_is in
+    let p = found_by (id_at (slice_split is_slash w)) (λ p. (id_at p.1 >>= second p.0)) x e in
+    let q = found_by (id_at p.value.1) (second p.value.0) x p.then_is in
     let s = id_step.taken (slice_split is_slash w) p.value.0 p.value.1 p.is in
     let t = id_step.taken p.value.1 q.value.0 q.value.1 q.is in
-    by q.value.1 (is_done q.value.1) refl p.value.0 q.value.0 s.formed t.formed
-    (λ end. joined_two w (decimal p.value.0) (decimal q.value.0)
-    (s.words
-    ∙ ap (λ vs. decimal p.value.0 ∷ vs) (t.words ∙ ap (λ vs. decimal q.value.0 ∷ vs) (done_is q.value.1 end))))
-    q.then_is
-  where
-    by : (ws : Words) (t : Bool) → is_done ws ≡ t → (p l : ℕ) → is_id p ≡ true → is_id l ≡ true
-        → (is_done ws ≡ true → w ≡ decimal p ++ codes "/" ++ decimal l)
-        → ◌≡◌ {A = Option (ℕ × ℕ)} (cond t (Some (p, l)) None) (Some x) → IsLwp w x
-    by ws true is p l hp hl word found =
-        let same : ◌≡◌ {A = ℕ × ℕ} (p, l) x = same_Some (p, l) x found in
-        record {
-          word = word is ∙ ap (λ (y : ℕ × ℕ). lwp_text y.0 y.1) same;
-          formed = ap (λ (y : ℕ × ℕ). is_id y.0 && is_id y.1) (sym same) ∙ and_from (is_id p) (is_id l) hp hl;
-        }
-    by ws false is p l hp hl word found = cc
+    let end = cond_some (is_done q.value.1) (p.value.0, q.value.0) x q.then_is in
+    record {
+      word = joined_two w (decimal p.value.0) (decimal q.value.0)
+          (s.words
+          ∙ ap (λ vs. decimal p.value.0 ∷ vs) (t.words ∙ ap (λ vs. decimal q.value.0 ∷ vs) (done_is q.value.1 end.0)))
+          ∙ ap (λ (y : ℕ × ℕ). lwp_text y.0 y.1) end.1;
+      formed = ap (λ (y : ℕ × ℕ). is_id y.0 && is_id y.1) (sym end.1)
+          ∙ and_from (is_id p.value.0) (is_id q.value.0) s.formed t.formed;
+    }
 
 pub lwp_of-text : (p l : ℕ) → is_id p ≡ true → is_id l ≡ true → lwp_of (lwp_text p l) ≡ Some (p, l)
 unfolding lwp_of word_at
 lwp_of-text p l hp hl =
-    ap (λ ws. id_at ws >>= λ a. (id_at a.1 >>= λ b. cond (is_done b.1) (Some (a.0, b.0)) None))
-    (split_lwp p l (id_below p hp) (id_below l hl))
-    ∙ ap (λ o. o >>= λ a. (id_at a.1 >>= λ b. cond (is_done b.1) (Some (a.0, b.0)) None))
-    (id_step.again p (decimal l ∷ []) hp)
-    ∙ ap (λ o. o >>= λ b. cond (is_done b.1) (Some (p, b.0)) None) (id_step.again l [] hl)
+    ap (λ ws. id_at ws >>= λ a. (id_at a.1 >>= second a.0)) (split_lwp p l (id_below p hp) (id_below l hl))
+    ∙ ap (λ o. o >>= λ a. (id_at a.1 >>= second a.0)) (id_step.again p (decimal l ∷ []) hp)
+    ∙ ap (λ o. o >>= second p) (id_step.again l [] hl)
 
 abbrev target_form : ℕ × ℕ → Bool
 target_form x = is_id x.0 && is_id x.1
@@ -141,17 +131,6 @@ second_found : (w : List ℕ) (p : ℕ) (ws : Words) (x : ℕ × ℕ) → slice_
 unfolding lwp_text
 second_found w p ws x words hp e = by (is_done ws) refl e
   where
-    two : (l : ℕ) (late : Words) → ws ≡ decimal l ∷ late → is_id l ≡ true → (t : Bool)
-        → (is_done late && not (eqb l 0)) ≡ t → ◌≡◌ {A = Option (ℕ × ℕ)} (cond t (Some (p, l)) None) (Some x)
-        → IsTarget w x
-    two l late behind hl true is found =
-        let parts = and_parts (is_done late) (not (eqb l 0)) is in
-        is_target w p l x (same_Some (p, l) x found)
-        (joined_two w (decimal p) (decimal l)
-        (words ∙ ap (λ vs. decimal p ∷ vs) (behind ∙ ap (λ vs. decimal l ∷ vs) (done_is late parts.0)))
-        ∙ sym (pid_and_lwp p l (not-true (eqb l 0) parts.1))) hp hl
-    two l late behind hl false is found = cc
-
     by : (t : Bool) → is_done ws ≡ t
         → ◌≡◌ {A = Option (ℕ × ℕ)} (cond t (Some (p, 0)) (id_at ws >>= second_id p)) (Some x) → IsTarget w x
     by true is found =
@@ -160,7 +139,13 @@ second_found w p ws x words hp e = by (is_done ws) refl e
     by false is found =
         let q = found_by (id_at ws) (second_id p) x found in
         let t = id_step.taken ws q.value.0 q.value.1 q.is in
-        two q.value.0 q.value.1 t.words t.formed (is_done q.value.1 && not (eqb q.value.0 0)) refl q.then_is
+        let end = cond_some (is_done q.value.1 && not (eqb q.value.0 0)) (p, q.value.0) x q.then_is in
+        let parts = and_parts (is_done q.value.1) (not (eqb q.value.0 0)) end.0 in
+        is_target w p q.value.0 x end.1
+        (joined_two w (decimal p) (decimal q.value.0)
+        (words
+        ∙ ap (λ vs. decimal p ∷ vs) (t.words ∙ ap (λ vs. decimal q.value.0 ∷ vs) (done_is q.value.1 parts.0)))
+        ∙ sym (pid_and_lwp p q.value.0 (not-true (eqb q.value.0 0) parts.1))) hp t.formed
 
 target_is : (w : List ℕ) (x : ℕ × ℕ) → target_of w ≡ Some x → IsTarget w x
 unfolding target_of
@@ -211,10 +196,27 @@ held_is (w ∷ ws) = by (bytes_eq w (codes "held")) refl
     by true is = ap (λ v. v ∷ ws) ((bytes_eq-Decides w (codes "held")).0 is)
     by false is = refl
 
-held_again : (held : Bool) (more : Words) → held_at (held_words held ++ arrow ∷ more) ≡ (held, arrow ∷ more)
+-- words behind which no call goes on
+pub record EndsCall (rest : Words) : Type 0 where
+  unheld : held_at rest ≡ (false, rest)
+  no_handle : handles_at rest ≡ Some ([], rest)
+
+pub at_arrow : (more : Words) → EndsCall (arrow ∷ more)
+unfolding held_at handles_at word_at
+at_arrow more = record { unheld = refl; no_handle = refl }
+
+held_again : (held : Bool) (rest : Words) → EndsCall rest → held_at (held_words held ++ rest) ≡ (held, rest)
 unfolding held_at held_words word_at
-held_again true more = refl
-held_again false more = refl
+held_again true rest before = refl
+held_again false rest before = before.unheld
+
+held_before : TakesBefore EndsCall (λ ws. Some (held_at ws)) held_words any
+held_before = record {
+  taken = λ ws held rest e. let same = pair_of (held_at ws).0 held (held_at ws).1 rest e in
+      taken_as held_words any ws (held_at ws).0 held rest same.value
+      (record { words = held_is ws ∙ ap (λ vs. held_words (held_at ws).0 ++ vs) same.words; formed = refl });
+  again = λ held rest h before. ap (λ x. Some x) (held_again held rest before);
+}
 
 -- handles behind one that was read
 abbrev then_handles : ℕ → List ℕ × Words → Option (List ℕ × Words)
@@ -263,366 +265,104 @@ id_no_arrow h form = by (bytes_eq (decimal h) arrow) refl
         absurd (none-some h (sym no_id_arrow ∙ ap decimal_id_of (sym same) ∙ ids.back h form))
     by false is = refl
 
-handles_again : (hs : List ℕ) (more : Words) → list_all is_id hs ≡ true
-    → handles_at (map decimal hs ++ arrow ∷ more) ≡ Some (hs, arrow ∷ more)
+handles_again : (hs : List ℕ) (rest : Words) → list_all is_id hs ≡ true → EndsCall rest
+    → handles_at (map decimal hs ++ rest) ≡ Some (hs, rest)
 unfolding handles_at
-handles_again [] more form =
-    ap (λ t. cond t (Some ([], arrow ∷ more)) (decimal_id_of arrow >>= λ h. (handles_at more >>= then_handles h)))
-    (bytes_eq-self arrow)
-handles_again (h ∷ hs) more form =
+handles_again [] rest form before = before.no_handle
+handles_again (h ∷ hs) rest form before =
     let parts = and_parts (is_id h) (list_all is_id hs) form in
-    let behind = map decimal hs ++ arrow ∷ more in
+    let behind = map decimal hs ++ rest in
     ap (λ t.
     cond t (Some ([], decimal h ∷ behind))
     (decimal_id_of (decimal h) >>= λ k. (handles_at behind >>= then_handles k))) (id_no_arrow h parts.0)
     ∙ ap (λ o. o >>= λ k. (handles_at behind >>= then_handles k)) (ids.back h parts.0)
-    ∙ ap (λ o. o >>= then_handles h) (handles_again hs more parts.1)
+    ∙ ap (λ o. o >>= then_handles h) (handles_again hs rest parts.1 before)
 
--- ---- rows of calls
+handles_before : TakesBefore EndsCall handles_at (map decimal) (list_all is_id)
+handles_before = record { taken = handles_taken; again = handles_again }
 
-abbrev CallTaken : Words → Call → Words → Type 0
-CallTaken ws c rest = Taken call_words call_form ws c rest
+-- ---- calls
 
-open_taken : (ws : Words) (c : Call) (rest : Words) → open_at ws ≡ Some (c, rest) → CallTaken (codes "open" ∷ ws) c rest
-unfolding open_at call_words call_form
-open_taken ws c rest e =
-    let p = three_found target_at file_at mode_at (λ t f m. call.Open t.0 t.1 f m) ws c rest e in
-    let t = target_step.taken ws p.a p.mid p.at_a in
-    let f = file_step.taken p.mid p.b p.late p.at_b in
-    let m = mode_step.taken p.late p.c rest p.at_c in
-    taken_as call_words call_form (codes "open" ∷ ws) (call.Open p.a.0 p.a.1 p.b p.c) c rest p.is
-    (record {
-      words =
-          ap (λ vs. codes "open" ∷ vs)
-          (t.words ∙ ap (λ vs. target_text p.a.0 p.a.1 ∷ vs) (f.words ∙ ap (λ vs. file_name p.b ∷ vs) m.words));
-      formed =
-          t.formed;
-    })
+-- where all that is read behind a word has its form
+and_any : (t : Bool) → t ≡ (t && true)
+and_any true = refl
+and_any false = refl
 
-close_taken : (ws : Words) (c : Call) (rest : Words) → close_at ws ≡ Some (c, rest)
-    → CallTaken (codes "close" ∷ ws) c rest
-unfolding close_at call_words call_form
-close_taken ws c rest e =
-    let p = one_found id_at call.Close ws c rest e in
-    let t = id_step.taken ws p.a rest p.at_a in
-    taken_as call_words call_form (codes "close" ∷ ws) (call.Close p.a) c rest p.is
-    (record { words = ap (λ vs. codes "close" ∷ vs) t.words; formed = t.formed })
-
-ctl_taken : (ws : Words) (c : Call) (rest : Words) → ctl_at ws ≡ Some (c, rest) → CallTaken (codes "ctl" ∷ ws) c rest
-unfolding ctl_at call_words call_form
-ctl_taken ws c rest e =
-    let p = two_found id_at bytes_at call.Ctl ws c rest e in
-    let t = id_step.taken ws p.a p.mid p.at_a in
-    let b = bytes_step.taken p.mid p.b rest p.at_b in
-    taken_as call_words call_form (codes "ctl" ∷ ws) (call.Ctl p.a p.b) c rest p.is
-    (record {
-      words = ap (λ vs. codes "ctl" ∷ vs) (t.words ∙ ap (λ vs. decimal p.a ∷ vs) b.words);
-      formed =
-          and_from (is_id p.a) (list_all is_byte p.b) t.formed b.formed;
-    })
-
-ctl_wait_taken : (ws : Words) (c : Call) (rest : Words) → ctl_wait_at ws ≡ Some (c, rest)
-    → CallTaken (codes "ctlwait" ∷ ws) c rest
-unfolding ctl_wait_at call_words call_form
-ctl_wait_taken ws c rest e =
-    let p = three_found id_at number_at bytes_at call.CtlWait ws c rest e in
-    let t = id_step.taken ws p.a p.mid p.at_a in
-    let n = number_step.taken p.mid p.b p.late p.at_b in
-    let b = bytes_step.taken p.late p.c rest p.at_c in
-    taken_as call_words call_form (codes "ctlwait" ∷ ws) (call.CtlWait p.a p.b p.c) c rest p.is
-    (record {
-      words =
-          ap (λ vs. codes "ctlwait" ∷ vs)
-          (t.words ∙ ap (λ vs. decimal p.a ∷ vs) (n.words ∙ ap (λ vs. decimal p.b ∷ vs) b.words));
-      formed =
-          and_from (is_id p.a) (is_number p.b && list_all is_byte p.c) t.formed
-          (and_from (is_number p.b) (list_all is_byte p.c) n.formed b.formed);
-    })
-
-read_taken : (ws : Words) (c : Call) (rest : Words) → read_at ws ≡ Some (c, rest) → CallTaken (codes "read" ∷ ws) c rest
-unfolding read_at call_words call_form
-read_taken ws c rest e =
-    let p = three_found id_at number_at number_at call.Read ws c rest e in
-    let t = id_step.taken ws p.a p.mid p.at_a in
-    let n = number_step.taken p.mid p.b p.late p.at_b in
-    let l = number_step.taken p.late p.c rest p.at_c in
-    taken_as call_words call_form (codes "read" ∷ ws) (call.Read p.a p.b p.c) c rest p.is
-    (record {
-      words =
-          ap (λ vs. codes "read" ∷ vs)
-          (t.words ∙ ap (λ vs. decimal p.a ∷ vs) (n.words ∙ ap (λ vs. decimal p.b ∷ vs) l.words));
-      formed =
-          and_from (is_id p.a) (is_number p.b && is_number p.c) t.formed
-          (and_from (is_number p.b) (is_number p.c) n.formed l.formed);
-    })
-
-poll_taken : (ws : Words) (c : Call) (rest : Words) → poll_at ws ≡ Some (c, rest) → CallTaken (codes "poll" ∷ ws) c rest
-unfolding poll_at call_words call_form
-poll_taken ws c rest e =
-    let p = one_found handles_at call.Poll ws c rest e in
-    let t = handles_taken ws p.a rest p.at_a in
-    taken_as call_words call_form (codes "poll" ∷ ws) (call.Poll p.a) c rest p.is
-    (record { words = ap (λ vs. codes "poll" ∷ vs) t.words; formed = t.formed })
-
-interrupt_taken : (ws : Words) (c : Call) (rest : Words) → interrupt_at ws ≡ Some (c, rest)
-    → CallTaken (codes "interrupt" ∷ ws) c rest
-unfolding interrupt_at call_words call_form
-interrupt_taken ws c rest e =
-    let p = one_found id_at call.Interrupt ws c rest e in
-    let t = id_step.taken ws p.a rest p.at_a in
-    taken_as call_words call_form (codes "interrupt" ∷ ws) (call.Interrupt p.a) c rest p.is
-    (record { words = ap (λ vs. codes "interrupt" ∷ vs) t.words; formed = t.formed })
-
-abbrev spawn_row : List ℕ × Words → Option (Call × Words)
-spawn_row p = Some (call.Spawn p.0 (held_at p.1).0, (held_at p.1).1)
-
-spawn_taken : (ws : Words) (c : Call) (rest : Words) → spawn_at ws ≡ Some (c, rest)
-    → CallTaken (codes "spawn" ∷ ws) c rest
-unfolding spawn_at call_words call_form
-spawn_taken ws c rest e =
-    let p = found_by (program_at ws) spawn_row (c, rest) e in
-    let t = program_step.taken ws p.value.0 p.value.1 p.is in
-    let same = pair_of (call.Spawn p.value.0 (held_at p.value.1).0) c (held_at p.value.1).1 rest p.then_is in
-    taken_as call_words call_form (codes "spawn" ∷ ws) (call.Spawn p.value.0 (held_at p.value.1).0) c rest same.value
-    (record {
-      words =
-          ap (λ vs. codes "spawn" ∷ vs)
-          (t.words
-          ∙ ap (λ vs. p.value.0 ∷ vs)
-          (held_is p.value.1 ∙ ap (λ vs. held_words (held_at p.value.1).0 ++ vs) same.words));
-      formed = t.formed;
-    })
-
-kill_taken : (ws : Words) (c : Call) (rest : Words) → kill_at ws ≡ Some (c, rest) → CallTaken (codes "kill" ∷ ws) c rest
-unfolding kill_at call_words call_form
-kill_taken ws c rest e =
-    let p = two_found id_at number_at call.Kill ws c rest e in
-    let t = id_step.taken ws p.a p.mid p.at_a in
-    let n = number_step.taken p.mid p.b rest p.at_b in
-    taken_as call_words call_form (codes "kill" ∷ ws) (call.Kill p.a p.b) c rest p.is
-    (record {
-      words = ap (λ vs. codes "kill" ∷ vs) (t.words ∙ ap (λ vs. decimal p.a ∷ vs) n.words);
-      formed =
-          and_from (is_id p.a) (is_number p.b) t.formed n.formed;
-    })
-
-until_taken : (ws : Words) (c : Call) (rest : Words) → until_at ws ≡ Some (c, rest)
-    → CallTaken (codes "until" ∷ ws) c rest
-unfolding until_at call_words call_form
-until_taken ws c rest e =
-    let p = one_found number_at call.Until ws c rest e in
-    let t = number_step.taken ws p.a rest p.at_a in
-    taken_as call_words call_form (codes "until" ∷ ws) (call.Until p.a) c rest p.is
-    (record { words = ap (λ vs. codes "until" ∷ vs) t.words; formed = t.formed })
-
-list_taken : (ws : Words) (c : Call) (rest : Words)
-    → ◌≡◌ {A = Option (Call × Words)} (Some (call.List, ws)) (Some (c, rest)) → CallTaken (codes "list" ∷ ws) c rest
+-- a row for each form of call
+abbrev call_rows : List (RowOf EndsCall call_words call_form)
 unfolding call_words call_form
-list_taken ws c rest e =
-    let same = pair_of call.List c ws rest e in
-    taken_as call_words call_form (codes "list" ∷ ws) call.List c rest same.value
-    (record { words = ap (λ vs. codes "list" ∷ vs) same.words; formed = refl })
+call_rows =
+    row_of (codes "open") (read target_step (λ t. read file_step (λ f. last mode_step (call.Open t.0 t.1 f))))
+    (λ v rest. refl) (λ v. and_any (target_form v.0))
+    ∷ row_of (codes "close") (last id_step call.Close) (λ v rest. refl) (λ v. refl)
+    ∷ row_of (codes "ctl") (read id_step (λ h. last bytes_step (call.Ctl h))) (λ v rest. refl) (λ v. refl)
+    ∷ row_of (codes "ctlwait") (read id_step (λ h. read number_step (λ until. last bytes_step (call.CtlWait h until))))
+    (λ v rest. refl) (λ v. refl)
+    ∷ row_of (codes "read") (read id_step (λ h. read number_step (λ at. last number_step (call.Read h at))))
+    (λ v rest. refl) (λ v. refl)
+    ∷ row_of (codes "poll") (ends handles_before call.Poll) (λ v rest. refl) (λ v. refl)
+    ∷ row_of (codes "interrupt") (last id_step call.Interrupt) (λ v rest. refl) (λ v. refl)
+    ∷ row_of (codes "spawn") (read program_step (λ w. ends held_before (call.Spawn w))) (λ v rest. refl)
+    (λ v. and_any (is_name v.0))
+    ∷ row_of (codes "kill") (read id_step (λ p. last number_step (call.Kill p))) (λ v rest. refl) (λ v. refl)
+    ∷ row_of (codes "until") (last number_step call.Until) (λ v rest. refl) (λ v. refl)
+    ∷ row_of (codes "list") (done call.List) (λ v rest. refl) (λ v. refl) ∷ []
 
-headed : {A : Type 0} (write : A → Words) (form : A → Bool) (w k : List ℕ) (ws : Words) (d : A) (rest : Words) → w ≡ k
-    → Taken write form (k ∷ ws) d rest → Taken write form (w ∷ ws) d rest
-headed write form w k ws d rest is t = record { words = ap (λ v. v ∷ ws) is ∙ t.words; formed = t.formed }
+pub call_taken : (ws : Words) (c : Call) (rest : Words) → call_at ws ≡ Some (c, rest)
+    → Taken call_words call_form ws c rest
+unfolding call_words call_form call_at call_behind open_at close_at ctl_at ctl_wait_at read_at poll_at interrupt_at
+    spawn_at kill_at until_at
+call_taken = table_taken call_rows
 
-call_behind_taken : (w : List ℕ) (ws : Words) (c : Call) (rest : Words) → call_behind w ws ≡ Some (c, rest)
-    → CallTaken (w ∷ ws) c rest
-unfolding call_behind
-call_behind_taken w ws c rest e =
-    by_word w (codes "open") _ _ (c, rest) (CallTaken (w ∷ ws) c rest) e
-    (λ is h. headed call_words call_form w (codes "open") ws c rest is (open_taken ws c rest h)) (λ e.
-    by_word w (codes "close") _ _ (c, rest) (CallTaken (w ∷ ws) c rest) e
-    (λ is h. headed call_words call_form w (codes "close") ws c rest is (close_taken ws c rest h)) (λ e.
-    by_word w (codes "ctl") _ _ (c, rest) (CallTaken (w ∷ ws) c rest) e
-    (λ is h. headed call_words call_form w (codes "ctl") ws c rest is (ctl_taken ws c rest h)) (λ e.
-    by_word w (codes "ctlwait") _ _ (c, rest) (CallTaken (w ∷ ws) c rest) e
-    (λ is h. headed call_words call_form w (codes "ctlwait") ws c rest is (ctl_wait_taken ws c rest h)) (λ e.
-    by_word w (codes "read") _ _ (c, rest) (CallTaken (w ∷ ws) c rest) e
-    (λ is h. headed call_words call_form w (codes "read") ws c rest is (read_taken ws c rest h)) (λ e.
-    by_word w (codes "poll") _ _ (c, rest) (CallTaken (w ∷ ws) c rest) e
-    (λ is h. headed call_words call_form w (codes "poll") ws c rest is (poll_taken ws c rest h)) (λ e.
-    by_word w (codes "interrupt") _ _ (c, rest) (CallTaken (w ∷ ws) c rest) e
-    (λ is h. headed call_words call_form w (codes "interrupt") ws c rest is (interrupt_taken ws c rest h)) (λ e.
-    by_word w (codes "spawn") _ _ (c, rest) (CallTaken (w ∷ ws) c rest) e
-    (λ is h. headed call_words call_form w (codes "spawn") ws c rest is (spawn_taken ws c rest h)) (λ e.
-    by_word w (codes "kill") _ _ (c, rest) (CallTaken (w ∷ ws) c rest) e
-    (λ is h. headed call_words call_form w (codes "kill") ws c rest is (kill_taken ws c rest h)) (λ e.
-    by_word w (codes "until") _ _ (c, rest) (CallTaken (w ∷ ws) c rest) e
-    (λ is h. headed call_words call_form w (codes "until") ws c rest is (until_taken ws c rest h)) (λ e.
-    by_word w (codes "list") _ _ (c, rest) (CallTaken (w ∷ ws) c rest) e
-    (λ is h. headed call_words call_form w (codes "list") ws c rest is (list_taken ws c rest h)) (λ e. cc)))))))))))
-
-pub call_taken : (ws : Words) (c : Call) (rest : Words) → call_at ws ≡ Some (c, rest) → CallTaken ws c rest
-unfolding call_at
-call_taken ws c rest e =
-    let p = found_by (word_at ws) (λ w. call_behind w.0 w.1) (c, rest) e in
-    let t = call_behind_taken p.value.0 p.value.1 c rest p.then_is in
-    record { words = word_at-is ws p.value.0 p.value.1 p.is ∙ t.words; formed = t.formed }
-
-spawn_again : (program : List ℕ) (held : Bool) (more : Words) → is_name program ≡ true
-    → (program_at (program ∷ held_words held ++ arrow ∷ more) >>= spawn_row)
-    ≡ Some (call.Spawn program held, arrow ∷ more)
-spawn_again program held more form =
-    ap (λ o. o >>= spawn_row) (program_step.again program (held_words held ++ arrow ∷ more) form)
-    ∙ ap (λ (x : Bool × Words). Some (call.Spawn program x.0, x.1)) (held_again held more)
-
--- a call is read from its words, before an arrow
-pub call_again : (c : Call) (more : Words) → call_form c ≡ true
-    → call_at (call_words c ++ arrow ∷ more) ≡ Some (c, arrow ∷ more)
+-- a call is read from its words, where it does not go on behind them
+pub call_again : (c : Call) (rest : Words) → call_form c ≡ true → EndsCall rest
+    → call_at (call_words c ++ rest) ≡ Some (c, rest)
 unfolding call_at call_behind call_words call_form word_at open_at close_at ctl_at ctl_wait_at read_at poll_at
     interrupt_at spawn_at kill_at until_at
-call_again (call.Open p l f m) more form =
-    three_again target_at file_at mode_at (λ t f m. call.Open t.0 t.1 f m) _ (p, l)
-    (file_name f ∷ mode_name m ∷ arrow ∷ more) f (mode_name m ∷ arrow ∷ more) m (arrow ∷ more)
-    (target_step.again (p, l) (file_name f ∷ mode_name m ∷ arrow ∷ more) form)
-    (file_step.again f (mode_name m ∷ arrow ∷ more) refl) (mode_step.again m (arrow ∷ more) refl)
-call_again (call.Close h) more form =
-    one_again id_at call.Close _ h (arrow ∷ more) (id_step.again h (arrow ∷ more) form)
-call_again (call.Ctl h bytes) more form =
-    let parts = and_parts (is_id h) (list_all is_byte bytes) form in
-    two_again id_at bytes_at call.Ctl _ h (hex_word bytes ∷ arrow ∷ more) bytes (arrow ∷ more)
-    (id_step.again h (hex_word bytes ∷ arrow ∷ more) parts.0) (bytes_step.again bytes (arrow ∷ more) parts.1)
-call_again (call.CtlWait h until bytes) more form =
-    let parts = and_parts (is_id h) (is_number until && list_all is_byte bytes) form in
-    let others = and_parts (is_number until) (list_all is_byte bytes) parts.1 in
-    three_again id_at number_at bytes_at call.CtlWait _ h (decimal until ∷ hex_word bytes ∷ arrow ∷ more) until
-    (hex_word bytes ∷ arrow ∷ more) bytes (arrow ∷ more)
-    (id_step.again h (decimal until ∷ hex_word bytes ∷ arrow ∷ more) parts.0)
-    (number_step.again until (hex_word bytes ∷ arrow ∷ more) others.0)
-    (bytes_step.again bytes (arrow ∷ more) others.1)
-call_again (call.Read h at len) more form =
-    let parts = and_parts (is_id h) (is_number at && is_number len) form in
-    let others = and_parts (is_number at) (is_number len) parts.1 in
-    three_again id_at number_at number_at call.Read _ h (decimal at ∷ decimal len ∷ arrow ∷ more) at
-    (decimal len ∷ arrow ∷ more) len (arrow ∷ more)
-    (id_step.again h (decimal at ∷ decimal len ∷ arrow ∷ more) parts.0)
-    (number_step.again at (decimal len ∷ arrow ∷ more) others.0) (number_step.again len (arrow ∷ more) others.1)
-call_again (call.Poll handles) more form =
-    one_again handles_at call.Poll _ handles (arrow ∷ more) (handles_again handles more form)
-call_again (call.Interrupt k) more form =
-    one_again id_at call.Interrupt _ k (arrow ∷ more) (id_step.again k (arrow ∷ more) form)
-call_again (call.Spawn program held) more form = spawn_again program held more form
-call_again (call.Kill p s) more form =
-    let parts = and_parts (is_id p) (is_number s) form in
-    two_again id_at number_at call.Kill _ p (decimal s ∷ arrow ∷ more) s (arrow ∷ more)
-    (id_step.again p (decimal s ∷ arrow ∷ more) parts.0) (number_step.again s (arrow ∷ more) parts.1)
-call_again (call.Until n) more form =
-    one_again number_at call.Until _ n (arrow ∷ more) (number_step.again n (arrow ∷ more) form)
-call_again call.List more form = refl
+call_again (call.Open p l f m) rest form end =
+    table_again call_rows (codes "open") ((p, l), (f, m)) rest (sym (and_any (is_id p && is_id l)) ∙ form) end
+call_again (call.Close h) rest form end = table_again call_rows (codes "close") h rest form end
+call_again (call.Ctl h bytes) rest form end = table_again call_rows (codes "ctl") (h, bytes) rest form end
+call_again (call.CtlWait h until bytes) rest form end =
+    table_again call_rows (codes "ctlwait") (h, (until, bytes)) rest form end
+call_again (call.Read h at len) rest form end = table_again call_rows (codes "read") (h, (at, len)) rest form end
+call_again (call.Poll handles) rest form end = table_again call_rows (codes "poll") handles rest form end
+call_again (call.Interrupt k) rest form end = table_again call_rows (codes "interrupt") k rest form end
+call_again (call.Spawn w held) rest form end =
+    table_again call_rows (codes "spawn") (w, held) rest (sym (and_any (is_name w)) ∙ form) end
+call_again (call.Kill p s) rest form end = table_again call_rows (codes "kill") (p, s) rest form end
+call_again (call.Until n) rest form end = table_again call_rows (codes "until") n rest form end
+call_again call.List rest form end = refl
 
 -- ---- replies
 
-abbrev ReplyTaken : Words → Reply → Words → Type 0
-ReplyTaken ws r rest = Taken reply_words reply_form ws r rest
-
-handle_taken : (ws : Words) (c : Reply) (rest : Words) → handle_at ws ≡ Some (c, rest)
-    → ReplyTaken (codes "handle" ∷ ws) c rest
-unfolding handle_at reply_words reply_form
-handle_taken ws c rest e =
-    let p = one_found id_at reply.Handle ws c rest e in
-    let t = id_step.taken ws p.a rest p.at_a in
-    taken_as reply_words reply_form (codes "handle" ∷ ws) (reply.Handle p.a) c rest p.is
-    (record { words = ap (λ vs. codes "handle" ∷ vs) t.words; formed = t.formed })
-
-used_taken : (ws : Words) (c : Reply) (rest : Words) → used_at ws ≡ Some (c, rest)
-    → ReplyTaken (codes "used" ∷ ws) c rest
-unfolding used_at reply_words reply_form
-used_taken ws c rest e =
-    let p = one_found number_at reply.Used ws c rest e in
-    let t = number_step.taken ws p.a rest p.at_a in
-    taken_as reply_words reply_form (codes "used" ∷ ws) (reply.Used p.a) c rest p.is
-    (record { words = ap (λ vs. codes "used" ∷ vs) t.words; formed = t.formed })
-
-half_taken : (ws : Words) (c : Reply) (rest : Words) → half_at ws ≡ Some (c, rest)
-    → ReplyTaken (codes "half" ∷ ws) c rest
-unfolding half_at reply_words reply_form
-half_taken ws c rest e =
-    let p = one_found number_at reply.Half ws c rest e in
-    let t = number_step.taken ws p.a rest p.at_a in
-    taken_as reply_words reply_form (codes "half" ∷ ws) (reply.Half p.a) c rest p.is
-    (record { words = ap (λ vs. codes "half" ∷ vs) t.words; formed = t.formed })
-
-bytes_taken : (ws : Words) (c : Reply) (rest : Words) → reply_bytes_at ws ≡ Some (c, rest)
-    → ReplyTaken (codes "bytes" ∷ ws) c rest
-unfolding reply_bytes_at reply_words reply_form
-bytes_taken ws c rest e =
-    let p = one_found bytes_at reply.Bytes ws c rest e in
-    let t = bytes_step.taken ws p.a rest p.at_a in
-    taken_as reply_words reply_form (codes "bytes" ∷ ws) (reply.Bytes p.a) c rest p.is
-    (record { words = ap (λ vs. codes "bytes" ∷ vs) t.words; formed = t.formed })
-
-pid_taken : (ws : Words) (c : Reply) (rest : Words) → pid_at ws ≡ Some (c, rest) → ReplyTaken (codes "pid" ∷ ws) c rest
-unfolding pid_at reply_words reply_form
-pid_taken ws c rest e =
-    let p = one_found id_at reply.Pid ws c rest e in
-    let t = id_step.taken ws p.a rest p.at_a in
-    taken_as reply_words reply_form (codes "pid" ∷ ws) (reply.Pid p.a) c rest p.is
-    (record { words = ap (λ vs. codes "pid" ∷ vs) t.words; formed = t.formed })
-
-ready_taken : (ws : Words) (c : Reply) (rest : Words) → ready_at ws ≡ Some (c, rest)
-    → ReplyTaken (codes "ready" ∷ ws) c rest
-unfolding ready_at reply_words reply_form
-ready_taken ws c rest e =
-    let p = one_found id_at reply.Ready ws c rest e in
-    let t = id_step.taken ws p.a rest p.at_a in
-    taken_as reply_words reply_form (codes "ready" ∷ ws) (reply.Ready p.a) c rest p.is
-    (record { words = ap (λ vs. codes "ready" ∷ vs) t.words; formed = t.formed })
-
-fail_taken : (ws : Words) (c : Reply) (rest : Words) → fail_at ws ≡ Some (c, rest)
-    → ReplyTaken (codes "fail" ∷ ws) c rest
-unfolding fail_at reply_words reply_form
-fail_taken ws c rest e =
-    let p = one_found errno_at reply.Fail ws c rest e in
-    let t = errno_step.taken ws p.a rest p.at_a in
-    taken_as reply_words reply_form (codes "fail" ∷ ws) (reply.Fail p.a) c rest p.is
-    (record { words = ap (λ vs. codes "fail" ∷ vs) t.words; formed = refl })
-
-done_taken : (ws : Words) (c : Reply) (rest : Words)
-    → ◌≡◌ {A = Option (Reply × Words)} (Some (reply.Done, ws)) (Some (c, rest)) → ReplyTaken (codes "done" ∷ ws) c rest
+-- a row for each form of reply
+abbrev reply_rows : List (RowOf (λ rest. Unit {0}) reply_words reply_form)
 unfolding reply_words reply_form
-done_taken ws c rest e =
-    let same = pair_of reply.Done c ws rest e in
-    taken_as reply_words reply_form (codes "done" ∷ ws) reply.Done c rest same.value
-    (record { words = ap (λ vs. codes "done" ∷ vs) same.words; formed = refl })
+reply_rows =
+    row_of (codes "bytes") (last bytes_step reply.Bytes) (λ v rest. refl) (λ v. refl)
+    ∷ row_of (codes "handle") (last id_step reply.Handle) (λ v rest. refl) (λ v. refl)
+    ∷ row_of (codes "done") (done reply.Done) (λ v rest. refl) (λ v. refl)
+    ∷ row_of (codes "used") (last number_step reply.Used) (λ v rest. refl) (λ v. refl)
+    ∷ row_of (codes "half") (last number_step reply.Half) (λ v rest. refl) (λ v. refl)
+    ∷ row_of (codes "pid") (last id_step reply.Pid) (λ v rest. refl) (λ v. refl)
+    ∷ row_of (codes "ready") (last id_step reply.Ready) (λ v rest. refl) (λ v. refl)
+    ∷ row_of (codes "fail") (last errno_step reply.Fail) (λ v rest. refl) (λ v. refl) ∷ []
 
-reply_behind_taken : (w : List ℕ) (ws : Words) (c : Reply) (rest : Words) → reply_behind w ws ≡ Some (c, rest)
-    → ReplyTaken (w ∷ ws) c rest
-unfolding reply_behind plain_reply_behind
-reply_behind_taken w ws c rest e =
-    by_word w (codes "bytes") _ _ (c, rest) (ReplyTaken (w ∷ ws) c rest) e
-    (λ is h. headed reply_words reply_form w (codes "bytes") ws c rest is (bytes_taken ws c rest h)) (λ e.
-    by_word w (codes "handle") _ _ (c, rest) (ReplyTaken (w ∷ ws) c rest) e
-    (λ is h. headed reply_words reply_form w (codes "handle") ws c rest is (handle_taken ws c rest h)) (λ e.
-    by_word w (codes "done") _ _ (c, rest) (ReplyTaken (w ∷ ws) c rest) e
-    (λ is h. headed reply_words reply_form w (codes "done") ws c rest is (done_taken ws c rest h)) (λ e.
-    by_word w (codes "used") _ _ (c, rest) (ReplyTaken (w ∷ ws) c rest) e
-    (λ is h. headed reply_words reply_form w (codes "used") ws c rest is (used_taken ws c rest h)) (λ e.
-    by_word w (codes "half") _ _ (c, rest) (ReplyTaken (w ∷ ws) c rest) e
-    (λ is h. headed reply_words reply_form w (codes "half") ws c rest is (half_taken ws c rest h)) (λ e.
-    by_word w (codes "pid") _ _ (c, rest) (ReplyTaken (w ∷ ws) c rest) e
-    (λ is h. headed reply_words reply_form w (codes "pid") ws c rest is (pid_taken ws c rest h)) (λ e.
-    by_word w (codes "ready") _ _ (c, rest) (ReplyTaken (w ∷ ws) c rest) e
-    (λ is h. headed reply_words reply_form w (codes "ready") ws c rest is (ready_taken ws c rest h)) (λ e.
-    by_word w (codes "fail") _ _ (c, rest) (ReplyTaken (w ∷ ws) c rest) e
-    (λ is h. headed reply_words reply_form w (codes "fail") ws c rest is (fail_taken ws c rest h)) (λ e. cc))))))))
-
-pub reply_taken : (ws : Words) (c : Reply) (rest : Words) → reply_at ws ≡ Some (c, rest) → ReplyTaken ws c rest
-unfolding reply_at
-reply_taken ws c rest e =
-    let p = found_by (word_at ws) (λ w. reply_behind w.0 w.1) (c, rest) e in
-    let t = reply_behind_taken p.value.0 p.value.1 c rest p.then_is in
-    record { words = word_at-is ws p.value.0 p.value.1 p.is ∙ t.words; formed = t.formed }
+pub reply_taken : (ws : Words) (r : Reply) (rest : Words) → reply_at ws ≡ Some (r, rest)
+    → Taken reply_words reply_form ws r rest
+unfolding reply_words reply_form reply_at reply_behind plain_reply_behind handle_at used_at half_at reply_bytes_at
+    pid_at ready_at fail_at
+reply_taken = table_taken reply_rows
 
 pub reply_again : (r : Reply) → reply_form r ≡ true → reply_at (reply_words r) ≡ Some (r, [])
 unfolding reply_at reply_behind plain_reply_behind reply_words reply_form word_at handle_at used_at half_at
     reply_bytes_at pid_at ready_at fail_at
-reply_again (reply.Handle h) form = one_again id_at reply.Handle _ h [] (id_step.again h [] form)
+reply_again (reply.Handle h) form = table_again reply_rows (codes "handle") h [] form tt
 reply_again reply.Done form = refl
-reply_again (reply.Used n) form = one_again number_at reply.Used _ n [] (number_step.again n [] form)
-reply_again (reply.Half n) form = one_again number_at reply.Half _ n [] (number_step.again n [] form)
-reply_again (reply.Bytes bytes) form = one_again bytes_at reply.Bytes _ bytes [] (bytes_step.again bytes [] form)
-reply_again (reply.Pid p) form = one_again id_at reply.Pid _ p [] (id_step.again p [] form)
-reply_again (reply.Ready h) form = one_again id_at reply.Ready _ h [] (id_step.again h [] form)
-reply_again (reply.Fail e) form = one_again errno_at reply.Fail _ e [] (errno_step.again e [] refl)
+reply_again (reply.Used n) form = table_again reply_rows (codes "used") n [] form tt
+reply_again (reply.Half n) form = table_again reply_rows (codes "half") n [] form tt
+reply_again (reply.Bytes bytes) form = table_again reply_rows (codes "bytes") bytes [] form tt
+reply_again (reply.Pid p) form = table_again reply_rows (codes "pid") p [] form tt
+reply_again (reply.Ready h) form = table_again reply_rows (codes "ready") h [] form tt
+reply_again (reply.Fail e) form = table_again reply_rows (codes "fail") e [] form tt

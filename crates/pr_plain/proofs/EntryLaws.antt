@@ -36,7 +36,7 @@ use Rattle.pr_plain.specs.Lines.{is_blank, is_word_byte, is_word, names_words, h
 use Rattle.pr_plain.specs.Readings.{◌>>=◌}
 use Rattle.pr_plain.specs.TurnReading.{turn_of}
 use Rattle.pr_plain.specs.WordReading.{Words, word_at, is_done, behind_word, number_at}
-use Rattle.pr_plain.proofs.CallLaws.{lwp_of-is, lwp_of-text, done_is, call_taken, call_again, reply_taken, reply_again}
+use Rattle.pr_plain.proofs.CallLaws.{lwp_of-is, lwp_of-text, done_is, call_taken, call_again, at_arrow, reply_taken, reply_again}
 use Rattle.pr_text.proofs.NumberLemmas.{are_digits, decimal-digits}
 use Rattle.pr_plain.proofs.DecimalLemmas.{is_number-from_id, decimal_of-word, decimal_of-decimal, decimal_id_of-word, decimal_id_of-decimal}
 use Rattle.pr_plain.proofs.FrontLemmas.{word_at-is}
@@ -190,7 +190,7 @@ exchange_back : (c : Call) (r : Reply) → call_form c ≡ true → reply_form r
 unfolding exchange_of word_at
 exchange_back c r hc hr =
     ap (λ o. o >>= λ x. (behind_word arrow x.1 >>= λ rest. (reply_at rest >>= ended x.0)))
-    (call_again c (reply_words r) hc)
+    (call_again c (arrow ∷ reply_words r) hc (at_arrow (reply_words r)))
     ∙ ap (λ o. o >>= λ rest. (reply_at rest >>= ended c)) (behind_word-again arrow (reply_words r))
     ∙ ap (λ o. o >>= ended c) (reply_again r hr)
 

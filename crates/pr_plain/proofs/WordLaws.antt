@@ -1,5 +1,5 @@
 -- Each kind of word is read back, and no other word is read as one.
-use Rattle.std.proofs.Common.{◌≡◌, ℕ, Bool, true, cond, Some, None, List, [], ◌∷◌, refl, sym, ap, ◌∙◌}
+use Rattle.std.proofs.Common.{◌≡◌, ℕ, Bool, true, cond, Option, Some, None, List, [], ◌∷◌, refl, sym, ap, ◌∙◌}
 use Rattle.std.specs.Fmt.{decimal}
 use Rattle.std.specs.List.{All, AllByRecursion, list_all}
 use Rattle.std.specs.Str.{bytes_eq}
@@ -24,7 +24,7 @@ use Rattle.pr_plain.specs.WordReading.{signal_of, number_at, id_at, bytes_at, sy
 use Rattle.pr_plain.proofs.DecimalLemmas.{decimal_of-word, decimal_of-decimal, decimal_id_of-word, decimal_id_of-decimal}
 use Rattle.pr_plain.proofs.HexLemmas.{bytes_of_word-hex_word, hex_word-bytes_of_word, bytes_of_word-bytes}
 use Rattle.pr_model.proofs.NameLemmas.{file_of_name-name, file_name-of_name, mode_of_name-name, mode_name-of_name}
-use Rattle.pr_plain.proofs.RowLemmas.{Undoes, Takes, one_word, found_by}
+use Rattle.pr_plain.proofs.RowLemmas.{Undoes, Takes, word_by, one_word, found_by}
 use Rattle.std.proofs.lemmas.Slice.Eq.{bytes_eq-Decides}
 use Rattle.pr_num.proofs.ListLemmas.{bytes_eq-self}
 
@@ -43,13 +43,6 @@ each_byte bs h =
 
 -- ---- each kind of word
 
-numbers : Undoes decimal_of decimal is_number
-numbers = record {
-  back = decimal_of-decimal;
-  only = λ w n e. (decimal_of-word w n e).word;
-  formed = λ w n e. (decimal_of-word w n e).small;
-}
-
 pub ids : Undoes decimal_id_of decimal is_id
 ids = record {
   back = decimal_id_of-decimal;
@@ -57,21 +50,58 @@ ids = record {
   formed = λ w n e. (decimal_id_of-word w n e).small;
 }
 
-hex : Undoes bytes_of_word hex_word (λ bs. list_all is_byte bs)
-hex = record {
-  back = λ bs h. bytes_of_word-hex_word bs (each_byte bs h);
-  only = λ w bs e. sym (hex_word-bytes_of_word w bs e);
-  formed = λ w bs e. all_bytes bs (bytes_of_word-bytes w bs e);
-}
+pub id_step : Takes id_at (λ n. decimal n ∷ []) is_id
+unfolding id_at
+id_step = one_word decimal_id_of decimal is_id ids
 
-syscalls : Undoes syscall_of_name syscall_name any
-syscalls = record { back = λ c h. syscall_of_name-name c; only = syscall_name-of_name; formed = λ w c e. refl }
+pub number_step : Takes number_at (λ n. decimal n ∷ []) is_number
+unfolding number_at
+number_step =
+    one_word decimal_of decimal is_number
+    (record {
+      back = decimal_of-decimal;
+      only = λ w n e. (decimal_of-word w n e).word;
+      formed = λ w n e. (decimal_of-word w n e).small;
+    })
 
-faults : Undoes fault_of_name fault_name any
-faults = record { back = λ f h. fault_of_name-name f; only = fault_name-of_name; formed = λ w f e. refl }
+pub bytes_step : Takes bytes_at (λ bs. hex_word bs ∷ []) (λ bs. list_all is_byte bs)
+unfolding bytes_at
+bytes_step =
+    one_word bytes_of_word hex_word (λ bs. list_all is_byte bs)
+    (record {
+      back = λ bs h. bytes_of_word-hex_word bs (each_byte bs h);
+      only = λ w bs e. sym (hex_word-bytes_of_word w bs e);
+      formed = λ w bs e. all_bytes bs (bytes_of_word-bytes w bs e);
+    })
 
-errnos : Undoes errno_of_name errno_name any
-errnos = record { back = λ e h. errno_of_name-name e; only = errno_name-of_name; formed = λ w e f. refl }
+pub program_step : Takes program_at (λ w. w ∷ []) is_name
+unfolding program_at
+program_step =
+    one_word name_of (λ w. w) is_name
+    (record {
+      back = λ w h. ap (λ t. cond t (Some w) None) h;
+      only = λ w x e. (cond_some (is_name w) w x e).1;
+      formed = λ w x e. let p = cond_some (is_name w) w x e in ap is_name (sym p.1) ∙ p.0;
+    })
+
+-- ---- names: every value has one
+
+pub by_name : {A : Type 0} (read : List ℕ → Option A) (write : A → List ℕ) → ((x : A) → read (write x) ≡ Some x)
+    → ((w : List ℕ) (x : A) → read w ≡ Some x → w ≡ write x) → Takes (word_by read) (λ x. write x ∷ []) any
+by_name read write back only =
+    one_word read write any (record { back = λ x h. back x; only = only; formed = λ w x e. refl })
+
+pub syscall_step : Takes syscall_at (λ c. syscall_name c ∷ []) any
+unfolding syscall_at
+syscall_step = by_name syscall_of_name syscall_name syscall_of_name-name syscall_name-of_name
+
+pub fault_step : Takes fault_at (λ f. fault_name f ∷ []) any
+unfolding fault_at
+fault_step = by_name fault_of_name fault_name fault_of_name-name fault_name-of_name
+
+pub errno_step : Takes errno_at (λ e. errno_name e ∷ []) any
+unfolding errno_at
+errno_step = by_name errno_of_name errno_name errno_of_name-name errno_name-of_name
 
 signal_back : (s : Sig) → signal_of (signal_name s) ≡ Some s
 unfolding signal_of
@@ -86,60 +116,14 @@ signal_only w s e =
     let q = cond_some (bytes_eq w (signal_name p.value)) p.value s p.then_is in
     (bytes_eq-Decides w (signal_name p.value)).0 q.0 ∙ ap signal_name q.1
 
-signals : Undoes signal_of signal_name any
-signals = record { back = λ s h. signal_back s; only = signal_only; formed = λ w s e. refl }
-
-files : Undoes file_of_name file_name any
-files = record { back = λ f h. file_of_name-name f; only = file_name-of_name; formed = λ w f e. refl }
-
-modes : Undoes mode_of_name mode_name any
-modes = record { back = λ m h. mode_of_name-name m; only = mode_name-of_name; formed = λ w m e. refl }
-
-programs : Undoes name_of (λ w. w) is_name
-programs = record {
-  back = λ w h. ap (λ t. cond t (Some w) None) h;
-  only = λ w x e. (cond_some (is_name w) w x e).1;
-  formed = λ w x e. let p = cond_some (is_name w) w x e in ap is_name (sym p.1) ∙ p.0;
-}
-
--- ---- and each step that takes one
-
-pub number_step : Takes number_at (λ n. decimal n ∷ []) is_number
-unfolding number_at
-number_step = one_word decimal_of decimal is_number numbers
-
-pub id_step : Takes id_at (λ n. decimal n ∷ []) is_id
-unfolding id_at
-id_step = one_word decimal_id_of decimal is_id ids
-
-pub bytes_step : Takes bytes_at (λ bs. hex_word bs ∷ []) (λ bs. list_all is_byte bs)
-unfolding bytes_at
-bytes_step = one_word bytes_of_word hex_word (λ bs. list_all is_byte bs) hex
-
-pub syscall_step : Takes syscall_at (λ c. syscall_name c ∷ []) any
-unfolding syscall_at
-syscall_step = one_word syscall_of_name syscall_name any syscalls
-
-pub fault_step : Takes fault_at (λ f. fault_name f ∷ []) any
-unfolding fault_at
-fault_step = one_word fault_of_name fault_name any faults
-
 pub signal_step : Takes signal_at (λ s. signal_name s ∷ []) any
 unfolding signal_at
-signal_step = one_word signal_of signal_name any signals
-
-pub errno_step : Takes errno_at (λ e. errno_name e ∷ []) any
-unfolding errno_at
-errno_step = one_word errno_of_name errno_name any errnos
+signal_step = by_name signal_of signal_name signal_back signal_only
 
 pub file_step : Takes file_at (λ f. file_name f ∷ []) any
 unfolding file_at
-file_step = one_word file_of_name file_name any files
+file_step = by_name file_of_name file_name file_of_name-name file_name-of_name
 
 pub mode_step : Takes mode_at (λ m. mode_name m ∷ []) any
 unfolding mode_at
-mode_step = one_word mode_of_name mode_name any modes
-
-pub program_step : Takes program_at (λ w. w ∷ []) is_name
-unfolding program_at
-program_step = one_word name_of (λ w. w) is_name programs
+mode_step = by_name mode_of_name mode_name mode_of_name-name mode_name-of_name
