@@ -15,7 +15,8 @@ ghost use Rattle.pr_reached.specs.ByteHistories.{HasBytes};
 ghost use Rattle.pr_reached.specs.InRange.{IsStartInRange};
 ghost use Rattle.pr_world.specs.ControllerStates as cores;
 ghost use Rattle.pr_world.specs.ControllerStates.{ControllerState};
-ghost use Rattle.pr_tool_laws.specs.Runs.{IsRunOf, StaysInRange};
+ghost use Rattle.pr_reached.specs.HistoriesInRange.{StaysInRange};
+ghost use Rattle.pr_tool_laws.specs.Runs.{IsRunOf};
 ghost use Rattle.pr_world.specs.Protocol.{controllers_at};
 
 /// In a legal history where these controllers make their own calls, from a lawful state in range or from a first

@@ -5,13 +5,14 @@ ghost use Rattle.pr_num.specs.declared.files.StoredFile.{StoredFile};
 ghost use Rattle.pr_lawful.specs.Starts.{IsStart};
 ghost use Rattle.pr_model.specs.Calls.{Answer, answer_to};
 ghost use Rattle.pr_model.specs.FirstState.{first_state};
-ghost use Rattle.pr_model.specs.Lawful.{IsLawful, IsLawfulSystem};
+ghost use Rattle.pr_model.specs.Lawful.{IsLawfulSystem};
 ghost use Rattle.pr_model.specs.Legal.{IsLegal, state_after, ticked};
 ghost use Rattle.pr_model.specs.LwpTurns.{LwpTurn, turn_of};
 ghost use Rattle.pr_model.specs.State.{TracedState, TracedSystem};
 ghost use Rattle.pr_model.specs.declared.calls.Call.{Call};
 ghost use Rattle.pr_model.specs.declared.events.Entry.{Entry};
 ghost use Rattle.pr_reached.specs.ByteHistories.{HasBytes, IsOfBytes};
+ghost use Rattle.pr_reached.specs.HistoriesInRange.{StaysInRange};
 ghost use Rattle.pr_reached.specs.InRange.{IsInRange, IsStartInRange};
 
 /// The first state is in range, where its programs and its files are.
@@ -41,8 +42,8 @@ pub fn ticks_keep_states_in_range()
 /// Every state that is reached is in range: each legal history in which controllers write bytes leads from a lawful
 /// state in range to one in range, and so from a first state.
 pub fn reached_states_are_in_range()
-    ensures later { (n : ℕ) (s : TracedState) (h : List Entry) → IsLawful s → IsInRange s.system → HasBytes h
-        → IsLegal n s h → IsInRange (state_after s h).system }
+    ensures later { (n : ℕ) (s : TracedState) (h : List Entry) → StaysInRange s h → IsLegal n s h
+        → IsInRange (state_after s h).system }
     ensures first { (n : ℕ) (programs : List Program) (files : List StoredFile) (spawns : List ℕ) (h : List Entry)
         → IsStart programs files spawns → IsStartInRange programs files → HasBytes h
         → IsLegal n (first_state programs files spawns) h

@@ -8,7 +8,7 @@ use Rattle.pr_num.specs.declared.files.StoredFile.{StoredFile}
 use Rattle.pr_reached.proofs.StatesInRange.HistoryRanges.{first-state-range}
 use Rattle.pr_reached.specs.ByteHistories.{HasBytes}
 use Rattle.pr_reached.specs.InRange.{IsStartInRange}
-use Rattle.pr_tool_laws.specs.Runs.{StaysInRange}
+use Rattle.pr_reached.specs.HistoriesInRange.{StaysInRange}
 
 -- A history from a first state in range, in which controllers write bytes, stays in range.
 pub first-stays : (programs : List Program) (files : List StoredFile) (spawns : List ℕ) (h : List Entry)

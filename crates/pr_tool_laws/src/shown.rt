@@ -16,7 +16,8 @@ ghost use Rattle.pr_tools.specs.Tools.{ToolState, first_tool, has_ended, printed
 ghost use Rattle.pr_world.specs.ControllerStates.{ControllerState};
 ghost use Rattle.pr_world.specs.ControllerStates as cores;
 ghost use Rattle.pr_world.specs.Protocol.{controllers_at};
-ghost use Rattle.pr_tool_laws.specs.Runs.{IsRunOf, StaysInRange};
+ghost use Rattle.pr_reached.specs.HistoriesInRange.{StaysInRange};
+ghost use Rattle.pr_tool_laws.specs.Runs.{IsRunOf};
 
 /// In a lawful system in range what a tool other than pstack reads has its fields in their ranges, and one read has all
 /// of it.

@@ -15,7 +15,8 @@ ghost use Rattle.pr_truss_laws.specs.Exchanges.{exchanges};
 ghost use Rattle.pr_world.specs.ControllerStates.{ControllerState};
 ghost use Rattle.pr_world.specs.ControllerStates as cores;
 ghost use Rattle.pr_world.specs.Protocol.{controllers_at};
-ghost use Rattle.pr_tool_laws.specs.Runs.{IsRunOf, StaysInRange};
+ghost use Rattle.pr_reached.specs.HistoriesInRange.{StaysInRange};
+ghost use Rattle.pr_tool_laws.specs.Runs.{IsRunOf};
 
 /// In a legal history where these controllers make their own calls, from a lawful state in range or from a first state,
 /// and in which controllers write bytes, a pstack that has finished, and was not refused, prints the stacks of one

@@ -16,7 +16,8 @@ use Rattle.pr_tools.specs.Handles.{nothing_open}
 use Rattle.pr_world.specs.Controllers.{after_reply, next_call}
 use Rattle.pr_world.specs.ControllerStates.{ControllerState, Gcore}
 use Rattle.pr_world.specs.Protocol.{controllers_at}
-use Rattle.pr_tool_laws.specs.Runs.{IsRunOf, StaysInRange}
+use Rattle.pr_reached.specs.HistoriesInRange.{StaysInRange}
+use Rattle.pr_tool_laws.specs.Runs.{IsRunOf}
 use Rattle.pr_core_laws.proofs.OneState.GcoreCalls.{called-stage}
 use Rattle.pr_core_laws.proofs.OneState.GcoreEnds.{ended-stage, shows}
 use Rattle.pr_core_laws.proofs.OneState.GcoreStages.{So, Stage, goes, open_at, others-stage}

@@ -41,7 +41,8 @@ use Rattle.pr_tool_laws.proofs.Pstack.StackReads.{read-answer}
 use Rattle.pr_tool_laws.proofs.Stages.StageLemmas.{state-called}
 use Rattle.pr_tool_laws.proofs.Records.WholeLemmas.{front-bytes, front-legal}
 use Rattle.pr_tool_laws.specs.Leaving.{RunsAtLast}
-use Rattle.pr_tool_laws.specs.Runs.{IsRunOf, StaysInRange}
+use Rattle.pr_reached.specs.HistoriesInRange.{StaysInRange}
+use Rattle.pr_tool_laws.specs.Runs.{IsRunOf}
 use Rattle.pr_tool_laws.specs.Requests.{asks_still}
 use Rattle.pr_tool_laws.specs.Stacks.{OpensAtMost}
 use Rattle.pr_tools.specs.Refusals.{refusal_line}

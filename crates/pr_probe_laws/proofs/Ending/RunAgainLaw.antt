@@ -12,7 +12,8 @@ use Rattle.pr_tool_laws.proofs.RunningAgain.LookLemmas.{looks}
 use Rattle.pr_tool_laws.proofs.Stages.ProtocolLemmas.{KeptByCalls, KeptByOthers, own-keeps}
 use Rattle.pr_world.specs.Controllers.{after_reply, next_call}
 use Rattle.pr_world.specs.ControllerStates.{ControllerState, Probe}
-use Rattle.pr_tool_laws.specs.Runs.{IsRunOf, StaysInRange}
+use Rattle.pr_reached.specs.HistoriesInRange.{StaysInRange}
+use Rattle.pr_tool_laws.specs.Runs.{IsRunOf}
 use Rattle.pr_tool_laws.specs.Stacks.{OpensAtMost}
 use Rattle.pr_world.specs.Protocol.{controllers_at}
 use Rattle.pr_probe_laws.proofs.Ending.LetsBe.{lets-be}

@@ -33,7 +33,8 @@ use Rattle.pr_tool_laws.proofs.RunningAgain.RequestLemmas.{asks-push, is_message
 use Rattle.pr_tool_laws.proofs.Sending.SentStages.{exchange, others-made, own-made}
 use Rattle.pr_tool_laws.proofs.Stages.ToolLemmas.{place-still}
 use Rattle.pr_tool_laws.specs.Leaving.{SendsTo}
-use Rattle.pr_tool_laws.specs.Runs.{IsRunOf, StaysInRange}
+use Rattle.pr_reached.specs.HistoriesInRange.{StaysInRange}
+use Rattle.pr_tool_laws.specs.Runs.{IsRunOf}
 use Rattle.pr_tool_laws.specs.Requests.{asks_after, asks_still}
 use Rattle.pr_tool_laws.specs.Stacks.{HasLooked}
 use Rattle.pr_tools.specs.Calls.{run_bytes, stop_bytes}

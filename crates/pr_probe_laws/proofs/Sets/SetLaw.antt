@@ -30,7 +30,8 @@ use Rattle.pr_tools.specs.declared.handles.Opened.{Opened}
 use Rattle.pr_world.specs.ControllerStates.{ControllerState, Probe}
 use Rattle.pr_world.specs.Controllers.{after_reply, next_call}
 use Rattle.pr_world.specs.Protocol.{controllers_at}
-use Rattle.pr_tool_laws.specs.Runs.{IsRunOf, StaysInRange}
+use Rattle.pr_reached.specs.HistoriesInRange.{StaysInRange}
+use Rattle.pr_tool_laws.specs.Runs.{IsRunOf}
 use Rattle.pr_probe_laws.proofs.Sets.SetCalls.{called-knows}
 use Rattle.pr_probe_laws.proofs.Sets.SetStages.{AllBack, HasLeft, Knows, Leaves, knows-still}
 use Rattle.pr_probe_laws.specs.SetsBack.{HoldsControl, SetsBack}

@@ -60,7 +60,8 @@ use Rattle.pr_world.proofs.RunLemmas.{moves-led}
 use Rattle.pr_tool_laws.proofs.OwnFiles.HandleLemmas.{tool-holds}
 use Rattle.pr_tool_laws.proofs.Stages.ProtocolLemmas.{follows-own}
 use Rattle.pr_tool_laws.specs.OwnCalls.{AreOwnCalls}
-use Rattle.pr_tool_laws.specs.Runs.{IsRunOf, StaysInRange}
+use Rattle.pr_reached.specs.HistoriesInRange.{StaysInRange}
+use Rattle.pr_tool_laws.specs.Runs.{IsRunOf}
 use Rattle.pr_tool_laws.proofs.RangeLemmas.{first-stays}
 use Rattle.pr_tool_laws.proofs.OwnFiles.NothingOpenLemmas.{tool-closes}
 use Rattle.pr_tool_laws.proofs.ProgramLemmas.{first-same}

@@ -13,7 +13,8 @@ use Rattle.pr_tools.specs.Tools.{ToolState, fed, first_tool, has_ended, printed}
 use Rattle.pr_world.specs.Controllers.{after_reply, next_call}
 use Rattle.pr_world.specs.ControllerStates.{ControllerState, Tool}
 use Rattle.pr_world.specs.Protocol.{controllers_at}
-use Rattle.pr_tool_laws.specs.Runs.{IsRunOf, StaysInRange}
+use Rattle.pr_reached.specs.HistoriesInRange.{StaysInRange}
+use Rattle.pr_tool_laws.specs.Runs.{IsRunOf}
 use Rattle.pr_tool_laws.proofs.Stages.ProtocolLemmas.{KeptByCalls, KeptByOthers, own-keeps}
 use Rattle.pr_tool_laws.proofs.Pstack.StackCalls.{called-stage}
 use Rattle.pr_tool_laws.proofs.Pstack.StackEnds.{ended-stage, shows}

@@ -21,7 +21,7 @@ later n s h lawful ranged bytes legal =
 
 pub returns : goal.returns
 returns c = record {
-  later = later;
+  later = λ n s h stays legal. later n s h stays.lawful stays.in_range stays.bytes legal;
   first = λ n programs files spawns h start ranged bytes legal.
       later n (first_state programs files spawns) h (first-lawful programs files spawns start)
       (first-state-range programs files spawns ranged) bytes legal;

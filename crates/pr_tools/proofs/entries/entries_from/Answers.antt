@@ -21,9 +21,9 @@ loop-left-preserved g c =
     let items = c.loop-left.entries.items in
     let words = map g.R.Record.words items in (
       c.loop-left.invariant.0
-          ∙ entries-on g.R.Record.ranges c.loop-left.left c.loop-left.rest.now c.bytes_from-rest.result.now words
+          ∙ entries-on g.R.Record.ranges c.loop-left.left c.loop-left.rest.now c.behind-rest.result.now words
           (map g.R.Record.words c.push.new.self.items) (g.R.Record.words c.in-Some.entry) c.size.result
-          (omega arith) c.in-Some.ensures c.size.ensures.value c.bytes_from-rest.ensures
+          (omega arith) c.in-Some.ensures c.size.ensures.value c.behind-rest.ensures
           (ap (map g.R.Record.words) c.in_ok-push-in-Some.ensures.items
           ∙ map-append g.R.Record.words items (c.in-Some.entry ∷ [])),
       omega (

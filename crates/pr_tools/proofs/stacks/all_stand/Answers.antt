@@ -14,7 +14,7 @@ loop-left-preserved c =
     c.loop-left.invariant
     ∙ all_stand-on c.loop-left.left c.loop-left.rest.now (omega arith)
     (sym c.stands_in.ensures ∙ c.if-not-stands_in.false)
-    ∙ ap (all_stand (c.loop-left.left - 1)) (sym c.bytes_from-rest.ensures)
+    ∙ ap (all_stand (c.loop-left.left - 1)) (sym c.behind-rest.ensures)
 
 pub returns : goal.returns
 returns c =
