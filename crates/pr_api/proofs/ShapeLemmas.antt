@@ -1,29 +1,24 @@
 use Rattle.std.proofs.Common.{◌≡◌, ◌||◌, ◌&&◌, ◌==◌, ◌+◌, ◌-◌, ◌/◌, ◌<◌, ◌≤◌, ◌%◌, ◌^◌, ℕ, zero, suc, Bool, true, false, not, Option, Some, None, List, [], ◌∷◌, Result, Ok, Err, IfSome, IfOk, cond, eqb, ltb, length, drop, nat_le, nat_lt, refl, sym, ap, ◌∙◌, subst, arith}
 use Rattle.std.specs.List.{All, find, list_all, list_any, slice_range}
 use Rattle.std.specs.Option.{option_map}
-use Rattle.std.specs.Prelude.{is_ok}
 use Rattle.std.proofs.lemmas.Bool.{eq-eqb, eqb-false, le-leb, leb-true}
 use Rattle.std.proofs.lemmas.List.{length-take}
 use Rattle.std.proofs.lemmas.List.Elements.{All-head, All-tail}
 use Rattle.std.proofs.lemmas.Option.{same_Some}
 use Rattle.pr_num.proofs.ByIdLemmas.{rises_from-head, rises_from-tail}
 use Rattle.pr_num.specs.ById.{rises_from}
-use Rattle.pr_num.specs.Limits.{area_limit, controller_limit, handle_limit, lwp_limit, message_bytes_limit, read_limit, list_limit}
+use Rattle.pr_num.specs.Limits.{controller_limit, handle_limit, message_bytes_limit, read_limit, list_limit}
 use Rattle.pr_num.specs.Messages.{bad_operand, encoded_length, first_message, in_columns, message_read, nth_word, unless_bad, unpadded_length, with_tail, ◌>>=◌}
 use Rattle.pr_num.specs.Programs.{Program}
 use Rattle.pr_num.specs.Sets.{with_number}
-use Rattle.pr_num.specs.Signals.{signal_of_number}
-use Rattle.pr_num.specs.Spaces.{Space, byte_for, bytes_for}
+use Rattle.pr_num.specs.Spaces.{Space, byte_for}
 use Rattle.pr_num.specs.declared.errnos.Errno.{Errno}
-use Rattle.pr_num.specs.declared.errnos.Errno.TheVariants.{Busy, Inval, Intr}
+use Rattle.pr_num.specs.declared.errnos.Errno.TheVariants.{Inval, Intr}
 use Rattle.pr_num.specs.declared.mappings.BadByte.{BadByte}
 use Rattle.pr_num.specs.declared.messages.Message.{Message}
 use Rattle.pr_num.specs.declared.messages.Message.TheVariants as message
 use Rattle.pr_num.specs.declared.messages.MsgFault.{MsgFault}
 use Rattle.pr_num.specs.declared.messages.MsgFault.TheVariants.{Short, BadOperand}
-use Rattle.pr_num.specs.declared.signals.Sig.{Sig}
-use Rattle.pr_parts.specs.PendingSignals.{has_room}
-use Rattle.pr_parts.specs.WatchedAreas.{is_taken}
 use Rattle.pr_rec.proofs.EntryLemmas.{length-entries}
 use Rattle.pr_rec.specs.RecordBytes.{list_bytes}
 use Rattle.pr_rec.specs.RecordWords.{list_entry_words_of}
@@ -32,14 +27,12 @@ use Rattle.pr_model.specs.Calls.{Answer, answer_to, answered, close_answer, clos
 use Rattle.pr_model.specs.ControlMessages.{aim_of, control_answer, control_handle, decoded_answer, decoded_wait, held_answer, held_wait, system_refusal, tail_of, target_of, targeted_answer, targeted_wait, wait_over, wait_reply, waiting_reply, waits}
 use Rattle.pr_model.specs.Handles.{handle_of}
 use Rattle.pr_model.specs.Lawful.{IsLawfulSystem, IsNumberedBelow}
-use Rattle.pr_model.specs.Messages.{Controlled, refused, Aim, at_lwp, at_process, agent_answer, aimed_lwp, is_kill_of, kill_answer, kill_by, killed, lets_agent, mapped_bytes, message_answer, on_found, on_stopped_found, pending_at, read_answer, read_of, run_found, run_answer, ssig_answer, unkill_answer, unkill_by, unless_lent, watch_answer, with_address, with_held_set, with_process_changed, with_registers, with_signal_set, write_answer}
-use Rattle.pr_model.specs.Readers.{has_lent, space_seen}
+use Rattle.pr_model.specs.Messages.{Controlled, refused, Aim, message_answer}
+use Rattle.pr_model.specs.Readers.{space_seen}
 use Rattle.pr_model.specs.Records.{list_entries, list_entry_of, list_of}
-use Rattle.pr_model.specs.Running.{lwp_run_refused, run_lwp, run_refused, with_run, without_current, without_fault}
 use Rattle.pr_model.specs.SignalCalls.{Sending, refuses as refuses_signal, sends_nothing, sends}
-use Rattle.pr_model.specs.Stops.{has_event_stop}
 use Rattle.pr_model.specs.Reads.{file_read, file_reply, held_read, mapped_from, of_lwp, of_process, part, part_read, read_process, read_reply, readable, unless_none}
-use Rattle.pr_model.specs.State.{TracedLwp, TracedProcess, TracedState, TracedSystem, has_agent, lwp_of, with_lwp}
+use Rattle.pr_model.specs.State.{TracedLwp, TracedProcess, TracedState, TracedSystem, lwp_of}
 use Rattle.pr_model.specs.declared.calls.Call as calls
 use Rattle.pr_model.specs.declared.calls.Call.TheVariants as call
 use Rattle.pr_model.specs.declared.calls.File.{File}
@@ -49,6 +42,9 @@ use Rattle.pr_model.specs.declared.calls.Reply.{Reply}
 use Rattle.pr_model.specs.declared.calls.Reply.TheVariants.{Bytes, Done, Fail, Used}
 use Rattle.pr_model.specs.declared.handles.Held.{Held}
 use Rattle.pr_parts.proofs.ByteLemmas.{length-bytes_for}
+use Rattle.pr_keeps.proofs.MessageLemmas.{message-answered}
+use Rattle.pr_keeps.specs.MessageAnswers as answer
+use Rattle.pr_keeps.specs.MessageAnswers.{MessageAnswer}
 use Rattle.pr_api.specs.Shapes.{answers_message, has_shape, is_at_most, is_done, is_failure, is_used}
 use Rattle.pr_num.proofs.BoolLemmas.{either}
 
@@ -138,112 +134,20 @@ record Answers (c : Controlled) : Type 0 where
 refuses : (s : TracedSystem) (e : Errno) → Answers (refused s e)
 refuses s e = record { shape = refl }
 
-module _ (s : TracedSystem) (pid : ℕ) (p : TracedProcess) where
-  found-answers : (len : ℕ) (change : TracedLwp → TracedLwp) (o : Option (ℕ × TracedLwp))
-      → Answers (on_found s pid p len change o)
-  found-answers len change None = record { shape = refl }
-  found-answers len change (Some e) = record { shape = refl }
-
-  stopped-answers : (len : ℕ) (change : TracedLwp → TracedLwp) (o : Option (ℕ × TracedLwp))
-      → Answers (on_stopped_found s pid p len change o)
-  stopped-answers len change None = refuses s _
-  stopped-answers len change (Some e) =
-      either Answers (has_event_stop e.1) (with_process_changed s pid p len (with_lwp e.0 change)) (refused s Busy)
-      (record { shape = refl }) (refuses s Busy)
-
-  run-found-answers : (flags len : ℕ) (o : Option (ℕ × TracedLwp)) → Answers (run_found s pid p flags len o)
-  run-found-answers flags len None = refuses s _
-  run-found-answers flags len (Some e) =
-      either Answers (lwp_run_refused p e.0 e.1) (refused s Busy)
-      (with_process_changed s pid p len (with_lwp e.0 (run_lwp flags))) (refuses s Busy) (record { shape = refl })
-
-  run-answers : (aim : Aim) (flags len : ℕ) → Answers (run_answer s pid p aim flags len)
-  unfolding run_answer
-  run-answers (at_lwp id) flags len = run-found-answers flags len _
-  run-answers at_process flags len =
-      either Answers (run_refused p) (refused s Busy) (with_process_changed s pid p len (with_run flags))
-      (refuses s Busy) (record { shape = refl })
-
-  ssig-answers : (aim : Aim) (number len : ℕ) → Answers (ssig_answer s pid p aim number len)
-  unfolding ssig_answer killed
-  ssig-answers aim number len =
-      either Answers (is_kill_of s pid p (signal_of_number number)) _ _ (record { shape = refl })
-      (found-answers len (with_signal_set (signal_of_number number)) (aimed_lwp s pid p aim))
-
-  kill-answers : (aim : Aim) (len : ℕ) (o : Option Sig) → Answers (kill_by s pid p aim len o)
-  kill-answers aim len None = record { shape = refl }
-  kill-answers aim len (Some g) =
-      either Answers (has_room g (pending_at s pid p aim)) _ _ (record { shape = refl }) (refuses s _)
-
-  unkill-answers : (aim : Aim) (len : ℕ) (o : Option Sig) → Answers (unkill_by s pid p aim len o)
-  unkill-answers aim len None = record { shape = refl }
-  unkill-answers (at_lwp id) len (Some g) = record { shape = refl }
-  unkill-answers at_process len (Some g) = record { shape = refl }
-
-  watch-answers : (at size flags len : ℕ) → Answers (watch_answer s pid p at size flags len)
-  unfolding watch_answer
-  watch-answers at size flags len =
-      either Answers (eqb flags 0) _ _ (record { shape = refl })
-      (either Answers (is_taken at size p.control.areas) _ _ (refuses s _)
-      (either Answers (nat_le area_limit (length p.control.areas)) _ _ (refuses s _) (record { shape = refl })))
-
-  agent-answers : (regs : List ℕ) (len : ℕ) → Answers (agent_answer s pid p regs len)
-  unfolding agent_answer
-  agent-answers regs len =
-      either Answers (has_agent p || not (list_all (lets_agent p.job_stop) p.lwps)) _ _ (refuses s _)
-      (either Answers (nat_le lwp_limit (length p.lwps)) _ _ (refuses s _) (record { shape = refl }))
-
-  memory-answers : (at size : ℕ) → size ≤ message_bytes_limit → (r : Result (List ℕ) BadByte)
-      → mapped_bytes s pid p at size ≡ r → Answers (read_of s pid p r)
-  memory-answers at size within (Err bad) is = refuses s _
-  memory-answers at size within (Ok bytes) is =
-      let all = length-bytes_for 0 (space_seen s p) at size bytes is in
+module _ (s : TracedSystem) (pid : ℕ) (p : TracedProcess) (tail : List ℕ) (len : ℕ) where
+  made-answers : (m : Message) (c : Controlled) → bad_operand m ≡ None → MessageAnswer s pid p tail len m c → Answers c
+  made-answers m c columns (answer.refuses {e = e} with_errno) = refuses s e
+  made-answers m c columns (answer.uses_up used e) = record { shape = refl }
+  made-answers m c columns (answer.goes_on waiting e) = record { shape = refl }
+  made-answers m c columns (answer.reads {at = at} {size = size} {bytes = bytes} mapped) =
+      let within = read-within at size columns in
+      let all = length-bytes_for 0 (space_seen s p) at size bytes mapped in
       record { shape = ap (λ b. b || false) (le-leb (length bytes) message_bytes_limit (omega arith)) }
 
-  read-answers : (at size : ℕ) → bad_operand (message.Read at size) ≡ None → Answers (read_answer s pid p at size)
-  unfolding read_answer
-  read-answers at size columns =
-      memory-answers at size (read-within at size columns) (mapped_bytes s pid p at size) refl
-
-  write-answers : (at : ℕ) (bytes : List ℕ) (len : ℕ) → Answers (write_answer s pid p at bytes len)
-  unfolding write_answer
-  write-answers at bytes len =
-      either Answers (is_ok (bytes_for 0 p.space at (length bytes))) _ _ (record { shape = refl }) (refuses s _)
-
-  -- a message that a process refuses which has lent its memory
-  lent-answers : (c : Controlled) → Answers c → Answers (unless_lent s pid p c)
-  lent-answers c answers = either Answers (has_lent p) (refused s Busy) c (refuses s Busy) answers
-
   -- every message
-  message-answers : (aim : Aim) (m : Message) (tail : List ℕ) (len : ℕ) → bad_operand m ≡ None
-      → Answers (message_answer s pid p aim m tail len)
-  unfolding message_answer kill_answer unkill_answer
-  message-answers aim message.Stop tail len columns = record { shape = refl }
-  message-answers aim message.Dstop tail len columns = record { shape = refl }
-  message-answers aim message.Wstop tail len columns = record { shape = refl }
-  message-answers aim (message.Twstop ms) tail len columns = record { shape = refl }
-  message-answers aim (message.Run flags) tail len columns = run-answers aim flags len
-  message-answers aim message.Csig tail len columns = found-answers len without_current (aimed_lwp s pid p aim)
-  message-answers aim message.Cfault tail len columns = found-answers len without_fault (aimed_lwp s pid p aim)
-  message-answers aim (message.Ssig number) tail len columns = ssig-answers aim number len
-  message-answers aim (message.Kill number) tail len columns = kill-answers aim len (signal_of_number number)
-  message-answers aim (message.Unkill number) tail len columns = unkill-answers aim len (signal_of_number number)
-  message-answers aim (message.Shold signals) tail len columns =
-      found-answers len (with_held_set signals) (aimed_lwp s pid p aim)
-  message-answers aim (message.Strace signals) tail len columns = record { shape = refl }
-  message-answers aim (message.Sfault faults) tail len columns = record { shape = refl }
-  message-answers aim (message.Sentry calls) tail len columns = record { shape = refl }
-  message-answers aim (message.Sexit calls) tail len columns = record { shape = refl }
-  message-answers aim (message.Set modes) tail len columns = record { shape = refl }
-  message-answers aim (message.Unset modes) tail len columns = record { shape = refl }
-  message-answers aim (message.Sreg regs) tail len columns =
-      stopped-answers len (with_registers regs) (aimed_lwp s pid p aim)
-  message-answers aim (message.Svaddr pc) tail len columns =
-      stopped-answers len (with_address pc) (aimed_lwp s pid p aim)
-  message-answers aim (message.Watch at size flags) tail len columns = lent-answers _ (watch-answers at size flags len)
-  message-answers aim (message.Agent regs) tail len columns = lent-answers _ (agent-answers regs len)
-  message-answers aim (message.Read at size) tail len columns = read-answers at size columns
-  message-answers aim (message.Write at size) tail len columns = lent-answers _ (write-answers at tail len)
+  message-answers : (aim : Aim) (m : Message) → bad_operand m ≡ None → Answers (message_answer s pid p aim m tail len)
+  message-answers aim m columns =
+      made-answers m (message_answer s pid p aim m tail len) columns (message-answered s pid p tail len aim m)
 
 decoded-answers : (s : TracedSystem) (h : Held) (p : TracedProcess) (bytes : List ℕ)
     (read : Result (Message × ℕ) MsgFault) → IfOk read (λ first. bad_operand first.0 ≡ None)
@@ -252,7 +156,7 @@ decoded-answers s h p bytes (Err fault) columns = refuses s _
 decoded-answers s h p bytes (Ok (m, n)) columns =
     either Answers (eqb h.pid 0) (refused s (system_refusal m))
     (message_answer s h.pid p (aim_of h) m (tail_of m bytes) n) (refuses s _)
-    (message-answers s h.pid p (aim_of h) m (tail_of m bytes) n columns)
+    (message-answers s h.pid p (tail_of m bytes) n (aim_of h) m columns)
 
 targeted-answers : (s : TracedSystem) (h : Held) (p : Option TracedProcess) (bytes : List ℕ)
     → Answers (targeted_answer s h p bytes)

@@ -14,20 +14,22 @@ use Rattle.pr_parts.specs.AddressSpaces.{with_bytes}
 use Rattle.pr_parts.specs.PendingSignals.{has_room}
 use Rattle.pr_parts.specs.WatchedAreas.{is_taken, with_area, without_area}
 use Rattle.pr_model.specs.Changes.{with_space}
-use Rattle.pr_model.specs.Messages.{Controlled, Aim, at_lwp, at_process, with_signal_set, lwp_without_one, with_held_set, with_registers, with_address, with_control, tracing_signals, tracing_faults, tracing_entries, tracing_exits, with_modes, without_modes, with_areas, lets_agent, with_agent, on_found, aimed_lwp, on_stopped_found, with_aim_directed, run_found, found_at, run_answer, killed, is_kill_of, ssig_answer, pending_at, pending_of_found, target_of_aim, kill_by, kill_answer, process_without_one, unkill_by, unkill_answer, watch_answer, agent_answer, read_of, mapped_bytes, read_answer, write_answer, unless_lent, refused, message_answer}
+use Rattle.pr_model.specs.Messages.{Controlled, Aim, at_lwp, at_process, with_signal_set, lwp_without_one, with_held_set, with_registers, with_address, with_control, tracing_signals, tracing_faults, tracing_entries, tracing_exits, with_modes, without_modes, with_areas, lets_agent, with_agent, on_found, aimed_lwp, on_stopped_found, with_aim_directed, run_found, found_at, run_answer, killed, is_kill_of, ssig_answer, pending_at, pending_of_found, target_of_aim, kill_by, kill_answer, process_without_one, unkill_by, unkill_answer, watch_answer, agent_answer, read_of, mapped_bytes, read_answer, write_answer, unless_lent, refused, message_answer, with_process_changed, with_set}
 use Rattle.pr_model.specs.Running.{without_current, without_fault, with_step, with_abort, with_directive, without_directive, let_go, if_flag, is_entry_stop, is_asleep, with_cleared, with_aborted, run_lwp, lwp_run_refused, run_refused, shows_run, was_requested, with_request, without_request, if_all_requested, with_flags_on, with_representative_run, with_all_run, with_one_run, runs_one, with_run}
-use Rattle.pr_model.specs.State.{TracedControl, TracedLwp, TracedProcess, TracedSystem, has_agent, lwp_of, with_process, with_lwp}
+use Rattle.pr_model.specs.State.{TracedControl, TracedLwp, TracedProcess, TracedSystem, has_agent, lwp_of, with_lwp}
 use Rattle.pr_model.specs.Stops.{directed, has_event_stop, representative, with_all_directed}
 use Rattle.pr_model.specs.declared.stops.Stop.{Stop}
 use Rattle.pr_keeps.specs.LwpEdits as lwp
 use Rattle.pr_keeps.specs.LwpEdits.{LwpEdit, LwpEdits, directs}
 use Rattle.pr_keeps.specs.ProcessEdits as process
 use Rattle.pr_keeps.specs.ProcessEdits.{ControlEdit, ProcessEdit, ProcessEdits}
+use Rattle.pr_keeps.specs.MessageAnswers as answer
+use Rattle.pr_keeps.specs.MessageAnswers.{MessageAnswer, MessageRefusal, is_used_up}
 use Rattle.pr_keeps.specs.MessageEdits as edit
 use Rattle.pr_keeps.specs.MessageEdits.{MessageEdit, HasRoomIn}
 use Rattle.pr_keeps.proofs.KeepsLemmas.{choice}
 
--- Each control message makes one of its edits: a line a message.
+-- Each control message is refused, or makes one of its edits and replies what it replies then: a line a message.
 
 -- ---- edits, one after another
 
@@ -142,51 +144,56 @@ module _ (flags : ℕ) (tail : List ℕ) (x : TracedProcess) where
 
 module _ (s : TracedSystem) (pid : ℕ) (p : TracedProcess) (tail : List ℕ) (len : ℕ) where
   abbrev Made : Message → Controlled → Type 0
-  Made m c = MessageEdit s pid p m tail c.system
+  Made m c = MessageAnswer s pid p tail len m c
 
-  one-process : (m : Message) (f : TracedProcess → TracedProcess) → ProcessEdit m tail p (f p)
-      → MessageEdit s pid p m tail (with_process pid f s)
-  one-process m f e = edit.a_process f (process.then_edit process.as_it_is e)
+  one-process : (m : Message) (f : TracedProcess → TracedProcess) → is_used_up m ≡ true → ProcessEdit m tail p (f p)
+      → Made m (with_process_changed s pid p len f)
+  one-process m f used e = answer.uses_up used (edit.a_process f (process.then_edit process.as_it_is e))
 
-  an-lwp : (m : Message) (id : ℕ) (f : TracedLwp → TracedLwp) → Edits m f
-      → MessageEdit s pid p m tail (with_process pid (with_lwp id f) s)
+  an-lwp : (m : Message) (id : ℕ) (f : TracedLwp → TracedLwp) → is_used_up m ≡ true → Edits m f
+      → Made m (with_process_changed s pid p len (with_lwp id f))
   unfolding Edits
-  an-lwp m id f edits = one-process m (with_lwp id f) (process.one_lwp id f edits)
+  an-lwp m id f used edits = one-process m (with_lwp id f) used (process.one_lwp id f edits)
 
-  on_lwp-made : (m : Message) (f : TracedLwp → TracedLwp) → Edits m f → (o : Option (ℕ × TracedLwp))
-      → Made m (on_found s pid p len f o)
-  on_lwp-made m f edits None = edit.nothing
-  on_lwp-made m f edits (Some e) = an-lwp m e.0 f edits
+  on_lwp-made : (m : Message) (f : TracedLwp → TracedLwp) → is_used_up m ≡ true → Edits m f
+      → (o : Option (ℕ × TracedLwp)) → Made m (on_found s pid p len f o)
+  on_lwp-made m f used edits None = answer.uses_up used edit.nothing
+  on_lwp-made m f used edits (Some e) = an-lwp m e.0 f used edits
 
-  on_stopped-made : (m : Message) (f : TracedLwp → TracedLwp) → Edits m f → (o : Option (ℕ × TracedLwp))
-      → Made m (on_stopped_found s pid p len f o)
-  on_stopped-made m f edits None = edit.nothing
-  on_stopped-made m f edits (Some e) =
-      choice (Made m) (has_event_stop e.1) _ _ (λ stands. an-lwp m e.0 f edits) (λ goes_on. edit.nothing)
+  on_stopped-made : (m : Message) (f : TracedLwp → TracedLwp) → is_used_up m ≡ true → MessageRefusal m Busy
+      → Edits m f → (o : Option (ℕ × TracedLwp)) → Made m (on_stopped_found s pid p len f o)
+  on_stopped-made m f used busy edits None = answer.refuses busy
+  on_stopped-made m f used busy edits (Some e) =
+      choice (Made m) (has_event_stop e.1) _ _ (λ stands. an-lwp m e.0 f used edits)
+      (λ goes_on. answer.refuses busy)
 
-  set-made : (m : Message) (f : TracedControl → TracedControl) → ControlEdit m p.control (f p.control)
-      → MessageEdit s pid p m tail (with_process pid (with_control f) s)
+  set-made : (m : Message) (f : TracedControl → TracedControl) → is_used_up m ≡ true
+      → ControlEdit m p.control (f p.control) → Made m (with_set s pid p len f)
   unfolding with_control
-  set-made m f e = one-process m (with_control f) (process.control_is e)
+  set-made m f used e = one-process m (with_control f) used (process.control_is e)
 
-  directed-made : (m : Message) → directs m ≡ true → (aim : Aim)
+  directed-edit : (m : Message) → directs m ≡ true → (aim : Aim)
       → MessageEdit s pid p m tail (with_aim_directed s pid p aim)
   unfolding with_aim_directed with_all_directed Edits
-  directed-made m it (at_lwp id) = an-lwp m id directed (directed-edits m it)
-  directed-made m it at_process = one-process m with_all_directed (process.each_lwp directed (directed-edits m it))
+  directed-edit m it (at_lwp id) =
+      edit.a_process (with_lwp id directed)
+      (process.then_edit process.as_it_is (process.one_lwp id directed (directed-edits m it)))
+  directed-edit m it at_process =
+      edit.a_process with_all_directed
+      (process.then_edit process.as_it_is (process.each_lwp directed (directed-edits m it)))
 
   run_found-made : (flags : ℕ) (o : Option (ℕ × TracedLwp)) → Made (message.Run flags) (run_found s pid p flags len o)
-  run_found-made flags None = edit.nothing
+  run_found-made flags None = answer.refuses answer.run_busy
   run_found-made flags (Some e) =
-      choice (Made (message.Run flags)) (lwp_run_refused p e.0 e.1) _ _ (λ no_run. edit.nothing)
-      (λ run. an-lwp (message.Run flags) e.0 (run_lwp flags) (run_lwp-edits flags))
+      choice (Made (message.Run flags)) (lwp_run_refused p e.0 e.1) _ _ (λ no_run. answer.refuses answer.run_busy)
+      (λ run. an-lwp (message.Run flags) e.0 (run_lwp flags) refl (run_lwp-edits flags))
 
   run-made : (flags : ℕ) (aim : Aim) → Made (message.Run flags) (run_answer s pid p aim flags len)
   unfolding run_answer
   run-made flags (at_lwp id) = run_found-made flags (found_at s pid p id (lwp_of p id))
   run-made flags at_process =
-      choice (Made (message.Run flags)) (run_refused p) _ _ (λ no_run. edit.nothing)
-      (λ run. edit.a_process (with_run flags) (run-edits flags tail p))
+      choice (Made (message.Run flags)) (run_refused p) _ _ (λ no_run. answer.refuses answer.run_busy)
+      (λ run. answer.uses_up refl (edit.a_process (with_run flags) (run-edits flags tail p)))
 
   signal_set-edits : (number : ℕ) → Edits (message.Ssig number) (with_signal_set (signal_of_number number))
   unfolding Edits with_signal_set
@@ -201,9 +208,10 @@ module _ (s : TracedSystem) (pid : ℕ) (p : TracedProcess) (tail : List ℕ) (l
   ssig-made : (number : ℕ) (aim : Aim) → Made (message.Ssig number) (ssig_answer s pid p aim number len)
   unfolding ssig_answer killed
   ssig-made number aim =
-      choice (Made (message.Ssig number)) (is_kill_of s pid p (signal_of_number number)) _ _ (λ kill. edit.an_end)
-      (λ other. on_lwp-made (message.Ssig number) (with_signal_set (signal_of_number number)) (signal_set-edits number)
-      (aimed_lwp s pid p aim))
+      choice (Made (message.Ssig number)) (is_kill_of s pid p (signal_of_number number)) _ _
+      (λ kill. answer.uses_up refl edit.an_end)
+      (λ other. on_lwp-made (message.Ssig number) (with_signal_set (signal_of_number number)) refl
+      (signal_set-edits number) (aimed_lwp s pid p aim))
 
   aimed-room : (aim : Aim) (g : Sig) → has_room g (pending_at s pid p aim) ≡ true
       → HasRoomIn p g (target_of_aim s pid p aim)
@@ -213,21 +221,22 @@ module _ (s : TracedSystem) (pid : ℕ) (p : TracedProcess) (tail : List ℕ) (l
 
   kill-made : (number : ℕ) (aim : Aim) (o : Option Sig) → signal_of_number number ≡ o
       → Made (message.Kill number) (kill_by s pid p aim len o)
-  kill-made number aim None is = edit.nothing
+  kill-made number aim None is = answer.uses_up refl edit.nothing
   kill-made number aim (Some g) is =
       choice (Made (message.Kill number)) (has_room g (pending_at s pid p aim)) _ _
-      (λ room. edit.a_signal (target_of_aim s pid p aim) g is (aimed-room aim g room)) (λ full. edit.nothing)
+      (λ room. answer.uses_up refl (edit.a_signal (target_of_aim s pid p aim) g is (aimed-room aim g room)))
+      (λ full. answer.refuses answer.kill_full)
 
   unkill-made : (number : ℕ) (aim : Aim) (o : Option Sig) → signal_of_number number ≡ o
       → Made (message.Unkill number) (unkill_by s pid p aim len o)
   unfolding Edits process_without_one
-  unkill-made number (at_lwp id) None is = edit.nothing
-  unkill-made number at_process None is = edit.nothing
+  unkill-made number (at_lwp id) None is = answer.uses_up refl edit.nothing
+  unkill-made number at_process None is = answer.uses_up refl edit.nothing
   unkill-made number (at_lwp id) (Some g) is =
-      an-lwp (message.Unkill number) id (lwp_without_one g)
+      an-lwp (message.Unkill number) id (lwp_without_one g) refl
       (λ l. one-edit (message.Unkill number) l (lwp_without_one g l) (lwp.takes_back is))
   unkill-made number at_process (Some g) is =
-      one-process (message.Unkill number) (process_without_one s pid p g) (process.takes_back is)
+      one-process (message.Unkill number) (process_without_one s pid p g) refl (process.takes_back is)
 
   watch-made : (at size flags : ℕ) → Made (message.Watch at size flags) (watch_answer s pid p at size flags len)
   unfolding watch_answer
@@ -235,79 +244,95 @@ module _ (s : TracedSystem) (pid : ℕ) (p : TracedProcess) (tail : List ℕ) (l
       let watch = message.Watch at size flags in
       let areas = p.control.areas in
       choice (Made watch) (eqb flags 0) _ _
-      (λ clear. set-made watch (with_areas (without_area at areas)) process.unwatches) (λ some.
-      choice (Made watch) (is_taken at size areas) _ _ (λ taken. edit.nothing) (λ free.
-      choice (Made watch) (leb area_limit (length areas)) _ _ (λ full. edit.nothing)
-      (λ room. set-made watch (with_areas (with_area (record { at = at; size = size; flags = flags }) areas))
+      (λ clear. set-made watch (with_areas (without_area at areas)) refl process.unwatches) (λ some.
+      choice (Made watch) (is_taken at size areas) _ _ (λ taken. answer.refuses answer.watch_taken) (λ free.
+      choice (Made watch) (leb area_limit (length areas)) _ _ (λ full. answer.refuses answer.watch_full)
+      (λ room. set-made watch (with_areas (with_area (record { at = at; size = size; flags = flags }) areas)) refl
       (process.watches some free (leb-false area_limit (length areas) room)))))
 
   agent-made : (regs : List ℕ) → Made (message.Agent regs) (agent_answer s pid p regs len)
   unfolding agent_answer
   agent-made regs =
       let agent = message.Agent regs in
-      choice (Made agent) (has_agent p || not (list_all (lets_agent p.job_stop) p.lwps)) _ _ (λ busy. edit.nothing)
-      (λ idle.
-      choice (Made agent) (leb lwp_limit (length p.lwps)) _ _ (λ full. edit.nothing)
-      (λ room. one-process agent (with_agent regs)
+      choice (Made agent) (has_agent p || not (list_all (lets_agent p.job_stop) p.lwps)) _ _
+      (λ busy. answer.refuses answer.agent_busy) (λ idle.
+      choice (Made agent) (leb lwp_limit (length p.lwps)) _ _ (λ full. answer.refuses answer.agent_full)
+      (λ room. one-process agent (with_agent regs) refl
       (process.gets_agent (or_parts (has_agent p) (not (list_all (lets_agent p.job_stop) p.lwps)) idle).0
       (leb-false lwp_limit (length p.lwps) room))))
 
-  read-made : (m : Message) (r : Result (List ℕ) BadByte) → Made m (read_of s pid p r)
-  read-made m (Err bad) = edit.nothing
-  read-made m (Ok bytes) = edit.nothing
+  read-made : (at size : ℕ) (r : Result (List ℕ) BadByte) → mapped_bytes s pid p at size ≡ r
+      → Made (message.Read at size) (read_of s pid p r)
+  read-made at size (Err bad) is = answer.refuses answer.read_unmapped
+  read-made at size (Ok bytes) is = answer.reads is
 
   write-made : (at size : ℕ) → p.borrower ≡ None → Made (message.Write at size) (write_answer s pid p at tail len)
   unfolding write_answer
   write-made at size own =
       choice (Made (message.Write at size)) (is_ok (bytes_for 0 p.space at (length tail))) _ _
-      (λ mapped. one-process (message.Write at size) (with_space (with_bytes at tail p.space))
-      (process.is_written own mapped)) (λ hole. edit.nothing)
+      (λ mapped. one-process (message.Write at size) (with_space (with_bytes at tail p.space)) refl
+      (process.is_written own mapped)) (λ hole. answer.refuses answer.write_unmapped)
 
-  own-made : (m : Message) (answer : Controlled) → (p.borrower ≡ None → Made m answer)
-      → Made m (unless_lent s pid p answer)
-  own-made m answer made = by p.borrower refl
+  own-made : (m : Message) (c : Controlled) → MessageRefusal m Busy → (p.borrower ≡ None → Made m c)
+      → Made m (unless_lent s pid p c)
+  own-made m c busy made = by p.borrower refl
     where
-      by : (o : Option ℕ) → p.borrower ≡ o → Made m (cond (is_some o) (refused s Busy) answer)
+      by : (o : Option ℕ) → p.borrower ≡ o → Made m (cond (is_some o) (refused s Busy) c)
       by None own = made own
-      by (Some child) lent = edit.nothing
+      by (Some child) lent = answer.refuses busy
 
   by-one : (m : Message) (f : TracedLwp → TracedLwp) → ((l : TracedLwp) → LwpEdit m l (f l)) → Edits m f
   unfolding Edits
   by-one m f e l = one-edit m l (f l) (e l)
 
+  pub message-answered : (aim : Aim) (m : Message)
+      → MessageAnswer s pid p tail len m (message_answer s pid p aim m tail len)
+  unfolding message_answer kill_answer unkill_answer read_answer
+  message-answered aim message.Stop = answer.goes_on refl (directed-edit message.Stop refl aim)
+  message-answered aim message.Dstop = answer.uses_up refl (directed-edit message.Dstop refl aim)
+  message-answered aim message.Wstop = answer.goes_on refl edit.nothing
+  message-answered aim (message.Twstop ms) = answer.goes_on refl edit.nothing
+  message-answered aim (message.Run flags) = run-made flags aim
+  message-answered aim message.Csig =
+      on_lwp-made message.Csig without_current refl (by-one _ _ (λ l. lwp.drops_signal refl)) (aimed_lwp s pid p aim)
+  message-answered aim message.Cfault =
+      on_lwp-made message.Cfault without_fault refl (by-one _ _ (λ l. lwp.drops_fault refl)) (aimed_lwp s pid p aim)
+  message-answered aim (message.Ssig number) = ssig-made number aim
+  message-answered aim (message.Kill number) = kill-made number aim (signal_of_number number) refl
+  message-answered aim (message.Unkill number) = unkill-made number aim (signal_of_number number) refl
+  message-answered aim (message.Shold signals) =
+      on_lwp-made (message.Shold signals) (with_held_set signals) refl (by-one _ _ (λ l. lwp.holds))
+      (aimed_lwp s pid p aim)
+  message-answered aim (message.Strace set) = set-made (message.Strace set) (tracing_signals set) refl process.signals
+  message-answered aim (message.Sfault set) = set-made (message.Sfault set) (tracing_faults set) refl process.faults
+  message-answered aim (message.Sentry set) = set-made (message.Sentry set) (tracing_entries set) refl process.entries
+  message-answered aim (message.Sexit set) = set-made (message.Sexit set) (tracing_exits set) refl process.exits
+  message-answered aim (message.Set set) = set-made (message.Set set) (with_modes set) refl process.modes
+  message-answered aim (message.Unset set) = set-made (message.Unset set) (without_modes set) refl process.fewer_modes
+  message-answered aim (message.Sreg regs) =
+      on_stopped-made (message.Sreg regs) (with_registers regs) refl answer.registers_busy
+      (by-one _ _ (λ l. lwp.registers_are)) (aimed_lwp s pid p aim)
+  message-answered aim (message.Svaddr pc) =
+      on_stopped-made (message.Svaddr pc) (with_address pc) refl answer.address_busy
+      (by-one _ _ (λ l. lwp.goes_to)) (aimed_lwp s pid p aim)
+  message-answered aim (message.Watch at size flags) =
+      own-made (message.Watch at size flags) _ answer.watch_busy (λ own. watch-made at size flags)
+  message-answered aim (message.Agent regs) =
+      own-made (message.Agent regs) _ answer.agent_busy (λ own. agent-made regs)
+  message-answered aim (message.Read at size) = read-made at size (mapped_bytes s pid p at size) refl
+  message-answered aim (message.Write at size) =
+      own-made (message.Write at size) _ answer.write_busy (write-made at size)
+
+  -- what it makes of the system, whatever it replies
+  answer-edit : (m : Message) (c : Controlled) → Made m c → MessageEdit s pid p m tail c.system
+  answer-edit m c (answer.refuses with_errno) = edit.nothing
+  answer-edit m c (answer.uses_up used e) = e
+  answer-edit m c (answer.goes_on waiting e) = e
+  answer-edit m c (answer.reads mapped) = edit.nothing
+
   pub message-edit : (aim : Aim) (m : Message)
       → MessageEdit s pid p m tail (message_answer s pid p aim m tail len).system
-  unfolding message_answer kill_answer unkill_answer read_answer
-  message-edit aim message.Stop = directed-made message.Stop refl aim
-  message-edit aim message.Dstop = directed-made message.Dstop refl aim
-  message-edit aim message.Wstop = edit.nothing
-  message-edit aim (message.Twstop ms) = edit.nothing
-  message-edit aim (message.Run flags) = run-made flags aim
-  message-edit aim message.Csig =
-      on_lwp-made message.Csig without_current (by-one _ _ (λ l. lwp.drops_signal refl)) (aimed_lwp s pid p aim)
-  message-edit aim message.Cfault =
-      on_lwp-made message.Cfault without_fault (by-one _ _ (λ l. lwp.drops_fault refl)) (aimed_lwp s pid p aim)
-  message-edit aim (message.Ssig number) = ssig-made number aim
-  message-edit aim (message.Kill number) = kill-made number aim (signal_of_number number) refl
-  message-edit aim (message.Unkill number) = unkill-made number aim (signal_of_number number) refl
-  message-edit aim (message.Shold signals) =
-      on_lwp-made (message.Shold signals) (with_held_set signals) (by-one _ _ (λ l. lwp.holds)) (aimed_lwp s pid p aim)
-  message-edit aim (message.Strace set) = set-made (message.Strace set) (tracing_signals set) process.signals
-  message-edit aim (message.Sfault set) = set-made (message.Sfault set) (tracing_faults set) process.faults
-  message-edit aim (message.Sentry set) = set-made (message.Sentry set) (tracing_entries set) process.entries
-  message-edit aim (message.Sexit set) = set-made (message.Sexit set) (tracing_exits set) process.exits
-  message-edit aim (message.Set set) = set-made (message.Set set) (with_modes set) process.modes
-  message-edit aim (message.Unset set) = set-made (message.Unset set) (without_modes set) process.fewer_modes
-  message-edit aim (message.Sreg regs) =
-      on_stopped-made (message.Sreg regs) (with_registers regs) (by-one _ _ (λ l. lwp.registers_are))
-      (aimed_lwp s pid p aim)
-  message-edit aim (message.Svaddr pc) =
-      on_stopped-made (message.Svaddr pc) (with_address pc) (by-one _ _ (λ l. lwp.goes_to)) (aimed_lwp s pid p aim)
-  message-edit aim (message.Watch at size flags) =
-      own-made (message.Watch at size flags) _ (λ own. watch-made at size flags)
-  message-edit aim (message.Agent regs) = own-made (message.Agent regs) _ (λ own. agent-made regs)
-  message-edit aim (message.Read at size) = read-made (message.Read at size) (mapped_bytes s pid p at size)
-  message-edit aim (message.Write at size) = own-made (message.Write at size) _ (write-made at size)
+  message-edit aim m = answer-edit m (message_answer s pid p aim m tail len) (message-answered aim m)
 
 -- ---- a process that has lent its memory
 

@@ -8,5 +8,7 @@ mod messages;
 mod turns;
 
 pub use calls::{calls_make_their_edits, closes_make_their_edits};
-pub use messages::{lenders_refuse, messages_make_their_edits};
+pub use messages::{
+    lenders_refuse, messages_are_refused_or_make_their_edits, messages_make_their_edits,
+};
 pub use turns::{directed_lenders_stop, lenders_only_stop, turns_are_rows};

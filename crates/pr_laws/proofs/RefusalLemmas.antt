@@ -1,46 +1,38 @@
 use Rattle.std.proofs.Common.{◌≡◌, ◌+◌, ltb, ℕ, Bool, true, false, Option, Some, None, List, Result, Ok, Err, IfSome, refl, ap, inl, inr, subst, cond}
 use Rattle.std.specs.List.{find}
 use Rattle.std.specs.Option.{option_map}
-use Rattle.pr_num.specs.Infos.{by_controller, killed_by}
+use Rattle.pr_num.specs.Infos.{killed_by}
 use Rattle.pr_num.specs.Limits.{controller_limit}
 use Rattle.pr_num.specs.Messages.{first_message}
 use Rattle.pr_num.specs.Programs.{Program}
 use Rattle.pr_num.specs.Sets.{with_number}
-use Rattle.pr_num.specs.Signals.{signal_number, signal_of_number}
 use Rattle.pr_num.specs.declared.errnos.Errno.{Errno}
-use Rattle.pr_num.specs.declared.errnos.Errno.TheVariants.{Inval, Badf, Busy, Again, Nomem, Io, Intr}
+use Rattle.pr_num.specs.declared.errnos.Errno.TheVariants.{Inval, Badf, Intr}
 use Rattle.pr_num.specs.declared.infos.Info.{Info}
-use Rattle.pr_num.specs.declared.mappings.BadByte.{BadByte}
 use Rattle.pr_num.specs.declared.messages.Message.{Message}
-use Rattle.pr_num.specs.declared.messages.Message.TheVariants.{Stop, Dstop, Wstop, Twstop, Run, Csig, Cfault, Ssig, Kill, Unkill, Shold, Strace, Sfault, Sentry, Sexit, Set, Unset, Sreg, Svaddr, Watch, Agent, Read, Write}
 use Rattle.pr_num.specs.declared.messages.MsgFault.{MsgFault}
-use Rattle.pr_num.specs.declared.signals.Sig.{Sig}
-use Rattle.pr_num.specs.declared.signals.Sig.TheVariants as sig
-use Rattle.pr_parts.specs.AddressSpaces.{with_bytes}
-use Rattle.pr_parts.specs.WatchedAreas.{with_area, without_area}
 use Rattle.pr_model.specs.Calls.{Answer, refused, answered, opened, open_unless, open_answer, close_held, close_answer, controlled, waited, is_interrupted, with_interrupt_seen, ready_answer, is_polled_ready, poll_answer, until_answer, interrupt_answer, spawn_unless, spawn_found, spawn_answer, sent_reply, kill_answer, answer_to}
-use Rattle.pr_model.specs.Changes.{with_space}
 use Rattle.pr_model.specs.ControlMessages.{aim_of, tail_of, control_handle, target_of, system_refusal, decoded_answer, targeted_answer, held_answer, control_answer, wait_reply}
 use Rattle.pr_model.specs.Handles.{handle_of, open_refusal}
-use Rattle.pr_model.specs.Lives.{with_this_ended}
 use Rattle.pr_model.specs.Machines.{traced}
-use Rattle.pr_model.specs.Messages.{Controlled, Aim, at_lwp, at_process, on_found, aimed_lwp, on_stopped_found, found_at, run_found, run_answer, killed, ssig_answer, kill_by, kill_answer as kill_message, unkill_by, unkill_answer, watch_answer, agent_answer, read_of, mapped_bytes, read_answer, write_answer, message_answer, target_of_aim, unless_lent, with_agent, with_areas, with_control, with_signal_set, refused as message_refused}
+use Rattle.pr_model.specs.Messages.{Controlled, Aim, message_answer, refused as message_refused}
 use Rattle.pr_model.specs.ProcessCalls.{program_named}
 use Rattle.pr_model.specs.Readers.{life_of}
 use Rattle.pr_model.specs.Reads.{read_reply}
-use Rattle.pr_model.specs.Running.{run_lwp, with_run}
 use Rattle.pr_model.specs.SignalCalls.{Sending, refuses, sends_nothing, sends, sending, with_sent}
-use Rattle.pr_model.specs.Signals.{generated}
 use Rattle.pr_model.specs.Spawning.{spawn_refusal}
-use Rattle.pr_model.specs.State.{TracedState, TracedSystem, TracedProcess, TracedLwp, Places, lwp_of, with_lwp, with_process, with_system}
+use Rattle.pr_model.specs.State.{TracedState, TracedSystem, TracedProcess, Places, with_system}
 use Rattle.pr_model.specs.declared.calls.Call as calls
 use Rattle.pr_model.specs.declared.calls.Call.TheVariants as call
 use Rattle.pr_model.specs.declared.calls.Reply.{Reply}
 use Rattle.pr_model.specs.declared.calls.Reply.TheVariants.{Handle, Done, Used, Half, Bytes, Pid, Ready, Fail}
 use Rattle.pr_model.specs.declared.handles.Held.{Held}
+use Rattle.pr_keeps.proofs.MessageLemmas.{message-answered}
+use Rattle.pr_keeps.specs.MessageAnswers as answer
+use Rattle.pr_keeps.specs.MessageAnswers.{MessageAnswer}
 use Rattle.pr_laws.specs.Refusals.{LeavesIfRefused}
 
--- A control message that is refused leaves the system. One lemma a row: each refuses and leaves it, or does not refuse.
+-- A control message that is refused leaves the system.
 module _ (s : TracedSystem) where
   pub LeavesSystem : Controlled → Type 0
   LeavesSystem c = leaves c.reply
@@ -49,135 +41,32 @@ module _ (s : TracedSystem) where
       leaves (Fail e) = c.system ≡ s
       leaves _ = Unit {0}
 
-  -- what is refused, what is done, and what is left as it was
   refusal : (e : Errno) → LeavesSystem (message_refused s e)
   unfolding LeavesSystem
   refusal e = refl
-
-  used : (t : TracedSystem) (len : ℕ) → LeavesSystem (record { system = t; reply = Used len })
-  unfolding LeavesSystem
-  used t len = tt
-
-  half : (t : TracedSystem) (until : ℕ) → LeavesSystem (record { system = t; reply = Half until })
-  unfolding LeavesSystem
-  half t until = tt
 
   -- either of two
   either : (b : Bool) (x y : Controlled) → LeavesSystem x → LeavesSystem y → LeavesSystem (cond b x y)
   either true x y one other = one
   either false x y one other = other
 
-  module _ (pid : ℕ) (p : TracedProcess) where
-    found-leaves : (len : ℕ) (change : TracedLwp → TracedLwp) (o : Option (ℕ × TracedLwp))
-        → LeavesSystem (on_found s pid p len change o)
-    found-leaves len change None = used s len
-    found-leaves len change (Some e) = used _ len
-
-    stopped-leaves : (len : ℕ) (change : TracedLwp → TracedLwp) (o : Option (ℕ × TracedLwp))
-        → LeavesSystem (on_stopped_found s pid p len change o)
-    stopped-leaves len change None = refusal Busy
-    stopped-leaves len change (Some e) =
-        either _ _ _ (used (with_process pid (with_lwp e.0 change) s) len) (refusal Busy)
-
-    run_found-leaves : (flags len id : ℕ) (o : Option TracedLwp)
-        → LeavesSystem (run_found s pid p flags len (found_at s pid p id o))
-    run_found-leaves flags len id None = refusal Busy
-    run_found-leaves flags len id (Some l) =
-        either _ _ _ (refusal Busy) (used (with_process pid (with_lwp id (run_lwp flags)) s) len)
-
-    run-leaves : (aim : Aim) (flags len : ℕ) → LeavesSystem (run_answer s pid p aim flags len)
-    unfolding run_answer
-    run-leaves (at_lwp id) flags len = run_found-leaves flags len id (lwp_of p id)
-    run-leaves at_process flags len = either _ _ _ (refusal Busy) (used (with_process pid (with_run flags) s) len)
-
-    ssig-leaves : (aim : Aim) (number len : ℕ) → LeavesSystem (ssig_answer s pid p aim number len)
-    unfolding ssig_answer killed
-    ssig-leaves aim number len =
-        either _ _ _ (used (with_this_ended traced pid p (signal_number sig.Kill) s) len)
-        (found-leaves len (with_signal_set (signal_of_number number)) (aimed_lwp s pid p aim))
-
-    kill_by-leaves : (aim : Aim) (len : ℕ) (o : Option Sig) → LeavesSystem (kill_by s pid p aim len o)
-    kill_by-leaves aim len None = used s len
-    kill_by-leaves aim len (Some g) =
-        either _ _ _ (used (generated traced pid (target_of_aim s pid p aim) g by_controller s) len) (refusal Again)
-
-    kill-leaves : (aim : Aim) (number len : ℕ) → LeavesSystem (kill_message s pid p aim number len)
-    unfolding kill_message
-    kill-leaves aim number len = kill_by-leaves aim len (signal_of_number number)
-
-    unkill_by-leaves : (aim : Aim) (len : ℕ) (o : Option Sig) → LeavesSystem (unkill_by s pid p aim len o)
-    unkill_by-leaves aim len None = used s len
-    unkill_by-leaves (at_lwp id) len (Some g) = used _ len
-    unkill_by-leaves at_process len (Some g) = used _ len
-
-    unkill-leaves : (aim : Aim) (number len : ℕ) → LeavesSystem (unkill_answer s pid p aim number len)
-    unfolding unkill_answer
-    unkill-leaves aim number len = unkill_by-leaves aim len (signal_of_number number)
-
-    watch-leaves : (at size flags len : ℕ) → LeavesSystem (watch_answer s pid p at size flags len)
-    unfolding watch_answer
-    watch-leaves at size flags len =
-        either _ _ _ (used (with_process pid (with_control (with_areas (without_area at p.control.areas))) s) len)
-        (either _ _ _ (refusal Inval)
-        (either _ _ _ (refusal Nomem)
-        (used (with_process pid
-        (with_control
-        (with_areas (with_area (record { at = at; size = size; flags = flags }) p.control.areas))) s) len)))
-
-    agent-leaves : (regs : List ℕ) (len : ℕ) → LeavesSystem (agent_answer s pid p regs len)
-    unfolding agent_answer
-    agent-leaves regs len =
-        either _ _ _ (refusal Busy) (either _ _ _ (refusal Nomem) (used (with_process pid (with_agent regs) s) len))
-
-    read_of-leaves : (r : Result (List ℕ) BadByte) → LeavesSystem (read_of s pid p r)
+  module _ (pid : ℕ) (p : TracedProcess) (tail : List ℕ) (len : ℕ) where
+    made-leaves : (m : Message) (c : Controlled) → MessageAnswer s pid p tail len m c → LeavesSystem c
     unfolding LeavesSystem
-    read_of-leaves (Err bad) = refl
-    read_of-leaves (Ok bytes) = tt
+    made-leaves m c (answer.refuses with_errno) = refl
+    made-leaves m c (answer.uses_up used e) = tt
+    made-leaves m c (answer.goes_on waiting e) = tt
+    made-leaves m c (answer.reads mapped) = tt
 
-    read-leaves : (at size : ℕ) → LeavesSystem (read_answer s pid p at size)
-    unfolding read_answer
-    read-leaves at size = read_of-leaves (mapped_bytes s pid p at size)
-
-    write-leaves : (at : ℕ) (bytes : List ℕ) (len : ℕ) → LeavesSystem (write_answer s pid p at bytes len)
-    unfolding write_answer
-    write-leaves at bytes len =
-        either _ _ _ (used (with_process pid (with_space (with_bytes at bytes p.space)) s) len) (refusal Io)
-
-    unless_lent-leaves : (c : Controlled) → LeavesSystem c → LeavesSystem (unless_lent s pid p c)
-    unless_lent-leaves c leaves = either _ _ _ (refusal Busy) leaves
-
-    message-leaves : (aim : Aim) (m : Message) (tail : List ℕ) (len : ℕ)
-        → LeavesSystem (message_answer s pid p aim m tail len)
-    unfolding message_answer
-    message-leaves aim Stop tail len = half _ 0
-    message-leaves aim Dstop tail len = used _ len
-    message-leaves aim Wstop tail len = half s 0
-    message-leaves aim (Twstop ms) tail len = half s _
-    message-leaves aim (Run flags) tail len = run-leaves aim flags len
-    message-leaves aim Csig tail len = found-leaves len _ (aimed_lwp s pid p aim)
-    message-leaves aim Cfault tail len = found-leaves len _ (aimed_lwp s pid p aim)
-    message-leaves aim (Ssig number) tail len = ssig-leaves aim number len
-    message-leaves aim (Kill number) tail len = kill-leaves aim number len
-    message-leaves aim (Unkill number) tail len = unkill-leaves aim number len
-    message-leaves aim (Shold signals) tail len = found-leaves len _ (aimed_lwp s pid p aim)
-    message-leaves aim (Strace signals) tail len = used _ len
-    message-leaves aim (Sfault faults) tail len = used _ len
-    message-leaves aim (Sentry calls) tail len = used _ len
-    message-leaves aim (Sexit calls) tail len = used _ len
-    message-leaves aim (Set modes) tail len = used _ len
-    message-leaves aim (Unset modes) tail len = used _ len
-    message-leaves aim (Sreg regs) tail len = stopped-leaves len _ (aimed_lwp s pid p aim)
-    message-leaves aim (Svaddr pc) tail len = stopped-leaves len _ (aimed_lwp s pid p aim)
-    message-leaves aim (Watch at size flags) tail len = unless_lent-leaves _ (watch-leaves at size flags len)
-    message-leaves aim (Agent regs) tail len = unless_lent-leaves _ (agent-leaves regs len)
-    message-leaves aim (Read at size) tail len = read-leaves at size
-    message-leaves aim (Write at size) tail len = unless_lent-leaves _ (write-leaves at tail len)
+    message-leaves : (aim : Aim) (m : Message) → LeavesSystem (message_answer s pid p aim m tail len)
+    message-leaves aim m =
+        made-leaves m (message_answer s pid p aim m tail len) (message-answered s pid p tail len aim m)
 
   decoded-leaves : (h : Held) (p : TracedProcess) (bytes : List ℕ) (r : Result (Message × ℕ) MsgFault)
       → LeavesSystem (decoded_answer s h p bytes r)
   decoded-leaves h p bytes (Err fault) = refusal _
   decoded-leaves h p bytes (Ok m) =
-      either _ _ _ (refusal (system_refusal m.0)) (message-leaves h.pid p (aim_of h) m.0 (tail_of m.0 bytes) m.1)
+      either _ _ _ (refusal (system_refusal m.0)) (message-leaves h.pid p (tail_of m.0 bytes) m.1 (aim_of h) m.0)
 
   targeted-leaves : (h : Held) (o : Option TracedProcess) (bytes : List ℕ) → LeavesSystem (targeted_answer s h o bytes)
   targeted-leaves h None bytes = refusal _

@@ -1,26 +1,17 @@
-use Rattle.std.proofs.Common.{◌≡◌, ◌≢◌, ◌==◌, ◌||◌, ℕ, Bool, true, false, cond, not, is_none, is_ok, length, nat_le, None, Some, Option, Result, Ok, Err, List, refl, sym, subst, ap, ◌∙◌}
+use Rattle.std.proofs.Common.{◌≡◌, ◌≢◌, ◌==◌, ℕ, Bool, true, false, cond, not, is_none, None, Some, Option, Result, Ok, Err, List, refl, sym, subst, ap, ◌∙◌}
 use Rattle.std.proofs.lemmas.Bool.{false≢true}
 use Rattle.std.proofs.lemmas.Option.{none-some, same_Some}
-use Rattle.std.specs.List.{list_all, position}
+use Rattle.std.specs.List.{position}
 use Rattle.std.specs.Option.{option_map}
+use Rattle.pr_keeps.proofs.MessageLemmas.{message-answered}
+use Rattle.pr_keeps.specs.MessageAnswers as answer
+use Rattle.pr_keeps.specs.MessageAnswers.{MessageAnswer, MessageRefusal}
 use Rattle.pr_lawful.proofs.LawfulTurns.EndLemmas.{found-live}
 use Rattle.pr_model.specs.Calls.{Answer, answer_to, is_interrupted, open_answer, open_unless, opened, waited}
 use Rattle.pr_model.specs.ControlMessages.{aim_of, decoded_answer, decoded_wait, held_wait, system_refusal, tail_of, targeted_answer, targeted_wait, wait_over, wait_reply, waits}
 use Rattle.pr_model.specs.Handles.{conflicts, handle_of, has_file, open_refusal}
-use Rattle.pr_model.specs.Changes.{with_space}
-use Rattle.pr_model.specs.Messages.{Controlled, agent_answer, aimed_lwp, at_process, is_kill_of, kill_answer, kill_by, killed, lets_agent, mapped_bytes, message_answer, on_found, on_lwp, on_stopped_found, read_answer, read_of, refused, run_answer, ssig_answer, unkill_answer, unkill_by, watch_answer, with_agent, with_areas, with_process_changed, with_set, with_signal_set, write_answer}
-use Rattle.pr_model.specs.Machines.{traced}
-use Rattle.pr_model.specs.Readers.{has_lent}
-use Rattle.pr_model.specs.Running.{run_refused, with_run}
-use Rattle.pr_model.specs.Signals.{generated}
-use Rattle.pr_model.specs.Stops.{has_event_stop}
-use Rattle.pr_num.specs.Infos.{by_controller}
-use Rattle.pr_num.specs.Limits.{area_limit, lwp_limit}
-use Rattle.pr_num.specs.Spaces.{bytes_for}
-use Rattle.pr_parts.specs.AddressSpaces.{with_bytes}
-use Rattle.pr_parts.specs.PendingSignals.{has_room}
-use Rattle.pr_parts.specs.WatchedAreas.{is_taken, with_area, without_area}
-use Rattle.pr_model.specs.State.{TracedLwp, TracedProcess, TracedState, TracedSystem, has_agent, live_process, process_of, with_lwp}
+use Rattle.pr_model.specs.Messages.{Aim, Controlled, message_answer, refused}
+use Rattle.pr_model.specs.State.{TracedProcess, TracedState, TracedSystem, live_process, process_of}
 use Rattle.pr_model.specs.declared.calls.Call.TheVariants as call
 use Rattle.pr_model.specs.declared.calls.File.{File}
 use Rattle.pr_model.specs.declared.calls.File.TheVariants as file
@@ -29,18 +20,15 @@ use Rattle.pr_model.specs.declared.calls.Reply.{Reply}
 use Rattle.pr_model.specs.declared.calls.Reply.TheVariants as reply
 use Rattle.pr_model.specs.declared.handles.Held.{Held}
 use Rattle.pr_num.specs.Messages.{first_message}
-use Rattle.pr_num.specs.Signals.{signal_of_number}
 use Rattle.pr_num.specs.declared.errnos.Errno.{Errno}
-use Rattle.pr_num.specs.declared.errnos.Errno.TheVariants.{Again, Busy, Inval, Intr, Io, Mfile, Noent, Nomem}
-use Rattle.pr_num.specs.declared.mappings.BadByte.{BadByte}
+use Rattle.pr_num.specs.declared.errnos.Errno.TheVariants.{Busy, Inval, Intr, Mfile, Noent}
 use Rattle.pr_num.specs.declared.messages.Message.{Message}
 use Rattle.pr_num.specs.declared.messages.Message.TheVariants as message
 use Rattle.pr_num.specs.declared.messages.MsgFault.{MsgFault}
-use Rattle.pr_num.specs.declared.signals.Sig.{Sig}
 use Rattle.pr_report_laws.proofs.Machine.GoneLaws.{is_read}
 use Rattle.pr_truss.specs.Replies.{answer_of}
 use Rattle.pr_truss.specs.declared.replies.Answer.TheVariants.{Gone}
-use Rattle.pr_truss_laws.proofs.Machine.TakenLemmas.{control-held, ctl-is, process-aim, target-live}
+use Rattle.pr_truss_laws.proofs.Machine.TakenLemmas.{control-held, ctl-is, target-live}
 
 -- A call of truss on a process is told that the process is gone only where it has ended.
 
@@ -77,98 +65,25 @@ handle-there n gone = cc
 
 -- ---- control messages
 
-module _ (s : TracedSystem) (pid : ℕ) (p : TracedProcess) where
-  found-there : (len : ℕ) (f : TracedLwp → TracedLwp) (o : Option (ℕ × TracedLwp))
-      → There (on_found s pid p len f o).reply
-  found-there len f None = used len
-  found-there len f (Some e) = used len
+-- one of two answers
+two : (b : Bool) (c d : Controlled) → There c.reply → There d.reply → There (cond b c d).reply
+two true c d one other = one
+two false c d one other = other
 
-  -- one of two answers
-  two : (b : Bool) (c d : Controlled) → There c.reply → There d.reply → There (cond b c d).reply
-  two true c d one other = one
-  two false c d one other = other
+message_refusal-there : (m : Message) (e : Errno) → MessageRefusal m e → There (reply.Fail e)
+unfolding answer_of
+message_refusal-there m e answer.run_busy = λ gone. cc
+message_refusal-there m e _ = λ gone. cc
 
-  again : There (reply.Fail Again)
-  again = fails Again (λ e. cc)
+module _ (s : TracedSystem) (pid : ℕ) (p : TracedProcess) (tail : List ℕ) (len : ℕ) where
+  made-there : (m : Message) (c : Controlled) → MessageAnswer s pid p tail len m c → There c.reply
+  made-there m c (answer.refuses {e = e} with_errno) = message_refusal-there m e with_errno
+  made-there m c (answer.uses_up is_used e) = used len
+  made-there m c (answer.goes_on waiting e) = half _
+  made-there m c (answer.reads {bytes = bytes} mapped) = bytes-there bytes
 
-  stopped-there : (len : ℕ) (f : TracedLwp → TracedLwp) (o : Option (ℕ × TracedLwp))
-      → There (on_stopped_found s pid p len f o).reply
-  stopped-there len f None = busy
-  stopped-there len f (Some e) =
-      two (has_event_stop e.1) (with_process_changed s pid p len (with_lwp e.0 f)) (refused s Busy) (used len) busy
-
-  kill-there : (len : ℕ) (g : Option Sig) → There (kill_by s pid p at_process len g).reply
-  kill-there len None = used len
-  kill-there len (Some g) =
-      two (has_room g p.pending)
-      (record { system = generated traced pid None g by_controller s; reply = reply.Used len })
-      (refused s Again) (used len) again
-
-  unkill-there : (len : ℕ) (g : Option Sig) → There (unkill_by s pid p at_process len g).reply
-  unkill-there len None = used len
-  unkill-there len (Some g) = used len
-
-  read-there : (r : Result (List ℕ) BadByte) → There (read_of s pid p r).reply
-  read-there (Err bad) = fails Io (λ e. cc)
-  read-there (Ok bytes) = bytes-there bytes
-
-  -- one watched area more, unless there are too many
-  abbrev more : ℕ → ℕ → ℕ → ℕ → Controlled
-  more at size flags len =
-      with_set s pid p len
-      (with_areas (with_area (record { at = at; size = size; flags = flags }) p.control.areas))
-
-  abbrev full : ℕ → ℕ → ℕ → ℕ → Controlled
-  full at size flags len =
-      cond (nat_le area_limit (length p.control.areas)) (refused s Nomem) (more at size flags len)
-
-  message-there : (m : Message) (tail : List ℕ) (len : ℕ)
-      → There (message_answer s pid p at_process m tail len).reply
-  unfolding message_answer run_answer ssig_answer killed kill_answer unkill_answer watch_answer agent_answer
-      read_answer write_answer
-  message-there message.Stop tail len = half 0
-  message-there message.Dstop tail len = used len
-  message-there message.Wstop tail len = half 0
-  message-there (message.Twstop ms) tail len = half _
-  message-there (message.Run flags) tail len =
-      two (run_refused p) (refused s Busy) (with_process_changed s pid p len (with_run flags)) busy (used len)
-  message-there message.Csig tail len = found-there len _ _
-  message-there message.Cfault tail len = found-there len _ _
-  message-there (message.Ssig number) tail len =
-      two (is_kill_of s pid p (signal_of_number number)) (killed s pid p len)
-      (on_lwp s pid p at_process len (with_signal_set (signal_of_number number))) (used len)
-      (found-there len (with_signal_set (signal_of_number number)) (aimed_lwp s pid p at_process))
-  message-there (message.Kill number) tail len = kill-there len (signal_of_number number)
-  message-there (message.Unkill number) tail len = unkill-there len (signal_of_number number)
-  message-there (message.Shold signals) tail len = found-there len _ _
-  message-there (message.Strace signals) tail len = used len
-  message-there (message.Sfault faults) tail len = used len
-  message-there (message.Sentry calls) tail len = used len
-  message-there (message.Sexit calls) tail len = used len
-  message-there (message.Set modes) tail len = used len
-  message-there (message.Unset modes) tail len = used len
-  message-there (message.Sreg regs) tail len = stopped-there len _ _
-  message-there (message.Svaddr pc) tail len = stopped-there len _ _
-  message-there (message.Watch at size flags) tail len =
-      two (has_lent p) (refused s Busy) (watch_answer s pid p at size flags len) busy
-      (two (flags == 0) (with_set s pid p len (with_areas (without_area at p.control.areas)))
-      (cond (is_taken at size p.control.areas) (refused s Inval) (full at size flags len)) (used len)
-      (two (is_taken at size p.control.areas) (refused s Inval) (full at size flags len) inval
-      (two (nat_le area_limit (length p.control.areas)) (refused s Nomem) (more at size flags len)
-      (fails Nomem (λ e. cc)) (used len))))
-  message-there (message.Agent regs) tail len =
-      two (has_lent p) (refused s Busy) (agent_answer s pid p regs len) busy
-      (two (has_agent p || not (list_all (lets_agent p.job_stop) p.lwps)) (refused s Busy)
-      (cond (nat_le lwp_limit (length p.lwps)) (refused s Nomem) (with_process_changed s pid p len (with_agent regs)))
-      busy
-      (two (nat_le lwp_limit (length p.lwps)) (refused s Nomem) (with_process_changed s pid p len (with_agent regs))
-      (fails Nomem (λ e. cc)) (used len)))
-  message-there (message.Read at size) tail len = read-there (mapped_bytes s pid p at size)
-  message-there (message.Write at size) tail len =
-      two (has_lent p) (refused s Busy) (write_answer s pid p at tail len) busy
-      (two (is_ok (bytes_for 0 p.space at (length tail)))
-      (with_process_changed s pid p len (with_space (with_bytes at tail p.space))) (refused s Io) (used len)
-      (fails Io (λ e. cc)))
+  message-there : (aim : Aim) (m : Message) → There (message_answer s pid p aim m tail len).reply
+  message-there aim m = made-there m (message_answer s pid p aim m tail len) (message-answered s pid p tail len aim m)
 
 refusal-there : (m : Message) → There (reply.Fail (system_refusal m))
 refusal-there (message.Set modes) = inval
@@ -181,10 +96,9 @@ module _ (s : TracedState) (k m : ℕ) (h : Held) (held : handle_of s.opens k m 
       → There (decoded_answer s.system h p bytes r).reply
   decoded-there p bytes (Err fault) = inval
   decoded-there p bytes (Ok f) =
-      two s.system h.pid p (h.pid == 0) (refused s.system (system_refusal f.0))
+      two (h.pid == 0) (refused s.system (system_refusal f.0))
       (message_answer s.system h.pid p (aim_of h) f.0 (tail_of f.0 bytes) f.1) (refusal-there f.0)
-      (subst (λ aim. There (message_answer s.system h.pid p aim f.0 (tail_of f.0 bytes) f.1).reply)
-      (sym (process-aim h control)) (message-there s.system h.pid p f.0 (tail_of f.0 bytes) f.1))
+      (message-there s.system h.pid p (tail_of f.0 bytes) f.1 (aim_of h) f.0)
 
   -- a write of messages to its control file
   pub ctl-gone : (bytes : List ℕ) → answer_to s k (call.Ctl m bytes) ≡ Some a → answer_of a.reply ≡ Gone

@@ -3,37 +3,27 @@ use Rattle.std.proofs.lemmas.Bool.{false≢true}
 use Rattle.std.proofs.lemmas.Option.{none-some, same_Some}
 use Rattle.std.specs.List.{find, list_all, position, slice_get}
 use Rattle.pr_num.proofs.SearchLemmas.{find-passes}
-use Rattle.pr_num.specs.Infos.{by_controller}
 use Rattle.pr_num.specs.Limits.{controller_limit, handle_limit}
 use Rattle.pr_num.specs.Messages.{first_message}
 use Rattle.pr_num.specs.Programs.{Program}
 use Rattle.pr_num.specs.Sets.{with_number}
-use Rattle.pr_num.specs.Signals.{signal_number, signal_of_number}
+use Rattle.pr_num.specs.Signals.{signal_of_number}
 use Rattle.pr_num.specs.declared.errnos.Errno.{Errno}
 use Rattle.pr_num.specs.declared.errnos.Errno.TheVariants.{Again, Badf, Busy, Inval, Intr, Io, Mfile, Noent, Nomem, Perm, Srch}
-use Rattle.pr_num.specs.declared.mappings.BadByte.{BadByte}
 use Rattle.pr_num.specs.declared.messages.Message.{Message}
 use Rattle.pr_num.specs.declared.messages.Message.TheVariants as message
 use Rattle.pr_num.specs.declared.messages.MsgFault.{MsgFault}
 use Rattle.pr_num.specs.declared.signals.Sig.{Sig}
-use Rattle.pr_num.specs.declared.signals.Sig.TheVariants.{Kill}
-use Rattle.pr_parts.specs.AddressSpaces.{with_bytes}
-use Rattle.pr_parts.specs.WatchedAreas.{with_area, without_area}
 use Rattle.pr_model.specs.Calls.{Answer, answer_to, close_answer, close_held, control_ready, interrupt_answer, interrupted_answer, is_handle_ready, is_held_ready, is_interrupted, is_open_by, is_polled_ready, kill_answer, open_answer, open_unless, opened, poll_answer, ready_answer, refused, sent_reply, spawn_answer, spawn_found, spawn_unless}
-use Rattle.pr_model.specs.Changes.{with_space}
 use Rattle.pr_model.specs.ControlMessages.{aim_of, control_answer, control_handle, decoded_answer, held_answer, system_refusal, tail_of, target_of, targeted_answer}
 use Rattle.pr_model.specs.Handles.{handle_of, is_control, open_refusal}
-use Rattle.pr_model.specs.Messages.{Aim, Controlled, agent_answer, aimed_lwp, at_lwp, at_process, found_at, kill_answer as kill_message, kill_by, killed, mapped_bytes, message_answer, on_found, on_stopped_found, read_answer, read_of, refused as message_refused, run_answer, run_found, ssig_answer, unkill_answer, target_of_aim, unkill_by, watch_answer, with_agent, with_areas, with_control, with_signal_set, write_answer, unless_lent}
-use Rattle.pr_model.specs.Lives.{with_this_ended}
-use Rattle.pr_model.specs.Machines.{traced}
+use Rattle.pr_model.specs.Messages.{Aim, Controlled, message_answer, refused as message_refused}
 use Rattle.pr_model.specs.ProcessCalls.{program_named}
 use Rattle.pr_model.specs.Readers.{Life, a_zombie, gone, life_of, live as lives, space_seen}
 use Rattle.pr_model.specs.Reads.{file_read, file_reply, held_read, mapped_from, of_lwp, of_process, read_process, read_reply, readable, unless_none}
-use Rattle.pr_model.specs.Running.{run_lwp, with_run}
 use Rattle.pr_model.specs.SignalCalls.{Sending, refuses, sending, sends, sends_nothing}
-use Rattle.pr_model.specs.Signals.{generated}
 use Rattle.pr_model.specs.Spawning.{spawn_refusal}
-use Rattle.pr_model.specs.State.{Places, TracedLwp, TracedProcess, TracedState, TracedSystem, live_process, lwp_of, with_lwp, with_process}
+use Rattle.pr_model.specs.State.{Places, TracedLwp, TracedProcess, TracedState, TracedSystem, live_process, lwp_of}
 use Rattle.pr_model.specs.Stops.{is_stopped}
 use Rattle.pr_model.specs.declared.calls.Call.{Call}
 use Rattle.pr_model.specs.declared.calls.Call.TheVariants as call
@@ -43,6 +33,9 @@ use Rattle.pr_model.specs.declared.calls.Mode.{Mode}
 use Rattle.pr_model.specs.declared.calls.Reply.{Reply}
 use Rattle.pr_model.specs.declared.calls.Reply.TheVariants as reply
 use Rattle.pr_model.specs.declared.handles.Held.{Held}
+use Rattle.pr_keeps.proofs.MessageLemmas.{message-answered}
+use Rattle.pr_keeps.specs.MessageAnswers as answer
+use Rattle.pr_keeps.specs.MessageAnswers.{MessageAnswer, MessageRefusal}
 use Rattle.pr_truss.specs.Replies.{answer_of}
 use Rattle.pr_truss.specs.declared.replies.Answer.TheVariants.{Interrupted}
 use Rattle.pr_truss_laws.proofs.Replies.AnswerLemmas.{IsAnswer, answer-is}
@@ -187,7 +180,7 @@ abbrev is_calm : Reply → Bool
 is_calm (reply.Fail Intr) = false
 is_calm _ = true
 
--- No control message is refused so: a lemma a row.
+-- No control message is refused so.
 IsCalm : Controlled → Type 0
 IsCalm c = is_calm c.reply ≡ true
 
@@ -199,110 +192,19 @@ either : (b : Bool) (x y : Controlled) → IsCalm x → IsCalm y → IsCalm (con
 either true x y one other = one
 either false x y one other = other
 
-module _ (s : TracedSystem) (pid : ℕ) (p : TracedProcess) where
-  found-calm : (len : ℕ) (change : TracedLwp → TracedLwp) (o : Option (ℕ × TracedLwp))
-      → IsCalm (on_found s pid p len change o)
-  found-calm len change None = calm s (reply.Used len) refl
-  found-calm len change (Some e) = calm _ (reply.Used len) refl
+refusal-calm : (m : Message) (e : Errno) → MessageRefusal m e → is_calm (reply.Fail e) ≡ true
+refusal-calm m e answer.run_busy = refl
+refusal-calm m e _ = refl
 
-  stopped-calm : (len : ℕ) (change : TracedLwp → TracedLwp) (o : Option (ℕ × TracedLwp))
-      → IsCalm (on_stopped_found s pid p len change o)
-  stopped-calm len change None = calm s (reply.Fail Busy) refl
-  stopped-calm len change (Some e) =
-      either _ _ _ (calm (with_process pid (with_lwp e.0 change) s) (reply.Used len) refl)
-      (calm s (reply.Fail Busy) refl)
+module _ (s : TracedSystem) (pid : ℕ) (p : TracedProcess) (tail : List ℕ) (len : ℕ) where
+  made-calm : (m : Message) (c : Controlled) → MessageAnswer s pid p tail len m c → IsCalm c
+  made-calm m c (answer.refuses {e = e} with_errno) = calm s (reply.Fail e) (refusal-calm m e with_errno)
+  made-calm m c (answer.uses_up used e) = calm _ (reply.Used len) refl
+  made-calm m c (answer.goes_on waiting e) = calm _ (reply.Half _) refl
+  made-calm m c (answer.reads {bytes = bytes} mapped) = calm s (reply.Bytes bytes) refl
 
-  run_found-calm : (flags len id : ℕ) (o : Option TracedLwp)
-      → IsCalm (run_found s pid p flags len (found_at s pid p id o))
-  run_found-calm flags len id None = calm s (reply.Fail Busy) refl
-  run_found-calm flags len id (Some l) =
-      either _ _ _ (calm s (reply.Fail Busy) refl)
-      (calm (with_process pid (with_lwp id (run_lwp flags)) s) (reply.Used len) refl)
-
-  run-calm : (aim : Aim) (flags len : ℕ) → IsCalm (run_answer s pid p aim flags len)
-  unfolding run_answer
-  run-calm (at_lwp id) flags len = run_found-calm flags len id (lwp_of p id)
-  run-calm at_process flags len =
-      either _ _ _ (calm s (reply.Fail Busy) refl) (calm (with_process pid (with_run flags) s) (reply.Used len) refl)
-
-  ssig-calm : (aim : Aim) (number len : ℕ) → IsCalm (ssig_answer s pid p aim number len)
-  unfolding ssig_answer killed
-  ssig-calm aim number len =
-      either _ _ _ (calm (with_this_ended traced pid p (signal_number Kill) s) (reply.Used len) refl)
-      (found-calm len (with_signal_set (signal_of_number number)) (aimed_lwp s pid p aim))
-
-  kill_by-calm : (aim : Aim) (len : ℕ) (o : Option Sig) → IsCalm (kill_by s pid p aim len o)
-  kill_by-calm aim len None = calm s (reply.Used len) refl
-  kill_by-calm aim len (Some g) =
-      either _ _ _ (calm (generated traced pid (target_of_aim s pid p aim) g by_controller s) (reply.Used len) refl)
-      (calm s (reply.Fail Again) refl)
-
-  unkill_by-calm : (aim : Aim) (len : ℕ) (o : Option Sig) → IsCalm (unkill_by s pid p aim len o)
-  unkill_by-calm aim len None = calm s (reply.Used len) refl
-  unkill_by-calm (at_lwp id) len (Some g) = calm _ (reply.Used len) refl
-  unkill_by-calm at_process len (Some g) = calm _ (reply.Used len) refl
-
-  watch-calm : (at size flags len : ℕ) → IsCalm (watch_answer s pid p at size flags len)
-  unfolding watch_answer
-  watch-calm at size flags len =
-      either _ _ _
-      (calm (with_process pid (with_control (with_areas (without_area at p.control.areas))) s)
-      (reply.Used len) refl)
-      (either _ _ _ (calm s (reply.Fail Inval) refl)
-      (either _ _ _ (calm s (reply.Fail Nomem) refl)
-      (calm (with_process pid
-      (with_control (with_areas (with_area (record { at = at; size = size; flags = flags }) p.control.areas))) s)
-      (reply.Used len) refl)))
-
-  agent-calm : (regs : List ℕ) (len : ℕ) → IsCalm (agent_answer s pid p regs len)
-  unfolding agent_answer
-  agent-calm regs len =
-      either _ _ _ (calm s (reply.Fail Busy) refl)
-      (either _ _ _ (calm s (reply.Fail Nomem) refl)
-      (calm (with_process pid (with_agent regs) s) (reply.Used len) refl))
-
-  read_of-calm : (r : Result (List ℕ) BadByte) → IsCalm (read_of s pid p r)
-  read_of-calm (Err bad) = calm s (reply.Fail Io) refl
-  read_of-calm (Ok bytes) = calm s (reply.Bytes bytes) refl
-
-  memory-calm : (at size : ℕ) → IsCalm (read_answer s pid p at size)
-  unfolding read_answer
-  memory-calm at size = read_of-calm (mapped_bytes s pid p at size)
-
-  write-calm : (at : ℕ) (bytes : List ℕ) (len : ℕ) → IsCalm (write_answer s pid p at bytes len)
-  unfolding write_answer
-  write-calm at bytes len =
-      either _ _ _ (calm (with_process pid (with_space (with_bytes at bytes p.space)) s) (reply.Used len) refl)
-      (calm s (reply.Fail Io) refl)
-
-  lent-calm : (answer : Controlled) → IsCalm answer → IsCalm (unless_lent s pid p answer)
-  lent-calm answer it = either _ _ _ (calm s (reply.Fail Busy) refl) it
-
-  message-calm : (aim : Aim) (m : Message) (tail : List ℕ) (len : ℕ) → IsCalm (message_answer s pid p aim m tail len)
-  unfolding message_answer kill_message unkill_answer
-  message-calm aim message.Stop tail len = calm _ (reply.Half 0) refl
-  message-calm aim message.Dstop tail len = calm _ (reply.Used len) refl
-  message-calm aim message.Wstop tail len = calm s (reply.Half 0) refl
-  message-calm aim (message.Twstop ms) tail len = calm s (reply.Half _) refl
-  message-calm aim (message.Run flags) tail len = run-calm aim flags len
-  message-calm aim message.Csig tail len = found-calm len _ (aimed_lwp s pid p aim)
-  message-calm aim message.Cfault tail len = found-calm len _ (aimed_lwp s pid p aim)
-  message-calm aim (message.Ssig number) tail len = ssig-calm aim number len
-  message-calm aim (message.Kill number) tail len = kill_by-calm aim len (signal_of_number number)
-  message-calm aim (message.Unkill number) tail len = unkill_by-calm aim len (signal_of_number number)
-  message-calm aim (message.Shold signals) tail len = found-calm len _ (aimed_lwp s pid p aim)
-  message-calm aim (message.Strace signals) tail len = calm _ (reply.Used len) refl
-  message-calm aim (message.Sfault faults) tail len = calm _ (reply.Used len) refl
-  message-calm aim (message.Sentry calls) tail len = calm _ (reply.Used len) refl
-  message-calm aim (message.Sexit calls) tail len = calm _ (reply.Used len) refl
-  message-calm aim (message.Set modes) tail len = calm _ (reply.Used len) refl
-  message-calm aim (message.Unset modes) tail len = calm _ (reply.Used len) refl
-  message-calm aim (message.Sreg regs) tail len = stopped-calm len _ (aimed_lwp s pid p aim)
-  message-calm aim (message.Svaddr pc) tail len = stopped-calm len _ (aimed_lwp s pid p aim)
-  message-calm aim (message.Watch at size flags) tail len = lent-calm _ (watch-calm at size flags len)
-  message-calm aim (message.Agent regs) tail len = lent-calm _ (agent-calm regs len)
-  message-calm aim (message.Read at size) tail len = memory-calm at size
-  message-calm aim (message.Write at size) tail len = lent-calm _ (write-calm at tail len)
+  message-calm : (aim : Aim) (m : Message) → IsCalm (message_answer s pid p aim m tail len)
+  message-calm aim m = made-calm m (message_answer s pid p aim m tail len) (message-answered s pid p tail len aim m)
 
 module _ (s : TracedSystem) where
   system-calm : (m : Message) → IsCalm (message_refused s (system_refusal m))
@@ -314,7 +216,7 @@ module _ (s : TracedSystem) where
       → IsCalm (decoded_answer s h p bytes r)
   decoded-calm h p bytes (Err fault) = calm s (reply.Fail Inval) refl
   decoded-calm h p bytes (Ok m) =
-      either _ _ _ (system-calm m.0) (message-calm s h.pid p (aim_of h) m.0 (tail_of m.0 bytes) m.1)
+      either _ _ _ (system-calm m.0) (message-calm s h.pid p (tail_of m.0 bytes) m.1 (aim_of h) m.0)
 
   targeted-calm : (h : Held) (o : Option TracedProcess) (bytes : List ℕ) → IsCalm (targeted_answer s h o bytes)
   targeted-calm h None bytes = calm s (reply.Fail Noent) refl
