@@ -4,3 +4,6 @@ pub mod MessageLemmas
 pub mod CallLemmas
 pub mod RowLemmas
 pub mod UsageLemmas
+pub mod KeptHistories
+pub mod KeptSystems
+pub mod KeptProcesses

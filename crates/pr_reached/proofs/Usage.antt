@@ -1,4 +1,3 @@
 -- That what a process has used is at most what it had used before, and one more for each entry since.
 pub mod UsageHistories
-pub mod UsageMessages
 pub mod UsageRanges

@@ -114,7 +114,7 @@ module _ (who : Hiders) (k : ℕ) (covers : Covers) (s : TracedSystem) (pid : �
       let edit = message-edit s pid p tail len aim m in
       let quiet = message-quiet covers s pid p m tail answer.system edit found passive in
       same-sent m answer.reply answer.system (passive-cover m passive) quiet.seen (quiet.tame tame)
-      (edit-grows s pid p m tail answer.system edit)
+      (edit-grows s pid p m tail answer.system found edit)
 
   -- what a message is aimed at stands there
   aimed-stands : (e : ℕ × TracedLwp) → aimed_lwp s pid p aim ≡ Some e → lwp_of p e.0 ≡ Some e.1

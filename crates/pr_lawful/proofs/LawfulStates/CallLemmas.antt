@@ -71,7 +71,7 @@ module _ (s : TracedState) (h : IsLawful s) where
 
   -- ---- the calls
 
-  edited-state : (by : ℕ) (c : Call) (t : TracedState) → CallEdit s by c t → IsLawful t
+  pub edited-state : (by : ℕ) (c : Call) (t : TracedState) → CallEdit s by c t → IsLawful t
   edited-state by c t edit.looks = h
   edited-state by c t (edit.opens {place = place} free grants) = opened-state s place _ h free grants
   edited-state by c t (edit.closes {handle = handle} {held = held} at) =

@@ -103,7 +103,7 @@ edit-state s pid p m tail t h user found live written e = record {
   system = edit-lawful s.system pid p m tail t h.system user found live e;
   places = h.places;
   fitting = h.fitting;
-  handles = handles-on s.opens s.system t (edit-grows s.system pid p m tail t e) h.handles;
+  handles = handles-on s.opens s.system t (edit-grows s.system pid p m tail t found e) h.handles;
   exclusive = h.exclusive;
   released = edit-released s.opens s.system pid p m tail t written h.released e;
 }

@@ -1,26 +1,21 @@
-use Rattle.std.proofs.Common.{◌≡◌, ℕ, Some, List, refl, ap}
+use Rattle.std.proofs.Common.{ℕ, List, refl, ap}
 use Rattle.pr_num.specs.Agents.{agent_id}
-use Rattle.pr_num.specs.Infos.{by_controller}
-use Rattle.pr_num.specs.Signals.{signal_number}
 use Rattle.pr_num.specs.declared.messages.Message.{Message}
-use Rattle.pr_num.specs.declared.signals.Sig.TheVariants.{Kill}
 use Rattle.pr_keeps.specs.LwpEdits as lwp
 use Rattle.pr_keeps.specs.LwpEdits.{LwpEdit, LwpEdits}
-use Rattle.pr_keeps.specs.MessageEdits.{MessageEdit, nothing, a_process, an_end, a_signal}
 use Rattle.pr_keeps.specs.ProcessEdits as process
 use Rattle.pr_keeps.specs.ProcessEdits.{ProcessEdit}
-use Rattle.pr_keeps.proofs.KeepsLemmas.{all-replaced, lwp-edits-keep, process-edits-keep}
+use Rattle.pr_keeps.proofs.KeepsLemmas.{lwp-edits-keep}
 use Rattle.pr_model.specs.Changes.{with_space}
 use Rattle.pr_model.specs.Lives.{new_lwp}
 use Rattle.pr_model.specs.Messages.{lwp_without_one, with_held_set, with_registers, with_address, agent_lwp, with_agent}
 use Rattle.pr_model.specs.Running.{without_current, without_fault, with_step, with_abort, with_directive, without_directive, let_go}
-use Rattle.pr_model.specs.State.{TracedLwp, TracedProcess, TracedSystem, process_of, with_process}
+use Rattle.pr_model.specs.State.{TracedLwp, TracedProcess}
 use Rattle.pr_model.specs.declared.lwps.Phase.{Phase}
-use Rattle.pr_reached.proofs.FitStates.FitLemmas.{KeepsFit, ProcessFits, keeps-each, keeps-more, keeps-one, nothing-spares, requested-fits, stopless-fits, taken-spares}
-use Rattle.pr_reached.proofs.FitStates.FitSignalLemmas.{generated-fits, this_ended-fits}
-use Rattle.pr_reached.specs.Fits.{IsFitLwp, IsFitProcess, IsFitSystem}
+use Rattle.pr_reached.proofs.FitStates.FitLemmas.{KeepsFit, keeps-each, keeps-more, keeps-one, nothing-spares, requested-fits, stopless-fits, taken-spares}
+use Rattle.pr_reached.specs.Fits.{IsFitLwp, IsFitProcess}
 
--- Each edit of a control message leaves a system fit: a line a kind of edit.
+-- Each edit of a control message leaves a process fit: a line a kind of edit.
 
 -- ---- lwps
 
@@ -51,7 +46,7 @@ edits-keep m f edits l h = lwp-edits-keep m IsFitLwp (edited-lwp m) l (f l) (edi
 
 -- ---- processes
 
-edited-process : (m : Message) (tail : List ℕ) (x y : TracedProcess) → ProcessEdit m tail x y → IsFitProcess x
+pub edited-process : (m : Message) (tail : List ℕ) (x y : TracedProcess) → ProcessEdit m tail x y → IsFitProcess x
     → IsFitProcess y
 unfolding with_space with_agent agent_lwp new_lwp
 edited-process m tail x y (process.one_lwp id f edits) h = keeps-one id f (edits-keep m f edits) x h
@@ -61,17 +56,3 @@ edited-process m tail x y (process.takes_back {g = g} is) h =
 edited-process m tail x y (process.gets_agent {regs = regs} none room) h =
     keeps-more agent_id (agent_lwp regs) x y (requested-fits (agent_lwp regs) refl nothing-spares) refl refl h
 edited-process m tail x y _ h = record { lwps = h.lwps; pending = h.pending }
-
--- ---- the system
-
-pub edit-fits : (s : TracedSystem) (pid : ℕ) (p : TracedProcess) (m : Message) (tail : List ℕ) (t : TracedSystem)
-    → MessageEdit s pid p m tail t → process_of s pid ≡ Some p → IsFitSystem s → IsFitSystem t
-unfolding with_process
-edit-fits s pid p m tail t nothing found h = h
-edit-fits s pid p m tail t (a_process f edits) found h =
-    record {
-      processes = all-replaced ProcessFits pid f p s.processes found
-          (process-edits-keep m tail IsFitProcess (edited-process m tail) p (f p) edits) h.processes;
-    }
-edit-fits s pid p m tail t an_end found h = this_ended-fits s pid p (signal_number Kill) h
-edit-fits s pid p m tail t (a_signal target g is room) found h = generated-fits s pid target g by_controller h

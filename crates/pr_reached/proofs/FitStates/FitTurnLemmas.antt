@@ -20,10 +20,10 @@ use Rattle.pr_model.specs.declared.events.Did.{Did}
 use Rattle.pr_model.specs.declared.stops.Point.{Point}
 use Rattle.pr_model.specs.declared.stops.Stop.{Stop}
 use Rattle.pr_reached.proofs.FitStates.CalmLemmas.{AreCalm, HasLwp, HaveLwp, IsStopless, There, changes-calm, is_there, mapped-there}
-use Rattle.pr_reached.proofs.FitStates.FitChangeLemmas.{all_changed-fits}
+use Rattle.pr_reached.proofs.FitStates.FitChangeLemmas.{IsOwnFit, fits-keep}
 use Rattle.pr_reached.proofs.FitStates.FitLemmas.{KeepsProcess, all_directed-keeps, changed-at, changed-one, keeps-at, lwp-fits, process-fits}
 use Rattle.pr_reached.proofs.FitStates.FitRowLemmas.{FitsPoint, FitsRow, meets, moved-fits, quiet, row-fits, stopped-fits}
-use Rattle.pr_reached.proofs.FitStates.FitSignalLemmas.{ended-fits}
+use Rattle.pr_keeps.proofs.KeptSystems.{all_changed-keeps, ended-keeps}
 use Rattle.pr_reached.specs.Fits.{IsFitProcess, IsFitSystem}
 
 -- A turn of an lwp leaves a system fit: its lwp stands on no event before its move, and is then in the phase that the
@@ -109,11 +109,12 @@ module _ (s : TracedSystem) (pid : ℕ) (p : TracedProcess) (id : ℕ) (l : Trac
           changed-at changes pid (with_lwp id (moved traced t.move))
           (λ x found it. keeps-at id (moved traced t.move) x (λ k there own. moved-fits t.move k
           (calm-later t.changes x k found there) own) it)
-          (all_changed-fits pid p id l (lwp-fits p id l (process-fits s pid p h a.found) a.there) t.changes s h)
+          (all_changed-keeps IsOwnFit IsFitSystem fits-keep pid p id l
+          (lwp-fits p id l (process-fits s pid p h a.found) a.there) t.changes s h)
 
       ends-fit : (o : Option Ending) → IsFitSystem (ended_if traced pid p id l o moves)
       ends-fit None = moves-fit
-      ends-fit (Some how) = ended-fits moves pid p id how moves-fit
+      ends-fit (Some how) = ended-keeps IsOwnFit IsFitSystem fits-keep pid p id how moves moves-fit
 
       counts : TracedSystem
       counts = with_process pid (with_counted row.did row.begun) (ended_if traced pid p id l t.ending moves)

@@ -78,7 +78,7 @@ read-message bytes m len all read =
 
 -- ---- the calls
 
-edited-range : (s : TracedState) (by : ℕ) (c : Call) (t : TracedState) → CallEdit s by c t → IsOfBytes c
+pub edited-range : (s : TracedState) (by : ℕ) (c : Call) (t : TracedState) → CallEdit s by c t → IsOfBytes c
     → IsInRange s.system → IsInRange t.system
 unfolding with_opened
 edited-range s by c t edit.looks all h = h

@@ -1,30 +1,25 @@
 use Rattle.std.proofs.Common.{◌≡◌, ◌<◌, ℕ, false, Option, Some, None, List, [], ◌∷◌, refl, arith}
 use Rattle.std.specs.List.{slice_get}
 use Rattle.std.specs.Prelude.{codes}
-use Rattle.std.proofs.lemmas.List.Elements.{All-nil, All-cons, All-from_recursion, All-head, All-tail}
+use Rattle.std.proofs.lemmas.List.Elements.{All-nil, All-cons, All-from_recursion}
 use Rattle.pr_num.proofs.SearchLemmas.{All-at}
 use Rattle.pr_num.specs.Limits.{clock_limit}
 use Rattle.pr_num.specs.Programs.{Program}
 use Rattle.pr_num.specs.Words.{IsByte}
 use Rattle.pr_num.specs.declared.files.StoredFile.{StoredFile}
-use Rattle.pr_lawful.proofs.LawfulStates.HistoryLemmas.{history-state}
-use Rattle.pr_model.specs.Calls.{Answer, answer_to}
+use Rattle.pr_lawful.proofs.LawfulStates.HistoryLemmas.{entry-state}
+use Rattle.pr_keeps.proofs.KeptHistories.{KeepsEach, history-keeps}
 use Rattle.pr_model.specs.FirstState.{bare_system, first_state, spawned_at, system_process, with_spawns}
 use Rattle.pr_model.specs.Lawful.{IsLawful}
-use Rattle.pr_model.specs.Legal.{IsLegal, IsLegalEntry, after, state_after, ticked}
-use Rattle.pr_model.specs.LwpTurns.{LwpTurn, turn_of}
+use Rattle.pr_model.specs.Legal.{IsLegal, state_after, ticked}
 use Rattle.pr_model.specs.State.{TracedState, TracedSystem}
-use Rattle.pr_model.specs.declared.events.Act.{Act}
-use Rattle.pr_model.specs.declared.events.Act.TheVariants as act
-use Rattle.pr_model.specs.declared.events.Actor.{Actor}
-use Rattle.pr_model.specs.declared.events.Actor.TheVariants.{Controller, Lwp, Clock}
 use Rattle.pr_model.specs.declared.events.Entry.{Entry}
 use Rattle.pr_reached.proofs.StatesInRange.ChangeRanges.{spawned-range}
-use Rattle.pr_reached.proofs.StatesInRange.ControllerRanges.{controller-range}
+use Rattle.pr_reached.proofs.StatesInRange.ControllerRanges.{edited-range}
 use Rattle.pr_reached.proofs.StatesInRange.EndRanges.{bare-range}
 use Rattle.pr_reached.proofs.StatesInRange.ProcessRanges.{ProcessInRange}
 use Rattle.pr_reached.proofs.StatesInRange.TurnRanges.{turn-range}
-use Rattle.pr_reached.specs.ByteHistories.{HasBytes, IsActOfBytes, IsEntryOfBytes}
+use Rattle.pr_reached.specs.ByteHistories.{HasBytes, IsEntryOfBytes}
 use Rattle.pr_reached.specs.InRange.{IsInRange, IsShortName, IsPipeInRange, IsProcessInRange, IsProgramInRange, IsStartInRange}
 
 -- The first state is in range where its programs and files are; a tick of the clock that is legal keeps it so; and each
@@ -80,25 +75,15 @@ tick-range s before h = record { programs = h.programs; clock = omega arith; fil
 
 -- ---- histories
 
-entry-range : (n : ℕ) (s : TracedState) (actor : Actor) (it : Act) → IsLawful s → IsInRange s.system → IsActOfBytes it
-    → IsLegalEntry n s (record { actor = actor; act = it })
-    → IsInRange (after s (record { actor = actor; act = it })).system
-unfolding IsLegalEntry after
-entry-range n s (Controller k) (act.Call c r) lawful h bytes legal =
-    let a : Answer = record { state = legal.1.0; reply = r } in
-    let answer : answer_to s k c ≡ Some a = legal.1.1 in
-    rw answer (controller-range s h k c a bytes answer)
-entry-range n s (Lwp p l) (act.Turn t) lawful h bytes legal =
-    let turn : LwpTurn = record { system = legal.0; turned = t } in
-    let taken : turn_of s.system p l ≡ Some turn = legal.1 in
-    rw taken (turn-range s.system p l turn lawful.system h taken)
-entry-range n s Clock (act.Tick moment) lawful h bytes legal = tick-range s.system legal.0 h
-entry-range n s _ _ lawful h bytes legal = absurd legal
+each-range : (n : ℕ) → KeepsEach n IsLawful IsEntryOfBytes (λ s. IsInRange s.system)
+each-range n = record {
+  call = λ s by c r t lawful bytes e h. edited-range s by c t e bytes h;
+  turn = λ s pid id t lawful bytes turn h. turn-range s.system pid id t lawful.system h turn;
+  tick = λ s lawful below h. tick-range s.system below h;
+}
 
 pub history-range : (n : ℕ) (s : TracedState) (h : List Entry) → IsLawful s → IsInRange s.system → HasBytes h
     → IsLegal n s h → IsInRange (state_after s h).system
-history-range n s [] lawful ranged bytes legal = ranged
-history-range n s (e ∷ h) lawful ranged bytes legal =
-    history-range n (after s e) h (history-state n s (e ∷ []) lawful (legal.0, tt))
-    (entry-range n s e.actor e.act lawful ranged (All-head IsEntryOfBytes e h bytes) legal.0)
-    (All-tail IsEntryOfBytes e h bytes) legal.1
+history-range n s h lawful ranged bytes legal =
+    history-keeps n IsLawful IsEntryOfBytes (λ t. IsInRange t.system) (each-range n) (entry-state n) s h lawful bytes
+    legal ranged

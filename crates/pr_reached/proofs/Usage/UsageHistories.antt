@@ -2,20 +2,11 @@ use Rattle.std.proofs.Common.{◌≡◌, ◌+◌, ◌≤◌, ℕ, Bool, true, fa
 use Rattle.std.specs.List.{slice_get}
 use Rattle.std.proofs.lemmas.List.Elements.{All-cons, All-nil, All-weaker}
 use Rattle.pr_num.proofs.ByIdLaws.{All-change_under, All-under}
-use Rattle.pr_num.specs.Infos.{killed_by}
 use Rattle.pr_num.specs.Words.{IsWord}
 use Rattle.pr_num.specs.Programs.{Program}
-use Rattle.pr_num.specs.Signals.{signal_number}
-use Rattle.pr_num.specs.declared.signals.Sig.TheVariants.{Kill}
-use Rattle.pr_keeps.specs.CallEdits as edit
-use Rattle.pr_keeps.specs.CallEdits.{CallEdit, CloseEdit}
-use Rattle.pr_keeps.proofs.CallLemmas.{call-edit, close-edit}
-use Rattle.pr_model.proofs.StateLemmas.{live_process-found}
+use Rattle.pr_keeps.proofs.CallLemmas.{call-edit}
 use Rattle.pr_model.specs.Calls.{Answer, answer_to}
-use Rattle.pr_model.specs.ControlMessages.{tail_of}
-use Rattle.pr_model.specs.Handles.{released, released_control, with_closed, with_opened}
 use Rattle.pr_model.specs.Machines.{traced}
-use Rattle.pr_model.specs.Changes.{Ending, all_changed}
 use Rattle.pr_model.specs.FirstState.{bare_system, first_state, spawned_at, system_process, with_spawns}
 use Rattle.pr_model.specs.Lawful.{IsLawfulSystem}
 use Rattle.pr_model.specs.Legal.{after, after_call, after_turn, state_after}
@@ -27,7 +18,7 @@ use Rattle.pr_model.specs.Moves.{moved}
 use Rattle.pr_model.specs.Points.{after_meeting}
 use Rattle.pr_model.specs.Records.{usage_of}
 use Rattle.pr_model.specs.Rows.{Row, row_for}
-use Rattle.pr_model.specs.Transitions.{after_transition, ended_if}
+use Rattle.pr_model.specs.Transitions.{after_transition}
 use Rattle.pr_model.specs.declared.events.Act.{Act}
 use Rattle.pr_model.specs.declared.events.Act.TheVariants as act
 use Rattle.pr_model.specs.declared.events.Actor.{Actor}
@@ -37,11 +28,11 @@ use Rattle.pr_model.specs.declared.events.Did.TheVariants.{Made, Woke, Took, Fau
 use Rattle.pr_model.specs.declared.events.Entry.{Entry}
 use Rattle.pr_num.specs.declared.files.StoredFile.{StoredFile}
 use Rattle.pr_rec.specs.InRange.{IsUsage}
-use Rattle.pr_model.specs.State.{TracedLwp, TracedProcess, TracedState, TracedSystem, process_of, with_lwp, with_lwp_of, with_process}
+use Rattle.pr_model.specs.State.{TracedLwp, TracedProcess, TracedState, TracedSystem, process_of, with_lwp, with_process}
 use Rattle.pr_model.specs.declared.calls.Call.{Call}
 use Rattle.pr_reached.proofs.StatesInRange.CallRanges.{process-id}
-use Rattle.pr_reached.proofs.Usage.UsageMessages.{edit-used}
-use Rattle.pr_reached.proofs.Usage.UsageRanges.{Keeps, UsedWithin, all_changed-used, ended-used, generated-used, lwp-keeps, meeting-keeps, nothing-used, spawned-used, this_ended-used, used-one}
+use Rattle.pr_keeps.proofs.KeptSystems.{AnyLwp, call-keeps, spawned-keeps, transition-keeps}
+use Rattle.pr_reached.proofs.Usage.UsageRanges.{UsedWithin, meeting-keeps, nothing-used, used-keep, used-one}
 use Rattle.pr_reached.specs.Used.{HaveUsed, IsUsedWithin}
 
 -- After so many entries no process has used more than so many of anything beyond what processes had used before.
@@ -98,25 +89,17 @@ module _ (most : ℕ) where
         (used-more s h).processes;
   }
 
-  ended_if-used : (pid : ℕ) (p : TracedProcess) (id : ℕ) (l : TracedLwp) (o : Option Ending) (t : TracedSystem)
-      → HaveUsed most t → HaveUsed most (ended_if traced pid p id l o t)
-  ended_if-used pid p id l None t h = h
-  ended_if-used pid p id l (Some how) t h = ended-used most t pid p id how h
-
   settled-used : (s : TracedSystem) (pid : ℕ) (p : TracedProcess) (id : ℕ) (l : TracedLwp) (row : Row)
       → HaveUsed most s → HaveUsed (most + 1) (settled s pid p id l row).system
-  unfolding settled after_transition with_lwp_of
+  unfolding settled with_lwp
   settled-used s pid p id l row h =
-      let changes = all_changed traced pid p id l row.transition.changes s in
-      let moves = with_process pid (with_lwp id (moved traced row.transition.move)) changes in
-      let moves_too =
-      used-one most changes pid (with_lwp id (moved traced row.transition.move))
-      (lwp-keeps most id (moved traced row.transition.move))
-      (all_changed-used most pid p id l row.transition.changes s h) in
-      let ends = ended_if traced pid p id l row.transition.ending moves in
-      let ends_too = ended_if-used pid p id l row.transition.ending moves moves_too in
-      used-one (most + 1) (with_process pid (with_counted row.did row.begun) ends) pid (after_meeting row.point id)
-      (meeting-keeps (most + 1) row.point id) (counted-used ends pid row.did row.begun ends_too)
+      let made = after_transition traced pid p id l row.transition s in
+      let moves = with_lwp id (moved traced row.transition.move) in
+      let done =
+      transition-keeps AnyLwp (HaveUsed most) (used-keep most) pid p id l tt row.transition
+      (λ t it. used-one most t pid moves (λ x own. own) it) s h in
+      used-one (most + 1) (with_process pid (with_counted row.did row.begun) made) pid (after_meeting row.point id)
+      (meeting-keeps (most + 1) row.point id) (counted-used made pid row.did row.begun done)
 
   turn-used : (s : TracedSystem) (pid id : ℕ) (t : LwpTurn) → HaveUsed most s → turn_of s pid id ≡ Some t
       → HaveUsed (most + 1) t.system
@@ -127,34 +110,11 @@ module _ (most : ℕ) where
 
   -- ---- calls
 
-  released-keeps : Keeps most released
-  unfolding released released_control
-  released-keeps x h = h
-
-  closed-used : (s : TracedSystem) (pid : ℕ) (t : TracedSystem) → CloseEdit s pid t → HaveUsed most s → HaveUsed most t
-  closed-used s pid t edit.nothing h = h
-  closed-used s pid t (edit.kills p live mode) h = this_ended-used most s pid p (signal_number Kill) h
-  closed-used s pid t (edit.releases p live spares mode) h = used-one most s pid released released-keeps h
-
-  edited-used : (s : TracedState) (by : ℕ) (c : Call) (t : TracedState) → CallEdit s by c t → HaveUsed most s.system
-      → HaveUsed most t.system
-  unfolding with_opened
-  edited-used s by c t edit.looks h = h
-  edited-used s by c t (edit.opens free grants) h = h
-  edited-used s by c t (edit.closes {handle = handle} {held = held} at) h =
-      closed-used s.system held.pid (with_closed held handle s).system (close-edit s handle held) h
-  edited-used s by c t (edit.controls {bytes = bytes} {held = held} {p = p} {m = m} {t = u} it e) h =
-      edit-used most s.system held.pid p m (tail_of m bytes) u e (live_process-found s.system held.pid p it.live) h
-  edited-used s by c t edit.sees_interrupt h = h
-  edited-used s by c t (edit.interrupts there) h = h
-  edited-used s by c t (edit.spawns {held = held} {program = program} named grants) h =
-      spawned-used most s.system program held h
-  edited-used s by c t (edit.sends {pid = pid} {g = g} is) h = generated-used most s.system pid None g (killed_by 0) h
-
   module _ (s : TracedState) (h : HaveUsed most s.system) where
     called-used : (by : ℕ) (c : Call) (o : Option Answer) → answer_to s by c ≡ o → HaveUsed most (after_call s o).system
     called-used by c None is = h
-    called-used by c (Some a) is = edited-used s by c a.state (call-edit s by c a is) h
+    called-used by c (Some a) is =
+        call-keeps AnyLwp (HaveUsed most) (used-keep most) s by c a.state (call-edit s by c a is) h
 
     turned-used : (o : Option LwpTurn) → ((t : LwpTurn) → o ≡ Some t → HaveUsed (most + 1) t.system)
         → HaveUsed (most + 1) (after_turn s o).system
@@ -183,7 +143,7 @@ history-used most s (e ∷ h) used =
 
 spawned_at-used : (o : Option Program) (s : TracedSystem) → HaveUsed 0 s → HaveUsed 0 (spawned_at o s)
 spawned_at-used None s h = h
-spawned_at-used (Some program) s h = spawned-used 0 s program false h
+spawned_at-used (Some program) s h = spawned-keeps AnyLwp (HaveUsed 0) (used-keep 0) program false s h
 
 spawns-used : (spawns : List ℕ) (s : TracedSystem) → HaveUsed 0 s → HaveUsed 0 (with_spawns spawns s)
 unfolding with_spawns
