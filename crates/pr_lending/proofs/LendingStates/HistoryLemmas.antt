@@ -11,8 +11,8 @@ use Rattle.pr_model.specs.declared.events.Actor.{Actor}
 use Rattle.pr_model.specs.declared.events.Actor.TheVariants.{Controller, Lwp, Clock}
 use Rattle.pr_model.specs.declared.events.Entry.{Entry}
 use Rattle.pr_lawful.proofs.LawfulStates.HistoryLemmas.{history-state}
-use Rattle.pr_lending.proofs.CallLemmas.{call-lends, tick-lends}
-use Rattle.pr_lending.proofs.TurnLemmas.{turn-lends}
+use Rattle.pr_lending.proofs.LendingStates.CallLemmas.{call-lends, tick-lends}
+use Rattle.pr_lending.proofs.LendingTurns.TurnLemmas.{turn-lends}
 
 -- Memory is lent in order in every state of a legal history from a lawful one where it is.
 
