@@ -48,8 +48,8 @@ AnyLwp id l = Unit {0}
 
 -- ---- one process
 
--- What is done to a process in its place, but by a message and by the turn of its own lwp. KnownLwp is what is so of the
--- lwp whose turn it is.
+-- What is done to a process in its place, but by a message and by the turn of its own lwp. KnownLwp is what is so of
+-- the lwp whose turn it is.
 pub data ProcessStep (KnownLwp : ℕ → TracedLwp → Type 0) : (TracedProcess → TracedProcess) → Type 0 where
   -- a signal pends for it; it ends; another that ended was its parent; its last writer has closed
   told : (target : Option ℕ) (g : Sig) (info : Info) → is_kill g ≡ false

@@ -85,7 +85,8 @@ tick-lends s h = lending-kept s (ticked s) (processes-same s (ticked s) refl) h
 
 -- ---- the calls
 
-pub edited-lends : (s : TracedState) (by : ℕ) (c : Call) (t : TracedState) → IsLawfulSystem s.system → AreLending s.system
+pub edited-lends : (s : TracedState) (by : ℕ) (c : Call) (t : TracedState) → IsLawfulSystem s.system
+    → AreLending s.system
     → CallEdit s by c t → AreLending t.system
 unfolding with_opened
 edited-lends s by c t lawful h edit.looks = h

@@ -75,7 +75,8 @@ module _ (most : ℕ) where
   newborn-used x (step.forks birth pid p id l args clock own) = child-used p.control
 
   step-used : (f : TracedProcess → TracedProcess) → ProcessStep AnyLwp f → Keeps f
-  unfolding zombie traced zombie_control orphaned released released_control lent_to with_loan_back with_lender_of with_fds
+  unfolding zombie traced zombie_control orphaned released released_control lent_to with_loan_back with_lender_of
+      with_fds
       with_space with_shared_taken with_job_stop with_disposition_of with_program exec_control with_lwp with_new_lwp
       without_lwp
   step-used f (step.told target g info other) x h = signalled-keeps target g info x h
