@@ -5,8 +5,6 @@ pub returns : goal.returns
 returns c =
     record {
       each = all-spaces;
-      later =
-          λ n s h stays legal. history-spaces n s h stays.lawful stays.in_range stays.bytes legal;
-      first =
-          first-history-spaces;
+      later = λ n s h stays legal. history-spaces n s h stays.lawful stays.in_range stays.bytes legal;
+      first = first-history-spaces;
     }

@@ -5,6 +5,5 @@ pub returns : goal.returns
 returns c =
     record {
       later = λ n s h stays legal. history-few n s h stays.lawful stays.in_range stays.bytes legal;
-      first =
-          first-history-few;
+      first = first-history-few;
     }
