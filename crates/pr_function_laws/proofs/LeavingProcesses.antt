@@ -8,3 +8,5 @@ pub mod LeavingLaws
 pub mod LeavingStages
 pub mod LeavingStays
 pub mod LeavingSteps
+pub mod LeftProcesses
+pub mod UnlookedProcesses

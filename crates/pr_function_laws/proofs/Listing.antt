@@ -1,11 +1,17 @@
 -- That the events of a process that truss has shown are those that it is to show, in each history.
+pub mod AwaitedCalls
+pub mod AwaitedLooks
+pub mod AwaitedTurns
 pub mod BusyStages
 pub mod FinishedLaws
 pub mod LeavingEvents
 pub mod LeavingListed
+pub mod ListedCalls
 pub mod ListedReads
+pub mod ListedRests
 pub mod ListedStates
 pub mod ListedSteps
+pub mod ListedTurns
 pub mod ListedWalk
 pub mod OldCalls
 pub mod OldCounts

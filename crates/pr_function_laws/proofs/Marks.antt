@@ -4,6 +4,8 @@ pub mod CallLemmas
 pub mod FunctionSets
 pub mod KeptLemmas
 pub mod KeptPlaces
+pub mod KeptStages
+pub mod KeptStops
 pub mod LiftLemmas
 pub mod MarkLemmas
 pub mod MarkWalk

@@ -5,6 +5,8 @@ pub mod ComingLemmas
 pub mod EventCalls
 pub mod KindLemmas
 pub mod LastLooks
+pub mod LookReads
+pub mod LookReplies
 pub mod MarkedFlags
 pub mod PatchCalls
 pub mod PlainFlags
@@ -12,6 +14,7 @@ pub mod PlantedLaws
 pub mod RefusedOpenings
 pub mod SoonLemmas
 pub mod SoonNamed
+pub mod SteadyReplies
 pub mod ToPlant
 pub mod TracedWords
 pub mod TreatedLaws

@@ -63,9 +63,10 @@ use Rattle.pr_function_laws.proofs.LeavingProcesses.LeavingCourse.{entry-bytes, 
 use Rattle.pr_function_laws.proofs.LeavingProcesses.LeavingCourse.{makes-there, state-next, truss-next}
 use Rattle.pr_function_laws.proofs.LeavingProcesses.LeavingFacts.{Moved}
 use Rattle.pr_function_laws.proofs.LeavingProcesses.LeavingHolds.{leaving-few}
-use Rattle.pr_function_laws.proofs.LeavingProcesses.LeavingKept.{Behind, Fate, IsLeaving, ahead, behind, fate, is_killed, its-apart, its-control}
-use Rattle.pr_function_laws.proofs.LeavingProcesses.LeavingKept.{lives_on, many}
-use Rattle.pr_function_laws.proofs.Listing.LeavingListed as looks-of
+use Rattle.pr_function_laws.proofs.LeavingProcesses.UnlookedProcesses.{Behind, Fate, ahead, behind, fate, is_killed, lives_on}
+use Rattle.pr_function_laws.proofs.LeavingProcesses.LeftProcesses.{IsLeaving, its-apart, its-control, many}
+use Rattle.pr_function_laws.proofs.Listing.AwaitedCalls as looks-of
+use Rattle.pr_function_laws.proofs.Listing.LeavingListed as last-looks
 use Rattle.pr_function_laws.proofs.LeavingProcesses.LeavingStages.{IsLeft, asks, awaits, closes_files, halts, has_ended}
 use Rattle.pr_function_laws.proofs.LeavingProcesses.LeavingStages.{is_looked, lifts_all, looks, reads_text, waits_again}
 use Rattle.pr_function_laws.proofs.LeavingProcesses.LeavingSteps.{IsAt}
@@ -437,7 +438,7 @@ module _ (n k : ℕ) (o : Options) (s : TracedState) (h : List Entry) (run : IsF
       read-idle : Stands k o s pid next []
       read-idle =
           idle (λ i step u_next q live_q.
-          absurd (looks-of.no-more n k o s h run reached bytes pid f e later is g x own at its i u_next.within
+          absurd (last-looks.no-more n k o s h run reached bytes pid f e later is g x own at its i u_next.within
           u_next.its
           u_next.unlooked))
 
@@ -484,7 +485,7 @@ module _ (n k : ℕ) (o : Options) (s : TracedState) (h : List Entry) (run : IsF
 
       module _ (p : TracedProcess) (live : live_process now.system pid ≡ Some p) where
         stops-are : stops ≡ filter is_on_event (lstatus_of p)
-        stops-are = looks-of.stops-are n k o s h run reached bytes pid f e later is g x own at its p live
+        stops-are = last-looks.stops-are n k o s h run reached bytes pid f e later is g x own at its p live
 
         under-it : (step : Stepped) → (marks_at t 0).stepped ≡ Some step → IsUnder t pid 0 step
         under-it step way = record {

@@ -32,7 +32,8 @@ use Rattle.pr_function_laws.proofs.LeavingProcesses.LeavingCourse.{begins-next, 
 use Rattle.pr_function_laws.proofs.LeavingProcesses.LeavingCourse.{has-there, is-broken, leaving-next, makes-there, truss-next}
 use Rattle.pr_function_laws.proofs.Listing.LeavingEvents as begins
 use Rattle.pr_function_laws.proofs.Listing.LeavingEvents.{awaits-watched}
-use Rattle.pr_function_laws.proofs.LeavingProcesses.LeavingKept.{IsLeaving, behind-it, its-apart, next-left-unlooked}
+use Rattle.pr_function_laws.proofs.LeavingProcesses.LeftProcesses.{IsLeaving, its-apart, next-left-unlooked}
+use Rattle.pr_function_laws.proofs.LeavingProcesses.LeavingKept.{behind-it}
 use Rattle.pr_function_laws.proofs.LeavingProcesses.LeavingStages.{IsLeft, asks, awaits, closes_files, halts, has_ended}
 use Rattle.pr_function_laws.proofs.LeavingProcesses.LeavingStages.{lifts_all, looks, reads_text, waits_again}
 use Rattle.pr_function_laws.proofs.LeavingProcesses.LeavingSteps.{BeginsToLeave, LeavesOn, Shares, WaitsAt, Went, awaits_opening, ended as closed_all}

@@ -50,7 +50,7 @@ use Rattle.pr_function_laws.proofs.Stepping.BreakpointLemmas.{IsForeign, foreign
 use Rattle.pr_function_laws.proofs.Stepping.HaltingSteps.{turn-is}
 use Rattle.pr_function_laws.proofs.LeavingProcesses.LeavingCourse.{entry-legal, files-at, state-next, truss-next}
 use Rattle.pr_function_laws.proofs.LeavingProcesses.LeavingHolds.{here-unlooked, leaving-still}
-use Rattle.pr_function_laws.proofs.LeavingProcesses.LeavingKept.{IsLeaving, its-apart, its-control}
+use Rattle.pr_function_laws.proofs.LeavingProcesses.LeftProcesses.{IsLeaving, its-apart, its-control}
 use Rattle.pr_function_laws.proofs.Listing.ListedStates as states
 use Rattle.pr_function_laws.proofs.Marks.MetLemmas.{found-function}
 use Rattle.pr_function_laws.proofs.OpenedProcesses.OpenedLaws.{elsewhere-alone}

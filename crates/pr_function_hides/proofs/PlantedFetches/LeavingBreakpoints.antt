@@ -18,7 +18,8 @@ use Rattle.pr_function_laws.proofs.Stepping.BreakpointLemmas.{IsForeign, IsOwnEn
 use Rattle.pr_function_laws.proofs.Marks.KeptPlaces.{Kept}
 use Rattle.pr_function_laws.proofs.LeavingProcesses.LeavingCourse.{broken-answer, calm-next, entry-bytes, entry-legal, files-at, follow-there, has-there, is-broken, leaving-at, makes-there, options-at, same-system, state-next, truss-next}
 use Rattle.pr_function_laws.proofs.LeavingProcesses.LeavingFacts.{Moved, alone, directs, moved-halting, stays}
-use Rattle.pr_function_laws.proofs.LeavingProcesses.LeavingKept.{IsLeaving, Lasts, behind, foreign-lasts, its-control}
+use Rattle.pr_function_laws.proofs.LeavingProcesses.LeftProcesses.{IsLeaving, Lasts, foreign-lasts, its-control}
+use Rattle.pr_function_laws.proofs.LeavingProcesses.UnlookedProcesses.{behind}
 use Rattle.pr_function_laws.proofs.LeavingProcesses.LeavingStages.{IsUnlooked}
 use Rattle.pr_function_laws.proofs.LeavingProcesses.LeavingSteps.{BeginsToLeave, WaitsAt, awaits_opening, begins-to-leave, polls}
 use Rattle.pr_function_laws.proofs.Listing.ListedSteps.{opened-attached}

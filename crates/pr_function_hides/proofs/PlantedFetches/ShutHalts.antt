@@ -17,7 +17,7 @@ use Rattle.pr_function_hides.specs.Copying.{IsEmpty}
 use Rattle.pr_function_laws.proofs.Stepping.BreakpointLemmas.{IsOwnEntry}
 use Rattle.pr_function_laws.proofs.Pending.FrontLemmas.{all-entry, calm-answer}
 use Rattle.pr_function_laws.proofs.Marks.KeptPlaces.{AtAside}
-use Rattle.pr_function_laws.proofs.LeavingProcesses.LeavingKept.{Lasts, foreign-lasts}
+use Rattle.pr_function_laws.proofs.LeavingProcesses.LeftProcesses.{Lasts, foreign-lasts}
 use Rattle.pr_function_laws.proofs.OpenedProcesses.OpenedCalls.{IsSo, read-mild, write-mild}
 use Rattle.pr_function_laws.proofs.OpenedProcesses.StoodCalls.{BeginLeavingLwps}
 use Rattle.pr_function_laws.specs.Opened.{IsFunctionRun, WasNotInterrupted, functions_at, is_opened}

@@ -34,7 +34,7 @@ use Rattle.pr_truss.specs.declared.stages.Stage.TheVariants.{Spawning, OpeningCo
 use Rattle.pr_truss_laws.proofs.Soon.LookLemmas.{SameFiles}
 use Rattle.pr_truss_laws.specs.Exchanges.{Exchange, exchange_of, exchanges}
 use Rattle.pr_function_laws.proofs.LeavingProcesses.LeavingCourse.{Course, course-at, files-at, follow-there, goes-there, goes_on, has-there, is-broken, leaves, truss-next}
-use Rattle.pr_function_laws.proofs.LeavingProcesses.LeavingKept.{IsLeaving, its-apart}
+use Rattle.pr_function_laws.proofs.LeavingProcesses.LeftProcesses.{IsLeaving, its-apart}
 use Rattle.pr_function_laws.proofs.LeavingProcesses.LeavingStages.{IsLeft, asks, awaits, closes_files, halts, has_ended, lifted_after, lifts_all, looks, reads_text, waits_again}
 use Rattle.pr_function_laws.proofs.Listing.LeavingEvents as begins
 use Rattle.pr_function_laws.proofs.OpenedProcesses.OpenedCalls.{IsSo}

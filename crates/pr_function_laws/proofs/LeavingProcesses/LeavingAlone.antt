@@ -43,9 +43,8 @@ use Rattle.pr_truss_laws.specs.Sent.{sends}
 use Rattle.pr_truss_laws.specs.Stills.{IsHalting}
 use Rattle.pr_function_laws.proofs.LeavingProcesses.LeavingCourse.{files-at, leaving-next, begins-next}
 use Rattle.pr_function_laws.proofs.LeavingProcesses.LeavingFacts.{still-halts}
-use Rattle.pr_function_laws.proofs.LeavingProcesses.LeavingKept.{IsLeaving, StoodFirst, behind-it, control-acts, its-apart}
-use Rattle.pr_function_laws.proofs.LeavingProcesses.LeavingKept.{close-acts, look-same, lose-same, own-leaving, patch-acts}
-use Rattle.pr_function_laws.proofs.LeavingProcesses.LeavingKept.{behind-at, step-acts, step-call, text-same, there-is}
+use Rattle.pr_function_laws.proofs.LeavingProcesses.LeftProcesses.{IsLeaving, StoodFirst, its-apart}
+use Rattle.pr_function_laws.proofs.LeavingProcesses.LeavingKept.{behind-it, control-acts, close-acts, look-same, lose-same, own-leaving, patch-acts, behind-at, step-acts, step-call, text-same, there-is}
 use Rattle.pr_function_laws.proofs.LeavingProcesses.LeavingStages.{is_looked}
 use Rattle.pr_function_laws.proofs.LeavingProcesses.LeavingSteps.{IsAtNext, LeavesOn, Shares, Went, ended, halted, has_read}
 use Rattle.pr_function_laws.proofs.LeavingProcesses.LeavingSteps.{looked, loses, patched}

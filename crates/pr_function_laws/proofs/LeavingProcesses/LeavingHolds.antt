@@ -19,7 +19,7 @@ use Rattle.pr_truss.specs.declared.stages.Stage.{Stage}
 use Rattle.pr_truss.specs.declared.stages.Stage.TheVariants.{Closing, Finished, ReadingLwps, ReadingText, Unfollowing}
 use Rattle.pr_truss_laws.specs.Stills.{IsFrozen}
 use Rattle.pr_function_laws.proofs.LeavingProcesses.LeavingCourse.{files-at, leaving-at}
-use Rattle.pr_function_laws.proofs.LeavingProcesses.LeavingKept.{IsLeaving, StoodFirst, its-apart, its-control, many}
+use Rattle.pr_function_laws.proofs.LeavingProcesses.LeftProcesses.{IsLeaving, StoodFirst, its-apart, its-control, many}
 use Rattle.pr_function_laws.proofs.LeavingProcesses.LeavingStages.{IsLeft, IsUnlooked, asks, awaits, closes_files, halts, has_ended}
 use Rattle.pr_function_laws.proofs.LeavingProcesses.LeavingStages.{is_looked, lifts_all, looks, reads_text, waits_again}
 use Rattle.pr_function_laws.proofs.OpenedProcesses.OneEventLemmas.{none-unmet}

@@ -31,7 +31,7 @@ use Rattle.pr_truss_laws.specs.Stills.{IsFrozen, KeepsMemory}
 use Rattle.pr_function_laws.proofs.LeavingProcesses.LeavingCourse.{calm-at, entry-legal, files-at, fits-at}
 use Rattle.pr_function_laws.proofs.LeavingProcesses.LeavingFacts.{still-halts}
 use Rattle.pr_function_laws.proofs.LeavingProcesses.LeavingHolds.{has-one-event-each}
-use Rattle.pr_function_laws.proofs.LeavingProcesses.LeavingKept.{its-control}
+use Rattle.pr_function_laws.proofs.LeavingProcesses.LeftProcesses.{its-control}
 use Rattle.pr_function_laws.proofs.LineMemory.TextsAtOnce.{quiet-same}
 use Rattle.pr_function_laws.proofs.OpenedProcesses.OpenedLemmas.{control-made, control-sole}
 use Rattle.pr_function_laws.proofs.OrdinaryTruss.OrdinaryEntries as entries

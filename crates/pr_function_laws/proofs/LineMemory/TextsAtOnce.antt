@@ -49,7 +49,7 @@ use Rattle.pr_truss_laws.specs.Sent.{sends}
 use Rattle.pr_function_laws.proofs.CallTurns.BegunSteps.{StepsAt}
 use Rattle.pr_function_laws.proofs.CallTurns.ToldLaws.{kept-front, new-event, none-under-way}
 use Rattle.pr_function_laws.proofs.LeavingProcesses.LeavingCourse.{calm-at, leaving-at}
-use Rattle.pr_function_laws.proofs.LeavingProcesses.LeavingKept.{IsLeaving}
+use Rattle.pr_function_laws.proofs.LeavingProcesses.LeftProcesses.{IsLeaving}
 use Rattle.pr_function_laws.proofs.LeavingProcesses.LeavingStages.{IsLeft, asks, awaits, closes_files, halts, has_ended, lifts_all, looks, reads_text, waits_again}
 use Rattle.pr_function_laws.proofs.LineMemory.LineReads.{HasRead, is-to-read, no-message, read-before, same-read}
 use Rattle.pr_function_laws.proofs.Marks.KeptPlaces.{AtStage, Kept}

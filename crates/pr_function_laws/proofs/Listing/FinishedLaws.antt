@@ -12,7 +12,7 @@ use Rattle.pr_report_laws.specs.Watching.{is_of, place_of, watches, watches_at}
 use Rattle.pr_truss.specs.FunctionCalls.{next_function_call_of}
 use Rattle.pr_truss.specs.Trusses.{TrussState, traced_at}
 use Rattle.pr_function_laws.proofs.LeavingProcesses.LeavingCourse.{files-at}
-use Rattle.pr_function_laws.proofs.LeavingProcesses.LeavingKept.{its-control}
+use Rattle.pr_function_laws.proofs.LeavingProcesses.LeftProcesses.{its-control}
 use Rattle.pr_function_laws.proofs.OrdinaryTruss.OrdinaryLaws.{nothing-left}
 use Rattle.pr_function_laws.specs.ListedEvents.{MayMiss, ended, none, unread}
 use Rattle.pr_function_laws.specs.Opened.{IsFunctionRun, functions_at}

@@ -32,8 +32,9 @@ use Rattle.pr_function_laws.proofs.LeavingProcesses.LeavingCourse.{awaited-free,
 use Rattle.pr_function_laws.proofs.LeavingProcesses.LeavingCourse.{files-at, goes-there, has-there, is-broken, leaving-next, makes-there}
 use Rattle.pr_function_laws.proofs.LeavingProcesses.LeavingCourse.{entry-legal, same-system, state-next, truss-next}
 use Rattle.pr_function_laws.proofs.LeavingProcesses.LeavingHolds.{away-looked}
-use Rattle.pr_function_laws.proofs.LeavingProcesses.LeavingKept.{IsLeaving, its-apart, next-left-unlooked}
-use Rattle.pr_function_laws.proofs.Listing.LeavingListed.{AwaitsLook, StillOld, entry-listed, still-next}
+use Rattle.pr_function_laws.proofs.LeavingProcesses.LeftProcesses.{IsLeaving, its-apart, next-left-unlooked}
+use Rattle.pr_function_laws.proofs.Listing.AwaitedLooks.{AwaitsLook, StillOld}
+use Rattle.pr_function_laws.proofs.Listing.LeavingListed.{entry-listed, still-next}
 use Rattle.pr_function_laws.proofs.LeavingProcesses.LeavingStages.{IsLeft}
 use Rattle.pr_function_laws.proofs.LeavingProcesses.LeavingSteps.{BeginsToLeave, WaitsAt, awaits_opening, begins-to-leave, polls}
 use Rattle.pr_function_laws.proofs.Listing.ListedStates as states

@@ -30,7 +30,7 @@ use Rattle.pr_function_laws.proofs.OrdinaryTruss.OrdinaryLines.{prints-lines}
 use Rattle.pr_function_laws.proofs.OrdinaryTruss.OrdinaryPatches.{function-row}
 use Rattle.pr_function_laws.proofs.OrdinaryTruss.OrdinaryRows.{Row, Step, feeds, is_beside, passes, refuses, stays, writes}
 use Rattle.pr_function_laws.proofs.OrdinaryTruss.OrdinaryStops.{FitsAside}
-use Rattle.pr_function_laws.proofs.NextCalls.SoonLemmas.{any_step, any-sound}
+use Rattle.pr_function_laws.proofs.NextCalls.LookReads.{any_step, any-sound}
 use Rattle.pr_function_laws.proofs.Marks.SoundLemmas.{AsideIsBelow, IsSound, Names, first-sound}
 use Rattle.pr_function_laws.specs.Ordinary.{AreLike, IsLike, IsTrussBeside, PassesOver, PrintsInOrder, SeesTo, left_out, none, one, ordinary}
 use Rattle.pr_function_laws.specs.Runs.{MakesFunctionCalls, functions_after}
