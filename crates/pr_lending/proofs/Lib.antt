@@ -1,11 +1,4 @@
-pub mod LoanLemmas
-pub mod PassLemmas
-pub mod LifeLemmas
-pub mod BirthLemmas
-pub mod ChangeLemmas
-pub mod EffectLemmas
-pub mod TurnLemmas
-pub mod CallLemmas
-pub mod HistoryLemmas
-pub mod SpaceLemmas
-pub mod StartLemmas
+pub mod ProcessLoans
+pub mod LendingTurns
+pub mod LendingStates
+pub mod ShownSpaces

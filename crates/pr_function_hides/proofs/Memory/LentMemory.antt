@@ -13,7 +13,7 @@ use Rattle.pr_hidden.specs.Covers.{Patch}
 use Rattle.pr_hidden.specs.Sparing.{AreWithin, are_spared}
 use Rattle.pr_lawful.proofs.ProcessParts.HandleLemmas.{control-writes, handle-at}
 use Rattle.pr_lawful.proofs.LawfulStates.HistoryLemmas.{history-state}
-use Rattle.pr_lending.proofs.HistoryLemmas.{history-lends}
+use Rattle.pr_lending.proofs.LendingStates.HistoryLemmas.{history-lends}
 use Rattle.pr_lending.specs.Lending.{AreLending}
 use Rattle.pr_line.specs.declared.options.Options.{Options}
 use Rattle.pr_model.proofs.TurnLemmas.{TakesTurn, turn-taken}

@@ -2,7 +2,7 @@ use Rattle.std.proofs.Common.{◌≡◌, ◌≢◌, ℕ, is_some, None, Some, Op
 use Rattle.std.proofs.lemmas.Bool.{false≢true}
 use Rattle.std.proofs.lemmas.List.Elements.{All-head}
 use Rattle.pr_hidden.specs.Covers.{Patch}
-use Rattle.pr_lending.proofs.LoanLemmas.{borrower-found, lender-found, space-found}
+use Rattle.pr_lending.proofs.ProcessLoans.LoanLemmas.{borrower-found, lender-found, space-found}
 use Rattle.pr_lending.specs.Lending.{AreLending}
 use Rattle.pr_model.proofs.StateLemmas.{live_process-found}
 use Rattle.pr_model.specs.Changes.{with_space}

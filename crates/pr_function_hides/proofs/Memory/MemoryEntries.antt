@@ -22,7 +22,7 @@ use Rattle.pr_lawful.proofs.ProcessParts.SystemLemmas.{next-free}
 use Rattle.pr_lawful.proofs.LawfulTurns.TurnLemmas.{acting as acting_in}
 use Rattle.pr_laws.proofs.RefusalLemmas.{refused-leaves}
 use Rattle.pr_laws.specs.Refusals.{LeavesIfRefused}
-use Rattle.pr_lending.proofs.LoanLemmas.{borrower-found, space-found}
+use Rattle.pr_lending.proofs.ProcessLoans.LoanLemmas.{borrower-found, space-found}
 use Rattle.pr_lending.specs.Lending.{AreLending}
 use Rattle.pr_model.proofs.StateLemmas.{live_process-found}
 use Rattle.pr_model.proofs.TurnLemmas.{TakesTurn, turn-taken}

@@ -9,10 +9,10 @@ use Rattle.pr_lawful.proofs.LawfulTurns.EffectLemmas.{IsActing}
 use Rattle.pr_lawful.proofs.LawfulTurns.SuitingLemmas.{SuitChanges, SuitsChange, SuitsTransition}
 use Rattle.pr_lawful.proofs.ProcessParts.SystemLemmas.{next-free}
 use Rattle.pr_lawful.proofs.LawfulTurns.TurnLemmas.{row-suits}
-use Rattle.pr_lending.proofs.ChangeLemmas.{moved-kept}
-use Rattle.pr_lending.proofs.LifeLemmas.{found-stands, stands-kept}
-use Rattle.pr_lending.proofs.LoanLemmas.{borrower-found, borrower_in, is_live_in, lender_in, lending-kept, seen-kept, space-found, space_in, zombie-dead}
-use Rattle.pr_lending.proofs.PassLemmas.{IsFree, Stands, loans-passed}
+use Rattle.pr_lending.proofs.LendingTurns.ChangeLemmas.{moved-kept}
+use Rattle.pr_lending.proofs.ProcessLoans.LifeLemmas.{found-stands, stands-kept}
+use Rattle.pr_lending.proofs.ProcessLoans.LoanLemmas.{borrower-found, borrower_in, is_live_in, lender_in, lending-kept, seen-kept, space-found, space_in, zombie-dead}
+use Rattle.pr_lending.proofs.ProcessLoans.PassLemmas.{IsFree, Stands, loans-passed}
 use Rattle.pr_lending.specs.Lending.{AreLending}
 use Rattle.pr_model.specs.Changes.{Change, Ending, all_changed, becomes, changed, disposition_is, ended, ends_lwp, ends_process, files_are, forks, held_is, job_stops, makes_lwp, reaps, resumed, resumes, signals, signals_itself, space_is, suspends, takes_shared, with_disposition_of, with_fds, with_held, with_job_stop, with_shared_taken, with_space, with_suspended}
 use Rattle.pr_model.specs.Lives.{by_fork, by_vfork, forked, lent_to, with_child, with_lender_of, with_loan_back, with_loans_passed, with_lwp_ended, with_made, with_new_lwp, with_program, without_lwp}

@@ -4,9 +4,9 @@ use Rattle.std.proofs.lemmas.Option.{none-some, same_Some}
 use Rattle.std.specs.Option.{option_map}
 use Rattle.pr_function_hides.proofs.Memory.SharedMemory.{HasMemoryOf, Moves, Shows, alone-in, gets_back, its_own, itself, moved-in, moved-shows, stays}
 use Rattle.pr_keeps.proofs.KeepsLemmas.{choice}
-use Rattle.pr_lending.proofs.LifeLemmas.{found-stands, signalled-same}
-use Rattle.pr_lending.proofs.LoanLemmas.{borrower-found, borrower_in, is_live_in, lender_in, live-alike, same-of, seen-kept, space-found, space_in}
-use Rattle.pr_lending.proofs.PassLemmas.{IsFree, PassesLoans, Stands, loans-passed, passed}
+use Rattle.pr_lending.proofs.ProcessLoans.LifeLemmas.{found-stands, signalled-same}
+use Rattle.pr_lending.proofs.ProcessLoans.LoanLemmas.{borrower-found, borrower_in, is_live_in, lender_in, live-alike, same-of, seen-kept, space-found, space_in}
+use Rattle.pr_lending.proofs.ProcessLoans.PassLemmas.{IsFree, PassesLoans, Stands, loans-passed, passed}
 use Rattle.pr_lending.specs.Lending.{AreLending}
 use Rattle.pr_lawful.proofs.LawfulTurns.EndLemmas.{buried}
 use Rattle.pr_model.proofs.StateLemmas.{live_process-found}

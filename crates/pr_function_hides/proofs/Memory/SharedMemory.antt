@@ -2,8 +2,8 @@ use Rattle.std.proofs.Common.{◌≡◌, ◌<◌, ◌≤◌, ◌+◌, ℕ, zero,
 use Rattle.std.proofs.lemmas.Bool.{false≢true}
 use Rattle.std.proofs.lemmas.Option.{none-some, same_Some}
 use Rattle.pr_keeps.proofs.LoanLemmas.{own-space}
-use Rattle.pr_lending.proofs.LoanLemmas.{borrower-found, space-found}
-use Rattle.pr_lending.proofs.SpaceLemmas.{shown-alike}
+use Rattle.pr_lending.proofs.ProcessLoans.LoanLemmas.{borrower-found, space-found}
+use Rattle.pr_lending.proofs.ShownSpaces.SpaceLemmas.{shown-alike}
 use Rattle.pr_lending.specs.Lending.{AreLending}
 use Rattle.pr_model.proofs.StateLemmas.{live_process-found}
 use Rattle.pr_model.specs.Lawful.{IsLawfulSystem, IsNumberedBelow}

@@ -25,7 +25,7 @@ use Rattle.pr_keeps.specs.ProcessEdits.{ProcessEdit}
 use Rattle.pr_keeps.proofs.CallLemmas.{call-edit, close-edit}
 use Rattle.pr_keeps.proofs.KeepsLemmas.{choice, process-edits-relate}
 use Rattle.pr_keeps.proofs.LoanLemmas.{process_if-keeps, lent-keeps, loans_passed-keep}
-use Rattle.pr_lending.proofs.LifeLemmas.{signalled-same}
+use Rattle.pr_lending.proofs.ProcessLoans.LifeLemmas.{signalled-same}
 use Rattle.pr_model.proofs.TurnLemmas.{turn-taken}
 use Rattle.pr_model.specs.Calls.{Answer, answer_to}
 use Rattle.pr_model.specs.Changes.{Change, files_are, space_is, signals, signals_itself, takes_shared, job_stops, disposition_is, held_is, resumes, forks, reaps, becomes, makes_lwp, suspends, Ending, ends_process, ends_lwp, all_changed, changed, ended, resumed, with_disposition_of, with_fds, with_held, with_job_stop, with_shared_taken, with_space, with_suspended}

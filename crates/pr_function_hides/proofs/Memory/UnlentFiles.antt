@@ -13,8 +13,8 @@ use Rattle.pr_function_laws.specs.Opened.{functions_at}
 use Rattle.pr_hidden.specs.Hiders.{Hiders, hides}
 use Rattle.pr_lawful.proofs.ProcessParts.HandleLemmas.{handle-at}
 use Rattle.pr_lawful.proofs.LawfulStates.HistoryLemmas.{history-state}
-use Rattle.pr_lending.proofs.HistoryLemmas.{history-lends}
-use Rattle.pr_lending.proofs.LoanLemmas.{lender-found}
+use Rattle.pr_lending.proofs.LendingStates.HistoryLemmas.{history-lends}
+use Rattle.pr_lending.proofs.ProcessLoans.LoanLemmas.{lender-found}
 use Rattle.pr_lending.specs.Lending.{AreLending}
 use Rattle.pr_line.specs.declared.options.Options.{Options}
 use Rattle.pr_model.proofs.HistoryLemmas.{state_after-push}

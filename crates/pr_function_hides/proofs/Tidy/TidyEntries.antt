@@ -7,7 +7,7 @@ use Rattle.pr_hidden.specs.Covers.{Covers, Patch}
 use Rattle.pr_hidden.specs.Hiders.{Hiders, covers_after, covers_at, hides, no_covers, replaces_memory}
 use Rattle.pr_lawful.proofs.ProcessParts.HandleLemmas.{handle-at}
 use Rattle.pr_lawful.proofs.LawfulStates.HistoryLemmas.{history-state}
-use Rattle.pr_lending.proofs.HistoryLemmas.{history-lends}
+use Rattle.pr_lending.proofs.LendingStates.HistoryLemmas.{history-lends}
 use Rattle.pr_lending.specs.Lending.{AreLending}
 use Rattle.pr_model.proofs.HistoryLemmas.{state_after-push}
 use Rattle.pr_model.proofs.StateLemmas.{live_process-found}

@@ -8,7 +8,7 @@ use Rattle.pr_hidden.specs.Hiders.{Hiders, covers_at}
 use Rattle.pr_hidden.specs.Tidiness.{IsPassiveBut}
 use Rattle.pr_lawful.proofs.LawfulTurns.EndLemmas.{found-live}
 use Rattle.pr_lawful.proofs.ProcessParts.HandleLemmas.{control-writes, handle-at}
-use Rattle.pr_lending.proofs.LoanLemmas.{borrower-found, lender-found}
+use Rattle.pr_lending.proofs.ProcessLoans.LoanLemmas.{borrower-found, lender-found}
 use Rattle.pr_model.specs.Handles.{handle_of, is_control, is_writable}
 use Rattle.pr_model.specs.Lawful.{IsFitting, IsLawful}
 use Rattle.pr_model.specs.Legal.{state_after}

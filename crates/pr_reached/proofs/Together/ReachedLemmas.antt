@@ -1,6 +1,6 @@
 use Rattle.std.proofs.Common.{ℕ, List}
-use Rattle.pr_lending.proofs.StartLemmas.{first-lends}
-use Rattle.pr_lending.proofs.HistoryLemmas.{history-lends}
+use Rattle.pr_lending.proofs.LendingStates.StartLemmas.{first-lends}
+use Rattle.pr_lending.proofs.LendingStates.HistoryLemmas.{history-lends}
 use Rattle.pr_num.specs.Programs.{Program}
 use Rattle.pr_num.specs.declared.files.StoredFile.{StoredFile}
 use Rattle.pr_lawful.proofs.LawfulStates.HistoryLemmas.{history-state}

@@ -1,4 +1,4 @@
-use Rattle.pr_lending.proofs.SpaceLemmas.{shows-one}
+use Rattle.pr_lending.proofs.ShownSpaces.SpaceLemmas.{shows-one}
 use Rattle.pr_lending.proofs.spaces.each_space_shown_is_of_one_process.Goals as goal
 
 pub returns : goal.returns

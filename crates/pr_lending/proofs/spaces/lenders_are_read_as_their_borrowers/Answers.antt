@@ -5,7 +5,7 @@ use Rattle.pr_model.specs.Readers.{size_seen}
 use Rattle.pr_model.specs.Reads.{file_reply, mapped_from, unless_none}
 use Rattle.pr_model.specs.Records.{map_entry_of, map_of, psinfo_of}
 use Rattle.pr_model.specs.Statuses.{status_of}
-use Rattle.pr_lending.proofs.SpaceLemmas.{shown-alike}
+use Rattle.pr_lending.proofs.ShownSpaces.SpaceLemmas.{shown-alike}
 use Rattle.pr_lending.proofs.spaces.lenders_are_read_as_their_borrowers.Goals as goal
 
 pub returns : goal.returns

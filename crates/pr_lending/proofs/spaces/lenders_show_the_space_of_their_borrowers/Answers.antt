@@ -5,9 +5,9 @@ use Rattle.pr_lending.specs.Lending.{AreLending}
 use Rattle.pr_model.specs.State.{TracedState}
 use Rattle.pr_lawful.proofs.LawfulStates.HistoryLemmas.{history-state}
 use Rattle.pr_lawful.proofs.LawfulStates.StartLemmas.{first-lawful}
-use Rattle.pr_lending.proofs.HistoryLemmas.{history-lends}
-use Rattle.pr_lending.proofs.SpaceLemmas.{shown-alike}
-use Rattle.pr_lending.proofs.StartLemmas.{first-lends}
+use Rattle.pr_lending.proofs.ShownSpaces.SpaceLemmas.{shown-alike}
+use Rattle.pr_lending.proofs.LendingStates.HistoryLemmas.{history-lends}
+use Rattle.pr_lending.proofs.LendingStates.StartLemmas.{first-lends}
 use Rattle.pr_lending.proofs.spaces.lenders_show_the_space_of_their_borrowers.Goals as goal
 
 pub returns : goal.returns

@@ -1,4 +1,4 @@
-use Rattle.pr_lending.proofs.CallLemmas.{call-lends}
+use Rattle.pr_lending.proofs.LendingStates.CallLemmas.{call-lends}
 use Rattle.pr_lending.proofs.states.calls_keep_lending_in_order.Goals as goal
 
 pub returns : goal.returns

@@ -1,7 +1,7 @@
 use Rattle.pr_model.specs.FirstState.{first_state}
 use Rattle.pr_lawful.proofs.LawfulStates.StartLemmas.{first-lawful}
-use Rattle.pr_lending.proofs.HistoryLemmas.{history-lends}
-use Rattle.pr_lending.proofs.StartLemmas.{first-lends}
+use Rattle.pr_lending.proofs.LendingStates.HistoryLemmas.{history-lends}
+use Rattle.pr_lending.proofs.LendingStates.StartLemmas.{first-lends}
 use Rattle.pr_lending.proofs.states.legal_histories_lend_in_order.Goals as goal
 
 pub returns : goal.returns

@@ -12,7 +12,7 @@ use Rattle.pr_model.specs.Lives.{bare_process, new_process, with_made, with_spaw
 use Rattle.pr_model.specs.Machines.{traced}
 use Rattle.pr_model.specs.Readers.{borrower_at, lender_at}
 use Rattle.pr_model.specs.State.{TracedProcess, TracedSystem, process_of}
-use Rattle.pr_lending.proofs.LoanLemmas.{borrower_in, lender_in}
+use Rattle.pr_lending.proofs.ProcessLoans.LoanLemmas.{borrower_in, lender_in}
 
 -- In the first state nothing is lent.
 

@@ -8,7 +8,7 @@ use Rattle.pr_lending.specs.Lending.{AreLending}
 use Rattle.pr_model.specs.Lives.{is_id, with_loan_back, with_lender_of, with_loans_passed}
 use Rattle.pr_model.specs.Readers.{borrower_at, lender_at, space_at}
 use Rattle.pr_model.specs.State.{TracedProcess, TracedSystem, live_process, process_of, with_process, with_process_if}
-use Rattle.pr_lending.proofs.LoanLemmas.{borrower_in, lender_in, space_in, is_live_in, live-alike, same-of}
+use Rattle.pr_lending.proofs.ProcessLoans.LoanLemmas.{borrower_in, lender_in, space_in, is_live_in, live-alike, same-of}
 
 -- A process that ends or runs another program passes on what it lent and borrowed, and memory is lent in order still.
 

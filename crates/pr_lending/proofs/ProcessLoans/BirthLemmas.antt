@@ -10,8 +10,8 @@ use Rattle.pr_model.specs.Lives.{Birth, by_fork, by_vfork, forked, lent_to, with
 use Rattle.pr_model.specs.Machines.{traced}
 use Rattle.pr_model.specs.Readers.{borrower_at, lender_at, space_at}
 use Rattle.pr_model.specs.State.{TracedLwp, TracedProcess, TracedSystem, live_process, process_of, with_process}
-use Rattle.pr_lending.proofs.LifeLemmas.{IsOwner}
-use Rattle.pr_lending.proofs.LoanLemmas.{borrower_in, lender_in, space_in, is_live_in, live-alike, KeepsLoans, lending-kept, loans-next, made-kept, processes-same}
+use Rattle.pr_lending.proofs.ProcessLoans.LifeLemmas.{IsOwner}
+use Rattle.pr_lending.proofs.ProcessLoans.LoanLemmas.{borrower_in, lender_in, space_in, is_live_in, live-alike, KeepsLoans, lending-kept, loans-next, made-kept, processes-same}
 
 -- Memory is lent in order where a process that has lent nothing makes a child, by fork or by vfork.
 

@@ -6,8 +6,8 @@ use Rattle.pr_lending.specs.Lending.{AreLending}
 use Rattle.pr_model.specs.State.{TracedState}
 use Rattle.pr_model.specs.declared.events.Entry.{Entry}
 use Rattle.pr_lawful.proofs.LawfulStates.HistoryLemmas.{entry-state}
-use Rattle.pr_lending.proofs.CallLemmas.{edited-lends, tick-lends}
-use Rattle.pr_lending.proofs.TurnLemmas.{turn-lends}
+use Rattle.pr_lending.proofs.LendingStates.CallLemmas.{edited-lends, tick-lends}
+use Rattle.pr_lending.proofs.LendingTurns.TurnLemmas.{turn-lends}
 
 -- Memory is lent in order in every state of a legal history from a lawful one where it is.
 

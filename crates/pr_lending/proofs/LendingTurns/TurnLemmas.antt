@@ -33,12 +33,12 @@ use Rattle.pr_model.proofs.TurnLemmas.{turn-taken}
 use Rattle.pr_lawful.proofs.LawfulTurns.EffectLemmas.{IsActing}
 use Rattle.pr_lawful.proofs.ProcessParts.SystemLemmas.{next-free}
 use Rattle.pr_lawful.proofs.LawfulTurns.TurnLemmas.{acting}
-use Rattle.pr_lending.proofs.BirthLemmas.{IsNextFree}
-use Rattle.pr_lending.proofs.ChangeLemmas.{SuitChanges, SuitsTransition, moved-kept, settled-lends, transition-lends}
-use Rattle.pr_lending.proofs.EffectLemmas.{Suits, call-suits-loans}
-use Rattle.pr_lending.proofs.LifeLemmas.{IsOwner, found-stands}
-use Rattle.pr_lending.proofs.LoanLemmas.{is_live_in, borrower-found, live-of, lending-kept}
-use Rattle.pr_lending.proofs.PassLemmas.{Stands}
+use Rattle.pr_lending.proofs.ProcessLoans.BirthLemmas.{IsNextFree}
+use Rattle.pr_lending.proofs.LendingTurns.ChangeLemmas.{SuitChanges, SuitsTransition, moved-kept, settled-lends, transition-lends}
+use Rattle.pr_lending.proofs.LendingTurns.EffectLemmas.{Suits, call-suits-loans}
+use Rattle.pr_lending.proofs.ProcessLoans.LifeLemmas.{IsOwner, found-stands}
+use Rattle.pr_lending.proofs.ProcessLoans.LoanLemmas.{is_live_in, borrower-found, live-of, lending-kept}
+use Rattle.pr_lending.proofs.ProcessLoans.PassLemmas.{Stands}
 
 -- Every turn leaves memory lent in order: a line a row.
 

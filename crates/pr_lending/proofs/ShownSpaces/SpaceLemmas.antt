@@ -7,7 +7,7 @@ use Rattle.pr_lending.specs.Lending.{AreLending}
 use Rattle.pr_model.specs.Readers.{borrower_at, space_at, space_seen, space_shown}
 use Rattle.pr_model.specs.State.{TracedProcess, TracedSystem, live_process, process_of}
 use Rattle.pr_lending.specs.Loans.{HasLentTo, ShowsSpaceOf}
-use Rattle.pr_lending.proofs.LoanLemmas.{is_live_in, borrower-found, space-found}
+use Rattle.pr_lending.proofs.ProcessLoans.LoanLemmas.{is_live_in, borrower-found, space-found}
 
 -- A process that has lent its memory shows what its borrower shows.
 

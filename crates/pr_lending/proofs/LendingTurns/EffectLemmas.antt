@@ -38,10 +38,10 @@ use Rattle.pr_model.specs.State.{TracedLwp, TracedProcess, TracedSystem}
 use Rattle.pr_model.specs.declared.frames.Frame.{Frame}
 use Rattle.pr_lawful.proofs.LawfulTurns.EffectLemmas.{IsActing, Suits as Suitable, call-suits}
 use Rattle.pr_lawful.proofs.LawfulTurns.SuitingLemmas.{SuitsReaped}
-use Rattle.pr_lending.proofs.BirthLemmas.{IsNextFree}
-use Rattle.pr_lending.proofs.ChangeLemmas.{SuitChanges}
-use Rattle.pr_lending.proofs.LoanLemmas.{IsZombie}
-use Rattle.pr_lending.proofs.PassLemmas.{Stands}
+use Rattle.pr_lending.proofs.ProcessLoans.BirthLemmas.{IsNextFree}
+use Rattle.pr_lending.proofs.LendingTurns.ChangeLemmas.{SuitChanges}
+use Rattle.pr_lending.proofs.ProcessLoans.LoanLemmas.{IsZombie}
+use Rattle.pr_lending.proofs.ProcessLoans.PassLemmas.{Stands}
 
 -- What a system call changes suits lent memory: a line a call.
 

@@ -27,9 +27,9 @@ use Rattle.pr_model.specs.State.{TracedProcess, TracedState, TracedSystem, proce
 use Rattle.pr_model.specs.declared.calls.Call.{Call}
 use Rattle.pr_model.proofs.StateLemmas.{live_process-found}
 use Rattle.pr_lawful.proofs.ProcessParts.SystemLemmas.{next-free}
-use Rattle.pr_lending.proofs.ChangeLemmas.{lwp-same, unlent}
-use Rattle.pr_lending.proofs.LifeLemmas.{found-stands, lending-ended, lending-generated}
-use Rattle.pr_lending.proofs.LoanLemmas.{alike-loans, KeepsLoans, SameLoans, lending-kept, made-kept, next-loans, process-kept, processes-same, same-loans}
+use Rattle.pr_lending.proofs.LendingTurns.ChangeLemmas.{lwp-same, unlent}
+use Rattle.pr_lending.proofs.ProcessLoans.LifeLemmas.{found-stands, lending-ended, lending-generated}
+use Rattle.pr_lending.proofs.ProcessLoans.LoanLemmas.{alike-loans, KeepsLoans, SameLoans, lending-kept, made-kept, next-loans, process-kept, processes-same, same-loans}
 
 -- Every call of a controller leaves memory lent in order, and so does the clock: a line a kind of edit.
 

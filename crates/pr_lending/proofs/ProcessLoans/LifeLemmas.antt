@@ -20,8 +20,8 @@ use Rattle.pr_model.specs.Readers.{borrower_at, lender_at, space_at}
 use Rattle.pr_model.specs.Signals.{generated, is_kill}
 use Rattle.pr_model.specs.State.{TracedLwp, TracedProcess, TracedSystem, live_process, process_of, with_process, with_process_if}
 use Rattle.pr_model.proofs.StateLemmas.{live_process-found}
-use Rattle.pr_lending.proofs.LoanLemmas.{alike-loans, same-of, borrower_in, lender_in, space_in, is_live_in, borrower-found, lender-found, space-found, live-alike, KeepsLoans, SameLoans, lending-kept, loans-same, next-loans, process-kept, same-loans}
-use Rattle.pr_lending.proofs.PassLemmas.{IsFree, Stands, lending-freed, loans-passed, passed}
+use Rattle.pr_lending.proofs.ProcessLoans.LoanLemmas.{alike-loans, same-of, borrower_in, lender_in, space_in, is_live_in, borrower-found, lender-found, space-found, live-alike, KeepsLoans, SameLoans, lending-kept, loans-same, next-loans, process-kept, same-loans}
+use Rattle.pr_lending.proofs.ProcessLoans.PassLemmas.{IsFree, Stands, lending-freed, loans-passed, passed}
 
 -- Memory stays lent in order where a signal is generated, and where processes begin, run another program, and end.
 

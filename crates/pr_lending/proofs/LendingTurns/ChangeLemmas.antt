@@ -18,10 +18,10 @@ use Rattle.pr_model.specs.State.{TracedLwp, TracedProcess, TracedSystem, lwp_of,
 use Rattle.pr_model.specs.Stops.{with_all_directed}
 use Rattle.pr_model.specs.Transitions.{Transition, after_transition, ended_if}
 use Rattle.pr_model.specs.declared.stops.Point.{Point}
-use Rattle.pr_lending.proofs.BirthLemmas.{IsNextFree, lending-born}
-use Rattle.pr_lending.proofs.LifeLemmas.{IsOwner, lending-begun, lending-ended, lending-generated, lwp_ended-lends, owner-kept, owner-signalled, stands-kept}
-use Rattle.pr_lending.proofs.LoanLemmas.{alike-loans, IsZombie, KeepsLoans, SameLoans, borrower-found, lending-kept, loans-next, process-kept, processes-same, reaped-kept, same-loans}
-use Rattle.pr_lending.proofs.PassLemmas.{Stands}
+use Rattle.pr_lending.proofs.ProcessLoans.BirthLemmas.{IsNextFree, lending-born}
+use Rattle.pr_lending.proofs.ProcessLoans.LifeLemmas.{IsOwner, lending-begun, lending-ended, lending-generated, lwp_ended-lends, owner-kept, owner-signalled, stands-kept}
+use Rattle.pr_lending.proofs.ProcessLoans.LoanLemmas.{alike-loans, IsZombie, KeepsLoans, SameLoans, borrower-found, lending-kept, loans-next, process-kept, processes-same, reaped-kept, same-loans}
+use Rattle.pr_lending.proofs.ProcessLoans.PassLemmas.{Stands}
 
 -- What a turn of a process that has lent nothing changes leaves memory lent in order: a line a kind of change.
 
