@@ -1,34 +1,19 @@
-use Rattle.std.proofs.Common.{◌≡◌, ℕ, Bool, false, Some, None, Option, List, [], ◌∷◌, refl}
+use Rattle.std.proofs.Common.{◌≡◌, ℕ, false, Some, None, Option, List, [], ◌∷◌, refl}
 use Rattle.std.proofs.lemmas.List.Elements.{All-cons, All-nil}
 use Rattle.std.specs.List.{All, slice_get}
-use Rattle.pr_keeps.proofs.CallLemmas.{call-edit, close-edit}
-use Rattle.pr_keeps.proofs.KeepsLemmas.{all-replaced, lwp-edits-keep, process-edits-keep}
-use Rattle.pr_keeps.specs.CallEdits as edit
-use Rattle.pr_keeps.specs.CallEdits.{CallEdit, CloseEdit}
+use Rattle.pr_keeps.proofs.KeepsLemmas.{lwp-edits-keep, process-edits-keep}
 use Rattle.pr_keeps.specs.LwpEdits as lwp
 use Rattle.pr_keeps.specs.LwpEdits.{LwpEdit, LwpEdits}
-use Rattle.pr_keeps.specs.MessageEdits as made
-use Rattle.pr_keeps.specs.MessageEdits.{MessageEdit}
 use Rattle.pr_keeps.specs.ProcessEdits as process
 use Rattle.pr_keeps.specs.ProcessEdits.{ProcessEdit}
-use Rattle.pr_model.proofs.StateLemmas.{live_process-found}
-use Rattle.pr_model.specs.Calls.{Answer, answer_to}
 use Rattle.pr_model.specs.Changes.{with_space}
-use Rattle.pr_model.specs.ControlMessages.{tail_of}
 use Rattle.pr_model.specs.FirstState.{bare_system, first_state, spawned_at, system_process, with_spawns}
-use Rattle.pr_model.specs.Handles.{released, released_lwp, with_closed, with_opened}
-use Rattle.pr_model.specs.Legal.{IsLegal, IsLegalEntry, after, state_after}
-use Rattle.pr_model.specs.Lives.{bare_process, first_lwp, new_lwp, new_process, with_spawned}
-use Rattle.pr_model.specs.LwpTurns.{LwpTurn, turn_of}
+use Rattle.pr_model.specs.Legal.{IsLegal, state_after}
+use Rattle.pr_model.specs.Lives.{bare_process, new_lwp}
 use Rattle.pr_model.specs.Machines.{traced}
 use Rattle.pr_model.specs.Messages.{agent_lwp, lwp_without_one, with_address, with_agent, with_held_set, with_registers}
 use Rattle.pr_model.specs.Running.{let_go, with_abort, with_directive, with_step, without_current, without_directive, without_fault}
-use Rattle.pr_model.specs.State.{TracedLwp, TracedProcess, TracedState, TracedSystem, process_of, with_process}
-use Rattle.pr_model.specs.declared.calls.Call.{Call}
-use Rattle.pr_model.specs.declared.events.Act.{Act}
-use Rattle.pr_model.specs.declared.events.Act.TheVariants as act
-use Rattle.pr_model.specs.declared.events.Actor.{Actor}
-use Rattle.pr_model.specs.declared.events.Actor.TheVariants.{Clock, Controller, Lwp}
+use Rattle.pr_model.specs.State.{TracedLwp, TracedProcess, TracedState, TracedSystem}
 use Rattle.pr_model.specs.declared.events.Entry.{Entry}
 use Rattle.pr_model.specs.declared.lwps.Phase.{Phase}
 use Rattle.pr_model.specs.declared.lwps.Phase.TheVariants.{Asleep, Entered, Exiting, Faulted, User}
@@ -37,8 +22,13 @@ use Rattle.pr_num.specs.Agents.{agent_id}
 use Rattle.pr_num.specs.Programs.{Program}
 use Rattle.pr_num.specs.declared.files.StoredFile.{StoredFile}
 use Rattle.pr_num.specs.declared.messages.Message.{Message}
-use Rattle.pr_function_hides.proofs.StoppedCopies.SleptTurns.{KeepsAwake, KeepsLwpsAwake, generated-keeps, lwp-keeps, lwps-keep, made-keeps, process-keeps, same-phase, turn-awake, with_this_ended-keeps}
+use Rattle.pr_function_hides.proofs.StoppedCopies.SleptTurns.{IsOwnAwake, KeepsAwake, awake-lwp, kind-elsewhere, lwp-keeps, lwps-keep, newborn-awake, own-awake, step-awake}
 use Rattle.pr_function_hides.specs.SleptCopies.{HasNoCopySleeper, NoneSleepsInCopy, SleepsInNoCopy, sleeps_in_copy}
+use Rattle.pr_keeps.proofs.KeptHistories.{any-history}
+use Rattle.pr_keeps.proofs.KeptProcesses.{AnyMade, KeepsProcesses, processes-keep, turns-keep}
+use Rattle.pr_keeps.proofs.KeptSystems.{KeepsSystem, KeepsTurns, keeps-each, spawned-keeps}
+use Rattle.pr_keeps.proofs.RowLemmas.{row-kind}
+use Rattle.pr_model.specs.Rows.{Row, row_for}
 
 -- No lwp is asleep in a fork, a vfork or an exec in the first state of a scenario, nor after a legal history from a
 -- state in which none is.
@@ -96,84 +86,48 @@ process-keep m tail x y (process.gets_agent {regs = regs} free room) u =
     All-inserted SleepsInNoCopy agent_id (agent_lwp regs) x.lwps (agent-awake regs) u
 process-keep m tail x y (process.is_written own mapped) u = u
 
-message-keeps : (s : TracedSystem) (target : ℕ) (p : TracedProcess) (m : Message) (tail : List ℕ) (t : TracedSystem)
-    → process_of s target ≡ Some p → MessageEdit s target p m tail t → NoneSleepsInCopy s → NoneSleepsInCopy t
-unfolding with_process
-message-keeps s target p m tail t found made.nothing u = u
-message-keeps s target p m tail t found (made.a_process f edits) u = record {
-  processes =
-      all-replaced HasNoCopySleeper target f p s.processes found
-      (λ un. record {
-        lwps =
-            process-edits-keep m tail (λ (x : TracedProcess). All SleepsInNoCopy x.lwps) (process-keep m tail) p (f p)
-            edits un.lwps;
-      }) u.processes;
-}
-message-keeps s target p m tail t found made.an_end u = with_this_ended-keeps target p _ s u
-message-keeps s target p m tail t found (made.a_signal own g is room) u = generated-keeps target own g _ s u
-
--- ---- calls
-
-released-keeps : KeepsLwpsAwake released
-unfolding released released_lwp
-released-keeps x u = lwps-keep released_lwp (same-phase released_lwp (λ l. refl)) x u
-
-close-keeps : (s : TracedSystem) (target : ℕ) (t : TracedSystem) → CloseEdit s target t → NoneSleepsInCopy s
-    → NoneSleepsInCopy t
-close-keeps s target t edit.nothing u = u
-close-keeps s target t (edit.kills p live mode) u = with_this_ended-keeps target p _ s u
-close-keeps s target t (edit.releases p live spares mode) u = process-keeps target released released-keeps s u
-
-spawned-keeps : (program : Program) (held : Bool) (s : TracedSystem) → NoneSleepsInCopy s
-    → NoneSleepsInCopy (with_spawned traced program held s)
-unfolding with_spawned new_process bare_process first_lwp new_lwp traced
-spawned-keeps program held s u =
-    made-keeps (new_process traced program s.clock held) s
-    (All-cons SleepsInNoCopy _ [] (record { none = refl }) (All-nil SleepsInNoCopy)) u
-
-call-keeps : (s : TracedState) (by : ℕ) (c : Call) (t : TracedState) → CallEdit s by c t → NoneSleepsInCopy s.system
-    → NoneSleepsInCopy t.system
-unfolding with_opened
-call-keeps s by c t edit.looks u = u
-call-keeps s by c t (edit.opens free grants) u = u
-call-keeps s by c t (edit.closes {handle = handle} {held = h} at) u =
-    close-keeps s.system h.pid (with_closed h handle s).system (close-edit s handle h) u
-call-keeps s by c t (edit.controls {bytes = bytes} {held = h} {p = p} {m = m} {t = v} w e) u =
-    message-keeps s.system h.pid p m (tail_of m bytes) v (live_process-found s.system h.pid p w.live) e u
-call-keeps s by c t edit.sees_interrupt u = u
-call-keeps s by c t (edit.interrupts there) u = u
-call-keeps s by c t (edit.spawns {held = held} {program = program} named grants) u =
-    spawned-keeps program held s.system u
-call-keeps s by c t (edit.sends {pid = target} {g = g} is) u = generated-keeps target None g _ s.system u
-
 -- ---- histories
 
-entry-awake : (n : ℕ) (s : TracedState) (actor : Actor) (it : Act) → NoneSleepsInCopy s.system
-    → IsLegalEntry n s (record { actor = actor; act = it })
-    → NoneSleepsInCopy (after s (record { actor = actor; act = it })).system
-unfolding IsLegalEntry after
-entry-awake n s (Controller k) (act.Call c r) u legal =
-    let a : Answer = record { state = legal.1.0; reply = r } in
-    let answer : answer_to s k c ≡ Some a = legal.1.1 in
-    rw answer (call-keeps s k c legal.1.0 (call-edit s k c a answer) u)
-entry-awake n s (Lwp pid id) (act.Turn t) u legal =
-    let turn : LwpTurn = record { system = legal.0; turned = t } in
-    let taken : turn_of s.system pid id ≡ Some turn = legal.1 in
-    rw taken (turn-awake s.system pid id turn taken u)
-entry-awake n s Clock (act.Tick moment) u legal = record { processes = u.processes }
-entry-awake n s _ _ u legal = absurd legal
+awake-processes : KeepsProcesses IsOwnAwake AnyMade HasNoCopySleeper
+awake-processes = record {
+  step = λ pid x f is u. record { lwps = step-awake f is x u.lwps };
+  edits = λ pid m tail x y made u. record {
+    lwps =
+        process-edits-keep m tail (λ (z : TracedProcess). All SleepsInNoCopy z.lwps) (process-keep m tail) x y made
+        u.lwps;
+  };
+  newborn = λ made x known new. record { lwps = newborn-awake x new };
+  later = λ made known. tt;
+}
+
+each_awake : (s : TracedSystem) → NoneSleepsInCopy s → Unit {0} × All HasNoCopySleeper s.processes
+each_awake s u = (tt, u.processes)
+
+awake_each : (s : TracedSystem) → Unit {0} × All HasNoCopySleeper s.processes → NoneSleepsInCopy s
+awake_each s it = record { processes = it.1 }
+
+awake-keep : KeepsSystem IsOwnAwake NoneSleepsInCopy
+awake-keep =
+    processes-keep IsOwnAwake AnyMade HasNoCopySleeper NoneSleepsInCopy each_awake awake_each awake-processes
+
+awake-turns : KeepsTurns IsOwnAwake NoneSleepsInCopy
+awake-turns =
+    turns-keep IsOwnAwake AnyMade HasNoCopySleeper NoneSleepsInCopy each_awake awake_each awake-lwp
+    (λ s pid p id l f is x u.
+    let row : Row = row_for s pid p id l in
+    record { lwps = own-awake id row (kind-elsewhere s pid p id l row (row-kind s pid p id l)) f is x u.lwps })
 
 pub history-awake : (n : ℕ) (s : TracedState) (h : List Entry) → NoneSleepsInCopy s.system → IsLegal n s h
     → NoneSleepsInCopy (state_after s h).system
-history-awake n s [] u legal = u
-history-awake n s (e ∷ h) u legal =
-    history-awake n (after s e) h (entry-awake n s e.actor e.act u legal.0) legal.1
+history-awake n s h u legal =
+    any-history n (λ t. NoneSleepsInCopy t.system) (keeps-each IsOwnAwake NoneSleepsInCopy awake-keep awake-turns n) s h
+    legal u
 
 -- ---- the first state
 
 spawned_at-awake : (o : Option Program) (s : TracedSystem) → NoneSleepsInCopy s → NoneSleepsInCopy (spawned_at o s)
 spawned_at-awake None s u = u
-spawned_at-awake (Some program) s u = spawned-keeps program false s u
+spawned_at-awake (Some program) s u = spawned-keeps IsOwnAwake NoneSleepsInCopy awake-keep program false s u
 
 spawns-awake : (spawns : List ℕ) (s : TracedSystem) → NoneSleepsInCopy s → NoneSleepsInCopy (with_spawns spawns s)
 unfolding with_spawns

@@ -1,51 +1,46 @@
-use Rattle.std.proofs.Common.{◌≡◌, ◌==◌, ◌+◌, ℕ, Bool, true, false, is_none, is_some, nat_lt, length, Option, Some, None, List, [], ◌∷◌, refl, sym, subst, ap, ◌∙◌}
+use Rattle.std.proofs.Common.{◌≡◌, ◌==◌, ◌+◌, ℕ, Bool, true, false, is_none, is_some, nat_lt, length, Option, Some, None, List, [], refl, sym, subst, ap, ◌∙◌}
 use Rattle.std.proofs.lemmas.Bool.{false≢true}
 use Rattle.std.proofs.lemmas.List.Elements.{All-cons, All-nil}
 use Rattle.std.specs.List.{All}
 use Rattle.pr_erasure.proofs.SeenTurns.EffectLemmas.{call-known}
 use Rattle.pr_keeps.proofs.KeepsLemmas.{choice}
-use Rattle.pr_keeps.proofs.LoanLemmas.{lent-keeps, loans_passed-keep, process_if-keeps}
-use Rattle.pr_keeps.proofs.RowLemmas.{row-kind}
 use Rattle.pr_keeps.specs.RowKinds as kind
 use Rattle.pr_keeps.specs.RowKinds.{RowKind}
 use Rattle.pr_model.proofs.StateLemmas.{live_process-found}
-use Rattle.pr_model.proofs.TurnLemmas.{turn-taken}
 use Rattle.pr_model.specs.CallEffects.{call_effect}
-use Rattle.pr_model.specs.Changes.{Change, Effect, Ending, all_changed, becomes, changed, disposition_is, does, ended, ends, ends_lwp, ends_process, files_are, forks, held_is, is_over, job_stops, makes_lwp, reaps, resumed, resumes, signals, signals_itself, sleeps, space_is, suspends, takes_shared, with_disposition_of, with_fds, with_held, with_job_stop, with_shared_taken, with_space, with_suspended}
+use Rattle.pr_model.specs.Changes.{Effect, does, ends, is_over, resumed, sleeps, with_disposition_of, with_fds, with_held, with_job_stop, with_shared_taken, with_space, with_suspended}
 use Rattle.pr_model.specs.Generation.{ends_job_stop, lwp_with_pending, lwp_without_pending, signalled, with_deletions, with_pending, without_job_stop, without_pending}
 use Rattle.pr_model.specs.InstructionEffects as instruction
 use Rattle.pr_model.specs.InstructionEffects.{InstructionEffect, instruction_effect}
-use Rattle.pr_model.specs.Lives.{Birth, bare_process, ended_if_live, forked, forked_lwp, is_id, lent_to, new_lwp, orphaned, started, with_child, with_ended, with_lender_of, with_lent, with_loan_back, with_loans_passed, with_lwp_ended, with_made, with_new_lwp, with_parent_signalled, with_program, with_reaped, with_this_ended, without_lwp, zombie}
-use Rattle.pr_model.specs.LwpTurns.{LwpTurn, is_ready, settled, turn_of, with_counted}
+use Rattle.pr_model.specs.Lives.{Birth, bare_process, forked, forked_lwp, is_id, lent_to, new_lwp, orphaned, started, with_lender_of, with_loan_back, with_new_lwp, with_program, without_lwp, zombie}
+use Rattle.pr_model.specs.LwpTurns.{is_ready, with_counted}
 use Rattle.pr_model.specs.Machines.{call_over, fault_incurred, fault_posted, no_marks, step_taken, stopped_as_directed, traced}
 use Rattle.pr_model.specs.Moves as move
 use Rattle.pr_model.specs.Moves.{Move, moved}
 use Rattle.pr_model.specs.Points.{after_meeting, is_traced, stopped_at, with_others_directed, with_stop_at}
-use Rattle.pr_model.specs.Rows.{Row, entered_row, executed_row, handler_row, incurred_row, interrupted_row, own_taken_row, performed_row, posted_row, ran_row, requested_row, returned_row, row_for, shared_taken_row, watched_row}
-use Rattle.pr_model.specs.Signals.{generated}
-use Rattle.pr_model.specs.State.{TracedLwp, TracedProcess, TracedSystem, live_process, lwp_of, with_lwp, with_lwp_of, with_process}
+use Rattle.pr_model.specs.Rows.{Row, entered_row, executed_row, handler_row, incurred_row, interrupted_row, own_taken_row, performed_row, posted_row, ran_row, requested_row, returned_row, shared_taken_row, watched_row}
+use Rattle.pr_model.specs.State.{TracedLwp, TracedProcess, TracedSystem, live_process, lwp_of, with_lwp}
 use Rattle.pr_model.specs.Stops.{directed, has_event_stop, with_all_directed}
-use Rattle.pr_model.specs.Transitions.{Transition, after_transition, died, dropped, ended_if, entered, handled, incurred, interrupted, job_stopped, own_taken, performed, posted, ran, requested, returned, shared_taken, trapped}
+use Rattle.pr_model.specs.Transitions.{Transition, died, dropped, entered, handled, incurred, interrupted, job_stopped, own_taken, performed, posted, ran, requested, returned, shared_taken, trapped}
 use Rattle.pr_model.specs.declared.lwps.Current.{Current}
 use Rattle.pr_model.specs.declared.stops.Point.{Point}
 use Rattle.pr_num.proofs.BoolLemmas.{either}
 use Rattle.pr_num.proofs.ByIdLaws.{All-change_under, All-inserted, All-map_each, All-under, All-without_id}
-use Rattle.pr_num.specs.ById.{change_under, inserted, map_each}
+use Rattle.pr_num.specs.ById.{inserted, map_each}
 use Rattle.pr_num.specs.Control.{async_mode, has_flags}
-use Rattle.pr_num.specs.Files.{with_all_closed}
-use Rattle.pr_num.specs.Infos.{of_child}
 use Rattle.pr_num.specs.Limits.{frame_limit}
-use Rattle.pr_num.specs.Programs.{Program}
 use Rattle.pr_num.specs.Syscalls.{is_fork_call}
 use Rattle.pr_num.specs.declared.infos.Info.{Info}
 use Rattle.pr_num.specs.declared.signals.Sig.{Sig}
-use Rattle.pr_num.specs.declared.signals.Sig.TheVariants.{Cld}
 use Rattle.pr_num.specs.declared.syscalls.Sysno.{Sysno}
 use Rattle.pr_num.specs.declared.syscalls.Sysno.TheVariants as sys
-use Rattle.pr_parts.specs.FileCalls.{with_all_shared}
 use Rattle.pr_parts.specs.SignalRules.{deleted_by}
 use Rattle.pr_truss.specs.FunctionEvents.{copies_memory}
 use Rattle.pr_function_hides.specs.SleptCopies.{HasNoCopySleeper, NoneSleepsInCopy, SleepsInNoCopy, sleeps_in_copy}
+use Rattle.pr_keeps.proofs.KeptSystems as step
+use Rattle.pr_keeps.proofs.KeptSystems.{Newborn, ProcessStep, TurnStep}
+use Rattle.pr_model.specs.Handles.{released, released_lwp}
+use Rattle.pr_model.specs.Lives.{first_lwp, new_process}
 
 -- A turn puts no lwp to sleep in a fork, a vfork or an exec: each of these is over at once, and what else a turn makes
 -- of lwps puts none to sleep.
@@ -97,7 +92,7 @@ module _ (s : TracedSystem) (pid : ℕ) (p : TracedProcess) (id : ℕ) (l : Trac
       choice (λ (t : Transition). SleepsElsewhere t.move) (nat_lt (length l.frames) frame_limit) _ _ (λ room. tt)
       (λ full. tt)
 
-  kind-elsewhere : (row : Row) → RowKind s pid p id l row → RowSleepsElsewhere row
+  pub kind-elsewhere : (row : Row) → RowKind s pid p id l row → RowSleepsElsewhere row
   unfolding requested_row posted_row own_taken_row shared_taken_row interrupted_row returned_row requested posted
       own_taken shared_taken interrupted returned trapped dropped job_stopped died
   kind-elsewhere row (kind.stops now) = tt
@@ -233,167 +228,49 @@ meeting-keeps (Some point) id x u =
     (lwps-keep directed directed-keeps at stopped))
     u
 
--- ---- the system
+released-keeps : KeepsLwpsAwake released
+unfolding released released_lwp
+released-keeps x u = lwps-keep released_lwp (same-phase released_lwp (λ l. refl)) x u
 
--- only the processes matter
-same-processes : (s t : TracedSystem) → t.processes ≡ s.processes → NoneSleepsInCopy s → NoneSleepsInCopy t
-same-processes s t same u = record { processes = subst (All HasNoCopySleeper) (sym same) u.processes }
+-- ---- the steps of a process
 
-pub process-keeps : (pid : ℕ) (f : TracedProcess → TracedProcess) → KeepsLwpsAwake f → (s : TracedSystem)
-    → NoneSleepsInCopy s → NoneSleepsInCopy (with_process pid f s)
-unfolding with_process
-process-keeps pid f keeps s u = record {
-  processes =
-      All-change_under HasNoCopySleeper pid f s.processes (λ x found un. record { lwps = keeps x un.lwps })
-      u.processes;
-}
+abbrev pub IsOwnAwake : ℕ → TracedLwp → Type 0
+IsOwnAwake id l = SleepsInNoCopy (id, l)
 
-passed-keeps : (gone : ℕ) (p : TracedProcess) (s : TracedSystem) → NoneSleepsInCopy s
-    → NoneSleepsInCopy (with_loans_passed gone p s)
-passed-keeps gone p =
-    loans_passed-keep NoneSleepsInCopy gone p
-    (λ other. process-keeps other (with_loan_back gone p) (loan_back-keeps gone p))
-    (λ other. process-keeps other (with_lender_of gone p) (lender_of-keeps gone p))
+pub step-awake : (f : TracedProcess → TracedProcess) → ProcessStep IsOwnAwake f → KeepsLwpsAwake f
+unfolding lent_to with_fds with_space with_shared_taken with_job_stop with_disposition_of with_held resumed
+    with_suspended with_program started without_lwp
+step-awake f (step.told target g info other) x u = signalled-keeps target g info x u
+step-awake f (step.dies status) x u = zombie-keeps status x u
+step-awake f (step.loses_parent gone) x u = orphaned-keeps gone x u
+step-awake f step.is_released x u = released-keeps x u
+step-awake f (step.gets_back gone p) x u = loan_back-keeps gone p x u
+step-awake f (step.gets_lender gone p) x u = lender_of-keeps gone p x u
+step-awake f (step.becomes id l program own) x u =
+    All-cons SleepsInNoCopy _ [] (record { none = own.none }) (All-nil SleepsInNoCopy)
+step-awake f (step.held_is id held) x u = lwp-keeps id (with_held held) (same-phase (with_held held) (λ l. refl)) x u
+step-awake f (step.resumes id frame frames) x u =
+    lwp-keeps id (resumed frame frames) (same-phase (resumed frame frames) (λ l. refl)) x u
+step-awake f (step.suspends id it) x u =
+    lwp-keeps id (with_suspended it) (same-phase (with_suspended it) (λ l. refl)) x u
+step-awake f (step.gets_lwp id regs held) x u = new_lwp-keeps id regs held x u
+step-awake f (step.loses_lwp id) x u = All-without_id SleepsInNoCopy id x.lwps u
+step-awake f _ x u = u
 
-pub with_this_ended-keeps : (gone : ℕ) (p : TracedProcess) (status : ℕ) (s : TracedSystem) → NoneSleepsInCopy s
-    → NoneSleepsInCopy (with_this_ended traced gone p status s)
-unfolding with_this_ended with_parent_signalled
-with_this_ended-keeps gone p status s u =
-    let buried =
-    All-change_under HasNoCopySleeper gone (zombie traced status) s.processes
-    (λ x found un. record { lwps = zombie-keeps status x un.lwps }) u.processes in
-    let left =
-    All-map_each HasNoCopySleeper HasNoCopySleeper (orphaned gone)
-    (λ e un. record { lwps = orphaned-keeps gone e.1 un.lwps }) _ buried in
-    let to : TracedSystem =
-    record s {
-      files = with_all_closed s.files p.fds;
-      processes = map_each (orphaned gone) (change_under gone (zombie traced status) s.processes);
-    } in
-    let passed : TracedSystem = with_loans_passed gone p to in
-    let it : NoneSleepsInCopy passed = passed-keeps gone p to (record { processes = left }) in
-    either NoneSleepsInCopy (p.parent == 0) passed
-    (with_process p.parent (signalled None Cld (of_child gone status)) passed) it
-    (process-keeps p.parent (signalled None Cld (of_child gone status))
-    (signalled-keeps None Cld (of_child gone status)) passed it)
+pub newborn-awake : (x : TracedProcess) → Newborn IsOwnAwake x → Awake x
+unfolding new_process bare_process first_lwp new_lwp traced
+newborn-awake x (step.spawned program clock held) =
+    All-cons SleepsInNoCopy _ [] (record { none = refl }) (All-nil SleepsInNoCopy)
+newborn-awake x (step.forks birth pid p id l args clock own) = forked-awake birth pid p l args clock
 
-with_ended-keeps : (gone status : ℕ) (s : TracedSystem) → NoneSleepsInCopy s
-    → NoneSleepsInCopy (with_ended traced gone status s)
-unfolding with_ended
-with_ended-keeps gone status s u = by (live_process s gone)
-  where
-    by : (o : Option TracedProcess) → NoneSleepsInCopy (ended_if_live traced gone status s o)
-    by None = u
-    by (Some p) = with_this_ended-keeps gone p status s u
-
-pub generated-keeps : (other : ℕ) (target : Option ℕ) (g : Sig) (info : Info) (s : TracedSystem)
-    → NoneSleepsInCopy s → NoneSleepsInCopy (generated traced other target g info s)
-unfolding generated
-generated-keeps other target g info s u =
-    either NoneSleepsInCopy _ _ _ (with_ended-keeps other _ s u)
-    (process-keeps other (signalled target g info) (signalled-keeps target g info) s u)
-
-pub made-keeps : (p : TracedProcess) (s : TracedSystem) → All SleepsInNoCopy p.lwps → NoneSleepsInCopy s
-    → NoneSleepsInCopy (with_made p s)
-unfolding with_made
-made-keeps p s new u = record {
-  processes = All-inserted HasNoCopySleeper s.made p s.processes (record { lwps = new }) u.processes;
-}
-
--- ---- a turn
-
-module _ (acting : ℕ) (p : TracedProcess) (id : ℕ) (l : TracedLwp) (own : SleepsInNoCopy (id, l)) where
-  program-keeps : (program : Program) → KeepsLwpsAwake (with_program traced id l program)
-  unfolding with_program started
-  program-keeps program x u =
-      All-cons SleepsInNoCopy _ [] (record { none = own.none }) (All-nil SleepsInNoCopy)
-
-  acting-keeps : (f : TracedProcess → TracedProcess) → ((x : TracedProcess) → (f x).lwps ≡ x.lwps)
-      → (s : TracedSystem) → NoneSleepsInCopy s → NoneSleepsInCopy (with_process acting f s)
-  acting-keeps f same = process-keeps acting f (same-lwps f same)
-
-  child-keeps : (birth : Birth) (args : List ℕ) (s : TracedSystem) → NoneSleepsInCopy s
-      → NoneSleepsInCopy (with_child traced birth acting p l args s)
-  unfolding with_child lent_to
-  child-keeps birth args s u =
-      let shared : TracedSystem = record s { files = with_all_shared s.files p.fds } in
-      made-keeps (forked traced birth acting p l args s.clock) (with_lent birth acting s.made shared)
-      (forked-awake birth acting p l args s.clock)
-      (lent-keeps NoneSleepsInCopy birth acting s.made (acting-keeps (lent_to s.made) (λ x. refl)) shared
-      (same-processes s shared refl u))
-
-  own-keeps : (f : TracedLwp → TracedLwp) → ((x : TracedLwp) → (f x).phase ≡ x.phase) → (other : ℕ)
-      → (s : TracedSystem) → NoneSleepsInCopy s → NoneSleepsInCopy (with_process acting (with_lwp other f) s)
-  own-keeps f same other = process-keeps acting (with_lwp other f) (lwp-keeps other f (same-phase f same))
-
-  changed-keeps : (c : Change) → (s : TracedSystem) → NoneSleepsInCopy s
-      → NoneSleepsInCopy (changed traced acting p id l c s)
-  unfolding changed with_fds with_space with_shared_taken with_job_stop with_disposition_of with_held resumed
-      with_suspended with_reaped
-  changed-keeps (files_are files fds) s u =
-      let filed : TracedSystem = record s { files = files } in
-      acting-keeps (with_fds fds) (λ x. refl) filed (same-processes s filed refl u)
-  changed-keeps (space_is space) s u = acting-keeps (with_space space) (λ x. refl) s u
-  changed-keeps (signals target g info) s u =
-      either NoneSleepsInCopy _ s _ u (generated-keeps target None g info s u)
-  changed-keeps (signals_itself g info) s u =
-      either NoneSleepsInCopy _ s _ u (generated-keeps acting (Some id) g info s u)
-  changed-keeps (takes_shared g) s u = acting-keeps (with_shared_taken g) (λ x. refl) s u
-  changed-keeps (job_stops g) s u = acting-keeps (with_job_stop g) (λ x. refl) s u
-  changed-keeps (disposition_is g d) s u = acting-keeps (with_disposition_of g d) (λ x. refl) s u
-  changed-keeps (held_is held) s u = own-keeps (with_held held) (λ x. refl) id s u
-  changed-keeps (resumes frame frames) s u = own-keeps (resumed frame frames) (λ x. refl) id s u
-  changed-keeps (forks birth args) s u =
-      either NoneSleepsInCopy (s.made == acting) s (with_child traced birth acting p l args s) u
-      (child-keeps birth args s u)
-  changed-keeps (reaps child) s u =
-      either NoneSleepsInCopy (child == acting) s (with_reaped child s) u
-      (record { processes = All-without_id HasNoCopySleeper child s.processes u.processes })
-  changed-keeps (becomes program) s u =
-      process_if-keeps NoneSleepsInCopy p.lender (with_loan_back acting p)
-      (λ other. process-keeps other (with_loan_back acting p) (loan_back-keeps acting p)) _
-      (process-keeps acting (with_program traced id l program) (program-keeps program) s u)
-  changed-keeps (makes_lwp new regs held) s u =
-      process-keeps acting (with_new_lwp traced new regs held) (new_lwp-keeps new regs held) s u
-  changed-keeps (suspends other it) s u = own-keeps (with_suspended it) (λ x. refl) other s u
-
-  all_changed-keeps : (cs : List Change) → (s : TracedSystem) → NoneSleepsInCopy s
-      → NoneSleepsInCopy (all_changed traced acting p id l cs s)
-  unfolding all_changed
-  all_changed-keeps [] s u = u
-  all_changed-keeps (c ∷ cs) s u = all_changed-keeps cs (changed traced acting p id l c s) (changed-keeps c s u)
-
-  without_lwp-keeps : KeepsLwpsAwake (without_lwp id)
-  unfolding without_lwp
-  without_lwp-keeps x u = All-without_id SleepsInNoCopy id x.lwps u
-
-  ended-keeps : (how : Ending) (s : TracedSystem) → NoneSleepsInCopy s
-      → NoneSleepsInCopy (ended traced acting p id how s)
-  unfolding ended with_lwp_ended
-  ended-keeps (ends_process status) s u = with_this_ended-keeps acting p status s u
-  ended-keeps ends_lwp s u =
-      either NoneSleepsInCopy _ _ _ (with_this_ended-keeps acting p 0 s u)
-      (process-keeps acting (without_lwp id) without_lwp-keeps s u)
-
-  transition-keeps : (t : Transition) → SleepsElsewhere t.move → (s : TracedSystem) → NoneSleepsInCopy s
-      → NoneSleepsInCopy (after_transition traced acting p id l t s)
-  unfolding after_transition with_lwp_of
-  transition-keeps t other s u =
-      by t.ending _
-      (process-keeps acting (with_lwp id (moved traced t.move))
-      (lwp-keeps id (moved traced t.move) (moved-keeps t.move other)) _ (all_changed-keeps t.changes s u))
-    where
-      by : (o : Option Ending) (to : TracedSystem) → NoneSleepsInCopy to
-          → NoneSleepsInCopy (ended_if traced acting p id l o to)
-      by None to un = un
-      by (Some how) to un = ended-keeps how to un
-
-  settled-keeps : (s : TracedSystem) → NoneSleepsInCopy s → (row : Row) → RowSleepsElsewhere row
-      → NoneSleepsInCopy (settled s acting p id l row).system
-  unfolding settled with_counted
-  settled-keeps s u row other =
-      process-keeps acting (after_meeting row.point id) (meeting-keeps row.point id) _
-      (acting-keeps (with_counted row.did row.begun) (λ x. refl) _ (transition-keeps row.transition other s u))
+-- what a row does to its own process
+pub own-awake : (id : ℕ) (row : Row) → RowSleepsElsewhere row → (f : TracedProcess → TracedProcess)
+    → TurnStep id row f → KeepsLwpsAwake f
+unfolding with_counted
+own-awake id row other f step.moves x u =
+    lwp-keeps id (moved traced row.transition.move) (moved-keeps row.transition.move other) x u
+own-awake id row other f step.counts x u = u
+own-awake id row other f step.meets x u = meeting-keeps row.point id x u
 
 -- an lwp of a process that lives
 pub awake-lwp : (s : TracedSystem) (pid : ℕ) (p : TracedProcess) (id : ℕ) (l : TracedLwp) → NoneSleepsInCopy s
@@ -401,12 +278,3 @@ pub awake-lwp : (s : TracedSystem) (pid : ℕ) (p : TracedProcess) (id : ℕ) (l
 awake-lwp s pid p id l u live there =
     let here = All-under HasNoCopySleeper pid p s.processes u.processes (live_process-found s pid p live) in
     All-under SleepsInNoCopy id l p.lwps here.lwps there
-
-pub turn-awake : (s : TracedSystem) (acting id : ℕ) (t : LwpTurn) → turn_of s acting id ≡ Some t → NoneSleepsInCopy s
-    → NoneSleepsInCopy t.system
-turn-awake s acting id t turn u =
-    let it = turn-taken s acting id t turn in
-    let row : Row = row_for s acting it.process id it.lwp in
-    subst (λ (x : LwpTurn). NoneSleepsInCopy x.system) (sym it.is)
-    (settled-keeps acting it.process id it.lwp (awake-lwp s acting it.process id it.lwp u it.live it.there) s u row
-    (kind-elsewhere s acting it.process id it.lwp row (row-kind s acting it.process id it.lwp)))

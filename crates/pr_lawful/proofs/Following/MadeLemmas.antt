@@ -15,7 +15,7 @@ use Rattle.pr_model.specs.Rows.{Row}
 use Rattle.pr_model.specs.Signals.{generated}
 use Rattle.pr_model.specs.State.{Places, TracedLwp, TracedProcess, TracedSystem, with_process}
 use Rattle.pr_model.specs.declared.handles.Held.{Held}
-use Rattle.pr_keeps.proofs.KeptSystems.{AnyLwp, KeepsSystem, closed-keeps, generated-keeps, message-keeps, settled-keeps, spawned-keeps}
+use Rattle.pr_keeps.proofs.KeptSystems.{AnyLwp, KeepsSystem, KeepsTurns, closed-keeps, generated-keeps, message-keeps, settled-keeps, spawned-keeps}
 use Rattle.pr_model.specs.State.{process_of}
 
 -- No step makes the number of processes that were made less.
@@ -40,6 +40,10 @@ keeps-grown s = record {
   makes = λ t p new h. omega arith;
   reaps = λ t pid h. h;
 }
+
+pub turns-grow : (s : TracedSystem) → KeepsTurns AnyLwp (Grows s)
+unfolding with_process
+turns-grow s = record { known = λ t pid p id l h live there. tt; own = λ t pid p id l f is u h. h }
 
 pub generated-grows : (s : TracedSystem) (pid : ℕ) (target : Option ℕ) (g : Sig) (info : Info)
     → Grows s (generated traced pid target g info s)
