@@ -1,54 +1,33 @@
-use Rattle.std.proofs.Common.{◌≡◌, ◌==◌, ◌&&◌, ◌<◌, ◌≤◌, ◌+◌, ℕ, Bool, true, cond, is_some, length, None, Some, Option, List, [], ◌∷◌, refl, sym, subst, ap, ◌∙◌, arith, inl, inr}
+use Rattle.std.proofs.Common.{◌≡◌, ◌==◌, ◌<◌, ◌≤◌, ◌+◌, ℕ, true, is_some, None, Some, Option, List, [], ◌∷◌, refl, sym, ap, ◌∙◌, arith, inl, inr}
 use Rattle.std.proofs.lemmas.Bool.{cases_Bool, eqb-false, eqb-true, false≢true}
 use Rattle.std.proofs.lemmas.List.Elements.{All-cons, All-nil, All-weaker}
-use Rattle.std.proofs.lemmas.Option.{same_Some}
 use Rattle.std.specs.List.{All}
-use Rattle.pr_num.proofs.ByIdLaws.{All-change_under, All-inserted, All-map_each, All-under, All-without_id}
+use Rattle.pr_num.proofs.ByIdLaws.{All-under}
 use Rattle.pr_num.proofs.ByIdLemmas.{rises_from-tail}
-use Rattle.pr_num.specs.ById.{change_under, rises_from, under}
-use Rattle.pr_num.specs.Infos.{by_controller, killed_by}
+use Rattle.pr_num.specs.ById.{rises_from, under}
 use Rattle.pr_num.specs.Programs.{Program}
-use Rattle.pr_num.specs.Signals.{signal_number}
 use Rattle.pr_num.specs.declared.infos.Info.{Info}
 use Rattle.pr_num.specs.declared.messages.Message.{Message}
 use Rattle.pr_num.specs.declared.signals.Sig.{Sig}
-use Rattle.pr_num.specs.declared.signals.Sig.TheVariants.{Cld, Kill}
-use Rattle.pr_parts.specs.FileCalls.{with_all_shared}
 use Rattle.pr_laws.proofs.RepresentativeLemmas.{ids-above}
-use Rattle.pr_lawful.proofs.LawfulTurns.EndLemmas.{buried, found-live}
-use Rattle.pr_keeps.specs.CallEdits as edit
-use Rattle.pr_keeps.specs.CallEdits.{CallEdit, CloseEdit}
-use Rattle.pr_keeps.specs.MessageEdits as message
-use Rattle.pr_keeps.specs.MessageEdits.{MessageEdit}
+use Rattle.pr_lawful.proofs.LawfulTurns.EndLemmas.{found-live}
 use Rattle.pr_keeps.specs.ProcessEdits as process
 use Rattle.pr_keeps.specs.ProcessEdits.{ProcessEdit}
-use Rattle.pr_keeps.proofs.CallLemmas.{call-edit, close-edit}
 use Rattle.pr_keeps.proofs.KeepsLemmas.{choice, process-edits-relate}
-use Rattle.pr_keeps.proofs.LoanLemmas.{process_if-keeps, lent-keeps, loans_passed-keep}
 use Rattle.pr_lending.proofs.ProcessLoans.LifeLemmas.{signalled-same}
-use Rattle.pr_model.proofs.TurnLemmas.{turn-taken}
-use Rattle.pr_model.specs.Calls.{Answer, answer_to}
-use Rattle.pr_model.specs.Changes.{Change, files_are, space_is, signals, signals_itself, takes_shared, job_stops, disposition_is, held_is, resumes, forks, reaps, becomes, makes_lwp, suspends, Ending, ends_process, ends_lwp, all_changed, changed, ended, resumed, with_disposition_of, with_fds, with_held, with_job_stop, with_shared_taken, with_space, with_suspended}
-use Rattle.pr_model.specs.ControlMessages.{tail_of}
+use Rattle.pr_model.specs.Changes.{ended, with_disposition_of, with_fds, with_job_stop, with_shared_taken, with_space}
 use Rattle.pr_model.specs.Generation.{signalled}
-use Rattle.pr_model.specs.Handles.{released, with_closed, with_opened}
+use Rattle.pr_model.specs.Handles.{released}
 use Rattle.pr_model.specs.Lawful.{IsLawfulSystem}
 use Rattle.pr_model.specs.Legal.{IsLegalEntry, after}
-use Rattle.pr_model.specs.Lives.{Birth, bare_process, ended_if_live, forked, is_id, lent_to, new_process, orphaned, with_child, with_ended, with_lender_of, with_lent, with_loan_back, with_loans_passed, with_lwp_ended, with_made, with_new_lwp, with_parent_signalled, with_program, with_reaped, with_spawned, with_this_ended, without_lwp, zombie}
-use Rattle.pr_model.specs.LwpTurns.{LwpTurn, settled, turn_of, with_counted}
+use Rattle.pr_model.specs.Lives.{bare_process, is_id, lent_to, orphaned, with_lender_of, with_loan_back, with_new_lwp, with_program, without_lwp, zombie}
+use Rattle.pr_model.specs.LwpTurns.{with_counted}
 use Rattle.pr_model.specs.Machines.{traced}
 use Rattle.pr_model.specs.Messages.{with_agent}
-use Rattle.pr_model.specs.Moves.{moved}
-use Rattle.pr_model.specs.Points.{after_meeting}
 use Rattle.pr_model.specs.Rows.{Row, row_for}
-use Rattle.pr_model.specs.Signals.{generated, is_kill}
-use Rattle.pr_model.specs.State.{TracedLwp, TracedProcess, TracedState, TracedSystem, live_process, lwp_of, process_of, with_lwp, with_lwp_of, with_process}
-use Rattle.pr_model.specs.Transitions.{Transition, after_transition, ended_if}
-use Rattle.pr_model.specs.declared.calls.Call.{Call}
+use Rattle.pr_model.specs.State.{TracedLwp, TracedProcess, TracedState, TracedSystem, live_process, lwp_of, with_lwp}
 use Rattle.pr_model.specs.declared.events.Act.{Act}
-use Rattle.pr_model.specs.declared.events.Act.TheVariants as act
 use Rattle.pr_model.specs.declared.events.Actor.{Actor}
-use Rattle.pr_model.specs.declared.events.Actor.TheVariants.{Controller, Lwp, Clock}
 use Rattle.pr_truss_laws.proofs.EventStops.OwnTurnLemmas.{meeting-same}
 use Rattle.pr_keeps.proofs.KeptHistories.{AnyEntry, AnyState, KeepsEach, act-keeps}
 use Rattle.pr_keeps.proofs.KeptProcesses.{KeepsProcesses, processes-keep, turns-keep}
