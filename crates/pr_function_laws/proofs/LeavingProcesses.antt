@@ -8,5 +8,6 @@ pub mod LeavingLaws
 pub mod LeavingStages
 pub mod LeavingStays
 pub mod LeavingSteps
+pub mod LeavingWaits
 pub mod LeftProcesses
 pub mod UnlookedProcesses

@@ -6,6 +6,7 @@ pub mod FedLemmas
 pub mod FedSteps
 pub mod FitLemmas
 pub mod FunctionOptionLemmas
+pub mod GoneLemmas
 pub mod OptionLemmas
 pub mod ReplySteps
 pub mod TracedChanges

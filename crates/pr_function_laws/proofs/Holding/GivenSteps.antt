@@ -135,7 +135,7 @@ module _ (A : List ℕ → Type 0) (E : Type 0) (S : List ℕ → Type 0) (B : L
     closes-else stage place next z none (step.text_ended _) = f
     closes-else stage place next z none (step.run_ended _) = f
     closes-else stage place next z none (step.left_ended _) = f
-    closes-else stage place next z none step.looked_last = f
+    closes-else stage place next z none (step.looked_last _) = f
     closes-else stage place next z none step.freed_last = f
     closes-else stage place next z none (step.freed_none _) = f
     closes-else stage place next z none (step.refuses_free _ _) = f

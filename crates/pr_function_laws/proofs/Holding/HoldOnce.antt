@@ -84,13 +84,13 @@ module _ (u : TrussState) (r : Reply) (done then : List Exchange) (less : All Is
       → HasPolled u.leaving then
   reads-polled stage place l here (step.reads_status {place = at} _) =
       inr (λ all. (subst (Going done) here going) (less all))
-  reads-polled stage place l here (step.reads_none {place = at}) =
+  reads-polled stage place l here (step.reads_none {place = at} _) =
       inr (λ all. (subst (Going done) here going) (less all))
   reads-polled stage place l here (step.reads_lwps _) = inl (subst (Leaves u.leaving) here stands)
 
   looks-polled : (stage : Stage) (place : ℕ) (pid : Option ℕ) (z : TrussState) → u.stage ≡ stage
       → Looks u r stage place pid z → HasPolled u.leaving then
-  looks-polled stage place pid z here (step.passes reads) = reads-polled stage place _ here reads
+  looks-polled stage place pid z here (step.passes w) = reads-polled stage place _ here w.reads
   looks-polled stage place pid z here (step.passes_old reads _ _) = reads-polled stage place _ here reads
   looks-polled stage place pid z here (step.passes_event reads _ _) = reads-polled stage place _ here reads
   looks-polled stage place pid z here (step.shows reads _ _ _) = reads-polled stage place _ here reads
@@ -127,7 +127,7 @@ module _ (u : TrussState) (r : Reply) (done then : List Exchange) (less : All Is
   closes-now stage place next z here (step.text_ended _) = tt
   closes-now stage place next z here (step.run_ended _) = tt
   closes-now stage place next z here (step.left_ended _) = tt
-  closes-now stage place next z here step.looked_last = tt
+  closes-now stage place next z here (step.looked_last _) = tt
   closes-now stage place next z here step.freed_last = tt
   closes-now stage place next z here (step.freed_none _) = tt
   closes-now stage place next z here (step.refuses_free _ _) = tt

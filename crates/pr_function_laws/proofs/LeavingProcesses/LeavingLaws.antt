@@ -1,5 +1,4 @@
 use Rattle.std.proofs.Common.{◌≡◌, ◌<◌, ◌++◌, ℕ, Bool, true, false, cond, Option, Some, None, List, [], ◌∷◌, length, refl, sym, subst, ap, ◌∙◌, arith}
-use Rattle.std.proofs.lemmas.Bool.{false≢true}
 use Rattle.std.proofs.lemmas.List.Elements.{All-cons, All-nil, All-tail}
 use Rattle.std.proofs.lemmas.Option.{none-some, same_Some}
 use Rattle.std.specs.List.{All, cons_option, remove, slice_get, slice_index_or}
@@ -15,27 +14,25 @@ use Rattle.pr_num.specs.declared.errnos.Errno.TheVariants.{Intr}
 use Rattle.pr_report_laws.proofs.Files.WatchHistories.{cons-exchanges, exchanges-both, no-exchanges}
 use Rattle.pr_report_laws.proofs.Watching.HistoryParts.{legal-rest}
 use Rattle.pr_truss.specs.Asides.{with_aside}
-use Rattle.pr_truss.specs.Closings.{left_or_finished, polls_or_finished, with_going_on, with_interrupt, with_next_left}
-use Rattle.pr_truss.specs.FunctionCalls.{call_beside, function_call_of, next_function_call_of, patch_call}
-use Rattle.pr_truss.specs.FunctionFeeding.{fed_functions, with_aside_answered, with_asking_answered, with_function_reply, with_function_step_answered, with_halt_answered, with_wait_answered}
-use Rattle.pr_truss.specs.Feeding.{with_reply}
-use Rattle.pr_truss.specs.Marks.{first_function, has_functions}
+use Rattle.pr_truss.specs.Closings.{left_or_finished, polls_or_finished, with_going_on, with_next_left}
+use Rattle.pr_truss.specs.FunctionCalls.{call_beside, function_call_of, next_function_call_of}
+use Rattle.pr_truss.specs.FunctionFeeding.{fed_functions, with_aside_answered, with_asking_answered, with_function_reply, with_halt_answered, with_wait_answered}
+use Rattle.pr_truss.specs.Marks.{has_functions}
 use Rattle.pr_truss.specs.NextCalls.{call_of}
 use Rattle.pr_truss.specs.Openings.{with_stop_seen}
 use Rattle.pr_truss.specs.Replies.{answer_of}
-use Rattle.pr_truss.specs.Stops.{with_poll_answered}
-use Rattle.pr_truss.specs.Trusses.{TrussState, first_truss, nobody, traced_at, with_stage}
+use Rattle.pr_truss.specs.Trusses.{TrussState, first_truss, nobody, with_stage}
 use Rattle.pr_truss.specs.declared.asides.Aside.{Aside}
-use Rattle.pr_truss.specs.declared.asides.Aside.TheVariants.{Nothing, Reading, Planting, Patching, AwaitingStop, Asking, AwaitingAgain}
+use Rattle.pr_truss.specs.declared.asides.Aside.TheVariants.{Nothing, AwaitingStop, Asking, AwaitingAgain}
 use Rattle.pr_truss.specs.declared.processes.Traced.{Traced}
 use Rattle.pr_truss.specs.declared.replies.Answer.{Answer}
 use Rattle.pr_truss.specs.declared.replies.Answer.TheVariants.{Accepted, Interrupted, Gone, Refused}
 use Rattle.pr_truss.specs.declared.stages.AfterClosing.TheVariants.{GoOn}
 use Rattle.pr_truss.specs.declared.stages.Stage.{Stage}
-use Rattle.pr_truss.specs.declared.stages.Stage.TheVariants.{Spawning, OpeningControl, Opening, Polling, ReadingStatus, ReadingText, Running, Closing, Unfollowing, ReadingLwps, Finished}
+use Rattle.pr_truss.specs.declared.stages.Stage.TheVariants.{Closing, Unfollowing, ReadingLwps, Finished}
 use Rattle.pr_truss_laws.specs.Exchanges.{Exchange, exchange_of, exchanges}
 use Rattle.pr_function_laws.proofs.CallTurns.CalledLaws.{functions-both}
-use Rattle.pr_function_laws.proofs.Marks.KeptPlaces.{AtAside, AtStage, Position}
+use Rattle.pr_function_laws.proofs.LeavingProcesses.LeavingWaits.{WaitsAt, awaits_opening, interrupted_at, polls, waits-at, waits-fed}
 use Rattle.pr_function_laws.proofs.NextCalls.LastLooks.{looks-last}
 use Rattle.pr_function_laws.proofs.OpenedProcesses.OpenedCalls.{IsSo}
 use Rattle.pr_function_laws.proofs.OpenedProcesses.OpenedLaws.{Goes, before-goes, calls-rest}
@@ -45,7 +42,7 @@ use Rattle.pr_function_laws.specs.Coming.{Come, Later, close_calls}
 use Rattle.pr_function_laws.specs.Leaving.{AsksAgain, Directs, Ends, Goes as GoesTo, HaltNext, HaltStep, Halts, LeavesAll, LeavesItsProcesses, LeavesOne, Looks, Waits, WaitsAgain, halt_call, halt_next}
 use Rattle.pr_function_laws.specs.Opened.{IsFunctionRun, WasNotInterrupted, functions_at}
 use Rattle.pr_function_laws.specs.Runs.{MakesFunctionCalls, functions_after}
-use Rattle.pr_function_laws.specs.Soon.{IsCalm, may_wait}
+use Rattle.pr_function_laws.specs.Soon.{IsCalm}
 
 -- How truss leaves its processes.
 
@@ -243,13 +240,6 @@ left-traced u = by (slice_get u.traced 0)
     by None = refl
     by (Some t) = refl
 
--- a patch is no wait
-pub patch-still : (o : Options) (control : ℕ) (plant lift : Option ℕ) → may_wait (patch_call o control plant lift) ≡
-    false
-patch-still o control (Some function) lift = refl
-patch-still o control None (Some function) = refl
-patch-still o control None None = refl
-
 -- a wait was interrupted: truss begins to leave, as this one does
 record Begins (t : TrussState) (r : Reply) : Type 0 where
   from : TrussState
@@ -258,49 +248,18 @@ record Begins (t : TrussState) (r : Reply) : Type 0 where
   leaves : from.leaving ≡ true
   free : from.aside ≡ Nothing
 
-module _ (P : Position → Traced → Type 0) (o : Options) (has : has_functions o ≡ true) (t : TrussState) (r : Reply)
-    (options : t.options ≡ o) (interrupted : answer_of r ≡ Interrupted) (c : Call) (waits : may_wait c ≡ true) where
-  never : {A : Type 0} → (d : Call) → Some d ≡ Some c → may_wait d ≡ false → A
-  never d is still = absurd (false≢true (sym still ∙ ap may_wait (same_Some d c is) ∙ waits))
-
-  staged-begins : t.aside ≡ Nothing → (stage : Stage) → t.stage ≡ stage → AtStage P t.traced stage
-      → function_call_of t stage ≡ Some c → Begins t r
-  unfolding function_call_of call_of with_function_reply with_function_step_answered with_reply with_poll_answered
-      with_interrupt with_stop_seen
-  staged-begins free (Spawning program) at is calls = never _ calls refl
-  staged-begins free (OpeningControl pid) at is calls = never _ calls refl
-  staged-begins free (Opening q step) at is calls = record {
-    from = record (with_stop_seen t q) { leaving = true };
-    is = fed-staged o has t r (Opening q step) options free at
-        ∙ ap (with_function_step_answered t q step r) interrupted;
-    options = refl;
-    leaves = refl;
-    free = free;
-  }
-  staged-begins free Polling at is calls = record {
-    from = record t { leaving = true };
-    is = fed-staged o has t r Polling options free at ∙ ap (with_poll_answered t r) interrupted;
-    options = refl;
-    leaves = refl;
-    free = free;
-  }
-  staged-begins free (ReadingStatus q) at is calls = never _ calls refl
-  staged-begins free (ReadingText q l from len) at is calls = never _ calls refl
-  staged-begins free (Running q) at is calls = never _ calls refl
-  staged-begins free (Closing q next) at is calls = never _ calls refl
-  staged-begins free Finished at is calls = absurd (none-some c calls)
-  staged-begins free _ at is calls = absurd is
-
-  aside-begins : (aside : Aside) → t.aside ≡ aside → AtAside P t.traced aside → AtStage P t.traced t.stage
-      → call_beside t t.stage aside ≡ Some c → Begins t r
-  unfolding call_beside
-  aside-begins Nothing free beside is calls = staged-begins free t.stage refl is calls
-  aside-begins (Reading q function) free beside is calls = never _ calls refl
-  aside-begins (Planting q function) free beside is calls = never _ calls refl
-  aside-begins (Patching q plants lifts clear) free beside is calls =
-      never _ calls
-      (patch-still t.options (traced_at t q).control (first_function plants) (first_function lifts))
-  aside-begins _ free beside is calls = absurd beside
+begins-at : (t : TrussState) (r : Reply) → t.aside ≡ Nothing → (w : WaitsAt t)
+    → fed_functions t r ≡ with_next_left (interrupted_at t w) → Begins t r
+unfolding interrupted_at with_stop_seen
+begins-at t r free (awaits_opening q until at) is = record {
+  from = record (with_stop_seen t q) { leaving = true };
+  is = is;
+  options = refl;
+  leaves = refl;
+  free = free;
+}
+begins-at t r free (polls at) is =
+    record { from = record t { leaving = true }; is = is; options = refl; leaves = refl; free = free }
 
 -- ---- in a history
 
@@ -343,9 +302,10 @@ module _ (n k : ℕ) (o : Options) (s : TracedState) (h : List Entry) (run : IsF
         let g = here in
         let kept = g.kept in
         let calm_x = entry-calm n k (state_after s before) e x legal.0 own in
-        aside-begins (IsSo ⊥ k t.options (state_after s before)) o run.has t x.reply g.options (ap answer_of broken)
-        x.call (calm_x.waits broken) t.aside refl kept.beside kept.stage
-        (sym (next-beside o run.has t g.options) ∙ made.0)
+        let w =
+        waits-at o run.has t g.options (IsSo ⊥ k t.options (state_after s before)) x.call (calm_x.waits broken)
+        kept.stage kept.beside made.0 in
+        begins-at t x.reply w.0 w.1 (waits-fed o run.has t g.options x.reply (ap answer_of broken) w.0 w.1)
 
     then-is : functions_at k o (before ++ e ∷ []) ≡ fed_functions t x.reply
     then-is =

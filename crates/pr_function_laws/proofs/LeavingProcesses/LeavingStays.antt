@@ -27,7 +27,7 @@ module _ (s : TrussState) (r : Reply) (on : s.leaving ≡ true) where
 
   closes-leaves : (stage : Stage) (place : ℕ) (next : AfterClosing) (u : TrussState) → Closes s r stage place next u
       → u.leaving ≡ true
-  closes-leaves stage place next u step.looked_last = on
+  closes-leaves stage place next u (step.looked_last _) = on
   closes-leaves stage place next u _ = on
 
   returns-leaves : (stage : Stage) (parent : ℕ) (u : TrussState) → Returns s r stage parent u → u.leaving ≡ true

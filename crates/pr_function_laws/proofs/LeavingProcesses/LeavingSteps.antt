@@ -1,6 +1,6 @@
 use Rattle.std.proofs.Common.{◌≡◌, ◌≢◌, ◌<◌, ◌||◌, ℕ, Bool, true, false, cond, is_some, Option, Some, None}
 use Rattle.std.proofs.Common.{List, [], ◌∷◌, length, refl, sym, subst, ap, ◌∙◌, inl, inr}
-use Rattle.std.proofs.lemmas.Bool.{cases_eq, false≢true}
+use Rattle.std.proofs.lemmas.Bool.{cases_eq}
 use Rattle.std.proofs.lemmas.List.{get_or-set_other, length-set}
 use Rattle.std.proofs.lemmas.Option.{none-some, same_Some, slice_get_within}
 use Rattle.std.specs.List.{remove, slice_get, slice_set}
@@ -14,27 +14,26 @@ use Rattle.pr_truss.specs.Asides.{with_lifts_before_closing, with_marks}
 use Rattle.pr_truss.specs.Closings.{after_closing, closed_or_removed, left_or_finished, polls_or_finished, with_closed}
 use Rattle.pr_truss.specs.Closings.{with_closing, with_going_on, with_interrupt, with_next_left}
 use Rattle.pr_truss.specs.Feeding.{with_reply}
-use Rattle.pr_truss.specs.FunctionCalls.{call_beside, function_call_of, next_function_call_of}
+use Rattle.pr_truss.specs.FunctionCalls.{function_call_of, next_function_call_of}
 use Rattle.pr_truss.specs.FunctionEvents.{fresh_event, function_event}
 use Rattle.pr_truss.specs.FunctionFeeding.{after_first, after_patch, fed_functions, with_aside_answered}
-use Rattle.pr_truss.specs.FunctionFeeding.{with_asking_answered, with_function_reply, with_function_step_answered}
+use Rattle.pr_truss.specs.FunctionFeeding.{with_asking_answered, with_function_reply}
 use Rattle.pr_truss.specs.FunctionFeeding.{with_halt_answered, with_patch_answered, with_wait_answered, without_planted}
 use Rattle.pr_truss.specs.FunctionStops.{after_function_text, with_call_shown, with_fresh_event, with_function_event}
 use Rattle.pr_truss.specs.FunctionStops.{with_function_lwps_answered, with_function_stop, with_function_stop_read}
 use Rattle.pr_truss.specs.FunctionStops.{with_function_text_answered, with_last_event, with_last_stop}
 use Rattle.pr_truss.specs.FunctionStops.{with_memory_replaced}
 use Rattle.pr_truss.specs.Marks.{first_function, has_functions, no_functions, no_marks, without_function}
-use Rattle.pr_truss.specs.NextCalls.{call_of, opening_call}
+use Rattle.pr_truss.specs.NextCalls.{call_of}
 use Rattle.pr_truss.specs.Openings.{with_stop_seen}
 use Rattle.pr_truss.specs.Processes.{without_last}
 use Rattle.pr_truss.specs.Records.{event_stops}
 use Rattle.pr_truss.specs.Replies.{answer_of}
 use Rattle.pr_truss.specs.Stops.{after_text, text_of, with_event_over, with_event_shown}
-use Rattle.pr_truss.specs.Stops.{with_poll_answered, with_stop, with_stop_over, with_text_answered}
+use Rattle.pr_truss.specs.Stops.{with_stop, with_stop_over, with_text_answered}
 use Rattle.pr_truss.specs.Trusses.{TrussState, nobody, traced_at, with_stage, with_traced, without_traced}
 use Rattle.pr_truss.specs.declared.asides.Aside.{Aside}
 use Rattle.pr_truss.specs.declared.asides.Aside.TheVariants.{Asking, AwaitingAgain, AwaitingStop, Nothing, Patching}
-use Rattle.pr_truss.specs.declared.asides.Aside.TheVariants.{Planting, Reading}
 use Rattle.pr_truss.specs.declared.function_events.FunctionEvent.{FunctionEvent}
 use Rattle.pr_truss.specs.declared.function_events.FunctionEvent.TheVariants.{AfterCopy, AtBreakpoint, BeforeCopy}
 use Rattle.pr_truss.specs.declared.function_events.FunctionEvent.TheVariants.{Completed, Other, Replaced, TraceTrap}
@@ -42,25 +41,26 @@ use Rattle.pr_truss.specs.declared.processes.Traced.{Traced}
 use Rattle.pr_truss.specs.declared.replies.Answer.{Answer}
 use Rattle.pr_truss.specs.declared.replies.Answer.TheVariants.{Accepted, Gone, Interrupted, Refused}
 use Rattle.pr_truss.specs.declared.stages.AfterClosing.TheVariants.{GoOn}
-use Rattle.pr_truss.specs.declared.stages.OpeningStep.{OpeningStep}
 use Rattle.pr_truss.specs.declared.stages.OpeningStep.TheVariants as opening
 use Rattle.pr_truss.specs.declared.stages.Stage.{Stage}
-use Rattle.pr_truss.specs.declared.stages.Stage.TheVariants.{Closing, Finished, Opening, OpeningControl, Polling}
-use Rattle.pr_truss.specs.declared.stages.Stage.TheVariants.{ReadingLwps, ReadingStatus, ReadingText, Running, Spawning}
+use Rattle.pr_truss.specs.declared.stages.Stage.TheVariants.{Closing, Finished, Opening}
+use Rattle.pr_truss.specs.declared.stages.Stage.TheVariants.{ReadingLwps, ReadingText}
 use Rattle.pr_truss.specs.declared.stages.Stage.TheVariants.{Unfollowing}
 use Rattle.pr_truss_laws.proofs.Files.HeldLemmas.{at_place, set-at}
 use Rattle.pr_truss_laws.proofs.Replies.ReplySteps.{lost-same}
 use Rattle.pr_function_laws.proofs.Marks.KeptPlaces.{AtAside, AtStage, Position}
-use Rattle.pr_function_laws.proofs.LeavingProcesses.LeavingLaws.{halt_answered, halt_aside, halt_stage, patch-still}
+use Rattle.pr_function_laws.proofs.LeavingProcesses.LeavingLaws.{halt_answered, halt_aside, halt_stage}
 use Rattle.pr_function_laws.proofs.LeavingProcesses.LeavingStages.{Alike, IsLeft, Looked, Over, alike-same, asks, awaits}
 use Rattle.pr_function_laws.proofs.LeavingProcesses.LeavingStages.{closes_files, closing-over, event-over, halts, has_ended, is_looked}
 use Rattle.pr_function_laws.proofs.LeavingProcesses.LeavingStages.{lifts_all, looks, over, over-join, reads_text, stale-over}
 use Rattle.pr_function_laws.proofs.LeavingProcesses.LeavingStages.{stop-looked, stop-over, text, waits_again, with_no_marks}
+use Rattle.pr_function_laws.proofs.LeavingProcesses.LeavingWaits.{interrupted_at, waits-at, waits-fed}
 use Rattle.pr_function_laws.proofs.OrdinaryTruss.OrdinaryStops.{nothing-first}
-use Rattle.pr_function_laws.proofs.NextCalls.PatchCalls.{fed-beside, fed-staged, next-beside, next-staged}
+use Rattle.pr_function_laws.proofs.NextCalls.PatchCalls.{fed-beside, fed-staged, next-staged}
 use Rattle.pr_function_laws.specs.Leaving.{AsksAgain, Directs, Ends, Goes as GoesTo, HaltNext, HaltStep, Looks, Waits}
 use Rattle.pr_function_laws.specs.Leaving.{WaitsAgain, halt_next}
 use Rattle.pr_function_laws.specs.Soon.{may_wait}
+pub use Rattle.pr_function_laws.proofs.LeavingProcesses.LeavingWaits.{WaitsAt, awaits_opening, polls}
 
 -- What a reply makes of truss that leaves its processes: which of them it traces then, and where it stands.
 
@@ -112,11 +112,6 @@ pub record LeavesOn (t : TrussState) (r : Reply) (v : TrussState) : Type 0 where
   pub went : Went t r v
   pub on : v.leaving ≡ true
   pub at : IsLeft v
-
--- it waits for a process that it opens to stop, or polls
-pub data WaitsAt (t : TrussState) : Type 0 where
-  awaits_opening : (q until : ℕ) → t.stage ≡ Opening q (opening.AwaitStop until) → WaitsAt t
-  polls : t.stage ≡ Polling → WaitsAt t
 
 -- with the first interrupt: it traces the same processes, with as many old stops
 pub record BeginsToLeave (t v : TrussState) : Type 0 where
@@ -608,9 +603,6 @@ module _ (t : TrussState) (r : Reply) (on : t.leaving ≡ true) (follow : t.opti
 
 module _ (P : Position → Traced → Type 0) (t : TrussState) (r : Reply) (has : has_functions t.options ≡ true)
     (interrupted : answer_of r ≡ Interrupted) (c : Call) (waits : may_wait c ≡ true) where
-  never : {A : Type 0} → (d : Call) → Some d ≡ Some c → may_wait d ≡ false → A
-  never d is still = absurd (false≢true (sym still ∙ ap may_wait (same_Some d c is) ∙ waits))
-
   begun : WaitsAt t → (u : TrussState) → u.leaving ≡ true → u.aside ≡ Nothing → Shares t u
       → ((traced_at u 0).old ≡ (traced_at t 0).old) × (marks_at u 0 ≡ marks_at t 0)
       → fed_functions t r ≡ with_next_left u → BeginsToLeave t (fed_functions t r)
@@ -665,71 +657,25 @@ module _ (P : Position → Traced → Type 0) (t : TrussState) (r : Reply) (has 
         | inr apart ↦ ap f (get_or-set_other t.traced q i (seen_there q) nobody apart)
       ]
 
-  -- of the steps of an opening one waits
-  opening-waits : (q : ℕ) (step : OpeningStep) → function_call_of t (Opening q step) ≡ Some c
-      → (until : ℕ) × (step ≡ opening.AwaitStop until)
-  unfolding function_call_of call_of opening_call
-  opening-waits q opening.OpenStatus is = never _ is refl
-  opening-waits q opening.OpenLstatus is = never _ is refl
-  opening-waits q opening.OpenMemory is = never _ is refl
-  opening-waits q opening.ClearModes is = never _ is refl
-  opening-waits q opening.SetRelease is = never _ is refl
-  opening-waits q opening.Stop is = never _ is refl
-  opening-waits q (opening.AwaitStop until) is = (until, refl)
-  opening-waits q opening.ReadLwps is = never _ is refl
-  opening-waits q opening.TraceSignals is = never _ is refl
-  opening-waits q opening.TraceFaults is = never _ is refl
-  opening-waits q opening.TraceEntries is = never _ is refl
-  opening-waits q opening.TraceExits is = never _ is refl
-  opening-waits q opening.Follow is = never _ is refl
-  opening-waits q opening.Start is = never _ is refl
-
-  staged-begins : t.aside ≡ Nothing → (stage : Stage) → t.stage ≡ stage → AtStage P t.traced stage
-      → function_call_of t stage ≡ Some c → BeginsToLeave t (fed_functions t r)
-  unfolding function_call_of call_of with_function_reply with_function_step_answered with_reply with_poll_answered
-      with_interrupt with_stop_seen
-  staged-begins idle (Spawning program) at is calls = never _ calls refl
-  staged-begins idle (OpeningControl pid) at is calls = never _ calls refl
-  staged-begins idle (Opening q step) at is calls =
-      let seen = seen-shares q is.0 in
-      let step_is = opening-waits q step calls in
-      begun (awaits_opening q step_is.0 (at ∙ ap (λ x. Opening q x) step_is.1)) (record (with_stop_seen t q) {
-        leaving
-            = true;
-      }) refl idle seen.0 seen.1
-      (fed-staged t.options has t r (Opening q step) refl idle at
-      ∙ ap (with_function_step_answered t q step r) interrupted)
-  staged-begins idle Polling at is calls =
-      begun (polls at) (record t { leaving = true }) refl idle (same-alike t) (refl, refl)
-      (fed-staged t.options has t r Polling refl idle at ∙ ap (with_poll_answered t r) interrupted)
-    where
-      same-alike : (t : TrussState) → Shares t (record t { leaving = true })
-      same-alike t = record {
+  begins-at : AtStage P t.traced t.stage → t.aside ≡ Nothing → (w : WaitsAt t)
+      → fed_functions t r ≡ with_next_left (interrupted_at t w) → BeginsToLeave t (fed_functions t r)
+  unfolding interrupted_at with_stop_seen
+  begins-at is idle (awaits_opening q until at) next =
+      let here : AtStage P t.traced (Opening q (opening.AwaitStop until)) = subst (AtStage P t.traced) at is in
+      let seen = seen-shares q here.0 in
+      begun (awaits_opening q until at) (record (with_stop_seen t q) { leaving = true }) refl idle seen.0 seen.1 next
+  begins-at is idle (polls at) next =
+      begun (polls at) (record t { leaving = true }) refl idle
+      (record {
         many = refl;
         pids = λ i. refl;
         attached = λ i. refl;
         olds = λ i other. refl;
         marks = λ i other. refl;
-      }
-  staged-begins idle (ReadingStatus q) at is calls = never _ calls refl
-  staged-begins idle (ReadingText q l from len) at is calls = never _ calls refl
-  staged-begins idle (Running q) at is calls = never _ calls refl
-  staged-begins idle (Closing q next) at is calls = never _ calls refl
-  staged-begins idle Finished at is calls = absurd (none-some c calls)
-  staged-begins idle _ at is calls = absurd is
-
-  aside-begins : (aside : Aside) → t.aside ≡ aside → AtAside P t.traced aside → AtStage P t.traced t.stage
-      → call_beside t t.stage aside ≡ Some c → BeginsToLeave t (fed_functions t r)
-  unfolding call_beside
-  aside-begins Nothing idle beside is calls = staged-begins idle t.stage refl is calls
-  aside-begins (Reading q function) idle beside is calls = never _ calls refl
-  aside-begins (Planting q function) idle beside is calls = never _ calls refl
-  aside-begins (Patching q plants lifts clear) idle beside is calls =
-      never _ calls
-      (patch-still t.options (traced_at t q).control (first_function plants) (first_function lifts))
-  aside-begins _ idle beside is calls = absurd beside
+      }) (refl, refl) next
 
   pub begins-to-leave : AtStage P t.traced t.stage → AtAside P t.traced t.aside → next_function_call_of t ≡ Some c
       → BeginsToLeave t (fed_functions t r)
   begins-to-leave is beside next =
-      aside-begins t.aside refl beside is (sym (next-beside t.options has t refl) ∙ next)
+      let w = waits-at t.options has t refl P c waits is beside next in
+      begins-at is w.0 w.1 (waits-fed t.options has t refl r interrupted w.0 w.1)

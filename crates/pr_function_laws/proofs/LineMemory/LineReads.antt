@@ -74,13 +74,13 @@ use Rattle.pr_function_laws.specs.Runs.{functions_after}
 looked-at : (u : TrussState) (r : Reply) (stage : Stage) (place : ℕ) (lwp : Option LwpStatus) (l : LwpStatus)
     → u.stage ≡ stage → Reads u r stage place lwp → lwp ≡ Some l → ReadsAt u r place l
 looked-at u r stage place lwp l at (step.reads_status _) tells = at_status at tells
-looked-at u r stage place lwp l at step.reads_none tells = absurd (none-some l tells)
+looked-at u r stage place lwp l at (step.reads_none _) tells = absurd (none-some l tells)
 looked-at u r stage place lwp l at (step.reads_lwps _) tells = at_lwps at refl tells
 
 granted : (u : TrussState) (r : Reply) (stage : Stage) (place : ℕ) (lwp : Option LwpStatus) (l : LwpStatus)
     → Reads u r stage place lwp → lwp ≡ Some l → answer_of r ≡ Accepted
 granted u r stage place lwp l (step.reads_status accepted) tells = accepted
-granted u r stage place lwp l step.reads_none tells = absurd (none-some l tells)
+granted u r stage place lwp l (step.reads_none _) tells = absurd (none-some l tells)
 granted u r stage place lwp l (step.reads_lwps accepted) tells = accepted
 
 module _ (u : TrussState) (place : ℕ) (l : LwpStatus) where

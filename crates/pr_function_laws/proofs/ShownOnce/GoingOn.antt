@@ -145,7 +145,7 @@ module _ (done : List Exchange) (u : TrussState) (y x : Exchange) (off : u.optio
   closes-going stage place after v at w (step.text_ended _) = tt
   closes-going stage place after v at w (step.run_ended _) = tt
   closes-going stage place after v at w (step.left_ended _) = tt
-  closes-going stage place after v at w step.looked_last = tt
+  closes-going stage place after v at w (step.looked_last _) = tt
   closes-going stage place after v at w step.freed_last = tt
   closes-going stage place after v at w (step.freed_none _) = tt
   closes-going stage place after v at w (step.refuses_free _ _) = tt

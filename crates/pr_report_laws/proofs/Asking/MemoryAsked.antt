@@ -75,7 +75,7 @@ module _ (n k : ℕ) (o : Options) (first : TracedState) (h : List Entry) (run :
   looked-at : (t : TrussState) (r : Reply) (stage : Stage) (place : ℕ) (lwp : Option LwpStatus) (l : LwpStatus)
       → t.stage ≡ stage → Reads t r stage place lwp → lwp ≡ Some l → ReadsAt t r place l
   looked-at t r stage place lwp l at (step.reads_status _) tells = at_status at tells
-  looked-at t r stage place lwp l at step.reads_none tells = absurd (none-some l tells)
+  looked-at t r stage place lwp l at (step.reads_none _) tells = absurd (none-some l tells)
   looked-at t r stage place lwp l at (step.reads_lwps _) tells = at_lwps at refl tells
 
   was-told : (place : ℕ) (l : LwpStatus) → (traced_at (truss_at k o h) place).pid ≡ pid

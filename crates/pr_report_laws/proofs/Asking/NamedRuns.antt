@@ -227,7 +227,7 @@ module _ (o : Options) (xs : List Exchange) (s : TrussState) (x : Exchange) (sam
       → Reads s x.reply stage place l → (s.leaving ≡ true) ⊎ NamedAt o then s.traced place
   reads-known stage place l at a (step.reads_status _) =
       inr (named-on _ (no-poll (ReadingStatus place) at (λ is. cc)) (status-runs place at) a)
-  reads-known stage place l at a step.reads_none =
+  reads-known stage place l at a (step.reads_none _) =
       inr (named-on _ (no-poll (ReadingStatus place) at (λ is. cc)) (status-runs place at) a)
   reads-known stage place l at a (step.reads_lwps _) = inl a
 
@@ -249,8 +249,8 @@ module _ (o : Options) (xs : List Exchange) (s : TrussState) (x : Exchange) (sam
   looks-aware : (stage : Stage) (place : ℕ) (pid : Option ℕ) (u : TrussState) → s.stage ≡ stage
       → Fits s.traced stage → Aware o xs s.leaving s.traced stage → Looks s x.reply stage place pid u
       → u.leaving ≡ false → NamedAt o then u.traced place
-  looks-aware stage place pid u at f a (step.passes reads) off =
-      either place (reads-known stage place _ at a reads) off
+  looks-aware stage place pid u at f a (step.passes w) off =
+      either place (reads-known stage place _ at a w.reads) off
   looks-aware stage place pid u at f a (step.passes_old reads _ _) off =
       subst (λ c. WasNamedLast o c then)
       (sym (set-control s.traced place place _ (reads-within s x.reply stage place _ f reads) refl))
@@ -279,7 +279,7 @@ module _ (o : Options) (xs : List Exchange) (s : TrussState) (x : Exchange) (sam
   closes-aware stage place next u at a (step.text_ended _) = tt
   closes-aware stage place next u at a (step.run_ended _) = tt
   closes-aware stage place next u at a (step.left_ended _) = tt
-  closes-aware stage place next u at a step.looked_last = tt
+  closes-aware stage place next u at a (step.looked_last _) = tt
   closes-aware stage place next u at a step.freed_last = tt
   closes-aware stage place next u at a (step.freed_none _) = tt
   closes-aware stage place next u at a (step.refuses_free _ _) = tt

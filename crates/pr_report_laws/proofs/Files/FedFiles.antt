@@ -265,7 +265,7 @@ module _ (P : ℕ → File → Mode → ℕ → Type 0) (r : Reply) (s : TrussSt
     base = based w.rests;
   }
   reads-looked stage place l f w (step.reads_status _) = status-looked place f w
-  reads-looked stage place l f w step.reads_none = status-looked place f w
+  reads-looked stage place l f w (step.reads_none _) = status-looked place f w
 
   reported-looked : (x : Report) (place : ℕ) → Looked s place → Looked (with_report s x) place
   reported-looked x place l = record {
@@ -293,7 +293,7 @@ module _ (P : ℕ → File → Mode → ℕ → Type 0) (r : Reply) (s : TrussSt
 
   looks-looked : (stage : Stage) (place : ℕ) (pid : Option ℕ) (u : TrussState) → Fits s.traced stage → Stood stage
       → Looks s r stage place pid u → Looked u place
-  looks-looked stage place pid u f w (step.passes reads) = reads-looked stage place _ f w reads
+  looks-looked stage place pid u f w (step.passes p) = reads-looked stage place _ f w p.reads
   looks-looked stage place pid u f w (step.passes_old reads _ _) =
       old-looked place (reads-looked stage place _ f w reads)
   looks-looked stage place pid u f w (step.passes_event reads _ _) = reads-looked stage place _ f w reads

@@ -12,6 +12,7 @@ use Rattle.pr_model.specs.declared.calls.File.{File}
 use Rattle.pr_model.specs.declared.calls.File.TheVariants as file
 use Rattle.pr_model.specs.declared.calls.Mode.{Mode}
 use Rattle.pr_model.specs.declared.calls.Mode.TheVariants.{Read, WriteExcl}
+use Rattle.pr_model.specs.declared.handles.Held.{Held}
 use Rattle.pr_rec.specs.declared.lwps.LwpStatus.{LwpStatus}
 use Rattle.pr_truss.specs.Processes.{last_handle}
 use Rattle.pr_truss.specs.Stops.{has_control}
@@ -25,6 +26,7 @@ use Rattle.pr_truss.specs.declared.stages.Stage.{Stage}
 use Rattle.pr_truss.specs.declared.stages.Stage.TheVariants.{Opening, ReadingStatus, ReadingText, OpeningChildControl, OpeningChild, Running, Closing, Unfollowing, ReadingLwps, FreeingChild}
 use Rattle.pr_truss_laws.proofs.Files.HeldLemmas.{Fits, at_place, of_stage}
 use Rattle.pr_truss_laws.proofs.Files.OwnLemmas.{Owns}
+use Rattle.pr_truss_laws.proofs.Replies.GoneLemmas.{IsNamed, its_control, its_last, its_lstatus, its_memory, its_status}
 use Rattle.pr_report_laws.proofs.Files.FileLaws.{FileOf, HasFiles, IsFileOf, free-apart, has-each, is_closing, only-position}
 use Rattle.pr_report_laws.proofs.Files.KeepLemmas.{FilesAre, FreedIs}
 use Rattle.pr_report_laws.proofs.Invariant.StandLemmas.{AreOpen, Each, EachBut, IsAttached, IsThere, RestBut, Rests, Stands, busy, rest-stays}
@@ -59,6 +61,17 @@ pub record IsSomeFile (k : ℕ) (s : TracedState) (pid number : ℕ) : Type 0 wh
   pub file : File
   pub mode : Mode
   pub is : IsFileOf k s pid number file mode
+
+same-file : {k pid number handle : ℕ} {s : TracedState} {f : File} {mode : Mode} → number ≡ handle
+    → IsFileOf k s pid number f mode → IsSomeFile k s pid handle
+same-file {k = k} {pid = pid} {s = s} {f = f} {mode = mode} same its =
+    record { file = f; mode = mode; is = subst (λ n. IsFileOf k s pid n f mode) same its }
+
+-- so that process has it open
+pub file-owner : (k : ℕ) (s : TracedState) (pid owner number : ℕ) (held : Held) → handle_of s.opens k number ≡ Some held
+    → held.pid ≡ pid → IsSomeFile k s owner number → owner ≡ pid
+file-owner k s pid owner number held there own its =
+    let f = its.is in ap (λ (h : Held). h.pid) (same_Some _ held (sym f.is ∙ there)) ∙ own
 
 -- a handle is the control handle of a process, and names it
 pub record IsPolled (t : TrussState) (m : ℕ) : Type 0 where
@@ -182,6 +195,16 @@ module _ (k : ℕ) (t : TrussState) (s : TracedState) (h : HasFiles k t s) where
         let on : IsAttached (traced_at t place) = w.at in
         let f : Fits t.traced (Opening place opening.ReadLwps) = subst (Fits t.traced) is fits in
         lstatus-known place f.0 on.opened
+
+    -- what a call names to which a reply comes that its process is gone
+    pub named-file : (handle place : ℕ) → place < length t.traced → IsNamed t handle place
+        → IsSomeFile k s (traced_at t place).pid handle
+    named-file handle place within (its_control is) = same-file is (h.control place within)
+    named-file handle place within (its_status at is) = same-file is (status-read place at)
+    named-file handle place within (its_memory {l = l} {from = from} {len = len} at is) =
+        same-file is (memory-read place l from len at)
+    named-file handle place within (its_lstatus at is) = same-file is (opening-read place at)
+    named-file handle place within (its_last at is) = same-file is (lwps-read at)
 
     place-within : (ts : List Traced) (stage : Stage) (place : ℕ) → stage_place stage ≡ Some place → Fits ts stage
         → place < length ts

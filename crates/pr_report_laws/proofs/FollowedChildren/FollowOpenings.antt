@@ -137,12 +137,12 @@ module _ (t : TrussState) (r : Reply) where
   reads-loud : {A : Type 0} (stage : Stage) (place : ℕ) (l : Option LwpStatus) → is_quiet stage ≡ true
       → Reads t r stage place l → A
   reads-loud stage place l quiet (row.reads_status _) = absurd (false≢true quiet)
-  reads-loud stage place l quiet row.reads_none = absurd (false≢true quiet)
+  reads-loud stage place l quiet (row.reads_none _) = absurd (false≢true quiet)
   reads-loud stage place l quiet (row.reads_lwps _) = absurd (false≢true quiet)
 
   looks-loud : {A : Type 0} (stage : Stage) (place : ℕ) (pid : Option ℕ) (u : TrussState) → is_quiet stage ≡ true
       → Looks t r stage place pid u → A
-  looks-loud stage place pid u quiet (row.passes reads) = reads-loud stage place _ quiet reads
+  looks-loud stage place pid u quiet (row.passes w) = reads-loud stage place _ quiet w.reads
   looks-loud stage place pid u quiet (row.passes_old reads _ _) = reads-loud stage place _ quiet reads
   looks-loud stage place pid u quiet (row.passes_event reads _ _) = reads-loud stage place _ quiet reads
   looks-loud stage place pid u quiet (row.shows reads _ _ _) = reads-loud stage place _ quiet reads

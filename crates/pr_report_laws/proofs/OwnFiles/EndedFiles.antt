@@ -13,43 +13,30 @@ use Rattle.pr_model.specs.declared.calls.Call.{Call}
 use Rattle.pr_model.specs.declared.calls.Call.TheVariants as call
 use Rattle.pr_model.specs.declared.calls.File.{File}
 use Rattle.pr_model.specs.declared.calls.File.TheVariants as file
-use Rattle.pr_model.specs.declared.calls.Mode.{Mode}
 use Rattle.pr_model.specs.declared.calls.Mode.TheVariants.{Read, WriteExcl}
-use Rattle.pr_model.specs.declared.calls.Reply.{Reply}
-use Rattle.pr_model.specs.declared.calls.Reply.TheVariants as reply
 use Rattle.pr_model.specs.declared.events.Entry.{Entry}
 use Rattle.pr_model.specs.declared.handles.Held.{Held}
-use Rattle.pr_num.specs.declared.errnos.Errno.TheVariants.{Noent}
-use Rattle.pr_truss.specs.Children.{with_child_answered, with_child_started, with_child_step_answered, with_freeing_answered, with_refused_child_step}
 use Rattle.pr_truss.specs.Closings.{closed_or_removed}
-use Rattle.pr_truss.specs.Feeding.{fed, with_reply}
-use Rattle.pr_truss.specs.NextCalls.{call_of, child_call, freeing_call, next_call_of, opening_call}
-use Rattle.pr_truss.specs.Openings.{with_refused_step, with_step_answered}
+use Rattle.pr_truss.specs.Feeding.{fed}
+use Rattle.pr_truss.specs.NextCalls.{call_of, freeing_call, next_call_of}
 use Rattle.pr_truss.specs.Processes.{last_handle, without_last}
-use Rattle.pr_truss.specs.Replies.{answer_of}
-use Rattle.pr_truss.specs.Stops.{after_text, with_event_shown, with_lwps_answered, with_run_answered, with_status_answered, with_text_answered, with_unfollowed}
 use Rattle.pr_truss.specs.Trusses.{TrussState, traced_at, with_stage, with_traced}
 use Rattle.pr_truss.specs.declared.processes.Traced.{Traced}
 use Rattle.pr_truss.specs.declared.stages.AfterClosing.{AfterClosing}
-use Rattle.pr_truss.specs.declared.stages.ChildStep.{ChildStep}
-use Rattle.pr_truss.specs.declared.stages.ChildStep.TheVariants as child
 use Rattle.pr_truss.specs.declared.stages.FreeingStep.{FreeingStep}
 use Rattle.pr_truss.specs.declared.stages.FreeingStep.TheVariants as freeing
-use Rattle.pr_truss.specs.declared.stages.OpeningStep.{OpeningStep}
-use Rattle.pr_truss.specs.declared.stages.OpeningStep.TheVariants as opening
-use Rattle.pr_truss.specs.declared.stages.Stage.{Stage}
-use Rattle.pr_truss.specs.declared.stages.Stage.TheVariants.{Opening, ReadingStatus, ReadingText, OpeningChild, Running, Closing, Unfollowing, ReadingLwps, FreeingChild}
-use Rattle.pr_truss_laws.proofs.Replies.FitLemmas.{last-within}
-use Rattle.pr_truss_laws.proofs.Files.HeldLemmas.{ClosesFirst, Fits, at_place, close-fed, closes-first, closes-next, handles_in, held, is_this, of_stage, of_traced, set-at, unit}
+use Rattle.pr_truss.specs.declared.stages.Stage.TheVariants.{Closing, FreeingChild}
+use Rattle.pr_truss_laws.proofs.Files.HeldLemmas.{ClosesFirst, at_place, close-fed, closes-first, closes-next, handles_in, held, is_this, of_stage, of_traced, set-at, unit}
 use Rattle.pr_truss_laws.proofs.Files.OwnLemmas.{Owns, owned}
+use Rattle.pr_truss_laws.proofs.Replies.GoneLemmas.{WhenGone, ended, frees, gone-closes, shuts}
 use Rattle.pr_truss_laws.specs.Business.{IsAmong, goes_to}
 use Rattle.pr_truss_laws.specs.Exchanges.{Exchange, Makes, exchanges, truss_at}
 use Rattle.pr_truss_laws.specs.Handles.{handles_of}
 use Rattle.pr_truss_laws.specs.Runs.{IsTrussRun}
-use Rattle.pr_report_laws.proofs.Files.FileLaws.{FileOf, HasFiles, IsFileOf, free-apart, has-each}
+use Rattle.pr_report_laws.proofs.Files.FileLaws.{FileOf, HasFiles, free-apart, has-each}
 use Rattle.pr_report_laws.proofs.Files.FileSteps.{MakesNext, makes-next}
 use Rattle.pr_report_laws.proofs.Files.FileUses as uses
-use Rattle.pr_report_laws.proofs.Files.FileUses.{freed_control}
+use Rattle.pr_report_laws.proofs.Files.FileUses.{file-owner, freed_control}
 use Rattle.pr_report_laws.proofs.Files.KeepLemmas.{FilesAre}
 use Rattle.pr_report_laws.proofs.Files.WatchHistories.{Reaches, run-reaches}
 use Rattle.pr_report_laws.proofs.ToldForks.ToldReads.{file-has}
@@ -250,13 +237,6 @@ module _ (k : ℕ) (t : TrussState) (s : TracedState) (g : Reaches k t s) (pid :
 
 -- ---- the reply
 
-abbrev ended : Reply
-ended = reply.Fail Noent
-
-abbrev goes : Option Call → Option ℕ
-goes (Some c) = goes_to c
-goes None = None
-
 module _ (k : ℕ) (t : TrussState) (s : TracedState) (g : Reaches k t s) (pid handle : ℕ) (mine : Held)
     (there : handle_of s.opens k handle ≡ Some mine) (of : mine.pid ≡ pid) (xs : List Exchange)
     (makes : Makes (fed t ended) xs) where
@@ -266,141 +246,42 @@ module _ (k : ℕ) (t : TrussState) (s : TracedState) (g : Reaches k t s) (pid h
   owns : Owns k t s
   owns = g.owns
 
-  -- a file of a place is of this process
-  file-pid : {of_pid : ℕ} {f : File} {mode : Mode} → IsFileOf k s of_pid handle f mode → of_pid ≡ pid
-  file-pid its = ap (λ (x : Held). x.pid) (same_Some _ mine (sym its.is ∙ there)) ∙ of
-
-  module _ (place : ℕ) (within : place < length t.traced) (its : (traced_at t place).pid ≡ pid)
-      (alone : (h : ℕ) → of_stage pid h t.stage ≡ 0) where
-    closing : (u : TrussState) (next : AfterClosing) → fed t ended ≡ u → u.stage ≡ Closing place next
-        → u.traced ≡ t.traced → CloseAllOf k pid s xs
-    closing u next is at same = (
-      handles_of (traced_at t place),
-      (
-        all-of k t s g pid place within its alone,
-        subst (λ ts. CloseFirst xs (handles_of (at_place ts place))) same
-            (closes-all xs u place next at (subst (λ ts. place < length ts) (sym same) within)
-            (subst (λ v. Makes v xs) is makes)),
-      ),
-    )
-
-  answered-at : (stage : Stage) → t.stage ≡ stage → fed t ended ≡ with_reply t ended stage
-  unfolding fed
-  answered-at stage at = ap (with_reply t ended) at
-
-  none-freed : (stage : Stage) → t.stage ≡ stage → ((h : ℕ) → of_stage pid h stage ≡ 0) → (h : ℕ)
-      → of_stage pid h t.stage ≡ 0
-  none-freed stage at none h = ap (of_stage pid h) at ∙ none h
-
-  -- the process at a place, by the handle of its control file, and by another of its files
-  by-control : (place : ℕ) → place < length t.traced → Some (traced_at t place).control ≡ Some handle
-      → (traced_at t place).pid ≡ pid
-  by-control place within is =
-      file-pid
-      (subst (λ n. IsFileOf k s (traced_at t place).pid n file.Ctl WriteExcl)
-      (same_Some (traced_at t place).control handle is) (files.control place within))
-
-  opening-of : (place : ℕ) (now : OpeningStep) → t.stage ≡ Opening place now → place < length t.traced
-      → goes_to (opening_call t.options (traced_at t place) now) ≡ Some handle → (traced_at t place).pid ≡ pid
-  unfolding opening_call
-  opening-of place opening.OpenStatus at within is = cc
-  opening-of place opening.OpenLstatus at within is = cc
-  opening-of place opening.OpenMemory at within is = cc
-  opening-of place opening.ReadLwps at within is =
-      file-pid
-      (subst (λ n. IsFileOf k s (traced_at t place).pid n file.Lstatus Read) (same_Some _ handle is)
-      (uses.opening-read k t s files owns.fits place at))
-  opening-of place (opening.AwaitStop until) at within is = by-control place within is
-  opening-of place _ at within is = by-control place within is
-
-  child-of : (parent place : ℕ) (now : ChildStep) → t.stage ≡ OpeningChild parent place now → place < length t.traced
-      → goes_to (child_call (traced_at t place) now) ≡ Some handle → CloseAllOf k pid s xs
-  unfolding fed with_reply answer_of child_call with_child_answered with_child_step_answered with_child_started
-      with_refused_child_step
-  child-of parent place child.SetRelease at within is =
-      closing place within (by-control place within is) (none-freed (OpeningChild parent place child.SetRelease) at
-      (λ h. refl)) _ _ (answered-at (OpeningChild parent place child.SetRelease) at) refl refl
-  child-of parent place child.Start at within is =
-      closing place within (by-control place within is) (none-freed (OpeningChild parent place child.Start) at
-      (λ h. refl)) _ _ (answered-at (OpeningChild parent place child.Start) at) refl refl
-  child-of parent place child.OpenStatus at within is = cc
-  child-of parent place child.OpenLstatus at within is = cc
-  child-of parent place child.OpenMemory at within is = cc
-
-  -- it is the child
-  freed-of : (of_child control : ℕ) → t.stage ≡ FreeingChild of_child (freeing.SetRelease control)
-      → Some control ≡ Some handle → of_child ≡ pid
-  freed-of of_child control at is =
-      file-pid
-      (subst (λ n. IsFileOf k s of_child n file.Ctl WriteExcl) (same_Some control handle is)
-      (uses.freed-file k t s files of_child control (freeing.SetRelease control) at refl))
-
-  freed-closes : (of_child control : ℕ) (u : TrussState) (ys : List Exchange)
-      → next_call_of u ≡ Some (call.Close control) → Makes u ys → CloseFirst ys (control ∷ [])
-  freed-closes of_child control u [] next made = tt
-  freed-closes of_child control u (y ∷ ys) next made =
-      (same_Some y.call (call.Close control) (sym made.0 ∙ next), nothing ys)
+  freed-closes : (u : TrussState) (ys : List Exchange) → next_call_of u ≡ Some (call.Close handle) → Makes u ys
+      → CloseFirst ys (handle ∷ [])
+  freed-closes u [] next made = tt
+  freed-closes u (y ∷ ys) next made = (same_Some y.call (call.Close handle) (sym made.0 ∙ next), nothing ys)
     where
       nothing : (zs : List Exchange) → CloseFirst zs []
       nothing [] = tt
       nothing (z ∷ zs) = tt
 
-  freeing-of : (of_child : ℕ) (now : FreeingStep) → t.stage ≡ FreeingChild of_child now
-      → goes_to (freeing_call of_child now) ≡ Some handle → CloseAllOf k pid s xs
-  unfolding fed with_reply freeing_call with_freeing_answered next_call_of call_of
-  freeing-of of_child freeing.OpenControl at is = cc
-  freeing-of of_child (freeing.SetRelease control) at is =
-      let to : fed t ended ≡ with_stage t (FreeingChild of_child (freeing.Close control)) =
-      ap (with_reply t ended) at in (
-        control ∷ [],
+  pub next-closes : (c : Call) → next_call_of t ≡ Some c → goes_to c ≡ Some handle → CloseAllOf k pid s xs
+  unfolding next_call_of call_of freeing_call
+  next-closes c is to = by (gone-closes t handle c owns.fits is to)
+    where
+      by : WhenGone t handle → CloseAllOf k pid s xs
+      by (shuts place next within named alone at same) = (
+        handles_of (traced_at t place),
         (
-          freed-all k t s g pid control (freeing.SetRelease control)
-              (at ∙ ap (λ c. FreeingChild c (freeing.SetRelease control)) (freed-of of_child control at is)) refl,
-          freed-closes of_child control (with_stage t (FreeingChild of_child (freeing.Close control))) xs refl
-              (subst (λ v. Makes v xs) to makes),
+          all-of k t s g pid place within
+              (file-owner k s pid _ handle mine there of
+              (uses.named-file k t s files owns.fits handle place within named)) (λ h. alone pid h),
+          subst (λ ts. CloseFirst xs (handles_of (at_place ts place))) same
+              (closes-all xs (fed t ended) place next at (subst (λ ts. place < length ts) (sym same) within) makes),
         ),
       )
-  freeing-of of_child (freeing.Close control) at is = cc
-
-  stage-of : (stage : Stage) → t.stage ≡ stage → Fits t.traced stage → goes (call_of t stage) ≡ Some handle
-      → CloseAllOf k pid s xs
-  unfolding fed with_reply answer_of call_of with_step_answered with_refused_step with_status_answered
-      with_text_answered after_text with_event_shown with_run_answered with_unfollowed with_lwps_answered
-  stage-of (Opening place now) at f is =
-      closing place f.0 (opening-of place now at f.0 is) (none-freed (Opening place now) at (λ h. refl)) _ _
-      (answered-at (Opening place now) at) refl refl
-  stage-of (ReadingStatus place) at f is =
-      closing place f
-      (file-pid
-      (subst (λ n. IsFileOf k s (traced_at t place).pid n file.Status Read) (same_Some _ handle is)
-      (uses.status-read k t s files owns.fits place at))) (none-freed (ReadingStatus place) at (λ h. refl)) _ _
-      (answered-at (ReadingStatus place) at) refl refl
-  stage-of (ReadingText place l from len) at f is =
-      closing place f
-      (file-pid
-      (subst (λ n. IsFileOf k s (traced_at t place).pid n file.Mem Read) (same_Some _ handle is)
-      (uses.memory-read k t s files owns.fits place l from len at)))
-      (none-freed (ReadingText place l from len) at (λ h. refl)) _ _
-      (answered-at (ReadingText place l from len) at) refl refl
-  stage-of (OpeningChild parent place now) at f is =
-      child-of parent place now at (last-within t.traced parent place f.0) is
-  stage-of (Running place) at f is =
-      closing place f (by-control place f is) (none-freed (Running place) at (λ h. refl)) _ _
-      (answered-at (Running place) at) refl refl
-  stage-of Unfollowing at f is =
-      closing 0 f (by-control 0 f is) (none-freed Unfollowing at (λ h. refl)) _ _ (answered-at Unfollowing at) refl refl
-  stage-of ReadingLwps at f is =
-      closing 0 f
-      (file-pid
-      (subst (λ n. IsFileOf k s (traced_at t 0).pid n file.Lstatus Read) (same_Some _ handle is)
-      (uses.lwps-read k t s files owns.fits at))) (none-freed ReadingLwps at (λ h. refl)) _ _
-      (answered-at ReadingLwps at) refl refl
-  stage-of (FreeingChild of_child now) at f is = freeing-of of_child now at is
-  stage-of _ at f is = cc
-
-  pub next-closes : (c : Call) → next_call_of t ≡ Some c → goes_to c ≡ Some handle → CloseAllOf k pid s xs
-  unfolding next_call_of
-  next-closes c is to = stage-of t.stage refl owns.fits (ap goes is ∙ to)
+      by (frees child at is) =
+          let freed = uses.freed-file k t s files child handle (freeing.SetRelease handle) at refl in
+          let own : child ≡ pid =
+          file-owner k s pid child handle mine there of (record { file = file.Ctl; mode = WriteExcl; is = freed }) in (
+            handle ∷ [],
+            (
+              freed-all k t s g pid handle (freeing.SetRelease handle)
+                  (at ∙ ap (λ n. FreeingChild n (freeing.SetRelease handle)) own) refl,
+              freed-closes (with_stage t (FreeingChild child (freeing.Close handle))) xs refl
+                  (subst (λ v. Makes v xs) is makes),
+            ),
+          )
 
 pub closes-ended : (n k : ℕ) (o : Options) (first : TracedState) (h : List Entry) → IsTrussRun n k o first h
     → ClosesAllThatEnded k first h

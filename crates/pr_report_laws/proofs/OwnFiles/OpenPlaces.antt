@@ -269,7 +269,7 @@ module _ (o : Options) (xs : List Exchange) (s : TrussState) (x : Exchange) (sam
               made = made;
             });
       })
-  reads-fork stage place lwp l e at w step.reads_none tells new c follow made = absurd (none-some l tells)
+  reads-fork stage place lwp l e at w (step.reads_none _) tells new c follow made = absurd (none-some l tells)
   reads-fork stage place lwp l e at w (step.reads_lwps _) tells new c follow made =
       subst (λ b. ForkFor b c) (sym w) (record {
         follow = follow;
@@ -310,7 +310,7 @@ module _ (o : Options) (xs : List Exchange) (s : TrussState) (x : Exchange) (sam
   closes-knows stage place next u at w (step.text_ended _) = tt
   closes-knows stage place next u at w (step.run_ended _) = tt
   closes-knows stage place next u at w (step.left_ended _) = tt
-  closes-knows stage place next u at w step.looked_last = tt
+  closes-knows stage place next u at w (step.looked_last _) = tt
   closes-knows stage place next u at w step.freed_last = tt
   closes-knows stage place next u at w (step.freed_none _) = tt
   closes-knows stage place next u at w (step.refuses_free _ _) = tt

@@ -281,12 +281,12 @@ module _ (s : TrussState) (r : Reply) where
   reads-done : (stage : Stage) (place : ℕ) (l : Option LwpStatus) → ReadyAt s stage → Reads s r stage place l
       → (s.leaving ≡ true) ⊎ Done s
   reads-done stage place l w (step.reads_status _) = inr w
-  reads-done stage place l w step.reads_none = inr w
+  reads-done stage place l w (step.reads_none _) = inr w
   reads-done stage place l w (step.reads_lwps _) = inl w
 
   looks-done : (stage : Stage) (place : ℕ) (pid : Option ℕ) (u : TrussState) → ReadyAt s stage
       → Looks s r stage place pid u → (u.leaving ≡ true) ⊎ Done u
-  looks-done stage place pid u w (step.passes reads) = reads-done stage place _ w reads
+  looks-done stage place pid u w (step.passes p) = reads-done stage place _ w p.reads
   looks-done stage place pid u w (step.passes_old reads _ _) = reads-done stage place _ w reads
   looks-done stage place pid u w (step.passes_event reads _ _) = reads-done stage place _ w reads
   looks-done stage place pid u w (step.shows reads _ _ _) = reads-done stage place _ w reads
@@ -309,7 +309,7 @@ module _ (s : TrussState) (r : Reply) where
   closes-ready stage place next u w (step.text_ended _) = w
   closes-ready stage place next u w (step.run_ended _) = inr w
   closes-ready stage place next u w (step.left_ended _) = inl w
-  closes-ready stage place next u w step.looked_last = inl w
+  closes-ready stage place next u w (step.looked_last _) = inl w
   closes-ready stage place next u w step.freed_last = inl w
   closes-ready stage place next u w (step.freed_none _) = inl w
   closes-ready stage place next u w (step.refuses_free _ _) = inl w

@@ -1,5 +1,4 @@
-use Rattle.std.proofs.Common.{◌≡◌, ◌≢◌, ◌==◌, ◌++◌, nat_lt, ℕ, Bool, true, false, cond, is_some, not, Option, Some, None, List, [], ◌∷◌, slice_get, refl, sym, subst, ap, ◌∙◌}
-use Rattle.std.proofs.lemmas.Bool.{false≢true}
+use Rattle.std.proofs.Common.{◌≡◌, ◌≢◌, ◌==◌, ◌++◌, nat_lt, ℕ, Bool, true, false, cond, is_some, Option, Some, None, List, [], ◌∷◌, slice_get, refl, sym, ap, ◌∙◌}
 use Rattle.std.proofs.lemmas.List.{append-nil}
 use Rattle.std.proofs.lemmas.List.Elements.{filter_map-append}
 use Rattle.std.specs.List.{cons_option}
@@ -12,28 +11,25 @@ use Rattle.pr_model.specs.Replies.{bytes_in}
 use Rattle.pr_model.specs.declared.calls.Reply.{Reply}
 use Rattle.pr_num.specs.declared.errnos.Errno.{Errno}
 use Rattle.pr_rec.specs.declared.lwps.LwpStatus.{LwpStatus}
-use Rattle.pr_truss.specs.Closings.{with_closing, with_interrupt}
-use Rattle.pr_truss.specs.Feeding.{fed, with_reply}
+use Rattle.pr_truss.specs.Feeding.{fed}
 use Rattle.pr_truss.specs.Records.{event_stops, is_on_event, status_lwp}
 use Rattle.pr_truss.specs.Replies.{answer_of}
 use Rattle.pr_truss.specs.Reports.{pending_at}
-use Rattle.pr_truss.specs.Stops.{asked_range, text_of, with_event, with_event_over, with_event_shown, with_lwps_answered, with_old_stop_over, with_status_answered, with_stop, with_stop_over, with_stop_read, with_text_or_shown}
-use Rattle.pr_truss.specs.Trusses.{TrussState, traced_at, with_report, with_stage}
-use Rattle.pr_truss.specs.declared.replies.Answer.{Answer}
-use Rattle.pr_truss.specs.declared.replies.Answer.TheVariants.{Accepted, Interrupted, Gone, Refused}
+use Rattle.pr_truss.specs.Stops.{text_of}
+use Rattle.pr_truss.specs.Trusses.{TrussState, traced_at, with_stage}
+use Rattle.pr_truss.specs.declared.replies.Answer.TheVariants.{Accepted, Interrupted, Gone}
 use Rattle.pr_truss.specs.declared.reports.Report.{Report}
 use Rattle.pr_truss.specs.declared.reports.Report.TheVariants.{CannotStart, CannotTrace, Event as Reported}
 use Rattle.pr_truss.specs.declared.stages.AfterClosing.{AfterClosing}
 use Rattle.pr_truss.specs.declared.stages.Stage.{Stage}
-use Rattle.pr_truss.specs.declared.stages.Stage.TheVariants.{Spawning, OpeningControl, Opening, Polling, ReadingStatus, ReadingText, OpeningChildControl, OpeningChild, Running, Closing, Unfollowing, ReadingLwps, FreeingChild, Finished}
-use Rattle.pr_truss_laws.proofs.Replies.FedSteps.{event-over, fed-step, stop-over}
+use Rattle.pr_truss.specs.declared.stages.Stage.TheVariants.{ReadingStatus, ReadingText, ReadingLwps}
+use Rattle.pr_truss_laws.proofs.Replies.FedSteps.{fed-step}
 use Rattle.pr_truss_laws.proofs.Replies.ReplySteps as step
-use Rattle.pr_truss_laws.proofs.Replies.ReplySteps.{Closes, GoesOn, Looks, Reads, ReplyStep, Returns, Settles, StopOver, Turns, old_less, on-staged, over-staged}
+use Rattle.pr_truss_laws.proofs.Replies.ReplySteps.{Closes, GoesOn, IsNew, Looks, Reads, ReplyStep, Returns, Settles, StopOver, Turns, on-staged, over-staged}
 use Rattle.pr_report_laws.proofs.Invariant.Tallies.{told_in}
-use Rattle.pr_report_laws.proofs.Replies.NewStops.{if_new, new_at, read_at, read_now, refused-bytes}
-use Rattle.pr_report_laws.proofs.Replies.NextStages.{interrupt-comes, reported}
+use Rattle.pr_report_laws.proofs.Replies.NewStops.{new_at, new_of, read_at, read_now, refused-bytes}
+use Rattle.pr_report_laws.proofs.Replies.NextStages.{reported}
 use Rattle.pr_report_laws.proofs.Replies.StopsOver.{reported-text, shown-none, shown-text}
-use Rattle.pr_report_laws.proofs.Replies.TextReports.{reads_stop}
 use Rattle.pr_report_laws.specs.Shown.{LwpEvent, event_reported, event_told, shown}
 
 -- What a reply adds to what truss has shown of a process: the event that it reads then, if the options select it. This
@@ -53,11 +49,6 @@ turn-pending : (t : TrussState) (r : Reply) (stage next : Stage) → Turns t r s
     → pending_at (with_stage t next) next ≡ []
 turn-pending t r stage next (step.starts _) = refl
 turn-pending t r stage next _ = refl
-
-reads-stop : (t : TrussState) (r : Reply) (stage : Stage) (place : ℕ) (l : Option LwpStatus)
-    → Reads t r stage place l → reads_stop stage ≡ true
-reads-stop t r stage place l (step.reads_lwps _) = refl
-reads-stop t r stage place l _ = refl
 
 -- ---- what reports show
 
@@ -83,314 +74,241 @@ module _ (pid : ℕ) (t : TrussState) (r : Reply) where
       → shown pid v ≡ reported pid rs
   now-shows v rs same none = shown-none pid v none ∙ ap (reported pid) same
 
-  same-shows : (u : TrussState) → pending_at t t.stage ≡ [] → u.reports ≡ t.reports
-      → reported pid u.reports ≡ shown pid t
-  same-shows u none same = ap (reported pid) same ∙ sym (shown-none pid t none)
-
-  text-shows : (at : ℕ) (l : LwpStatus) (from len : ℕ) → t.stage ≡ ReadingText at l from len → (text : Came)
-      → reported pid (t.reports ++ Reported (traced_at t at).pid l text ∷ []) ≡ shown pid t
-  text-shows at l from len is text =
-      reported-text pid (traced_at t at).pid l text None t.reports ∙ sym (shown-text pid t at from len l is)
-
-  -- ---- a call that reads no stop
-
-  settles-shows : (stage : Stage) (given : Bool) (u : TrussState) → t.stage ≡ stage → reads_stop stage ≡ false
-      → Settles t r stage given u → reported pid u.reports ≡ shown pid t
-  settles-shows stage given u at plain (step.refuses_start {program = program} errno _) =
-      start-silent pid t.reports program errno ∙ sym (shown-none pid t (ap (pending_at t) at))
-  settles-shows stage given u at plain (step.refuses_control {pid = of} errno _) =
-      trace-silent pid t.reports of errno ∙ sym (shown-none pid t (ap (pending_at t) at))
-  settles-shows stage given u at plain (step.interrupts_text {place = place} {l = l} {from = from} {len = len} _ _) =
-      text-shows place l from len at (text_of len (bytes_in r))
-  settles-shows stage given u at plain _ = same-shows u (ap (pending_at t) at) refl
-
-  no-read : {X : Type 0} (stage : Stage) (place : ℕ) (l : Option LwpStatus) → reads_stop stage ≡ false
-      → Reads t r stage place l → X
-  no-read stage place l plain reads = absurd (false≢true (sym plain ∙ reads-stop t r stage place l reads))
-
-  looks-shows : (stage : Stage) (place : ℕ) (child : Option ℕ) (u : TrussState) → t.stage ≡ stage
-      → reads_stop stage ≡ false → Looks t r stage place child u → reported pid u.reports ≡ shown pid t
-  looks-shows stage place child u at plain (step.passes {l = l} reads) = no-read stage place l plain reads
-  looks-shows stage place child u at plain (step.passes_old {l = l} reads _ _) = no-read stage place
-      (Some l) plain reads
-  looks-shows stage place child u at plain (step.passes_event {l = l} reads _ _) =
-      no-read stage place (Some l) plain reads
-  looks-shows stage place child u at plain (step.shows {l = l} reads _ _ _) = no-read stage place (Some l) plain reads
-  looks-shows stage place child u at plain (step.shows_text {l = l} {from = from} {len = len}) =
-      text-shows place l from len at (text_of len (bytes_in r))
-
-  closes-shows : (stage : Stage) (place : ℕ) (next : AfterClosing) (u : TrussState) → t.stage ≡ stage
-      → reads_stop stage ≡ false → Closes t r stage place next u → reported pid u.reports ≡ shown pid t
-  closes-shows stage place next u at plain (step.text_ended {l = l} {from = from} {len = len} _) =
-      text-shows place l from len at (text_of len (bytes_in r))
-  closes-shows stage place next u at plain (step.refuses_free {pid = of} errno _) =
-      trace-silent pid t.reports of errno ∙ sym (shown-none pid t (ap (pending_at t) at))
-  closes-shows stage place next u at plain (step.refuses_opening {place = of} errno _) =
-      trace-silent pid t.reports (traced_at t of).pid errno ∙ sym (shown-none pid t (ap (pending_at t) at))
-  closes-shows stage place next u at plain (step.refuses_child {place = of} errno _) =
-      trace-silent pid t.reports (traced_at t of).pid errno ∙ sym (shown-none pid t (ap (pending_at t) at))
-  closes-shows stage place next u at plain _ = same-shows u (ap (pending_at t) at) refl
-
-  returns-shows : (stage : Stage) (parent : ℕ) (u : TrussState) → t.stage ≡ stage → Returns t r stage parent u
-      → reported pid u.reports ≡ shown pid t
-  returns-shows stage parent u at (step.refuses_child_control {pid = of} errno _) =
-      trace-silent pid t.reports of errno ∙ sym (shown-none pid t (ap (pending_at t) at))
-  returns-shows stage parent u at _ = same-shows u (ap (pending_at t) at) refl
-
-  turns-shows : (stage next : Stage) → t.stage ≡ stage → Turns t r stage next → reported pid t.reports ≡ shown pid t
-  turns-shows stage next at (step.starts _) = same-shows t (ap (pending_at t) at) refl
-  turns-shows stage next at _ = same-shows t (ap (pending_at t) at) refl
-
-  step-shows : (stage : Stage) (v : TrussState) → t.stage ≡ stage → reads_stop stage ≡ false → ReplyStep t r stage v
-      → shown pid v ≡ shown pid t
-  step-shows stage v at plain (step.settles {given = given} {u = u} w on) =
-      let same = on-staged on in
-      now-shows v u.reports same.reports (on-pending u v given on) ∙ settles-shows stage given u at plain w
-  step-shows stage v at plain (step.looks {place = place} {pid = child} {u = u} w over) =
-      let same = over-staged over in
-      now-shows v u.reports same.reports (over-pending u v place child over)
-      ∙ looks-shows stage place child u at plain w
-  step-shows stage v at plain (step.asks {place = place} {l = l} reads _ _ _) =
-      no-read stage place (Some l) plain reads
-  step-shows stage v at plain (step.closes {place = place} {next = next} {u = u} w) =
-      now-shows v u.reports refl refl ∙ closes-shows stage place next u at plain w
-  step-shows stage v at plain (step.loses _) = now-shows v t.reports refl refl ∙ same-shows t
-      (ap (pending_at t) at) refl
-  step-shows stage v at plain (step.opens _ step.new_given) =
-      now-shows v t.reports refl refl ∙ same-shows t (ap (pending_at t) at) refl
-  step-shows stage v at plain (step.opens _ step.new_child) =
-      now-shows v t.reports refl refl ∙ same-shows t (ap (pending_at t) at) refl
-  step-shows stage v at plain (step.learns _ (step.opening_goes _)) =
-      now-shows v t.reports refl refl ∙ same-shows t (ap (pending_at t) at) refl
-  step-shows stage v at plain (step.learns _ (step.child_goes _)) =
-      now-shows v t.reports refl refl ∙ same-shows t (ap (pending_at t) at) refl
-  step-shows stage v at plain (step.returns {parent = parent} {u = u} w) =
-      now-shows v u.reports refl refl ∙ returns-shows stage parent u at w
-  step-shows stage v at plain (step.turns {next = next} w) =
-      now-shows v t.reports refl (turn-pending t r stage next w) ∙ turns-shows stage next at w
-
-  -- ---- a stop that is read
+  -- ---- what is read
 
   abbrev sel : Event → Bool
   sel = is_selected t.options
 
-  -- truss has reported this much more of the process then
-  abbrev Tells : TrussState → Option LwpEvent → Type 0
-  Tells u e = shown pid u ≡ reported pid t.reports ++ told_in sel e
+  -- truss has shown this much more of the process then
+  abbrev Adds : List LwpEvent → Option LwpEvent → Type 0
+  Adds es e = es ≡ shown pid t ++ told_in sel e
 
-  tells-none : (u : TrussState) (e : Option LwpEvent) → u.reports ≡ t.reports → pending_at u u.stage ≡ [] → e ≡ None
-      → Tells u e
-  tells-none u e same none nothing =
-      now-shows u t.reports same none
-      ∙ sym (ap (λ (x : Option LwpEvent). reported pid t.reports ++ told_in sel x) nothing
-      ∙ append-nil (reported pid t.reports))
+  adds-none : (es : List LwpEvent) (e : Option LwpEvent) → e ≡ None → es ≡ shown pid t → Adds es e
+  adds-none es e none same =
+      same ∙ sym (ap (λ (x : Option LwpEvent). shown pid t ++ told_in sel x) none ∙ append-nil (shown pid t))
 
-  module _ (at : ℕ) where
+  -- no event of it is new
+  none-new : (at : ℕ) (l : Option LwpStatus) → new_of (traced_at t at) l ≡ None → new_at pid (traced_at t at) l ≡ None
+  none-new at l none =
+      ap (λ (e : Option LwpEvent). cond ((traced_at t at).pid == pid) e None) none ∙ by ((traced_at t at).pid == pid)
+    where
+      by : (b : Bool) → cond {A = Option LwpEvent} b None None ≡ None
+      by true = refl
+      by false = refl
+
+  refused-none : (stage : Stage) → answer_of r ≢ Accepted → read_at pid t r stage ≡ None
+  unfolding event_stops
+  refused-none (ReadingStatus at) refused =
+      ap (λ bytes. new_at pid (traced_at t at) (option_and_then status_lwp bytes)) (refused-bytes r refused)
+      ∙ none-new at None refl
+  refused-none ReadingLwps refused =
+      ap (λ bytes. new_at pid (traced_at t 0) (slice_get (event_stops bytes) 0)) (refused-bytes r refused)
+      ∙ none-new 0 None refl
+  refused-none _ refused = refl
+
+  -- a call that reads stops tells of the lwp that it reads
+  reads-none : (stage : Stage) (place : ℕ) (l : Option LwpStatus) → Reads t r stage place l → pending_at t stage ≡ []
+  reads-none stage place l (step.reads_lwps _) = refl
+  reads-none stage place l _ = refl
+
+  reads-at : (stage : Stage) (place : ℕ) (l : Option LwpStatus) → Reads t r stage place l
+      → read_at pid t r stage ≡ new_at pid (traced_at t place) l
+  reads-at stage place l (step.reads_status _) = refl
+  reads-at stage place l (step.reads_lwps _) = refl
+  reads-at stage place l (step.reads_none refused) =
+      refused-none (ReadingStatus place) refused ∙ sym (none-new place None refl)
+
+  module _ (stage : Stage) (place : ℕ) (l : Option LwpStatus) where
+    read-shows : t.stage ≡ stage → Reads t r stage place l → (es : List LwpEvent) (e : Option LwpEvent)
+        → new_at pid (traced_at t place) l ≡ e → es ≡ reported pid t.reports ++ told_in sel e
+        → Adds es (read_at pid t r stage)
+    read-shows at reads es e is tells =
+        tells
+        ∙ ap (λ (xs : List LwpEvent). xs ++ told_in sel e)
+        (sym (shown-none pid t (ap (pending_at t) at ∙ reads-none stage place l reads)))
+        ∙ ap (λ (x : Option LwpEvent). shown pid t ++ told_in sel x) (sym (reads-at stage place l reads ∙ is))
+
+    silent-shows : t.stage ≡ stage → Reads t r stage place l → new_of (traced_at t place) l ≡ None
+        → Adds (reported pid t.reports) (read_at pid t r stage)
+    silent-shows at reads none =
+        read-shows at reads (reported pid t.reports) None (none-new place l none)
+        (sym (append-nil (reported pid t.reports)))
+
+    none-of : ((m : LwpStatus) (e : Event) → l ≡ Some m → IsNew t r place m e → ⊥) → new_of (traced_at t place) l ≡ None
+    unfolding is_on_event
+    none-of none = by l refl
+      where
+        new : (m : LwpStatus) → l ≡ Some m → (e : Option Event) → event_of m ≡ e → (a b : Bool)
+            → nat_lt 0 (traced_at t place).old ≡ a → (traced_at t place).seen ≡ b
+            → cond a None (cond b None (option_map (λ (x : Event). let it : LwpEvent = record {
+              id = m.id;
+              event = x;
+            } in it) e)) ≡ None
+        new m is e tells true b old seen = refl
+        new m is e tells false true old seen = refl
+        new m is None tells false false old seen = refl
+        new m is (Some e) tells false false old seen =
+            absurd (none m e is (record {
+              stands = ap is_some tells;
+              none_old = old;
+              unseen = seen;
+              is = tells;
+            }))
+
+        by : (m : Option LwpStatus) → l ≡ m → new_of (traced_at t place) m ≡ None
+        by None is = refl
+        by (Some m) is =
+            new m is (event_of m) refl (nat_lt 0 (traced_at t place).old) (traced_at t place).seen refl refl
+
+  -- a new event, which is reported at once or once its memory was read, if it is selected
+  module _ (stage : Stage) (at : ℕ) (l : LwpStatus) (e : Event) (here : t.stage ≡ stage)
+      (reads : Reads t r stage at (Some l)) (is_new : IsNew t r at l e) where
+    abbrev event : LwpEvent
+    event = record { id = l.id; event = e }
+
     abbrev own : Bool
     own = (traced_at t at).pid == pid
 
-    stop_over-tells : (e : Option LwpEvent) → e ≡ None → Tells (with_stop_over t at) e
-    stop_over-tells e nothing =
-        let over = stop-over t at in
-        let same = over-staged over in
-        tells-none (with_stop_over t at) e same.reports (over-pending t (with_stop_over t at) at None over) nothing
+    told : event_told l ≡ Some event
+    told = ap (option_map (λ (x : Event). record { id = l.id; event = x })) is_new.is
 
-    old_stop-tells : (e : Option LwpEvent) → e ≡ None → Tells (with_old_stop_over t at) e
-    unfolding with_old_stop_over
-    old_stop-tells e nothing =
-        let u = with_stop_over (old_less t at) at in
-        let over = stop-over (old_less t at) at in
-        let same = over-staged over in
-        tells-none u e same.reports (over-pending (old_less t at) u at None over) nothing
+    new-told : new_at pid (traced_at t at) (Some l) ≡ cond own (Some event) None
+    new-told =
+        ap (λ (x : Option LwpEvent). cond own x None)
+        (ap (λ b. cond b None (cond (traced_at t at).seen None (event_told l))) is_new.none_old
+        ∙ ap (λ b. cond b None (event_told l)) is_new.unseen ∙ told)
 
-    closing-tells : (e : Option LwpEvent) → e ≡ None → Tells (with_closing t at) e
-    closing-tells e nothing = tells-none (with_closing t at) e refl refl nothing
+    event-shows : (es : List LwpEvent) → es ≡ reported pid t.reports ++ told_in sel (cond own (Some event) None)
+        → Adds es (read_at pid t r stage)
+    event-shows es tells = read-shows stage at (Some l) here reads es (cond own (Some event) None) new-told tells
 
-    -- a selected event is reported, at once or once its memory was read
-    module _ (l : LwpStatus) (e : Event) (tells : event_of l ≡ Some e) where
-      abbrev event : LwpEvent
-      event = record { id = l.id; event = e }
-
-      told : event_told l ≡ Some event
-      told = ap (option_map (λ (x : Event). record { id = l.id; event = x })) tells
-
-      reported-event : is_selected t.options e ≡ true
-          → reported pid (t.reports ++ Reported (traced_at t at).pid l None ∷ []) ≡
-          reported pid t.reports ++ told_in sel (cond own (Some event) None)
-      unfolding event_reported
-      reported-event on =
-          reported-more pid t.reports (Reported (traced_at t at).pid l None)
-          ∙ ap (λ (x : Option LwpEvent). reported pid t.reports ++ cons_option (cond own x None) []) told
-          ∙ ap (λ (xs : List LwpEvent). reported pid t.reports ++ xs) (by own)
-        where
-          by : (b : Bool) → cons_option (cond b (Some event) None) [] ≡ told_in sel (cond b (Some event) None)
-          by true = sym (ap (λ b. cond {A = List LwpEvent} b (event ∷ []) []) on)
-          by false = refl
-
-      untold : is_selected t.options e ≡ false → told_in sel (cond own (Some event) None) ≡ []
-      untold off = by own
-        where
-          by : (b : Bool) → told_in sel (cond b (Some event) None) ≡ []
-          by true = ap (λ b. cond {A = List LwpEvent} b (event ∷ []) []) off
-          by false = refl
-
-      text_or-tells : is_selected t.options e ≡ true → (range : Option (ℕ × ℕ))
-          → Tells (with_text_or_shown t at l range) (cond own (Some event) None)
-      unfolding with_event_shown
-      text_or-tells on None =
-          let w = with_report t (Reported (traced_at t at).pid l None) in
-          let u = with_event_over w at l in
-          let over = event-over w at l in
-          let same = over-staged over in
-          now-shows u w.reports same.reports (over-pending w u at _ over) ∙ reported-event on
-      text_or-tells on (Some range) =
-          shown-text pid (with_stage t (ReadingText at l range.0 range.1)) at range.0 range.1 l refl
-          ∙ reported-event on
-
-      passed-tells : is_selected t.options e ≡ false → Tells (with_event_over t at l) (cond own (Some event) None)
-      passed-tells off =
-          let u = with_event_over t at l in
-          let over = event-over t at l in
-          let same = over-staged over in
-          now-shows u t.reports same.reports (over-pending t u at _ over)
-          ∙ sym (ap (λ (xs : List LwpEvent). reported pid t.reports ++ xs) (untold off)
-          ∙ append-nil (reported pid t.reports))
-
-      event-tells : Tells (with_event t at l (Some e)) (cond own (Some event) None)
-      event-tells = by (is_selected t.options e) refl
-        where
-          by : (b : Bool) → is_selected t.options e ≡ b
-              → Tells (cond b (with_text_or_shown t at l (asked_range t.options e)) (with_event_over t at l))
-              (cond own (Some event) None)
-          by true on = text_or-tells on (asked_range t.options e)
-          by false off = passed-tells off
-
-    -- no event of it is new
-    none-new : (x : Option LwpEvent) → x ≡ None → cond own x None ≡ None
-    none-new x none = ap (λ (y : Option LwpEvent). cond own y None) none ∙ by own
+    reported-event : is_selected t.options e ≡ true
+        → reported pid (t.reports ++ Reported (traced_at t at).pid l None ∷ []) ≡
+        reported pid t.reports ++ told_in sel (cond own (Some event) None)
+    unfolding event_reported
+    reported-event on =
+        reported-more pid t.reports (Reported (traced_at t at).pid l None)
+        ∙ ap (λ (x : Option LwpEvent). reported pid t.reports ++ cons_option (cond own x None) []) told
+        ∙ ap (λ (xs : List LwpEvent). reported pid t.reports ++ xs) (by own)
       where
-        by : (b : Bool) → cond {A = Option LwpEvent} b None None ≡ None
-        by true = refl
+        by : (b : Bool) → cons_option (cond b (Some event) None) [] ≡ told_in sel (cond b (Some event) None)
+        by true = sym (ap (λ b. cond {A = List LwpEvent} b (event ∷ []) []) on)
         by false = refl
 
-    module _ (l : LwpStatus) where
-      abbrev ends : Option Event → TrussState
-      ends x =
-          cond (not (is_some x)) (with_stop_over t at)
-          (cond (nat_lt 0 (traced_at t at).old) (with_old_stop_over t at)
-          (cond (traced_at t at).seen (with_stop_over t at) (with_event t at l x)))
+    selected-shows : is_selected t.options e ≡ true
+        → Adds (reported pid (t.reports ++ Reported (traced_at t at).pid l None ∷ [])) (read_at pid t r stage)
+    selected-shows on = event-shows _ (reported-event on)
 
-      abbrev new : Bool → Bool → Option LwpEvent → Option LwpEvent
-      new a b x = cond a None (cond b None x)
+    passed-shows : is_selected t.options e ≡ false → Adds (reported pid t.reports) (read_at pid t r stage)
+    passed-shows off =
+        event-shows (reported pid t.reports)
+        (sym (ap (λ (xs : List LwpEvent). reported pid t.reports ++ xs) (by own)
+        ∙ append-nil (reported pid t.reports)))
+      where
+        by : (b : Bool) → told_in sel (cond b (Some event) None) ≡ []
+        by true = ap (λ b. cond {A = List LwpEvent} b (event ∷ []) []) off
+        by false = refl
 
-      no-new : (a b : Bool) → new a b None ≡ None
-      no-new true b = refl
-      no-new false true = refl
-      no-new false false = refl
+  -- ---- the steps
 
-      looked : (e : Event) → event_of l ≡ Some e → (a b : Bool)
-          → Tells (cond a (with_old_stop_over t at) (cond b (with_stop_over t at) (with_event t at l (Some e))))
-          (cond own (new a b (event_told l)) None)
-      looked e tells true b = old_stop-tells _ (none-new None refl)
-      looked e tells false true = stop_over-tells _ (none-new None refl)
-      looked e tells false false =
-          subst (λ (x : Option LwpEvent). Tells (with_event t at l (Some e)) (cond own x None))
-          (sym (told l e tells)) (event-tells l e tells)
+  module _ (stage : Stage) (at : t.stage ≡ stage) (none : pending_at t stage ≡ []) where
+    same-adds : Adds (reported pid t.reports) None
+    same-adds = adds-none _ None refl (sym (shown-none pid t (ap (pending_at t) at ∙ none)))
 
-      stop-by : (x : Option Event) → event_of l ≡ x → Tells (ends x) (cond own (if_new (traced_at t at) l) None)
-      stop-by None none =
-          stop_over-tells _ (none-new (if_new (traced_at t at) l)
-          (ap (new (nat_lt 0 (traced_at t at).old) (traced_at t at).seen)
-          (ap (option_map (λ (e : Event). let it : LwpEvent = record { id = l.id; event = e } in it)) none)
-          ∙ no-new (nat_lt 0 (traced_at t at).old) (traced_at t at).seen))
-      stop-by (Some e) tells = looked e tells (nat_lt 0 (traced_at t at).old) (traced_at t at).seen
+    trace-adds : (of : ℕ) (errno : Errno) → Adds (reported pid (t.reports ++ CannotTrace of errno ∷ [])) None
+    trace-adds of errno = trace-silent pid t.reports of errno ∙ same-adds
 
-      stop-tells : Tells (with_stop t at l) (cond own (if_new (traced_at t at) l) None)
-      unfolding with_stop is_on_event
-      stop-tells = stop-by (event_of l) refl
+  text-adds : (at : ℕ) (l : LwpStatus) (from len : ℕ) → t.stage ≡ ReadingText at l from len → (text : Came)
+      → Adds (reported pid (t.reports ++ Reported (traced_at t at).pid l text ∷ [])) None
+  text-adds at l from len is text =
+      adds-none _ None refl
+      (reported-text pid (traced_at t at).pid l text None t.reports ∙ sym (shown-text pid t at from len l is))
 
-    stop_read-tells : (x : Option LwpStatus) → Tells (with_stop_read t at x) (new_at pid (traced_at t at) x)
-    stop_read-tells None = stop_over-tells _ (none-new None refl)
-    stop_read-tells (Some l) = stop-tells l
+  settles-shows : (stage : Stage) (given : Bool) (u : TrussState) → t.stage ≡ stage → Settles t r stage given u
+      → Adds (reported pid u.reports) (read_at pid t r stage)
+  settles-shows stage given u at (step.refuses_start {program = program} errno _) =
+      start-silent pid t.reports program errno ∙ same-adds stage at refl
+  settles-shows stage given u at (step.refuses_control {pid = of} errno _) =
+      trace-adds stage at refl of errno
+  settles-shows stage given u at (step.interrupts_text {place = place} {l = l} {from = from} {len = len} _ _) =
+      text-adds place l from len at (text_of len (bytes_in r))
+  settles-shows stage given u at (step.interrupts_status broken) =
+      adds-none _ _ (refused-none stage (λ accepted. let e : Interrupted ≡ Accepted = sym broken ∙ accepted in cc))
+      (sym (shown-none pid t (ap (pending_at t) at)))
+  settles-shows stage given u at _ = same-adds stage at refl
 
-  -- ---- the reads of stops
+  looks-shows : (stage : Stage) (place : ℕ) (child : Option ℕ) (u : TrussState) → t.stage ≡ stage
+      → Looks t r stage place child u → Adds (reported pid u.reports) (read_at pid t r stage)
+  looks-shows stage place child u at (step.passes {l = l} w) =
+      silent-shows stage place l at w.reads (none-of stage place l w.none)
+  looks-shows stage place child u at (step.passes_old {l = l} reads _ old) =
+      silent-shows stage place (Some l) at reads
+      (ap (λ b. cond b None (cond (traced_at t place).seen None (event_told l))) old)
+  looks-shows stage place child u at (step.passes_event {l = l} {e = e} reads new off) =
+      passed-shows stage place l e at reads new off
+  looks-shows stage place child u at (step.shows {l = l} {e = e} reads new on _) =
+      selected-shows stage place l e at reads new on
+  looks-shows stage place child u at (step.shows_text {l = l} {from = from} {len = len}) =
+      text-adds place l from len at (text_of len (bytes_in r))
 
-  -- what a process at a place is told by these bytes
-  status_told : ℕ → Option (List ℕ) → Option LwpEvent
-  status_told at bytes = new_at pid (traced_at t at) (option_and_then status_lwp bytes)
+  closes-shows : (stage : Stage) (place : ℕ) (next : AfterClosing) (u : TrussState) → t.stage ≡ stage
+      → Closes t r stage place next u → Adds (reported pid u.reports) (read_at pid t r stage)
+  closes-shows stage place next u at (step.status_ended gone) =
+      adds-none _ _ (refused-none stage (λ accepted. let e : Gone ≡ Accepted = sym gone ∙ accepted in cc))
+      (sym (shown-none pid t (ap (pending_at t) at)))
+  closes-shows stage place next u at (step.looked_last refused) =
+      adds-none _ _ (refused-none stage refused) (sym (shown-none pid t (ap (pending_at t) at)))
+  closes-shows stage place next u at (step.text_ended {l = l} {from = from} {len = len} _) =
+      text-adds place l from len at (text_of len (bytes_in r))
+  closes-shows stage place next u at (step.refuses_free {pid = of} errno _) =
+      trace-adds stage at refl of errno
+  closes-shows stage place next u at (step.refuses_opening {place = of} errno _) =
+      trace-adds stage at refl (traced_at t of).pid errno
+  closes-shows stage place next u at (step.refuses_child {place = of} errno _) =
+      trace-adds stage at refl (traced_at t of).pid errno
+  closes-shows stage place next u at _ = same-adds stage at refl
 
-  lwps_told : Option (List ℕ) → Option LwpEvent
-  lwps_told bytes = new_at pid (traced_at t 0) (slice_get (event_stops bytes) 0)
+  returns-shows : (stage : Stage) (parent : ℕ) (u : TrussState) → t.stage ≡ stage → Returns t r stage parent u
+      → Adds (reported pid u.reports) (read_at pid t r stage)
+  returns-shows stage parent u at (step.refuses_child_control {pid = of} errno _) =
+      trace-adds stage at refl of errno
+  returns-shows stage parent u at _ = same-adds stage at refl
 
-  status-refused : (at : ℕ) → answer_of r ≢ Accepted → status_told at (bytes_in r) ≡ None
-  unfolding status_told
-  status-refused at refused = ap (status_told at) (refused-bytes r refused) ∙ none-new at None refl
+  turns-shows : (stage next : Stage) → t.stage ≡ stage → Turns t r stage next
+      → Adds (reported pid t.reports) (read_at pid t r stage)
+  turns-shows stage next at (step.starts _) = same-adds stage at refl
+  turns-shows stage next at _ = same-adds stage at refl
 
-  lwps-refused : answer_of r ≢ Accepted → lwps_told (bytes_in r) ≡ None
-  unfolding lwps_told event_stops
-  lwps-refused refused = ap lwps_told (refused-bytes r refused) ∙ none-new 0 None refl
-
-  status-tells : (at : ℕ) (a : Answer) → answer_of r ≡ a
-      → Tells (with_status_answered t at r a) (status_told at (bytes_in r))
-  unfolding with_status_answered status_told
-  status-tells at Accepted is = stop_read-tells at (option_and_then status_lwp (bytes_in r))
-  status-tells at (Refused errno) is =
-      stop_over-tells at _ (status-refused at (λ e. let d : Refused errno ≡ Accepted = sym is ∙ e in cc))
-  status-tells at Gone is = closing-tells at _ (status-refused at (λ e. let d : Gone ≡ Accepted = sym is ∙ e in cc))
-  status-tells at Interrupted is =
-      let c = interrupt-comes t in
-      tells-none (with_interrupt t) _ c.reports c.pending
-      (status-refused at (λ e. let d : Interrupted ≡ Accepted = sym is ∙ e in cc))
-
-  lwps-tells : (a : Answer) → answer_of r ≡ a → Tells (with_lwps_answered t r a) (lwps_told (bytes_in r))
-  unfolding with_lwps_answered lwps_told
-  lwps-tells Accepted is = stop_read-tells 0 (slice_get (event_stops (bytes_in r)) 0)
-  lwps-tells (Refused errno) is =
-      closing-tells 0 _ (lwps-refused (λ e. let d : Refused errno ≡ Accepted = sym is ∙ e in cc))
-  lwps-tells Gone is = closing-tells 0 _ (lwps-refused (λ e. let d : Gone ≡ Accepted = sym is ∙ e in cc))
-  lwps-tells Interrupted is = closing-tells 0 _ (lwps-refused (λ e. let d : Interrupted ≡ Accepted = sym is ∙ e in cc))
-
-  -- ---- any reply
-
-  abbrev Shows : Option LwpEvent → Type 0
-  Shows e = shown pid (fed t r) ≡ shown pid t ++ told_in sel e
-
-  read-shows : (stage : Stage) → t.stage ≡ stage → pending_at t stage ≡ [] → (e : Option LwpEvent)
-      → Tells (fed t r) e → Shows e
-  read-shows stage at none e tells =
-      tells
-      ∙ ap (λ (xs : List LwpEvent). xs ++ told_in sel e) (sym (shown-none pid t (ap (pending_at t) at ∙ none)))
-
-  plain-shows : (stage : Stage) → t.stage ≡ stage → reads_stop stage ≡ false → Shows None
-  plain-shows stage at plain =
-      step-shows stage (fed t r) at plain (subst (λ (st : Stage). ReplyStep t r st (fed t r)) at (fed-step t r))
-      ∙ sym (append-nil (shown pid t))
-
-  stage-shows : (stage : Stage) → t.stage ≡ stage → Shows (read_at pid t r stage)
-  unfolding fed with_reply status_told lwps_told
-  stage-shows (ReadingStatus place) at =
-      read-shows (ReadingStatus place) at refl (status_told place (bytes_in r))
-      (subst (λ (u : TrussState). Tells u (status_told place (bytes_in r))) (sym (ap (with_reply t r) at))
-      (status-tells place (answer_of r) refl))
-  stage-shows ReadingLwps at =
-      read-shows ReadingLwps at refl (lwps_told (bytes_in r))
-      (subst (λ (u : TrussState). Tells u (lwps_told (bytes_in r))) (sym (ap (with_reply t r) at))
-      (lwps-tells (answer_of r) refl))
-  stage-shows (Spawning program) at = plain-shows (Spawning program) at refl
-  stage-shows (OpeningControl of) at = plain-shows (OpeningControl of) at refl
-  stage-shows (Opening place now) at = plain-shows (Opening place now) at refl
-  stage-shows Polling at = plain-shows Polling at refl
-  stage-shows (ReadingText place l from len) at = plain-shows (ReadingText place l from len) at refl
-  stage-shows (OpeningChildControl parent of) at = plain-shows (OpeningChildControl parent of) at refl
-  stage-shows (OpeningChild parent place now) at = plain-shows (OpeningChild parent place now) at refl
-  stage-shows (Running place) at = plain-shows (Running place) at refl
-  stage-shows (Closing place next) at = plain-shows (Closing place next) at refl
-  stage-shows Unfollowing at = plain-shows Unfollowing at refl
-  stage-shows (FreeingChild of now) at = plain-shows (FreeingChild of now) at refl
-  stage-shows Finished at = plain-shows Finished at refl
+  step-shows : (stage : Stage) (v : TrussState) → t.stage ≡ stage → ReplyStep t r stage v
+      → Adds (shown pid v) (read_at pid t r stage)
+  step-shows stage v at (step.settles {given = given} {u = u} w on) =
+      let same = on-staged on in
+      now-shows v u.reports same.reports (on-pending u v given on) ∙ settles-shows stage given u at w
+  step-shows stage v at (step.looks {place = place} {pid = child} {u = u} w over) =
+      let same = over-staged over in
+      now-shows v u.reports same.reports (over-pending u v place child over)
+      ∙ looks-shows stage place child u at w
+  step-shows stage v at (step.asks {place = place} {l = l} {e = e} {range = range} reads new on _) =
+      shown-text pid v place range.0 range.1 l refl ∙ selected-shows stage place l e at reads new on
+  step-shows stage v at (step.closes {place = place} {next = next} {u = u} w) =
+      now-shows v u.reports refl refl ∙ closes-shows stage place next u at w
+  step-shows stage v at (step.loses _) =
+      now-shows v t.reports refl refl ∙ same-adds stage at refl
+  step-shows stage v at (step.opens _ step.new_given) =
+      now-shows v t.reports refl refl ∙ same-adds stage at refl
+  step-shows stage v at (step.opens _ step.new_child) =
+      now-shows v t.reports refl refl ∙ same-adds stage at refl
+  step-shows stage v at (step.learns _ (step.opening_goes _)) =
+      now-shows v t.reports refl refl ∙ same-adds stage at refl
+  step-shows stage v at (step.learns _ (step.child_goes _)) =
+      now-shows v t.reports refl refl ∙ same-adds stage at refl
+  step-shows stage v at (step.returns {parent = parent} {u = u} w) =
+      now-shows v u.reports refl refl ∙ returns-shows stage parent u at w
+  step-shows stage v at (step.turns {next = next} w) =
+      now-shows v t.reports refl (turn-pending t r stage next w) ∙ turns-shows stage next at w
 
   -- What truss has shown of a process after a reply is what it had shown, and the event that it read now, if the
   -- options select it.
   pub shown-fed : shown pid (fed t r) ≡ shown pid t ++ told_in sel (read_now pid t r)
   unfolding read_now
-  shown-fed = stage-shows t.stage refl
+  shown-fed = step-shows t.stage (fed t r) refl (fed-step t r)

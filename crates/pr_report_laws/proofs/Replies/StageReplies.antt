@@ -202,15 +202,15 @@ module _ (t : TrussState) (r : Reply) where
       → Reads t r stage place l → IsLooking t r place
   reads-looks stage place l is f off (step.reads_lwps _) = lwps-looks is f
   reads-looks stage place l is f off (step.reads_status _) = status-looks place is f off
-  reads-looks stage place l is f off step.reads_none = status-looks place is f off
+  reads-looks stage place l is f off (step.reads_none _) = status-looks place is f off
 
   reported-based : (x : Report) → IsBased t r (with_report t x)
   reported-based x = record { places = report-stays x; leaving = refl }
 
   looks-comes : (stage : Stage) (place : ℕ) (pid : Option ℕ) (u v : TrussState) → t.stage ≡ stage → Fits t.traced stage
       → Leaves t.leaving stage → Looks t r stage place pid u → StopOver u place pid v → Comes t r v
-  looks-comes stage place pid u v is f off (step.passes reads) over =
-      over-comes t r place (reads-looks stage place _ is f off reads) u v pid (based t r) over
+  looks-comes stage place pid u v is f off (step.passes w) over =
+      over-comes t r place (reads-looks stage place _ is f off w.reads) u v pid (based t r) over
   looks-comes stage place pid u v is f off (step.passes_old reads _ _) over =
       let w = reads-looks stage place _ is f off reads in
       over-comes t r place w u v pid (record { places = set-stays t place _ w.within refl refl; leaving = refl }) over
@@ -250,7 +250,7 @@ module _ (t : TrussState) (r : Reply) where
   closes-comes stage place next u is (step.left_ended a) =
       ended-comes stage place u is refl refl (λ other apart. stage-idle stage is (λ q. refl) other)
       (gone a (unfollows is refl))
-  closes-comes stage place next u is step.looked_last =
+  closes-comes stage place next u is (step.looked_last _) =
       ended-comes stage place u is refl refl (λ other apart. stage-idle stage is (λ q. refl) other) (looked is refl)
   closes-comes stage place next u is (step.freed_last {pid = pid}) = of-closes 0 u GoOn (free-of pid _ is) refl refl
   closes-comes stage place next u is (step.freed_none {pid = pid} _) = of-closes 0 u GoOn (free-of pid _ is) refl refl

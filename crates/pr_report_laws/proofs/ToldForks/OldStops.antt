@@ -171,7 +171,7 @@ module _ (t : TrussState) (r : Reply) (pid n p : ℕ) (once : StandOnce t) (w : 
   reads-at : (stage : Stage) (place : ℕ) (read : Option LwpStatus) → t.stage ≡ stage → Reads t r stage place read
       → (l : LwpStatus) → read ≡ Some l → ReadsAt t r place l
   reads-at stage place read is (step.reads_status _) l told = at_status is told
-  reads-at stage place read is step.reads_none l told = cc
+  reads-at stage place read is (step.reads_none _) l told = cc
   reads-at stage place read is (step.reads_lwps _) l told = at_lwps is refl told
 
   one-more : (m : ℕ) → nat_lt 0 m ≡ true → m ≡ suc (m - 1)
@@ -216,7 +216,7 @@ module _ (t : TrussState) (r : Reply) (pid n p : ℕ) (once : StandOnce t) (w : 
 
   closes-left : (stage : Stage) (place : ℕ) (next : AfterClosing) (u : TrussState) → Closes t r stage place next u
       → AllLeft pid n u.traced
-  closes-left stage place next u step.looked_last = all
+  closes-left stage place next u (step.looked_last _) = all
   closes-left stage place next u _ = all
 
   returns-left : (stage : Stage) (parent : ℕ) (u : TrussState) → Fit stage → Returns t r stage parent u

@@ -79,7 +79,7 @@ module _ (s : TrussState) (r : Reply) (at place child : ℕ) where
   reads-place : (stage : Stage) (of : ℕ) (l : Option LwpStatus) → stage ≡ ReadingStatus at → of ≡ place
       → Reads s r stage of l → Same s
   reads-place stage of l is here (step.reads_status _) = same-place of is here
-  reads-place stage of l is here step.reads_none = same-place of is here
+  reads-place stage of l is here (step.reads_none _) = same-place of is here
   reads-place stage of l is here (step.reads_lwps _) = absurd (cc)
 
   looks-place : (stage : Stage) (of : ℕ) (pid : Option ℕ) (u : TrussState) → stage ≡ ReadingStatus at → of ≡ place

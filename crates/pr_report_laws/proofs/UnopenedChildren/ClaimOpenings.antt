@@ -1,34 +1,31 @@
-use Rattle.std.proofs.Common.{◌≡◌, ◌≢◌, ◌==◌, ◌<◌, ◌⊎◌, ℕ, Bool, true, false, cond, Option, Some, None, List, length, refl, sym, subst, ap, ◌∙◌, arith, inl, inr}
+use Rattle.std.proofs.Common.{◌≡◌, ◌≢◌, ◌==◌, ◌<◌, ◌⊎◌, ℕ, Bool, true, false, cond, Some, None, List, length, refl, sym, subst, ap, ◌∙◌, arith, inl, inr}
 use Rattle.std.proofs.lemmas.Bool.{cases_eq, eq-eqb, false≢true, ne_eqb}
 use Rattle.std.proofs.lemmas.Option.{none-some}
 use Rattle.pr_line.specs.declared.options.Options.{Options}
-use Rattle.pr_model.specs.Replies.{handle_in}
 use Rattle.pr_model.specs.declared.calls.Reply.{Reply}
 use Rattle.pr_num.specs.declared.errnos.Errno.{Errno}
-use Rattle.pr_num.specs.declared.errnos.Errno.TheVariants.{Noent}
-use Rattle.pr_truss.specs.Children.{child_learnt, child_step_after, with_child_answered, with_child_control, with_child_control_answered, with_child_started, with_child_step_answered, with_child_step_done, with_refused_child, with_refused_child_step}
-use Rattle.pr_truss.specs.Closings.{after_closing, closed_or_removed, with_closed}
-use Rattle.pr_truss.specs.Openings.{at_step, learnt, step_after, with_refused_step, with_step_answered, with_step_done}
-use Rattle.pr_truss.specs.Processes.{newly_traced, without_last}
+use Rattle.pr_truss.specs.Children.{child_learnt}
+use Rattle.pr_truss.specs.Openings.{learnt, step_after}
+use Rattle.pr_truss.specs.Processes.{newly_traced}
 use Rattle.pr_truss.specs.Replies.{answer_of}
 use Rattle.pr_truss.specs.Trusses.{TrussState, traced_at, with_opened, with_report, with_stage, with_traced, without_traced}
 use Rattle.pr_truss.specs.declared.processes.Traced.{Traced}
-use Rattle.pr_truss.specs.declared.replies.Answer.{Answer}
-use Rattle.pr_truss.specs.declared.replies.Answer.TheVariants.{Accepted, Interrupted, Gone, Refused}
+use Rattle.pr_truss.specs.declared.replies.Answer.TheVariants.{Accepted}
 use Rattle.pr_truss.specs.declared.reports.Report.TheVariants.{CannotTrace}
 use Rattle.pr_truss.specs.declared.stages.AfterClosing.{AfterClosing}
-use Rattle.pr_truss.specs.declared.stages.AfterClosing.TheVariants.{OpenNext, GoOn, RunParent}
+use Rattle.pr_truss.specs.declared.stages.AfterClosing.TheVariants.{OpenNext, RunParent}
 use Rattle.pr_truss.specs.declared.stages.ChildStep.{ChildStep}
 use Rattle.pr_truss.specs.declared.stages.ChildStep.TheVariants as child
 use Rattle.pr_truss.specs.declared.stages.OpeningStep.{OpeningStep}
 use Rattle.pr_truss.specs.declared.stages.OpeningStep.TheVariants as opening
 use Rattle.pr_truss.specs.declared.stages.Stage.{Stage}
-use Rattle.pr_truss.specs.declared.stages.Stage.TheVariants.{Opening, OpeningChildControl, OpeningChild, Running, Closing}
+use Rattle.pr_truss.specs.declared.stages.Stage.TheVariants.{OpeningControl, Opening, OpeningChildControl, OpeningChild, Running, Closing}
 use Rattle.pr_truss_laws.proofs.Files.HeldLemmas.{IsLast, at_place, set-at}
 use Rattle.pr_report_laws.proofs.UnopenedChildren.Claims.{Comes, IsDone, IsSet, WasSet, is_child, not_followed, opened, runs, set_now, sets, was_free, was_run, was_set, watched}
-use Rattle.pr_report_laws.proofs.UnopenedChildren.ClaimSteps.{Known, KnownAt, about-comes, closing-goes, done-here, going_on-goes, interrupt-goes, known-at, known-beside, next_opening-goes, not-itself, running-goes}
+use Rattle.pr_report_laws.proofs.UnopenedChildren.ClaimReplies.{known-all}
+use Rattle.pr_report_laws.proofs.UnopenedChildren.ClaimSteps.{Known, KnownAt, about-comes, closing-goes, done-here, known-at, known-beside, not-itself, running-goes}
 use Rattle.pr_report_laws.proofs.Replies.OpeningParts.{last-start, learnt-pid, learnt-start}
-use Rattle.pr_report_laws.proofs.Invariant.StandLemmas.{Each, EachBut, but-set, each-remove, each-set}
+use Rattle.pr_report_laws.proofs.Invariant.StandLemmas.{Each, EachBut, but-append, but-set, each-remove, each-set}
 use Rattle.pr_report_laws.proofs.Invariant.Standing.{has_read}
 use Rattle.pr_report_laws.proofs.Replies.TracedPlaces.{opened-before, opened-last, opened-length, removed-before, removed-length, set-length, set-other}
 use Rattle.pr_report_laws.specs.Watching.{is_away}
@@ -112,7 +109,7 @@ module _ (t : TrussState) (r : Reply) where
     step-apart opening.Start place other = apart-eqb at place other
     step-apart _ place other = refl
 
-    next-goes : answer_of r ≡ Accepted → (next : OpeningStep) → step_after t.options r step ≡ Some next
+    pub next-goes : answer_of r ≡ Accepted → (next : OpeningStep) → step_after t.options r step ≡ Some next
         → Goes (with_stage after_step (Opening at next))
     next-goes accepted next comes stays = about-comes t r (with_stage after_step (Opening at next)) at stays (record {
       others =
@@ -142,29 +139,43 @@ module _ (t : TrussState) (r : Reply) where
           set = λ on. was_set at (opened within (ap (λ (st : Stage). sets st at) its ∙ eq-eqb at at refl)) refl done;
         }
 
-    started-goes : answer_of r ≡ Accepted → step ≡ opening.Start → Goes (at_step after_step at None)
-    started-goes accepted last =
-        next_opening-goes t r after_step (λ leaves. leaves) refl
-        (each-set (Known t r) t.traced at later within opening-others
-        (subst (Known t r) (sym (learnt-start (traced_at t at) r step last)) (start-known accepted last)))
+    pub started-known : answer_of r ≡ Accepted → step_after t.options r step ≡ None → Each (Known t r) after_step.traced
+    started-known accepted none =
+        let last : step ≡ opening.Start = last-start t.options r step none in
+        each-set (Known t r) t.traced at later within opening-others
+        (subst (Known t r) (sym (learnt-start (traced_at t at) r step last)) (start-known accepted last))
 
-    done-goes : answer_of r ≡ Accepted → (next : Option OpeningStep) → step_after t.options r step ≡ next
-        → Goes (at_step after_step at next)
-    done-goes accepted None comes = started-goes accepted (last-start t.options r step comes)
-    done-goes accepted (Some next) comes = next-goes accepted next comes
-
-    refused-goes : (errno : Errno) → Goes (with_refused_step t at errno)
-    unfolding with_refused_step
+    pub refused-goes : (errno : Errno)
+        → Goes (with_stage (with_report t (CannotTrace (traced_at t at).pid errno)) (Closing at OpenNext))
     refused-goes errno =
         closing-goes t r (with_report t (CannotTrace (traced_at t at).pid errno)) at OpenNext (λ leaves. leaves)
         (λ place inside other. known-at t r (Closing at OpenNext) place _ (opening-others place inside other))
 
-    pub opening-goes : (a : Answer) → answer_of r ≡ a → Goes (with_step_answered t at step r a)
-    unfolding with_step_answered with_step_done
-    opening-goes Accepted answer = done-goes answer (step_after t.options r step) refl
-    opening-goes Interrupted answer = interrupt-goes t r _
-    opening-goes Gone answer = refused-goes Noent
-    opening-goes (Refused errno) answer = refused-goes errno
+  -- ---- the control file of a process
+
+  pub opens-goes : (pid control : ℕ) → t.stage ≡ OpeningControl pid
+      → Goes (with_stage (with_opened t (newly_traced pid control)) (Opening (length t.traced) opening.OpenStatus))
+  unfolding newly_traced
+  opens-goes pid control is stays =
+      let new = newly_traced pid control in
+      let q = length t.traced in
+      about-comes t r (with_stage (with_opened t new) (Opening q opening.OpenStatus)) q stays (record {
+        others =
+            λ place within other. known-at t r (Opening q opening.OpenStatus) place _
+            (but-append (Known t r) t.traced new (known-all t r (OpeningControl pid) is (λ place. refl)
+            (λ place. refl)) place within other);
+        free = λ f. not-itself q f.here;
+        set = own-set q;
+        sets = λ place other. refl;
+        none = λ place other. refl;
+        claims = λ c none. absurd (none-some c none);
+        names = tt;
+      })
+    where
+      own-set : {X : Type 0} (q : ℕ)
+          → IsSet (with_opened t (newly_traced pid control)).traced (Opening q opening.OpenStatus) q → X
+      own-set q (watched within on here) = not-itself q here
+      own-set q (opened within none) = absurd (false≢true none)
 
   -- ---- the control file of a child
 
@@ -182,8 +193,9 @@ module _ (t : TrussState) (r : Reply) where
         (known-beside-at t r (OpeningChildControl parent c)
         (OpeningChild parent (length t.traced) child.SetRelease) place is before refl (λ read. read))
 
-    child-opens : answer_of r ≡ Accepted → (control : ℕ) → Goes (with_child_control t parent c control)
-    unfolding with_child_control newly_traced
+    pub child-opens : answer_of r ≡ Accepted → (control : ℕ)
+        → Goes (with_stage (with_opened t (new control)) (OpeningChild parent (length t.traced) child.SetRelease))
+    unfolding newly_traced
     child-opens accepted control stays =
         about-comes t r
         (with_stage (with_opened t (new control)) (OpeningChild parent (length t.traced) child.SetRelease))
@@ -199,8 +211,7 @@ module _ (t : TrussState) (r : Reply) where
           names = tt;
         })
 
-    parent-runs : (errno : Errno) → Goes (with_refused_child t parent c errno)
-    unfolding with_refused_child
+    pub parent-runs : (errno : Errno) → Goes (with_stage (with_report t (CannotTrace c errno)) (Running parent))
     parent-runs errno = running-goes t r (with_report t (CannotTrace c errno)) parent (record {
       leaves = λ stays. stays;
       options = refl;
@@ -212,13 +223,6 @@ module _ (t : TrussState) (r : Reply) where
           ap (λ (st : Stage). is_away false st parent) is in was_set parent (watched within on away) refl
           (done-here t r parent away);
     })
-
-    pub child-control-goes : (a : Answer) → answer_of r ≡ a → Goes (with_child_control_answered t parent c r a)
-    unfolding with_child_control_answered
-    child-control-goes Accepted answer = child-opens answer (handle_in r)
-    child-control-goes Interrupted answer = interrupt-goes t r _
-    child-control-goes Gone answer = parent-runs Noent
-    child-control-goes (Refused errno) answer = parent-runs errno
 
   -- ---- the files of a child
 
@@ -244,7 +248,7 @@ module _ (t : TrussState) (r : Reply) where
     child-done : ((of : ℕ) → t.stage ≡ OpeningChild of at child.SetRelease → answer_of r ≡ Accepted) → IsDone t r at
     child-done released = record { start = λ same. absurd (not-opening (sym is ∙ same)); release = released }
 
-    child-refused : (u : TrussState) → u.leaving ≡ t.leaving → u.traced ≡ t.traced
+    pub child-refused : (u : TrussState) → u.leaving ≡ t.leaving → u.traced ≡ t.traced
         → Goes (with_stage u (Closing at (RunParent parent)))
     child-refused u same traced =
         closing-goes t r u at (RunParent parent) (λ stays. sym same ∙ stays)
@@ -261,7 +265,7 @@ module _ (t : TrussState) (r : Reply) where
         ap (λ (x : Traced). x.pid) (set-at t.traced at (child_learnt (traced_at t at) r step) child-within)
         ∙ child-pid (traced_at t at) r step
 
-    next-child : answer_of r ≡ Accepted → (next : ChildStep)
+    pub next-child : answer_of r ≡ Accepted → (next : ChildStep)
         → Goes (with_stage with_learnt (OpeningChild parent at next))
     next-child accepted next stays =
         about-comes t r (with_stage with_learnt (OpeningChild parent at next)) at stays (record {
@@ -279,7 +283,7 @@ module _ (t : TrussState) (r : Reply) where
         })
 
     -- the child runs, and its parent is run next
-    parent-next : step ≡ child.Start → Goes (with_stage t (Running parent))
+    pub parent-next : step ≡ child.Start → Goes (with_stage t (Running parent))
     parent-next start stays = about-comes t r (with_stage t (Running parent)) parent stays (record {
       others = others;
       free = λ f. not-itself parent f.read;
@@ -322,59 +326,27 @@ module _ (t : TrussState) (r : Reply) where
             k.set on
         parent-set (opened inside none) = absurd (false≢true none)
 
-    child-started : step ≡ child.Start → (a : Answer) → Goes (with_child_started t parent at a)
-    unfolding with_child_started
-    child-started start Accepted = parent-next start
-    child-started start (Refused errno) = parent-next start
-    child-started start Interrupted = parent-next start
-    child-started start Gone = child-refused t refl refl
-
-    child-refuses : (errno : Errno) → Goes (with_refused_child_step t parent at errno)
-    unfolding with_refused_child_step
-    child-refuses errno = child-refused (with_report t (CannotTrace (traced_at t at).pid errno)) refl refl
-
-    step-answered : (next : ChildStep) → child_step_after step ≡ Some next → (a : Answer) → answer_of r ≡ a
-        → Goes (with_child_step_answered t parent at step r a)
-    unfolding with_child_step_answered with_child_step_done
-    step-answered next comes Accepted answer = rw comes (next-child answer next)
-    step-answered next comes Interrupted answer = interrupt-goes t r _
-    step-answered next comes Gone answer = child-refuses Noent
-    step-answered next comes (Refused errno) answer = child-refuses errno
-
-  pub child-goes : (parent at : ℕ) (step : ChildStep) → t.stage ≡ OpeningChild parent at step
-      → IsLast t.traced parent at → (a : Answer) → answer_of r ≡ a → Goes (with_child_answered t parent at step r a)
-  unfolding with_child_answered child_step_after
-  child-goes parent at child.SetRelease is last a answer =
-      step-answered parent at child.SetRelease is last child.OpenStatus refl a answer
-  child-goes parent at child.OpenStatus is last a answer =
-      step-answered parent at child.OpenStatus is last child.OpenLstatus refl a answer
-  child-goes parent at child.OpenLstatus is last a answer =
-      step-answered parent at child.OpenLstatus is last child.OpenMemory refl a answer
-  child-goes parent at child.OpenMemory is last a answer =
-      step-answered parent at child.OpenMemory is last child.Start refl a answer
-  child-goes parent at child.Start is last a answer = child-started parent at child.Start is last refl a
-
   -- ---- the close of a file
 
   module _ (at : ℕ) (within : at < length t.traced) where
     -- the process holds one file less
-    less-goes : (next : AfterClosing) → t.stage ≡ Closing at next → (x : Traced) → Goes (with_traced t at x)
+    pub less-goes : (next : AfterClosing) → t.stage ≡ Closing at next → (x : Traced)
+        → Goes (with_stage (with_traced t at x) (Closing at next))
     less-goes next is x =
-        subst (λ (st : Stage). Goes (record t { traced = (with_traced t at x).traced; stage = st })) (sym is)
-        (closing-goes t r (with_traced t at x) at next (λ stays. stays)
+        closing-goes t r (with_traced t at x) at next (λ stays. stays)
         (λ place inside other. subst (KnownAt t r (Closing at next) place) (sym (set-other t at x place other))
         (known-beside-at t r (Closing at next) (Closing at next) place is (omega (arith, set-length t at x))
-        (apart-eqb at place other) (λ read. read))))
+        (apart-eqb at place other) (λ read. read)))
 
     -- it held none any more
-    removed-known : (next : AfterClosing) → t.stage ≡ Closing at next
+    pub removed-known : (next : AfterClosing) → t.stage ≡ Closing at next
         → ((place : ℕ) → has_read (Closing at next) place ≡ false) → Each (Known t r) (without_traced t at).traced
     removed-known next is none =
         each-remove (Known t r) t.traced at within
         (λ place inside other. known-beside t r (Closing at next) place is inside (apart-eqb at place other)
         (none place))
 
-    parent-left : (parent : ℕ) → t.stage ≡ Closing at (RunParent parent) → IsLast t.traced parent at
+    pub parent-left : (parent : ℕ) → t.stage ≡ Closing at (RunParent parent) → IsLast t.traced parent at
         → Goes (with_stage (without_traced t at) (Running parent))
     parent-left parent is last stays =
         about-comes t r (with_stage (without_traced t at) (Running parent)) parent stays (record {
@@ -399,24 +371,3 @@ module _ (t : TrussState) (r : Reply) where
             → WasSet t r (at_place (without_traced t at).traced parent).pid
         parent-set (watched inside on here) = let k = left parent inside in k.set on
         parent-set (opened inside none) = absurd (false≢true none)
-
-    removed-goes : (next : AfterClosing) → t.stage ≡ Closing at next
-        → ((parent : ℕ) → next ≡ RunParent parent → IsLast t.traced parent at)
-        → Goes (after_closing (without_traced t at) next)
-    unfolding after_closing
-    removed-goes OpenNext is last =
-        next_opening-goes t r (without_traced t at) (λ stays. stays) refl (removed-known OpenNext is (λ place. refl))
-    removed-goes GoOn is last =
-        going_on-goes t r (without_traced t at) (λ stays. stays) (removed-known GoOn is (λ place. refl))
-    removed-goes (RunParent parent) is last = parent-left parent is (last parent refl)
-
-    closed-goes : (next : AfterClosing) → t.stage ≡ Closing at next
-        → ((parent : ℕ) → next ≡ RunParent parent → IsLast t.traced parent at) → (x : Option Traced)
-        → Goes (closed_or_removed t at next x)
-    closed-goes next is last None = removed-goes next is last
-    closed-goes next is last (Some x) = less-goes next is x
-
-    pub closing-file-goes : (next : AfterClosing) → t.stage ≡ Closing at next
-        → ((parent : ℕ) → next ≡ RunParent parent → IsLast t.traced parent at) → Goes (with_closed t at next)
-    unfolding with_closed
-    closing-file-goes next is last = closed-goes next is last (without_last (traced_at t at))

@@ -1,18 +1,18 @@
 use Rattle.std.proofs.Common.{◌≡◌, ◌≢◌, ◌==◌, ◌<◌, ℕ, Bool, true, false, cond, Option, Some, None, List, length, refl, sym, subst, ap, ◌∙◌, inl, inr}
 use Rattle.std.proofs.lemmas.Bool.{cases_eq, eq-eqb, false≢true, ne_eqb}
-use Rattle.std.proofs.lemmas.Option.{none-some}
+use Rattle.std.proofs.lemmas.Option.{none-some, same_Some}
 use Rattle.std.specs.List.{slice_get}
 use Rattle.pr_model.specs.declared.calls.Reply.{Reply}
 use Rattle.pr_rec.specs.declared.lwps.LwpStatus.{LwpStatus}
-use Rattle.pr_truss.specs.Closings.{left_or_finished, polls_or_finished, with_closing, with_going_on, with_interrupt, with_next_left, with_next_opening}
-use Rattle.pr_truss.specs.Stops.{followed_child, with_child_or, with_event_over, with_stop_over}
-use Rattle.pr_truss.specs.Trusses.{TrussState, opening_or, with_stage}
+use Rattle.pr_truss.specs.Stops.{followed_child}
+use Rattle.pr_truss.specs.Trusses.{TrussState, with_stage}
 use Rattle.pr_truss.specs.declared.processes.Traced.{Traced}
 use Rattle.pr_truss.specs.declared.stages.AfterClosing.{AfterClosing}
-use Rattle.pr_truss.specs.declared.stages.FreeingStep.TheVariants.{OpenControl}
 use Rattle.pr_truss.specs.declared.stages.Stage.{Stage}
-use Rattle.pr_truss.specs.declared.stages.Stage.TheVariants.{ReadingText, OpeningChildControl, FreeingChild, Running, Closing}
+use Rattle.pr_truss.specs.declared.stages.Stage.TheVariants.{ReadingText, OpeningChildControl, Running, Closing}
 use Rattle.pr_truss_laws.proofs.Files.HeldLemmas.{at_place}
+use Rattle.pr_truss_laws.proofs.Replies.ReplySteps as step
+use Rattle.pr_truss_laws.proofs.Replies.ReplySteps.{GoesOn, StopOver}
 use Rattle.pr_report_laws.proofs.UnopenedChildren.Claims.{Comes, IsDone, IsFree, IsSet, Names, WasClaimed, WasFree, WasSet, claim_of, opened, sets, was_free, was_set, watched}
 use Rattle.pr_report_laws.proofs.Invariant.StandLemmas.{Each, EachBut}
 use Rattle.pr_report_laws.proofs.Invariant.Standing.{has_read}
@@ -99,50 +99,19 @@ module _ (t : TrussState) (r : Reply) where
       set place (watched within on here) = let k : Known t r (at_place u.traced place) = same place within in k.set on
       set place (opened within is) = absurd (false≢true (sym (idle.sets place) ∙ is))
 
-  left-leaves : (w : TrussState) (first : Option Traced) → (left_or_finished w first).leaving ≡ w.leaving
-  left-leaves w None = refl
-  left-leaves w (Some x) = refl
-
-  polls-idle : (w : TrussState) (first : Option Traced) → w.traced ≡ w.traced → IsIdle w (polls_or_finished w first)
-  polls-idle w None is = record { same = refl; claims = λ place. refl; sets = λ place. refl; names = tt }
-  polls-idle w (Some x) is = record { same = refl; claims = λ place. refl; sets = λ place. refl; names = tt }
-
-  polls-leaves : (w : TrussState) (first : Option Traced) → (polls_or_finished w first).leaving ≡ w.leaving
-  polls-leaves w None = refl
-  polls-leaves w (Some x) = refl
-
-  pub going_on-goes : (w : TrussState) → (w.leaving ≡ false → t.leaving ≡ false) → Each (Known t r) w.traced
-      → Goes (with_going_on w)
-  unfolding with_going_on with_next_left
-  going_on-goes w leaves known = by w.leaving refl
-    where
-      by : (b : Bool) → w.leaving ≡ b
-          → Goes (cond b (left_or_finished w (slice_get w.traced 0)) (polls_or_finished w (slice_get w.traced 0)))
-      by true is stays = absurd (false≢true (sym stays ∙ left-leaves w (slice_get w.traced 0) ∙ is))
-      by false is stays =
-          idle-comes w (polls_or_finished w (slice_get w.traced 0)) (leaves is) known
-          (polls-idle w (slice_get w.traced 0) refl)
-
-  pub next_opening-goes : (w : TrussState) → (w.leaving ≡ false → t.leaving ≡ false) → w.options ≡ t.options
-      → Each (Known t r) w.traced → Goes (with_next_opening w)
-  unfolding with_next_opening
-  next_opening-goes w leaves same known = by (slice_get w.options.pids w.begun) refl
-    where
-      by : (x : Option ℕ) → slice_get w.options.pids w.begun ≡ x → Goes (opening_or w (with_going_on w) x)
-      by None is stays = going_on-goes w leaves known stays
-      by (Some pid) is stays =
-          idle-comes w (opening_or w (with_going_on w) (Some pid)) (leaves stays) known
-          (record {
-            same = refl;
-            claims = λ place. refl;
-            sets = λ place. refl;
-            names = inl (w.begun, ap (λ x. slice_get x.pids w.begun) (sym same) ∙ is);
-          })
-
-  pub interrupt-goes : (w : TrussState) → Goes (with_interrupt w)
-  unfolding with_interrupt with_next_left
-  interrupt-goes w stays =
-      absurd (false≢true (sym stays ∙ left-leaves (record w { leaving = true }) (slice_get w.traced 0)))
+  -- truss goes on, if it does not leave its processes
+  pub on-goes : (w u : TrussState) (given : Bool) → t.leaving ≡ false → w.options ≡ t.options
+      → Each (Known t r) w.traced → GoesOn w given u → Goes u
+  on-goes w u given stays same known (step.unfollows on _ _) off = absurd (false≢true (sym off ∙ on))
+  on-goes w u given stays same known (step.closes_first on _ _) off = absurd (false≢true (sym off ∙ on))
+  on-goes w u given stays same known (step.opens_next is) off = idle-comes w u stays known (record {
+    same = refl;
+    claims = λ place. refl;
+    sets = λ place. refl;
+    names = inl (w.begun, ap (λ x. slice_get x.pids w.begun) (sym same) ∙ is);
+  })
+  on-goes w u given stays same known _ off =
+      idle-comes w u stays known (record { same = refl; claims = λ place. refl; sets = λ place. refl; names = tt })
 
   -- ---- a step that is about the process at one place
 
@@ -234,58 +203,40 @@ module _ (t : TrussState) (r : Reply) where
       names = tt;
     })
 
-    pub stop_over-goes : Goes (with_stop_over w q)
-    unfolding with_stop_over
-    stop_over-goes = by w.leaving refl
-      where
-        by : (b : Bool) → w.leaving ≡ b → Goes (cond b (with_closing w q) (with_stage w (Running q)))
-        by true is stays = absurd (false≢true (sym stays ∙ is))
-        by false is stays = running-goes stays
-
     -- a child comes next, of which this is known
-    module _ (P : (c : ℕ) → Type 0) (known : (c : ℕ) → P c → WasClaimed t r (at_place w.traced q).pid c) where
-      child-goes : (c : ℕ) → P c → Goes (with_stage w (OpeningChildControl q c))
-      child-goes c its stays = about-comes (with_stage w (OpeningChildControl q c)) q (ready.leaves stays) (record {
-        others = others-at (OpeningChildControl q c);
-        free = λ f. not-itself q f.read;
-        set = own-set (OpeningChildControl q c) refl;
-        sets = λ place other. refl;
-        none = λ place other. ap (λ b. cond b (Some c) None) (ne_eqb q place (λ same. other (sym same)));
-        claims =
-            λ d is. known d (subst P (same-child c d (sym (ap (λ b. cond b (Some c) None) (eq-eqb q q refl))
-            ∙ is)) its);
-        names = tt;
-      })
-        where
-          same-child : (x y : ℕ) → Some x ≡ Some y → x ≡ y
-          same-child x y is = cc
+    child-goes : (c : ℕ) → WasClaimed t r (at_place w.traced q).pid c → Goes (with_stage w (OpeningChildControl q c))
+    child-goes c its stays = about-comes (with_stage w (OpeningChildControl q c)) q (ready.leaves stays) (record {
+      others = others-at (OpeningChildControl q c);
+      free = λ f. not-itself q f.read;
+      set = own-set (OpeningChildControl q c) refl;
+      sets = λ place other. refl;
+      none = λ place other. ap (λ b. cond b (Some c) None) (ne_eqb q place (λ same. other (sym same)));
+      claims =
+          λ d is. subst (WasClaimed t r (at_place w.traced q).pid)
+          (same_Some c d (sym (ap (λ b. cond b (Some c) None) (eq-eqb q q refl)) ∙ is)) its;
+      names = tt;
+    })
 
-      child_or-goes : (o : Option ℕ) → ((c : ℕ) → o ≡ Some c → P c) → Goes (with_child_or w q o)
-      child_or-goes None its = stop_over-goes
-      child_or-goes (Some c) its = by w.leaving refl
-        where
-          by : (b : Bool) → w.leaving ≡ b
-              → Goes (with_stage w (cond b (FreeingChild c OpenControl) (OpeningChildControl q c)))
-          by true is stays = absurd (false≢true (sym stays ∙ is))
-          by false is stays = child-goes c (its c refl) stays
+    -- its stop is over
+    pub stop-goes : (child : Option ℕ) (u : TrussState)
+        → ((c : ℕ) → child ≡ Some c → WasClaimed t r (at_place w.traced q).pid c) → StopOver w q child u → Goes u
+    stop-goes child u known (step.runs _) = running-goes
+    stop-goes child u known (step.leaves on) = λ stays. absurd (false≢true (sym stays ∙ on))
+    stop-goes child u known (step.opens_child {pid = c} _) = child-goes c (known c refl)
+    stop-goes child u known (step.frees_child on) = λ stays. absurd (false≢true (sym stays ∙ on))
 
-    module _ (l : LwpStatus)
-        (known : (c : ℕ) → followed_child t.options l ≡ Some c → WasClaimed t r (at_place w.traced q).pid c) where
-      pub event_over-goes : Goes (with_event_over w q l)
-      unfolding with_event_over
-      event_over-goes =
-          child_or-goes (λ c. followed_child t.options l ≡ Some c) known (followed_child w.options l)
-          (λ c is. ap (λ x. followed_child x l) (sym ready.options) ∙ is)
-
-      pub text-goes : (from len : ℕ) → Goes (with_stage w (ReadingText q l from len))
-      text-goes from len stays = about-comes (with_stage w (ReadingText q l from len)) q (ready.leaves stays) (record {
-        others = others-at (ReadingText q l from len);
-        free = λ f. not-itself q f.read;
-        set = own-set (ReadingText q l from len) refl;
-        sets = λ place other. refl;
-        none =
-            λ place other. ap (λ b. cond b (followed_child t.options l) None)
-            (ne_eqb q place (λ same. other (sym same)));
-        claims = λ c is. known c (sym (ap (λ b. cond b (followed_child t.options l) None) (eq-eqb q q refl)) ∙ is);
-        names = tt;
-      })
+    pub text-goes : (l : LwpStatus)
+        → ((c : ℕ) → followed_child t.options l ≡ Some c → WasClaimed t r (at_place w.traced q).pid c)
+        → (from len : ℕ) → Goes (with_stage w (ReadingText q l from len))
+    text-goes l known from len stays =
+        about-comes (with_stage w (ReadingText q l from len)) q (ready.leaves stays) (record {
+          others = others-at (ReadingText q l from len);
+          free = λ f. not-itself q f.read;
+          set = own-set (ReadingText q l from len) refl;
+          sets = λ place other. refl;
+          none =
+              λ place other. ap (λ b. cond b (followed_child t.options l) None)
+              (ne_eqb q place (λ same. other (sym same)));
+          claims = λ c is. known c (sym (ap (λ b. cond b (followed_child t.options l) None) (eq-eqb q q refl)) ∙ is);
+          names = tt;
+        })

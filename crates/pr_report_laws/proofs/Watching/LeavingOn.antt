@@ -53,7 +53,7 @@ module _ (t : TrussState) (r : Reply) (on : t.leaving ≡ true) where
 
   looked-leaves : (stage : Stage) (place : ℕ) (pid : Option ℕ) (u : TrussState) → Looks t r stage place pid u
       → u.leaving ≡ true
-  looked-leaves stage place pid u (step.passes reads) = on
+  looked-leaves stage place pid u (step.passes w) = on
   looked-leaves stage place pid u _ = on
 
   closed-leaves : (stage : Stage) (place : ℕ) (next : AfterClosing) (u : TrussState) → Closes t r stage place next u

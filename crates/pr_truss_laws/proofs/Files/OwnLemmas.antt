@@ -350,18 +350,7 @@ module _ (k : ℕ) (t : TrussState) (s : TracedState) (o : Owns k t s) where
             (not-open number a next none)
         | inr one ↦ closed-owns number a next one.0 one.1
       ]
-  call-owns (call.Ctl handle bytes) a next is = plain-owns (call.Ctl handle bytes) a next refl (λ pid h n m e. e) is
-  call-owns (call.CtlWait handle until bytes) a next is =
-      plain-owns (call.CtlWait handle until bytes) a next refl (λ pid h n m e. e) is
-  call-owns (call.Read handle from len) a next is =
-      plain-owns (call.Read handle from len) a next refl (λ pid h n m e. e) is
-  call-owns (call.Poll handles) a next is = plain-owns (call.Poll handles) a next refl (λ pid h n m e. e) is
-  call-owns (call.Interrupt controller) a next is =
-      plain-owns (call.Interrupt controller) a next refl (λ pid h n m e. e) is
-  call-owns (call.Spawn program held) a next is = plain-owns (call.Spawn program held) a next refl (λ pid h n m e. e) is
-  call-owns (call.Kill pid sig) a next is = plain-owns (call.Kill pid sig) a next refl (λ p h n m e. e) is
-  call-owns (call.Until moment) a next is = plain-owns (call.Until moment) a next refl (λ pid h n m e. e) is
-  call-owns call.List a next is = plain-owns call.List a next refl (λ pid h n m e. e) is
+  call-owns c a next is = plain-owns c a next refl (λ pid h n m e. e) is
 
 -- ---- one entry of a history
 

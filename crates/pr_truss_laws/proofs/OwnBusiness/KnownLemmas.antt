@@ -237,7 +237,7 @@ module _ (xs : List Exchange) (s : TrussState) (x : Exchange) (makes : next_call
     is = called _ (ap (call_of s) at);
     tells = in_status tells;
   }
-  read-known stage place lwp at step.reads_none l tells = absurd (none-some l tells)
+  read-known stage place lwp at (step.reads_none _) l tells = absurd (none-some l tells)
   read-known stage place lwp at (step.reads_lwps _) l tells = record {
     before = xs;
     handle = _;

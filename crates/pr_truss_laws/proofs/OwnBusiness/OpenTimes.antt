@@ -151,7 +151,7 @@ module _ (o : Options) (xs : List Exchange) (s : TrussState) (x : Exchange) (t :
     };
     last = refl;
   }
-  read-last stage place lwp at step.reads_none l tells = absurd (none-some l tells)
+  read-last stage place lwp at (step.reads_none _) l tells = absurd (none-some l tells)
   read-last stage place lwp at (step.reads_lwps _) l tells = record {
     read = record {
       before = xs;

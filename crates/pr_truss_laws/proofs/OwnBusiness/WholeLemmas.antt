@@ -250,11 +250,11 @@ module _ (s : TrussState) (r : Reply) where
       → IsWhole (at_place ts place) × All (Keeps b) ts
   reads-both stage place l h (step.reads_lwps _) = h
   reads-both stage place l h (step.reads_status _) = h
-  reads-both stage place l h step.reads_none = h
+  reads-both stage place l h (step.reads_none _) = h
 
   looks-all : (stage : Stage) (place : ℕ) (pid : Option ℕ) (u : TrussState) → Fits ts stage → Both b ts stage
       → Looks s r stage place pid u → All (Keeps u.leaving) u.traced
-  looks-all stage place pid u f h (step.passes reads) = (reads-both stage place _ h reads).1
+  looks-all stage place pid u f h (step.passes w) = (reads-both stage place _ h w.reads).1
   looks-all stage place pid u f h (step.passes_old reads _ _) =
       let it = reads-both stage place _ h reads in
       All-set (Keeps b) ts place _
@@ -270,7 +270,7 @@ module _ (s : TrussState) (r : Reply) where
   closes-others stage place next u h (step.text_ended _) = All-removed (Keeps b) ts place h.1
   closes-others stage place next u h (step.run_ended _) = All-removed (Keeps b) ts place h.1
   closes-others stage place next u h (step.left_ended _) = All-removed (Keeps b) ts place h.1
-  closes-others stage place next u h step.looked_last = All-removed (Keeps b) ts place h.1
+  closes-others stage place next u h (step.looked_last _) = All-removed (Keeps b) ts place h.1
   closes-others stage place next u h step.freed_last = All-removed (Keeps b) ts place h.1
   closes-others stage place next u h (step.freed_none _) = All-removed (Keeps b) ts place h.1
   closes-others stage place next u h (step.refuses_free _ _) = All-removed (Keeps b) ts place h.1

@@ -274,7 +274,7 @@ module _ (pid h : ℕ) where
         → Looks s r stage place child u
         → Change stage (sum u.traced + 0)
     unfolding call_of of_traced handles_in
-    looks-change stage place child u f (step.passes reads) = reads-change stage place _ reads _ refl
+    looks-change stage place child u f (step.passes w) = reads-change stage place _ w.reads _ refl
     looks-change stage place child u f (step.passes_old reads _ _) =
         reads-change stage place _ reads _ (same-sum s.traced place _ (reads-within s r stage place _ f reads) refl)
     looks-change stage place child u f (step.passes_event reads _ _) = reads-change stage place _ reads _ refl

@@ -1,4 +1,6 @@
-use Rattle.std.proofs.Common.{◌≡◌, ℕ, Bool, true, false, nat_lt, not, cond, Option, Some, None, List, refl, sym, subst, ap}
+use Rattle.std.proofs.Common.{◌≡◌, ℕ, Bool, true, false, nat_lt, not, cond, Option, Some, None, List, refl, sym, subst, ap, ◌∙◌}
+use Rattle.std.proofs.lemmas.Bool.{false≢true}
+use Rattle.std.proofs.lemmas.Option.{none-some, same_Some}
 use Rattle.std.specs.List.{position, slice_get}
 use Rattle.std.specs.Option.{option_and_then}
 use Rattle.pr_line.specs.Events.{event_of}
@@ -108,11 +110,20 @@ module _ (s : TrussState) (r : Reply) where
   -- ---- a stop
 
   module _ (stage : Stage) (place : ℕ) where
-    event-step : (l : LwpStatus) → Reads s r stage place (Some l) → (o : Option Event)
+    -- nothing new stands there
+    passes-on : (l : LwpStatus) → Reads s r stage place (Some l) → ((e : Event) → IsNew s r place l e → ⊥)
+        → To stage (with_stop_over s place)
+    passes-on l reads none =
+        looks (passes (record { reads = reads; none = λ m e is new. none e (same m e is new) })) (stop-over s place)
+      where
+        same : (m : LwpStatus) (e : Event) → Some l ≡ Some m → IsNew s r place m e → IsNew s r place l e
+        same m e is new = subst (λ x. IsNew s r place x e) (sym (same_Some l m is)) new
+
+    event-step : (l : LwpStatus) → Reads s r stage place (Some l) → (o : Option Event) → event_of l ≡ o
         → ((e : Event) → o ≡ Some e → IsNew s r place l e) → To stage (with_event s place l o)
     unfolding with_event_shown
-    event-step l reads None new = looks (passes reads) (stop-over s place)
-    event-step l reads (Some e) new =
+    event-step l reads None is new = passes-on l reads (λ e it. none-some e (sym is ∙ it.is))
+    event-step l reads (Some e) is new =
         by_test (To stage) (is_selected s.options e) _ _ (by (asked_range s.options e) refl)
         (λ off. looks (passes_event reads (new e refl) off) (event-over s place l))
       where
@@ -125,23 +136,22 @@ module _ (s : TrussState) (r : Reply) where
     unfolding with_stop with_old_stop_over
     stop-step l reads = stands (is_on_event l) refl
       where
-        over : To stage (with_stop_over s place)
-        over = looks (passes reads) (stop-over s place)
-
         stands : (b : Bool) → is_on_event l ≡ b
             → To stage
             (cond (not b) (with_stop_over s place)
             (cond (nat_lt 0 (traced_at s place).old) (with_old_stop_over s place)
             (cond (traced_at s place).seen (with_stop_over s place) (with_event s place l (event_of l)))))
-        stands false off = over
+        stands false off = passes-on l reads (λ e it. false≢true (sym off ∙ it.stands))
         stands true on = by_test (To stage) (nat_lt 0 (traced_at s place).old) _ _
             (λ old. looks (passes_old reads on old) (stop-over (old_less s place) place)) (λ none.
-            by_test (To stage) (traced_at s place).seen _ _ (λ is. over) (λ unseen.
-            event-step l reads (event_of l)
+            by_test (To stage) (traced_at s place).seen _ _
+            (λ is. passes-on l reads (λ e it. false≢true (sym it.unseen ∙ is))) (λ unseen.
+            event-step l reads (event_of l) refl
             (λ e is. record { stands = on; none_old = none; unseen = unseen; is = is })))
 
     read-step : (o : Option LwpStatus) → Reads s r stage place o → To stage (with_stop_read s place o)
-    read-step None reads = looks (passes reads) (stop-over s place)
+    read-step None reads =
+        looks (passes (record { reads = reads; none = λ m e is. absurd (none-some m is) })) (stop-over s place)
     read-step (Some l) reads = stop-step l reads
 
   -- ---- a reply at each stage
@@ -194,7 +204,11 @@ module _ (s : TrussState) (r : Reply) where
       read-step (ReadingStatus place) place (option_and_then status_lwp (bytes_in r)) (reads_status is)
   status-step place Interrupted is = settles (interrupts_status is) (interrupt-on s)
   status-step place Gone is = closes (status_ended is)
-  status-step place (Refused errno) is = looks (passes reads_none) (stop-over s place)
+  status-step place (Refused errno) is =
+      looks (passes (record {
+        reads = reads_none (λ accepted. let e : Refused errno ≡ Accepted = sym is ∙ accepted in cc);
+        none = λ m e same. absurd (none-some m same);
+      })) (stop-over s place)
 
   text-step : (place : ℕ) (l : LwpStatus) (from len : ℕ) (a : Answer) → answer_of r ≡ a
       → To (ReadingText place l from len) (after_text (with_event_shown s place l (text_of len (bytes_in r))) place l a)
@@ -255,7 +269,10 @@ module _ (s : TrussState) (r : Reply) where
   lwps-step : (a : Answer) → answer_of r ≡ a → To ReadingLwps (with_lwps_answered s r a)
   unfolding with_lwps_answered
   lwps-step Accepted is = read-step ReadingLwps 0 (slice_get (event_stops (bytes_in r)) 0) (reads_lwps is)
-  lwps-step _ is = closes looked_last
+  lwps-step (Refused errno) is =
+      closes (looked_last (λ accepted. let e : Refused errno ≡ Accepted = sym is ∙ accepted in cc))
+  lwps-step Interrupted is = closes (looked_last (λ accepted. let e : Interrupted ≡ Accepted = sym is ∙ accepted in cc))
+  lwps-step Gone is = closes (looked_last (λ accepted. let e : Gone ≡ Accepted = sym is ∙ accepted in cc))
 
   free-step : (pid : ℕ) (a : Answer) → answer_of r ≡ a
       → To (FreeingChild pid freeing.OpenControl) (with_freeing_begun s pid r a)

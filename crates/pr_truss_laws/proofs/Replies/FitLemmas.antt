@@ -161,7 +161,7 @@ module _ (s : TrussState) (r : Reply) where
 
   looks-within : (stage : Stage) (place : ℕ) (pid : Option ℕ) (u : TrussState) → Fit stage → Looks s r stage place pid u
       → place < length u.traced
-  looks-within stage place pid u f (step.passes reads) = reads-within stage place _ f reads
+  looks-within stage place pid u f (step.passes w) = reads-within stage place _ f w.reads
   looks-within stage place pid u f (step.passes_old reads _ _) =
       set-within s.traced place _ (reads-within stage place _ f reads)
   looks-within stage place pid u f (step.passes_event reads _ _) = reads-within stage place _ f reads

@@ -11,7 +11,8 @@ use Rattle.pr_truss_laws.proofs.Replies.FedSteps.{fed-step}
 -- Truss keeps its options, whatever it is replied.
 
 module _ (s : TrussState) (r : Reply) where
-  settles-options : (stage : Stage) (given : Bool) (u : TrussState) → Settles s r stage given u → u.options ≡ s.options
+  pub settles-options : (stage : Stage) (given : Bool) (u : TrussState) → Settles s r stage given u
+      → u.options ≡ s.options
   settles-options stage given u step.ran = refl
   settles-options stage given u _ = refl
 
@@ -22,7 +23,7 @@ module _ (s : TrussState) (r : Reply) where
 
   closes-options : (stage : Stage) (place : ℕ) (next : AfterClosing) (u : TrussState) → Closes s r stage place next u
       → u.options ≡ s.options
-  closes-options stage place next u step.looked_last = refl
+  closes-options stage place next u (step.looked_last _) = refl
   closes-options stage place next u _ = refl
 
   returns-options : (stage : Stage) (parent : ℕ) (u : TrussState) → Returns s r stage parent u → u.options ≡ s.options

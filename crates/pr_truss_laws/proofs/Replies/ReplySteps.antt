@@ -150,7 +150,7 @@ module _ (s : TrussState) (r : Reply) where
   pub data Reads : Stage → ℕ → Option LwpStatus → Type 0 where
     reads_status : {place : ℕ} → answer_of r ≡ Accepted
         → Reads (ReadingStatus place) place (option_and_then status_lwp (bytes_in r))
-    reads_none : {place : ℕ} → Reads (ReadingStatus place) place None
+    reads_none : {place : ℕ} → answer_of r ≢ Accepted → Reads (ReadingStatus place) place None
     reads_lwps : answer_of r ≡ Accepted → Reads ReadingLwps 0 (slice_get (event_stops (bytes_in r)) 0)
 
   -- a new event on which it stands
@@ -160,9 +160,14 @@ module _ (s : TrussState) (r : Reply) where
     pub unseen : (traced_at s place).seen ≡ false
     pub is : event_of l ≡ Some e
 
+  -- what is read stands on no new event
+  pub record Passes (stage : Stage) (place : ℕ) (l : Option LwpStatus) : Type 0 where
+    pub reads : Reads stage place l
+    pub none : (m : LwpStatus) (e : Event) → l ≡ Some m → IsNew place m e → ⊥
+
   -- a stop of the process at a place was looked at, with this child of its fork
   pub data Looks : Stage → ℕ → Option ℕ → TrussState → Type 0 where
-    passes : {stage : Stage} {place : ℕ} {l : Option LwpStatus} → Reads stage place l → Looks stage place None s
+    passes : {stage : Stage} {place : ℕ} {l : Option LwpStatus} → Passes stage place l → Looks stage place None s
     passes_old : {stage : Stage} {place : ℕ} {l : LwpStatus} → Reads stage place (Some l) → is_on_event l ≡ true
         → nat_lt 0 (traced_at s place).old ≡ true → Looks stage place None (old_less s place)
     passes_event : {stage : Stage} {place : ℕ} {l : LwpStatus} {e : Event} → Reads stage place (Some l)
@@ -180,7 +185,7 @@ module _ (s : TrussState) (r : Reply) where
         → Closes (ReadingText place l from len) place GoOn (shown_now place l len)
     run_ended : {place : ℕ} → answer_of r ≡ Gone → Closes (Running place) place GoOn s
     left_ended : answer_of r ≡ Gone → Closes Unfollowing 0 GoOn s
-    looked_last : Closes ReadingLwps 0 GoOn s
+    looked_last : answer_of r ≢ Accepted → Closes ReadingLwps 0 GoOn s
     freed_last : {pid control : ℕ} → Closes (FreeingChild pid (freeing.Close control)) 0 GoOn s
     freed_none : {pid : ℕ} → answer_of r ≡ Interrupted → Closes (FreeingChild pid freeing.OpenControl) 0 GoOn s
     refuses_free : {pid : ℕ} (errno : Errno) → Refuses r errno

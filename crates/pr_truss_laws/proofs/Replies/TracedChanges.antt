@@ -167,7 +167,7 @@ module _ (s : TrussState) (r : Reply) where
 
   closes-change : (stage : Stage) (place : ℕ) (next : _) (u : TrussState) → Closes s r stage place next u
       → Goes stage u.traced
-  closes-change stage place next u step.looked_last = stays
+  closes-change stage place next u (step.looked_last _) = stays
   closes-change stage place next u _ = stays
 
   step-change : (stage : Stage) (v : TrussState) → Fit stage → ReplyStep s r stage v → Goes stage v.traced

@@ -266,12 +266,12 @@ module _ (s : TrussState) (r : Reply) where
   reads-far : (stage : Stage) (place : ℕ) (l : Option LwpStatus) → Reads s r stage place l
       → text_part s.leaving + 1 ≤ part s.leaving s.traced stage
   reads-far stage place l (step.reads_status _) = let t = text-within s.leaving in omega (arith, t.1)
-  reads-far stage place l step.reads_none = let t = text-within s.leaving in omega (arith, t.1)
+  reads-far stage place l (step.reads_none _) = let t = text-within s.leaving in omega (arith, t.1)
   reads-far stage place l (step.reads_lwps _) = let t = lwps-within s.leaving in t.0
 
   looks-near : (stage : Stage) (place : ℕ) (pid : Option ℕ) (u : TrussState) → Looks s r stage place pid u
       → rest u + text_part u.leaving ≤ was stage
-  looks-near stage place pid u (step.passes reads) = omega (arith, reads-far stage place _ reads)
+  looks-near stage place pid u (step.passes w) = omega (arith, reads-far stage place _ w.reads)
   looks-near stage place pid u (step.passes_old reads _ _) =
       omega (
         arith,
@@ -293,7 +293,7 @@ module _ (s : TrussState) (r : Reply) where
       let l = lwps-within s.leaving in
       let w = unfollow-within s.leaving in
       omega (arith, t.0, l.0, w.0, files-most (at_place s.traced 0))
-  closes-near stage place next u step.looked_last =
+  closes-near stage place next u (step.looked_last _) =
       let t = text-within s.leaving in
       let l = lwps-within s.leaving in
       omega (arith, t.0, l.0, files-most (at_place s.traced 0))
