@@ -9,9 +9,9 @@ ghost use Rattle.pr_probe_laws.specs.StepMarks.{IsUnstepped};
 ghost use Rattle.pr_world.specs.ControllerStates.{ControllerState};
 
 /// In a run of trusses that are undisturbed: wherever one of them closes a file of a process that lives, no breakpoint
-/// stands there. It closes one that lives only where its opening was refused, or where it leaves its processes, once a
-/// wait of it was interrupted. It lifts first what it had planted; in a process whose opening had not come to its stop
-/// that is nothing. Any other process of which it closes a file has ended.
+/// stands there; and no agent is ever hidden. The reasons: it closes one that lives only where its opening was refused,
+/// or where it leaves its processes, once a wait of it was interrupted. It lifts first what it had planted; in a process
+/// whose opening had not come to its stop that is nothing. Any other process of which it closes a file has ended.
 #[tactic(auto, using(crate::proofs::Closing::ClosingLaw::leaves))]
 pub fn truss_leaves_no_breakpoint()
     ensures { (n : ℕ) (who : Hiders) (controllers : List ControllerState) (s : TracedState) (h : List Entry)

@@ -109,10 +109,12 @@ const LOOKS_AGAIN: u32 = 1_000_000;
 const TRIES: u32 = 5;
 
 /// A gate at which all workers of a run wait for one another before their first turns, and before their second ones
-/// until one of them has given up. It counts how often each of them passes, and how many have met all others then.
+/// until one of them has given up. It counts how often each of them passes, and how many have met all others then; and
+/// the passes that are no worker's, or that have another number than the next one of their worker.
 #[derive(Drop)]
 struct Meeting {
     passes: Vec<AtomicU64>,
+    misnumbered: AtomicU64,
     met: AtomicU64,
     met_again: AtomicU64,
     given_up: AtomicU64,
@@ -126,6 +128,7 @@ impl Meeting {
         }
         Ok(Meeting {
             passes,
+            misnumbered: AtomicU64::new(0),
             met: AtomicU64::new(0),
             met_again: AtomicU64::new(0),
             given_up: AtomicU64::new(0),
@@ -167,6 +170,17 @@ impl Meeting {
         }
     }
 
+    /// Counts a pass of a worker before a turn.
+    fn count(&self, worker: u32, turn: u64) {
+        let next = self
+            .passes
+            .get(worker as usize)
+            .map(|passes| passes.fetch_add(1, Ordering::SeqCst));
+        if next != Some(turn) {
+            self.misnumbered.fetch_add(1, Ordering::SeqCst);
+        }
+    }
+
     /// How often a worker has passed.
     fn passes_of(&self, worker: u32) -> u64 {
         match self.passes.get(worker as usize) {
@@ -187,13 +201,11 @@ impl Meeting {
 
 impl Gate for Meeting {
     fn pass(&self, worker: u32, turn: u64) {
-        if let Some(passes) = self.passes.get(worker as usize) {
-            passes.fetch_add(1, Ordering::SeqCst);
-            match turn {
-                0 => self.meet(),
-                1 => self.meet_again(),
-                _ => {}
-            }
+        self.count(worker, turn);
+        match turn {
+            0 => self.meet(),
+            1 => self.meet_again(),
+            _ => {}
         }
     }
 }
@@ -247,6 +259,7 @@ fn sees_meeting<R: Threads + Wait + Sync + Abort>(
     let outcome = call(rt, alloc, &words, &mut source, &mut sink, &gate)?;
     assert_eq!(rt; outcome.status, 0);
     assert!(rt; is_made_of(sink.bytes(), FIRST_COUNTS, SECOND_COUNTS));
+    assert_eq!(rt; gate.misnumbered.load(Ordering::SeqCst), 0);
     assert_eq!(rt; gate.met.load(Ordering::SeqCst), workers as u64);
     sees_passes(rt, &gate, &outcome.history, processors);
     assert!(rt; is_legal(rt, alloc, BUSY, &outcome.history)?);
