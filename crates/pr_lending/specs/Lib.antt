@@ -1,2 +1,3 @@
 pub mod Lending
 pub mod Loans
+pub mod Stopping
