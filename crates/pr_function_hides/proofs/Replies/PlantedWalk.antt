@@ -4,11 +4,10 @@ use Rattle.pr_line.specs.declared.events.Event.{Event}
 use Rattle.pr_rec.specs.declared.lwps.LwpStatus.{LwpStatus}
 use Rattle.pr_truss.specs.Asides.{marks_at, with_aside, with_marks, with_patches}
 use Rattle.pr_truss.specs.Records.{child_of}
-use Rattle.pr_truss.specs.Closings.{polls_or_finished, with_going_on, with_next_left, with_next_opening}
 use Rattle.pr_truss.specs.FunctionStops.{with_call_shown, with_copy_begun, with_copy_ended, with_function_event, with_memory_replaced, with_other_event, with_step_begun, with_step_completed, with_trap_over}
 use Rattle.pr_truss.specs.Marks.{no_marks}
 use Rattle.pr_truss.specs.Stops.{asked_range, followed_child, with_child_or, with_event, with_event_over, with_event_shown, with_old_stop_over, with_stop, with_stop_over, with_text_or_shown}
-use Rattle.pr_truss.specs.Trusses.{TrussState, nobody, opening_or, traced_at, with_traced}
+use Rattle.pr_truss.specs.Trusses.{TrussState, nobody, traced_at, with_traced}
 use Rattle.pr_truss.specs.declared.asides.Aside.{Aside}
 use Rattle.pr_truss.specs.declared.function_events.FunctionEvent.TheVariants.{Other, AtBreakpoint, Completed, TraceTrap, BeforeCopy, AfterCopy, Replaced}
 use Rattle.pr_truss.specs.declared.function_events.FunctionEvent.{FunctionEvent}
@@ -18,11 +17,11 @@ use Rattle.pr_truss_laws.proofs.Files.HeldLemmas.{at_place, set-at}
 use Rattle.std.proofs.Common.{◌≡◌, ◌<◌, ◌-◌, ℕ, Bool, true, false, cond, Option, Some, None, List, length, refl, sym, subst, ap, ◌∙◌, inl, inr}
 use Rattle.std.proofs.lemmas.Bool.{cases_eq}
 use Rattle.std.proofs.lemmas.List.{get_or-set_other, length-set}
-use Rattle.std.specs.List.{slice_get, slice_set}
+use Rattle.std.specs.List.{slice_set}
 pub use Rattle.pr_function_laws.proofs.Marks.MarkWalk.{marks_then}
 
--- One walk over the replies of a truss with functions that follows no children and was not interrupted: what is so of
--- the marks of each process stays so, but where a breakpoint is planted or lifted, an event is read, or it is run.
+-- What a truss with functions that follows no children and does not leave makes of a stop leaves its processes as they
+-- are, with their marks, but for those of the process that stands on a new event.
 
 -- ---- the same processes, with the same marks
 
@@ -80,25 +79,6 @@ module _ (u : TrussState) (off : u.leaving ≡ false) (follow : u.options.follow
   unfolding with_event_over followed_child
   event-over-alike q l =
       subst (IsAlike u) (sym (ap (λ f. with_child_or u q (cond f (child_of l) None)) follow)) (over-alike q)
-
-  polls-alike : (t : Option Traced) → IsAlike u (polls_or_finished u t)
-  polls-alike None = same_alike u _ refl
-  polls-alike (Some t) = same_alike u _ refl
-
-  pub going-alike : IsAlike u (with_going_on u)
-  unfolding with_going_on
-  going-alike =
-      subst (IsAlike u)
-      (sym (ap (λ b. cond b (with_next_left u) (polls_or_finished u (slice_get u.traced 0))) off))
-      (polls-alike (slice_get u.traced 0))
-
-  next-alike : (pid : Option ℕ) → IsAlike u (opening_or u (with_going_on u) pid)
-  next-alike None = going-alike
-  next-alike (Some pid) = same_alike u _ refl
-
-  pub opening-alike : IsAlike u (with_next_opening u)
-  unfolding with_next_opening
-  opening-alike = next-alike (slice_get u.options.pids u.begun)
 
 module _ (u : TrussState) (off : u.leaving ≡ false) (follow : u.options.follow ≡ false) (q : ℕ) (l : LwpStatus)
     (within : q < length u.traced) where
