@@ -46,7 +46,6 @@ use Rattle.pr_truss.specs.declared.processes.Traced.{Traced}
 use Rattle.pr_truss.specs.declared.replies.Answer.{Answer}
 use Rattle.pr_truss.specs.declared.replies.Answer.TheVariants.{Accepted, Gone, Interrupted, Refused}
 use Rattle.pr_truss.specs.declared.stages.AfterClosing.TheVariants.{GoOn}
-use Rattle.pr_truss.specs.declared.stages.OpeningStep.TheVariants as opening
 use Rattle.pr_truss.specs.declared.stages.Stage.{Stage}
 use Rattle.pr_truss.specs.declared.stages.Stage.TheVariants.{Closing, Finished, ReadingLwps}
 use Rattle.pr_truss.specs.declared.stages.Stage.TheVariants.{ReadingText, Unfollowing}

@@ -1,12 +1,13 @@
-use Rattle.std.proofs.Common.{◌≡◌, ◌≢◌, ◌<◌, ◌||◌, ℕ, Bool, true, false, cond, is_some, Option, Some, None, List, length, refl, sym, subst, ap, inl, inr, arith}
-use Rattle.std.proofs.lemmas.Option.{none-some, same_Some}
+use Rattle.std.proofs.Common.{◌≡◌, ◌≢◌, ◌<◌, ◌||◌, ℕ, Bool, true, false, cond, is_some, Option, Some, None, List, length, refl, sym, subst, arith}
+use Rattle.std.proofs.lemmas.Option.{same_Some}
 use Rattle.std.specs.List.{slice_get}
 use Rattle.pr_function_hides.proofs.Replies.FunctionSteps.{Before, Makes, Patches, begins_copy, breaks, ends_copy, ends_step, fed-makes, lifts_on, makes, nothing, patches_next, plants_on, reads, refuses, refuses_read, refuses_write, writes}
 use Rattle.pr_function_hides.proofs.Copying.CopyRows.{breakpoint-stands}
-use Rattle.pr_function_hides.proofs.Replies.FunctionSets.{first-has, has-with, has-without, not-in-none}
+use Rattle.pr_function_hides.proofs.Replies.FunctionSets.{first-has, not-in-none}
 use Rattle.pr_function_hides.proofs.Replies.OwnFiles.{IsBeside, IsWithin}
 use Rattle.pr_function_hides.proofs.Replies.PlantedReplies.{AfterAside, AfterStage, LeftSo, So, fed-so, planted_after}
-use Rattle.pr_function_hides.proofs.Replies.PlantedWalk.{marks_then}
+use Rattle.pr_function_laws.proofs.Marks.MarkWalk as walk
+use Rattle.pr_function_laws.proofs.Marks.MarkWalk.{less-in, more-in, then-in}
 use Rattle.pr_line.specs.declared.events.Event.{Event}
 use Rattle.pr_line.specs.declared.options.Options.{Options}
 use Rattle.pr_model.specs.Replies.{bytes_in}
@@ -14,23 +15,21 @@ use Rattle.pr_model.specs.declared.calls.Reply.{Reply}
 use Rattle.pr_rec.specs.declared.lwps.LwpStatus.{LwpStatus}
 use Rattle.pr_report_laws.proofs.Invariant.StandLemmas.{Each, EachBut, each-but}
 use Rattle.pr_truss.specs.Asides.{marks_at, patching}
-use Rattle.pr_truss.specs.FunctionEvents.{function_event, step_of}
+use Rattle.pr_truss.specs.FunctionEvents.{function_event}
 use Rattle.pr_truss.specs.FunctionFeeding.{fed_functions, is_to_plant}
-use Rattle.pr_truss.specs.Marks.{first_function, has_function, has_functions, no_functions, no_marks, put_back, standing, with_function, with_step, without_function}
+use Rattle.pr_truss.specs.Marks.{first_function, has_function, has_functions, no_functions, no_marks, put_back, standing, with_step}
 use Rattle.pr_truss.specs.Processes.{without_last}
 use Rattle.pr_truss.specs.Replies.{answer_of}
 use Rattle.pr_truss.specs.Trusses.{TrussState, first_of_program, first_truss, idle as begun, opening_or, traced_at}
 use Rattle.pr_truss.specs.declared.asides.Aside.{Aside}
 use Rattle.pr_truss.specs.declared.asides.Aside.TheVariants.{Nothing, Reading, Planting, Patching}
-use Rattle.pr_truss.specs.declared.function_events.FunctionEvent.{FunctionEvent}
-use Rattle.pr_truss.specs.declared.function_events.FunctionEvent.TheVariants.{AfterCopy, AtBreakpoint, BeforeCopy, Completed, Other, Replaced, TraceTrap}
+use Rattle.pr_truss.specs.declared.function_events.FunctionEvent.TheVariants.{AtBreakpoint}
 use Rattle.pr_truss.specs.declared.marks.Marks.{Marks}
 use Rattle.pr_truss.specs.declared.marks.Stepped.{Stepped}
 use Rattle.pr_truss.specs.declared.processes.Traced.{Traced}
 use Rattle.pr_truss.specs.declared.replies.Answer.{Answer}
 use Rattle.pr_truss.specs.declared.replies.Answer.TheVariants.{Accepted, Interrupted, Gone, Refused}
 use Rattle.pr_truss.specs.declared.stages.AfterClosing.TheVariants.{GoOn, OpenNext, RunParent}
-use Rattle.pr_truss.specs.declared.stages.OpeningStep.TheVariants as opening
 use Rattle.pr_truss.specs.declared.stages.Stage.{Stage}
 use Rattle.pr_truss.specs.declared.stages.Stage.TheVariants.{OpeningControl, ReadingStatus, Running, Closing}
 use Rattle.pr_truss_laws.proofs.Files.HeldLemmas.{at_place}
@@ -57,29 +56,18 @@ module _ (P : ℕ → ℕ → Type 0) where
   abbrev pub AllIn : ℕ → List Bool → Type 0
   AllIn pid set = (i : ℕ) → has_function set i ≡ true → P pid i
 
-  pub record MarksIn (pid : ℕ) (m : Marks) : Type 0 where
-    pub planted : AllIn pid m.planted
-    pub lifted : AllIn pid m.lifted
-    pub stepped : (step : Stepped) → m.stepped ≡ Some step → P pid step.function
+  abbrev pub MarksIn : ℕ → Marks → Type 0
+  MarksIn pid m = walk.MarksIn (P pid) m
 
   -- ---- sets
 
   none-in : (pid : ℕ) → AllIn pid no_functions
   none-in pid i is = absurd (not-in-none i is)
 
-  more-in : (pid : ℕ) (set : List Bool) (i : ℕ) → AllIn pid set → P pid i → AllIn pid (with_function set i)
-  more-in pid set i all here j is = elim (has-with set i j is) [
-    | inl same ↦ subst (P pid) (sym same) here
-    | inr has ↦ all j has
-  ]
-
-  less-in : (pid : ℕ) (set : List Bool) (i : ℕ) → AllIn pid set → AllIn pid (without_function set i)
-  less-in pid set i all j is = let x = has-without set i j is in all j x.has
-
   step-in : (pid : ℕ) (set : List Bool) (o : Option Stepped) → AllIn pid set
       → ((step : Stepped) → o ≡ Some step → P pid step.function) → AllIn pid (with_step o set)
   step-in pid set None all here = all
-  step-in pid set (Some step) all here = more-in pid set step.function all (here step refl)
+  step-in pid set (Some step) all here = more-in (P pid) set step.function all (here step refl)
 
   back-in : (pid : ℕ) (m : Marks) → MarksIn pid m → AllIn pid (put_back m)
   unfolding put_back
@@ -90,38 +78,7 @@ module _ (P : ℕ → ℕ → Type 0) where
   standing-in pid m w = step-in pid m.planted m.stepped w.planted w.stepped
 
   pub no-marks-in : (pid : ℕ) → MarksIn pid no_marks
-  no-marks-in pid = record {
-    planted = none-in pid;
-    lifted = none-in pid;
-    stepped = λ step is. absurd (none-some step is);
-  }
-
-  -- with an event
-  then-in : (pid : ℕ) (m : Marks) (l : LwpStatus) (e : FunctionEvent) → MarksIn pid m
-      → ((function : ℕ) → e ≡ AtBreakpoint function → P pid function) → MarksIn pid (marks_then m l e)
-  unfolding step_of
-  then-in pid m l (AtBreakpoint function) w met = record {
-    planted = w.planted;
-    lifted = w.lifted;
-    stepped = λ step is.
-        subst (P pid) (ap (λ (x : Stepped). x.function) (same_Some (step_of l function) step is)) (met function refl);
-  }
-  then-in pid m l (Completed step) w met =
-      record { planted = w.planted; lifted = w.lifted; stepped = λ other is. absurd (none-some other is) }
-  then-in pid m l TraceTrap w met = record { planted = w.planted; lifted = w.lifted; stepped = w.stepped }
-  then-in pid m l BeforeCopy w met = record {
-    planted = w.planted;
-    lifted = standing-in pid m w;
-    stepped = λ other is. absurd (none-some other is);
-  }
-  then-in pid m l AfterCopy w met = record {
-    planted = w.planted;
-    lifted = none-in pid;
-    stepped = λ other is. absurd (none-some other is);
-  }
-  then-in pid m l Replaced w met = no-marks-in pid
-  then-in pid m l Other w met =
-      record { planted = w.planted; lifted = w.lifted; stepped = λ other is. absurd (none-some other is) }
+  no-marks-in pid = walk.no-marks-in (P pid)
 
   abbrev BeforeStage : TrussState → Stage → Type 0
   BeforeStage t stage = StageSo MarksIn t stage
@@ -185,7 +142,7 @@ module _ (P : ℕ → ℕ → Type 0) where
       stage-marks (ReadingStatus q) within w = (
         w,
         λ l e accepted told fresh.
-            then-in (PidAt q) (marks_at t q) l (function_event t.options (marks_at t q) l.id e) (w q within)
+            then-in (P (PidAt q)) (marks_at t q) l (function_event t.options (marks_at t q) l.id e) (w q within)
             (met-in q l e (w q within)),
       )
       stage-marks (Running q) within w =
@@ -208,14 +165,14 @@ module _ (P : ℕ → ℕ → Type 0) where
 
           by : (a : Answer) (plant lift : Option ℕ) → ((i : ℕ) → plant ≡ Some i → a ≡ Accepted → P (PidAt q) i)
               → AllIn (PidAt q) (planted_after set a plant lift)
-          by Accepted (Some i) lift here = more-in (PidAt q) set i m.planted (here i refl refl)
+          by Accepted (Some i) lift here = more-in (P (PidAt q)) set i m.planted (here i refl refl)
           by Interrupted (Some i) lift here = m.planted
           by Gone (Some i) lift here = m.planted
           by (Refused errno) (Some i) lift here = m.planted
-          by Accepted None (Some i) here = less-in (PidAt q) set i m.planted
-          by Interrupted None (Some i) here = less-in (PidAt q) set i m.planted
-          by Gone None (Some i) here = less-in (PidAt q) set i m.planted
-          by (Refused errno) None (Some i) here = less-in (PidAt q) set i m.planted
+          by Accepted None (Some i) here = less-in (P (PidAt q)) set i m.planted
+          by Interrupted None (Some i) here = less-in (P (PidAt q)) set i m.planted
+          by Gone None (Some i) here = less-in (P (PidAt q)) set i m.planted
+          by (Refused errno) None (Some i) here = less-in (P (PidAt q)) set i m.planted
           by Accepted None None here = m.planted
           by Interrupted None None here = m.planted
           by Gone None None here = m.planted
@@ -250,7 +207,7 @@ module _ (P : ℕ → ℕ → Type 0) where
           → AsideSo (λ pid i. Unit {0}) t.traced aside → AllIn (PidAt p) plants × AllIn (PidAt p) lifts
       patches-in aside stage p plants lifts (breaks {q = q} {i = i} {l = l} {e = e} tells) within at w it = (
         back-in (PidAt q) (marks_at t q) (w q within),
-        more-in (PidAt q) no_functions i (none-in (PidAt q)) (met-in q l e (w q within) i tells.is),
+        more-in (P (PidAt q)) no_functions i (none-in (PidAt q)) (met-in q l e (w q within) i tells.is),
       )
       patches-in aside stage p plants lifts (ends_step {q = q}) within at w it =
           (back-in (PidAt q) (marks_at t q) (w q within), none-in (PidAt q))
@@ -266,9 +223,9 @@ module _ (P : ℕ → ℕ → Type 0) where
       patches-in aside stage p plants lifts (refuses_write {q = q}) within at w it =
           (none-in (PidAt q), let m = w q at in m.planted)
       patches-in aside stage p plants lifts (plants_on {q = q} {plants = set} i) within at w it =
-          (less-in (PidAt q) set i it.0, it.1)
+          (less-in (P (PidAt q)) set i it.0, it.1)
       patches-in aside stage p plants lifts (lifts_on {q = q} {lifts = set} i) within at w it =
-          (it.0, less-in (PidAt q) set i it.1)
+          (it.0, less-in (P (PidAt q)) set i it.1)
 
       before-in : (aside : Aside) (stage : Stage) (us : List Traced) (b : Aside) → Before t r aside stage us b
           → t.aside ≡ aside → IsWithin (length t.traced) stage → IsBeside (length t.traced) aside
