@@ -65,7 +65,7 @@ pub record Stands (o : Options) (us : List Traced) (b : Aside) (v : TrussState) 
   pub stage : IsWithin (length us) v.stage
 
 -- with what it has, at another stage
-abbrev Next : TrussState → TrussState → Type 0
+abbrev pub Next : TrussState → TrussState → Type 0
 Next u v = Stands u.options u.traced u.aside v
 
 beside : {o : Options} {us : List Traced} {b : Aside} {v : TrussState} (c : Aside) → Stands o us b v
@@ -76,7 +76,7 @@ module _ (u : TrussState) (off : u.leaving ≡ false) (follow : u.options.follow
   staged : (stage : Stage) → IsWithin (length u.traced) stage → Next u (with_stage u stage)
   staged stage within = record { options = refl; off = off; traced = refl; aside = refl; stage = within }
 
-  over : (q : ℕ) → q < length u.traced → Next u (with_stop_over u q)
+  pub over : (q : ℕ) → q < length u.traced → Next u (with_stop_over u q)
   unfolding with_stop_over
   over q within =
       by_test (Next u) u.leaving _ _ (λ leaves. staged (Closing q GoOn) within) (λ stays. staged (Running q) within)
@@ -100,8 +100,8 @@ module _ (u : TrussState) (off : u.leaving ≡ false) (follow : u.options.follow
   opening-next = on (opens-next u)
 
 -- a stop of a process stood before truss came, or is over or looked at
-stop : (P : TrussState → Type 0) (u : TrussState) (off : u.leaving ≡ false) (follow : u.options.follow ≡ false) (q : ℕ)
-    (l : LwpStatus) → q < length u.traced → ((v : TrussState) → Next u v → P v)
+pub stop : (P : TrussState → Type 0) (u : TrussState) (off : u.leaving ≡ false) (follow : u.options.follow ≡ false)
+    (q : ℕ) (l : LwpStatus) → q < length u.traced → ((v : TrussState) → Next u v → P v)
     → (nat_lt 0 (traced_at u q).old ≡ true → P (with_old_stop_over u q)) → P (with_stop u q l)
 unfolding with_stop with_event_shown
 stop P u off follow q l within all old =
