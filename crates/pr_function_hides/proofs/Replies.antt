@@ -1,6 +1,5 @@
 -- What truss with functions has of its processes, and what a reply makes of that and of its marks, whatever the machine
 -- is.
-pub mod AsideReplies
 pub mod BareStages
 pub mod ClosingStages
 pub mod ClosingWalk
@@ -8,6 +7,7 @@ pub mod CountedFollows
 pub mod CountedWalk
 pub mod FilesWalk
 pub mod FunctionSets
+pub mod FunctionSteps
 pub mod LeavingBegins
 pub mod LeavingStages
 pub mod LeavingTruss

@@ -10,7 +10,7 @@ use Rattle.pr_function_hides.proofs.Files.CallFacts.{controllers-push, legal-her
 use Rattle.pr_function_hides.proofs.GoingOn.CalmCalls.{told-over}
 use Rattle.pr_function_hides.proofs.Replies.ClosingStages.{stage-stays}
 use Rattle.pr_function_hides.proofs.Replies.ClosingWalk.{CalledSo, ClosesSo, StageSo, fed-closes, first-closes}
-use Rattle.pr_function_hides.proofs.LeavingCopies.CopyBegins.{WaitsAt, aside-waits, opens_one, polls}
+use Rattle.pr_function_laws.proofs.LeavingProcesses.LeavingWaits.{WaitsAt, awaits_opening, polls, waits-at}
 use Rattle.pr_function_hides.proofs.Copying.CopyFeeds.{opens-of}
 use Rattle.pr_function_hides.proofs.Tidy.CopyFree.{copies-on}
 use Rattle.pr_function_hides.proofs.Copying.CopyOpening.{early-marks}
@@ -29,7 +29,7 @@ use Rattle.pr_function_hides.proofs.Tidy.TidyLaw.{kept-at}
 use Rattle.pr_function_hides.specs.RunsOfTrusses.{IsRunOfTrusses}
 use Rattle.pr_function_hides.specs.TidyWrites.{IsTrussAfter}
 use Rattle.pr_function_laws.proofs.Stepping.BreakpointLemmas.{IsOwnEntry}
-use Rattle.pr_function_laws.proofs.Marks.KeptPlaces.{Kept}
+use Rattle.pr_function_laws.proofs.Marks.KeptPlaces.{AtStage, Kept}
 use Rattle.pr_function_laws.proofs.Pending.KnownFiles.{Knows, known-fed, known-first}
 use Rattle.pr_function_laws.proofs.OpenedProcesses.OpenedLemmas.{control-made}
 use Rattle.pr_function_laws.proofs.OrdinaryTruss.OrdinaryFiles.{entry-calm}
@@ -263,10 +263,11 @@ module _ {n : ℕ} {who : Hiders} {controllers : List ControllerState} {first : 
         pub waits-bare : WaitsAt tr → Each (HasNoneUnattached (Over later)) tr.traced
         waits-bare (polls at) q within not =
             absurd (false≢true (sym not ∙ polls-attached tr stands stopped at q within))
-        waits-bare (opens_one b until there at) q within not = elim (cases_eq q b) [
+        waits-bare (awaits_opening b until at) q within not = elim (cases_eq q b) [
           | inl same ↦
               subst (λ i. Over later (traced_at tr i).pid ⊎ IsBareMarks (marks_at tr i)) (sym same)
-              (opened-bare b until there at)
+              (opened-bare b until
+              (let known = was.known in let w = subst (AtStage Knows tr.traced) at known.stage in w.0) at)
           | inr other ↦
               absurd (false≢true
               (sym not ∙ opens-attached tr stands stopped b (opening.AwaitStop until) at q within other))
@@ -282,9 +283,7 @@ module _ {n : ℕ} {who : Hiders} {controllers : List ControllerState} {first : 
           entry-calm n j u e (record { call = c; reply = r }) (its-legal run front e back place kept)
           (ap (λ b. cond b (Some (record { call = c; reply = r })) None) (eq-eqb j j refl)) in calm.waits broken) in
           let known = was.known in
-          let at =
-          aside-waits Knows tr c waits tr.aside refl known.beside known.stage
-          (sym (next-beside tr.options has tr refl) ∙ next) in
+          let at = waits-at tr.options has tr refl Knows c waits known.stage known.beside next in
           leaves-begun (Over later) tr r g.follow has (let w = truss-now in w.apart) (waits-bare g.off at.1) interrupted
           c (may-can c waits) g.stage g.beside next
 

@@ -7,7 +7,8 @@ use Rattle.pr_function_hides.proofs.Clean.CleanCalls.{Closes, Leaves, Opens, Ove
 use Rattle.pr_function_hides.proofs.Closing.ClosingCalls.{last-pid}
 use Rattle.pr_function_hides.proofs.Replies.ClosingWalk.{StageSo}
 use Rattle.pr_function_hides.proofs.Copying.CopyActs.{read-closed}
-use Rattle.pr_function_hides.proofs.LeavingCopies.CopyBegins.{WaitsAt, aside-waits, opens_one, polls, waits-act}
+use Rattle.pr_function_hides.proofs.LeavingCopies.CopyBegins.{waits-act}
+use Rattle.pr_function_laws.proofs.LeavingProcesses.LeavingWaits.{WaitsAt, awaits_opening, polls, waits-at}
 use Rattle.pr_function_hides.proofs.Copying.CopyClosing.{last-read}
 use Rattle.pr_function_hides.proofs.LeavingCopies.CopyHalts.{BeginLeaving, cfault-leaves, sent-left, stop-leaves, write-leaves}
 use Rattle.pr_function_hides.proofs.LeavingCopies.CopyHalts.{wstop-leaves}
@@ -366,14 +367,11 @@ module _ {n : ℕ} {who : Hiders} {controllers : List ControllerState} {first : 
         let w = Calls.truss-now run front back j c r place kept-now hider in
         known-on run front (e ∷ back) place j hider w.t w.is g.off
 
-    waits-at : WaitsAt tr
-    waits-at =
+    waiting : WaitsAt tr
+    waiting =
         let w = facts in
         let k = w.knows in
-        let at =
-        aside-waits Knows tr c waits tr.aside refl k.beside k.stage
-        (sym (next-beside tr.options has tr refl) ∙ next) in
-        at.1
+        let at = waits-at tr.options has tr refl Knows c waits k.stage k.beside next in at.1
 
     stands : StandsSo tr
     stands =
@@ -397,10 +395,10 @@ module _ {n : ℕ} {who : Hiders} {controllers : List ControllerState} {first : 
     as-attached i b is it = subst (λ x. LeftAs run front x (traced_at tr i).pid) (sym is) it
 
     was-begun : (i : ℕ) → i < length tr.traced → WasSo (traced_at tr i)
-    was-begun i inside = by waits-at
+    was-begun i inside = by waiting
       where
         by : WaitsAt tr → WasSo (traced_at tr i)
-        by (opens_one q until within at) = elim (cases_eq i q) [
+        by (awaits_opening q until at) = elim (cases_eq i q) [
           | inl same ↦
               (let w =
               subst (StageSo (Over who first front) (Opens who first front) (Leaves who first front) tr) at closes.stage

@@ -1,7 +1,6 @@
-use Rattle.std.proofs.Common.{◌≡◌, ◌<◌, ℕ, true, false, cond, Option, Some, None, length, refl, sym, subst, ap, ◌∙◌}
+use Rattle.std.proofs.Common.{◌≡◌, ◌<◌, ℕ, true, false, Some, None, length, refl, sym, subst, ap, ◌∙◌}
 use Rattle.std.proofs.Common.{inl, inr}
 use Rattle.std.proofs.lemmas.Bool.{cases_eq, false≢true, ne_eqb}
-use Rattle.std.proofs.lemmas.Option.{none-some, same_Some}
 use Rattle.pr_line.specs.declared.options.Options.{Options}
 use Rattle.pr_model.specs.Calls.{Answer, answer_to}
 use Rattle.pr_model.specs.State.{TracedProcess, TracedState, live_process}
@@ -9,26 +8,20 @@ use Rattle.pr_model.specs.declared.calls.Call.{Call}
 use Rattle.pr_model.specs.declared.calls.Call.TheVariants as call
 use Rattle.pr_model.specs.declared.calls.Reply.{Reply}
 use Rattle.pr_report_laws.proofs.Invariant.StandLemmas.{Each}
-use Rattle.pr_truss.specs.Feeding.{with_reply}
-use Rattle.pr_truss.specs.FunctionCalls.{call_beside, function_call_of, next_function_call_of, patch_call}
-use Rattle.pr_truss.specs.FunctionFeeding.{fed_functions, with_aside_answered, with_function_reply}
-use Rattle.pr_truss.specs.FunctionFeeding.{with_function_step_answered}
-use Rattle.pr_truss.specs.Marks.{first_function, has_functions}
-use Rattle.pr_truss.specs.NextCalls.{call_of, next_call_of, opening_call}
+use Rattle.pr_truss.specs.FunctionCalls.{next_function_call_of}
+use Rattle.pr_truss.specs.FunctionFeeding.{fed_functions}
+use Rattle.pr_truss.specs.Marks.{has_functions}
 use Rattle.pr_truss.specs.Openings.{with_stop_seen}
 use Rattle.pr_truss.specs.Replies.{answer_of}
-use Rattle.pr_truss.specs.Stops.{with_poll_answered}
 use Rattle.pr_truss.specs.Trusses.{TrussState, traced_at}
-use Rattle.pr_truss.specs.declared.asides.Aside.{Aside}
-use Rattle.pr_truss.specs.declared.asides.Aside.TheVariants.{Nothing, Reading, Planting, Patching}
-use Rattle.pr_truss.specs.declared.processes.Traced.{Traced}
+use Rattle.pr_truss.specs.declared.asides.Aside.TheVariants.{Nothing}
 use Rattle.pr_truss.specs.declared.replies.Answer.TheVariants.{Interrupted}
-use Rattle.pr_truss.specs.declared.stages.OpeningStep.{OpeningStep}
 use Rattle.pr_truss.specs.declared.stages.OpeningStep.TheVariants as opening
 use Rattle.pr_truss.specs.declared.stages.Stage.{Stage}
-use Rattle.pr_truss.specs.declared.stages.Stage.TheVariants.{Spawning, OpeningControl, Opening, Polling, ReadingStatus}
-use Rattle.pr_truss.specs.declared.stages.Stage.TheVariants.{ReadingText, Running, Closing, Finished}
-use Rattle.pr_function_laws.proofs.Marks.KeptPlaces.{AtAside, AtStage, Position}
+use Rattle.pr_truss.specs.declared.stages.Stage.TheVariants.{Opening}
+use Rattle.pr_function_laws.proofs.Marks.KeptPlaces.{AtStage}
+use Rattle.pr_function_laws.proofs.LeavingProcesses.LeavingWaits.{WaitsAt, awaits_opening, interrupted_at, polls, waits-at, waits-fed}
+use Rattle.pr_truss.specs.Closings.{with_interrupt, with_next_left}
 use Rattle.pr_function_laws.proofs.OpenedProcesses.OpenedCalls.{IsSo, lowest}
 use Rattle.pr_function_laws.proofs.OpenedProcesses.OpenedLaws.{Goes}
 use Rattle.pr_function_laws.proofs.Stepping.StretchLemmas.{frozen-halting}
@@ -39,7 +32,7 @@ use Rattle.pr_function_hides.proofs.Copying.CopyFeeds.{opens-of, rests-of}
 use Rattle.pr_function_hides.proofs.Copying.CopyForeign.{traced-at}
 use Rattle.pr_function_hides.proofs.LeavingCopies.CopyLeaves.{Leaves, apart-alike}
 use Rattle.pr_function_hides.proofs.LeavingCopies.CopyLeavingCalls.{quiet}
-use Rattle.pr_function_hides.proofs.LeavingCopies.CopyLeavingReplies.{Comes, LeavesOn, comes-seen, fed-is, interrupt-left, same-less}
+use Rattle.pr_function_hides.proofs.LeavingCopies.CopyLeavingReplies.{Comes, LeavesOn, comes-seen, interrupt-left, same-less}
 use Rattle.pr_function_hides.proofs.LeavingCopies.CopyLeft.{IsLeaving, LeavesSo, has_none, is_to_stop, less-leaving, traces_still}
 use Rattle.pr_function_hides.proofs.Copying.CopyPlaces.{CopiesSo, OpensSo, RestsSo, counted, early, is_about, rests_new}
 use Rattle.pr_function_hides.proofs.Copying.CopyPlaces.{rests_old, stopped}
@@ -54,63 +47,6 @@ waits-act (call.CtlWait handle until bytes) waits = refl
 waits-act (call.Poll handles) waits = refl
 waits-act (call.Until moment) waits = refl
 waits-act _ waits = absurd (false≢true waits)
-
-patch-still : (o : Options) (control : ℕ) (plant lift : Option ℕ) → may_wait (patch_call o control plant lift) ≡ false
-patch-still o control (Some function) lift = refl
-patch-still o control None (Some function) = refl
-patch-still o control None None = refl
-
--- Truss that does not leave its processes waits for the stop of one that it opens, or polls.
-pub data WaitsAt (t : TrussState) : Type 0 where
-  opens_one : (q until : ℕ) → q < length t.traced → t.stage ≡ Opening q (opening.AwaitStop until) → WaitsAt t
-  polls : t.stage ≡ Polling → WaitsAt t
-
-module _ (P : Position → Traced → Type 0) (t : TrussState) (c : Call) (waits : may_wait c ≡ true) where
-  never : {A : Type 0} → (d : Call) → Some d ≡ Some c → may_wait d ≡ false → A
-  never d is still = absurd (false≢true (sym still ∙ ap may_wait (same_Some d c is) ∙ waits))
-
-  opening-waits : (q : ℕ) (step : OpeningStep) → q < length t.traced → t.stage ≡ Opening q step
-      → function_call_of t (Opening q step) ≡ Some c → WaitsAt t
-  unfolding function_call_of call_of opening_call
-  opening-waits q (opening.AwaitStop until) within at is = opens_one q until within at
-  opening-waits q opening.TraceSignals within at is = never _ is refl
-  opening-waits q opening.TraceFaults within at is = never _ is refl
-  opening-waits q opening.TraceEntries within at is = never _ is refl
-  opening-waits q opening.TraceExits within at is = never _ is refl
-  opening-waits q opening.OpenStatus within at is = never _ is refl
-  opening-waits q opening.OpenLstatus within at is = never _ is refl
-  opening-waits q opening.OpenMemory within at is = never _ is refl
-  opening-waits q opening.ClearModes within at is = never _ is refl
-  opening-waits q opening.SetRelease within at is = never _ is refl
-  opening-waits q opening.Stop within at is = never _ is refl
-  opening-waits q opening.ReadLwps within at is = never _ is refl
-  opening-waits q opening.Follow within at is = never _ is refl
-  opening-waits q opening.Start within at is = never _ is refl
-
-  stage-waits : (stage : Stage) → t.stage ≡ stage → AtStage P t.traced stage → function_call_of t stage ≡ Some c
-      → WaitsAt t
-  unfolding function_call_of call_of
-  stage-waits (Opening q step) at w is = opening-waits q step w.0 at is
-  stage-waits Polling at w is = polls at
-  stage-waits (Spawning program) at w is = never _ is refl
-  stage-waits (OpeningControl pid) at w is = never _ is refl
-  stage-waits (ReadingStatus q) at w is = never _ is refl
-  stage-waits (ReadingText q l from len) at w is = never _ is refl
-  stage-waits (Running q) at w is = never _ is refl
-  stage-waits (Closing q next) at w is = never _ is refl
-  stage-waits Finished at w is = absurd (none-some c is)
-  stage-waits _ at w is = absurd w
-
-  -- and nothing comes before that
-  pub aside-waits : (aside : Aside) → t.aside ≡ aside → AtAside P t.traced aside → AtStage P t.traced t.stage
-      → call_beside t t.stage aside ≡ Some c → (t.aside ≡ Nothing) × WaitsAt t
-  unfolding call_beside
-  aside-waits Nothing idle beside w is = (idle, stage-waits t.stage refl w is)
-  aside-waits (Reading q function) idle beside w is = never _ is refl
-  aside-waits (Planting q function) idle beside w is = never _ is refl
-  aside-waits (Patching q plants lifts clear) idle beside w is =
-      never _ is (patch-still t.options (traced_at t q).control (first_function plants) (first_function lifts))
-  aside-waits _ idle beside w is = absurd beside
 
 -- ---- the processes then
 
@@ -156,9 +92,15 @@ module _ (n k : ℕ) (o : Options) (t : TrussState) (s : TracedState) (g : Goes 
           is_to_stop (q, (within, (refl, some))) w.out (frozen-halting p w.frozen)
 
   -- one that has not come to the stop of its opening
-  opens-leaving : (q until : ℕ) → q < length t.traced → t.stage ≡ Opening q (opening.AwaitStop until)
+  opening-within : (q until : ℕ) → t.stage ≡ Opening q (opening.AwaitStop until) → q < length t.traced
+  opening-within q until at =
+      let kept = g.kept in
+      let w = subst (AtStage (IsSo (Unit {0}) k t.options s) t.traced) at kept.stage in w.0
+
+  opens-leaving : (q until : ℕ) → t.stage ≡ Opening q (opening.AwaitStop until)
       → IsLeaving k o (HasOld t) s (traced_at t q)
-  opens-leaving q until within at =
+  opens-leaving q until at =
+      let within = opening-within q until at in
       of-files q within (λ p live. by p (opens-of t q p (opening.AwaitStop until) at (cs.each q within p live)))
     where
       by : (p : TracedProcess) → OpensSo (opening.AwaitStop until) (traced_at t q) p
@@ -173,8 +115,8 @@ module _ (n k : ℕ) (o : Options) (t : TrussState) (s : TracedState) (g : Goes 
   all-leaving : WaitsAt t → Each (IsLeaving k o (HasOld t) s) t.traced
   all-leaving (polls at) q within =
       rests-leaving q within (ap (λ (y : Stage). is_about y q) at)
-  all-leaving (opens_one b until there at) q within = elim (cases_eq q b) [
-    | inl same ↦ subst (λ i. IsLeaving k o (HasOld t) s (traced_at t i)) (sym same) (opens-leaving b until there at)
+  all-leaving (awaits_opening b until at) q within = elim (cases_eq q b) [
+    | inl same ↦ subst (λ i. IsLeaving k o (HasOld t) s (traced_at t i)) (sym same) (opens-leaving b until at)
     | inr apart ↦
         rests-leaving q within (ap (λ (y : Stage). is_about y q) at ∙ ne_eqb b q (λ same. apart (sym same)))
   ]
@@ -187,32 +129,23 @@ module _ (n k : ℕ) (o : Options) (t : TrussState) (s : TracedState) (g : Goes 
     abbrev r : Reply
     r = let b : Answer = a in b.reply
 
-    has-now : has_functions t.options ≡ true
-    has-now = ap has_functions g.options ∙ has
-
     -- with its interrupt it leaves what it traces
-    begun : Comes t (record t { leaving = true }) → WaitsAt t → t.aside ≡ Nothing → LeavesOn t (fed_functions t r)
-    unfolding with_aside_answered with_function_reply with_function_step_answered with_reply with_poll_answered
-        with_stop_seen
-    begun comes (opens_one q until within at) idle =
-        subst (LeavesOn t)
-        (sym (fed-is t r has-now ∙ ap (with_aside_answered t r) idle ∙ ap (with_function_reply t r) at
-        ∙ ap (with_function_step_answered t q (opening.AwaitStop until) r) interrupted))
-        (interrupt-left t (with_stop_seen t q)
-        (comes-seen t (record t { leaving = true }) q within comes))
-    begun comes (polls at) idle =
-        subst (LeavesOn t)
-        (sym (fed-is t r has-now ∙ ap (with_aside_answered t r) idle ∙ ap (with_function_reply t r) at
-        ∙ ap (with_poll_answered t r) interrupted))
-        (interrupt-left t t comes)
+    begun : Comes t (record t { leaving = true }) → (w : WaitsAt t) → t.aside ≡ Nothing
+        → LeavesOn t (fed_functions t r)
+    unfolding interrupted_at with_interrupt with_stop_seen
+    begun comes w idle =
+        subst (LeavesOn t) (sym (waits-fed o has t g.options r interrupted idle w)) (by w)
+      where
+        by : (w : WaitsAt t) → LeavesOn t (with_next_left (interrupted_at t w))
+        by (awaits_opening q until at) =
+            interrupt-left t (with_stop_seen t q)
+            (comes-seen t (record t { leaving = true }) q (opening-within q until at) comes)
+        by (polls at) = interrupt-left t t comes
 
     pub first-leaves : Leaves k o (HasOld t) (fed_functions t r) a.state
-    unfolding next_function_call_of
     first-leaves =
         let kept = g.kept in
-        let both =
-        aside-waits (IsSo (Unit {0}) k t.options s) t c waits t.aside refl kept.beside kept.stage
-        (sym (ap (λ b. cond b (call_beside t t.stage t.aside) (next_call_of t)) has-now) ∙ next) in
+        let both = waits-at o has t g.options (IsSo (Unit {0}) k t.options s) c waits kept.stage kept.beside next in
         let l = begun (comes-self both.0) both.1 both.0 in
         record {
           options = l.options ∙ g.options;

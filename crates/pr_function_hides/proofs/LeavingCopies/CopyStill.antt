@@ -1,7 +1,8 @@
 use Rattle.std.proofs.Common.{◌≡◌, ◌≢◌, ◌⊎◌, ◌<◌, ℕ, true, false, Option, None, Some, length, refl, sym, subst, ap, ◌∙◌}
 use Rattle.std.proofs.Common.{arith, inl, inr}
 use Rattle.std.proofs.lemmas.Bool.{cases_eq, false≢true}
-use Rattle.pr_function_hides.proofs.LeavingCopies.CopyBegins.{HasOld, WaitsAt, aside-waits, opens_one, polls}
+use Rattle.pr_function_hides.proofs.LeavingCopies.CopyBegins.{HasOld}
+use Rattle.pr_function_laws.proofs.LeavingProcesses.LeavingWaits.{WaitsAt, awaits_opening, polls, waits-at}
 use Rattle.pr_function_hides.proofs.Copying.CopyEnds.{aside-within, stage-within}
 use Rattle.pr_function_hides.proofs.Replies.FilesWalk.{SameFiles}
 use Rattle.pr_function_hides.proofs.Replies.LeavingStages.{IsLeft, asks, awaits, closes_files, halts, has_ended, lifts_all}
@@ -9,7 +10,6 @@ use Rattle.pr_function_hides.proofs.Replies.LeavingStages.{looks, reads_text, wa
 use Rattle.pr_function_hides.proofs.Replies.LeavingWalk.{After, Left, Rest, begins-left, fed-left}
 use Rattle.pr_function_laws.proofs.Marks.KeptPlaces.{AtStage, Kept, apart-at}
 use Rattle.pr_function_laws.proofs.Pending.KnownFiles.{Knows, KnowsAll}
-use Rattle.pr_function_laws.proofs.NextCalls.PatchCalls.{next-beside}
 use Rattle.pr_function_laws.specs.Soon.{may_wait}
 use Rattle.pr_model.specs.declared.calls.Call.{Call}
 use Rattle.pr_model.specs.declared.calls.Call.TheVariants as call
@@ -89,7 +89,7 @@ module _ (t : TrussState) (known : Kept Knows t) (c : Call) (r : Reply) (has : h
 
     all-known : WaitsAt t → (q : ℕ) → q < length t.traced → KnowsAll (traced_at t q)
     all-known (polls at) q within = let w = subst (AtStage Knows t.traced) at known.stage in w q within
-    all-known (opens_one b until there at) q within =
+    all-known (awaits_opening b until at) q within =
         let w = subst (AtStage Knows t.traced) at known.stage in
         elim (cases_eq q b) [
           | inl same ↦ subst (λ i. KnowsAll (traced_at t i)) (sym same) w.1.1
@@ -106,8 +106,7 @@ module _ (t : TrussState) (known : Kept Knows t) (c : Call) (r : Reply) (has : h
 
     pub still-begins : StillLeft t (fed_functions t r)
     still-begins =
-        let at = aside-waits Knows t c waits t.aside refl known.beside known.stage
-        (sym (next-beside t.options has t refl) ∙ next) in
+        let at = waits-at t.options has t refl Knows c waits known.stage known.beside next in
         begins-left Any any-alike (IsStill t) (as-still t) t r known.follow has apart (λ q within. tt)
         (λ q within.
         record { old = has-old q within; known = let w = all-known at.1 q within in w.lstatus })

@@ -4,7 +4,7 @@ use Rattle.std.proofs.lemmas.Option.{none-some, same_Some}
 use Rattle.std.proofs.lemmas.Bool.{false≢true}
 use Rattle.std.proofs.lemmas.List.{length-set}
 use Rattle.std.specs.List.{slice_get}
-use Rattle.pr_function_hides.proofs.LeavingCopies.CopyBegins.{WaitsAt, opens_one, polls}
+use Rattle.pr_function_laws.proofs.LeavingProcesses.LeavingWaits.{WaitsAt, awaits_opening, interrupted_at, polls, waits-fed}
 use Rattle.pr_function_hides.proofs.Replies.LeavingStages.{IsLeft, Looked, Over, alike-same, asks, awaits, closes_files}
 use Rattle.pr_function_hides.proofs.Replies.LeavingStages.{closing-over, event-over, halts, has_ended, lifts_all, looks, over}
 use Rattle.pr_function_hides.proofs.Replies.LeavingStages.{over-join, reads_text, stale-over, stop-looked, stop-over, text}
@@ -23,7 +23,7 @@ use Rattle.pr_truss.specs.Closings.{with_closing, with_going_on, with_interrupt,
 use Rattle.pr_truss.specs.Feeding.{with_reply}
 use Rattle.pr_truss.specs.FunctionEvents.{fresh_event, function_event}
 use Rattle.pr_truss.specs.FunctionFeeding.{after_first, after_patch, fed_functions, with_aside_answered}
-use Rattle.pr_truss.specs.FunctionFeeding.{with_asking_answered, with_function_reply, with_function_step_answered}
+use Rattle.pr_truss.specs.FunctionFeeding.{with_asking_answered, with_function_reply}
 use Rattle.pr_truss.specs.FunctionFeeding.{with_halt_answered, with_patch_answered, with_wait_answered, without_planted}
 use Rattle.pr_truss.specs.FunctionStops.{after_function_text, with_call_shown, with_fresh_event, with_function_event}
 use Rattle.pr_truss.specs.FunctionStops.{with_function_lwps_answered, with_function_stop, with_function_stop_read}
@@ -34,7 +34,7 @@ use Rattle.pr_truss.specs.Openings.{with_stop_seen}
 use Rattle.pr_truss.specs.Processes.{without_last}
 use Rattle.pr_truss.specs.Records.{event_stops, is_on_event}
 use Rattle.pr_truss.specs.Replies.{answer_of}
-use Rattle.pr_truss.specs.Stops.{after_text, text_of, with_event_over, with_event_shown, with_poll_answered, with_stop}
+use Rattle.pr_truss.specs.Stops.{after_text, text_of, with_event_over, with_event_shown, with_stop}
 use Rattle.pr_truss.specs.Stops.{with_stop_over, with_text_answered}
 use Rattle.pr_truss.specs.Trusses.{TrussState, traced_at, with_stage, with_traced, without_traced}
 use Rattle.pr_truss.specs.declared.asides.Aside.{Aside}
@@ -46,9 +46,8 @@ use Rattle.pr_truss.specs.declared.processes.Traced.{Traced}
 use Rattle.pr_truss.specs.declared.replies.Answer.{Answer}
 use Rattle.pr_truss.specs.declared.replies.Answer.TheVariants.{Accepted, Gone, Interrupted, Refused}
 use Rattle.pr_truss.specs.declared.stages.AfterClosing.TheVariants.{GoOn}
-use Rattle.pr_truss.specs.declared.stages.OpeningStep.TheVariants as opening
 use Rattle.pr_truss.specs.declared.stages.Stage.{Stage}
-use Rattle.pr_truss.specs.declared.stages.Stage.TheVariants.{Closing, Finished, Opening, Polling, ReadingLwps}
+use Rattle.pr_truss.specs.declared.stages.Stage.TheVariants.{Closing, Finished, ReadingLwps}
 use Rattle.pr_truss.specs.declared.stages.Stage.TheVariants.{ReadingText, Unfollowing}
 use Rattle.pr_truss_laws.proofs.Files.HeldLemmas.{at_place, set-at}
 use Rattle.pr_truss_laws.proofs.Replies.ReplySteps.{lost-same}
@@ -483,16 +482,14 @@ module _ (Still Leads Done : ℕ → Type 0) (t : TrussState) (r : Reply) (on : 
 module _ (Still Leads Done : ℕ → Type 0) (t : TrussState) (r : Reply) (has : has_functions t.options ≡ true)
     (idle : t.aside ≡ Nothing) (interrupted : answer_of r ≡ Interrupted) where
   pub first-begins : WaitsAt t → First Still Leads Done (fed_functions t r)
-  unfolding with_function_reply with_function_step_answered with_reply with_poll_answered with_interrupt with_stop_seen
-  first-begins (opens_one q until within at) =
-      subst (First Still Leads Done)
-      (sym (fed-staged t.options has t r (Opening q (opening.AwaitStop until)) refl idle at
-      ∙ ap (with_function_step_answered t q (opening.AwaitStop until) r) interrupted))
-      (next-first Still Leads Done (record (with_stop_seen t q) { leaving = true }) idle)
-  first-begins (polls at) =
-      subst (First Still Leads Done)
-      (sym (fed-staged t.options has t r Polling refl idle at ∙ ap (with_poll_answered t r) interrupted))
-      (next-first Still Leads Done (record t { leaving = true }) idle)
+  unfolding interrupted_at with_stop_seen
+  first-begins w =
+      subst (First Still Leads Done) (sym (waits-fed t.options has t refl r interrupted idle w))
+      (next-first Still Leads Done (interrupted_at t w) (still w))
+    where
+      still : (w : WaitsAt t) → (interrupted_at t w).aside ≡ Nothing
+      still (awaits_opening q until at) = idle
+      still (polls at) = idle
 
 -- ---- what else is so then
 

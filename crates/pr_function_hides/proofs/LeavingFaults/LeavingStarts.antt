@@ -3,7 +3,8 @@ use Rattle.std.proofs.Common.{◌∷◌, length, refl, sym, subst, ap, ◌∙◌
 use Rattle.std.proofs.lemmas.Bool.{and_parts, cases_eq, eq-eqb, false≢true, ne_eqb}
 use Rattle.pr_api.specs.Entries.{call_entry}
 use Rattle.pr_function_hides.proofs.GoingOn.CalmCalls as Calm
-use Rattle.pr_function_hides.proofs.LeavingCopies.CopyBegins.{WaitsAt, aside-waits, opens_one, polls, waits-act}
+use Rattle.pr_function_hides.proofs.LeavingCopies.CopyBegins.{waits-act}
+use Rattle.pr_function_laws.proofs.LeavingProcesses.LeavingWaits.{WaitsAt, awaits_opening, polls, waits-at}
 use Rattle.pr_function_hides.proofs.Copying.CopyFeeds.{rests-of}
 use Rattle.pr_function_hides.proofs.Tidy.CopyFree.{known-on, plain-wait, run-options, young-on}
 use Rattle.pr_function_hides.proofs.Copying.CopyPlaces.{RestsSo, is_about, rests_new, rests_old}
@@ -30,7 +31,6 @@ use Rattle.pr_function_laws.proofs.Pending.KnownFiles.{Knows, KnowsAll}
 use Rattle.pr_function_laws.proofs.NextCalls.MarkedFlags.{is_waiting}
 use Rattle.pr_function_laws.proofs.OpenedProcesses.OpenedLaws.{Goes, goes-few, goes-opened}
 use Rattle.pr_function_laws.proofs.OrdinaryTruss.OrdinaryFiles.{entry-calm}
-use Rattle.pr_function_laws.proofs.NextCalls.PatchCalls.{next-beside}
 use Rattle.pr_function_laws.specs.Opened.{TracesAll, is_opened}
 use Rattle.pr_function_laws.specs.Soon.{may_wait}
 use Rattle.pr_function_hides.specs.RunsOfTrusses.{IsRunOfTrusses}
@@ -198,18 +198,17 @@ module _ {n : ℕ} {who : Hiders} {controllers : List ControllerState} {first : 
 
       at-wait : (t.aside ≡ Nothing) × WaitsAt t
       at-wait =
-          aside-waits Knows t c waits t.aside refl known.beside known.stage
-          (sym (next-beside t.options (has run front back j c r place hider) t refl)
-          ∙ Calm.next run front back j c r place hider)
+          waits-at t.options (has run front back j c r place hider) t refl Knows c waits known.stage known.beside
+          (Calm.next run front back j c r place hider)
 
       waiting : WaitsAt t → is_waiting t.stage ≡ true
       waiting (polls at) = ap is_waiting at
-      waiting (opens_one b until inside at) = ap is_waiting at
+      waiting (awaits_opening b until at) = ap is_waiting at
 
       module _ (q : ℕ) (within : q < length t.traced) where
         opened-at : WaitsAt t → (traced_at t q).attached ≡ true → is_opened t.stage q ≡ true
         opened-at (polls at) attached = ap (λ s. is_opened s q) at
-        opened-at (opens_one b until inside at) attached = elim (cases_eq b q) [
+        opened-at (awaits_opening b until at) attached = elim (cases_eq b q) [
           | inl same ↦
               (let w = subst (AtStage Young t.traced) at young.stage in
               absurd (false≢true (sym (w.1.1 refl) ∙ ap (λ i. (traced_at t i).attached) same ∙ attached)))
@@ -218,7 +217,7 @@ module _ {n : ℕ} {who : Hiders} {controllers : List ControllerState} {first : 
 
         known-at : WaitsAt t → is_opened t.stage q ≡ true → KnowsAll (traced_at t q)
         known-at (polls at) opened = let w = subst (AtStage Knows t.traced) at known.stage in w q within
-        known-at (opens_one b until inside at) opened =
+        known-at (awaits_opening b until at) opened =
             let w = subst (AtStage Knows t.traced) at known.stage in
             elim (cases_eq q b) [
               | inl same ↦ subst (λ i. KnowsAll (traced_at t i)) (sym same) w.1.1
@@ -227,11 +226,11 @@ module _ {n : ℕ} {who : Hiders} {controllers : List ControllerState} {first : 
 
         quiet-at : WaitsAt t → is_run_soon t.stage q ≡ false
         quiet-at (polls at) = ap (λ s. is_run_soon s q) at
-        quiet-at (opens_one b until inside at) = ap (λ s. is_run_soon s q) at
+        quiet-at (awaits_opening b until at) = ap (λ s. is_run_soon s q) at
 
         away-at : WaitsAt t → is_opened t.stage q ≡ true → is_about t.stage q ≡ false
         away-at (polls at) opened = ap (λ s. is_about s q) at
-        away-at (opens_one b until inside at) opened =
+        away-at (awaits_opening b until at) opened =
             ap (λ s. is_about s q) at ∙ by (b == q) (sym (ap (λ s. is_opened s q) at) ∙ opened)
           where
             by : (x : Bool) → not x ≡ true → x ≡ false
@@ -240,7 +239,7 @@ module _ {n : ℕ} {who : Hiders} {controllers : List ControllerState} {first : 
 
         not-run : WaitsAt t → t.stage ≢ Running q
         not-run (polls at) runs = let both : Polling ≡ Running q = sym at ∙ runs in cc
-        not-run (opens_one b until inside at) runs =
+        not-run (awaits_opening b until at) runs =
             let both : Opening b (opening.AwaitStop until) ≡ Running q = sym at ∙ runs in cc
 
         same-place : (i : ℕ) → i < length t.traced → (traced_at t i).pid ≡ (traced_at t q).pid → i ≡ q
@@ -296,7 +295,7 @@ module _ {n : ℕ} {who : Hiders} {controllers : List ControllerState} {first : 
         -- one that it has opened is unseen
         unseen-at : WaitsAt t → is_opened t.stage q ≡ true → (traced_at t q).seen ≡ false
         unseen-at (polls at) opened = let w = subst (AtStage IsUnseen t.traced) at unseen.stage in w q within
-        unseen-at (opens_one b until inside at) opened =
+        unseen-at (awaits_opening b until at) opened =
             let w = subst (AtStage IsUnseen t.traced) at unseen.stage in
             elim (cases_eq q b) [
               | inl same ↦ ap (λ i. (traced_at t i).seen) same ∙ w.1.1

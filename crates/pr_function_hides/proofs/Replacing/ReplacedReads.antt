@@ -36,7 +36,7 @@ use Rattle.pr_function_hides.proofs.Copying.CopyFeeds.{event-fed}
 use Rattle.pr_function_hides.proofs.Copying.CopyOwn.{OwnCall, is-off, is-unfollowed, later}
 use Rattle.pr_function_hides.proofs.Copying.CopyReading.{ReadsSo, reads-so}
 use Rattle.pr_function_hides.proofs.Replies.CountedWalk.{AsideIn, MarksIn, TrussIn, no-marks-in}
-use Rattle.pr_function_hides.proofs.Replies.FilesWalk.{stop}
+use Rattle.pr_function_laws.proofs.OrdinaryTruss.OrdinaryStops.{stop-looked}
 use Rattle.pr_function_hides.proofs.Replies.PlantedReplies.{So}
 use Rattle.pr_function_hides.proofs.Replies.PlantedWalk.{IsAlike, event-kept}
 use Rattle.pr_function_hides.proofs.Replacing.ReplacedTurns.{TellsReplacement, tells-replaced}
@@ -113,10 +113,7 @@ module _ {n k : ℕ} {o : Options} {t : TrussState} {s : TracedState} {c : Call}
   idle-later : z.aside ≡ Nothing
   unfolding with_function_event with_memory_replaced
   idle-later =
-      let goes =
-      stop (with_marks t q no_marks) (is-off w) (is-unfollowed w) q l
-      (subst (λ i. q < i) (sym (length-set t.traced q (record v { marks = no_marks }))) within) in
-      goes.aside ∙ idle
+      let over = stop-looked (with_marks t q no_marks) q l (is-unfollowed w) in over.aside ∙ idle
 
   marks-later : (j : ℕ) → j < length z.traced → So (MarksIn (IsOther v.pid)) (at_place z.traced j)
   marks-later j inside = elim (cases_eq j q) [

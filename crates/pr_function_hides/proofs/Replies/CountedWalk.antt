@@ -1,52 +1,38 @@
-use Rattle.std.proofs.Common.{◌≡◌, ◌≢◌, ◌<◌, ◌+◌, ◌||◌, ℕ, Bool, true, false, cond, is_some, nat_lt, Option, Some, None, List, length, refl, sym, subst, ap, ◌∙◌, inl, inr, arith}
-use Rattle.std.proofs.lemmas.Option.{none-some, same_Some}
+use Rattle.std.proofs.Common.{◌≡◌, ◌≢◌, ◌<◌, ◌||◌, ℕ, Bool, true, false, cond, is_some, Option, Some, None, List, length, refl, sym, subst, arith}
+use Rattle.std.proofs.lemmas.Option.{same_Some}
 use Rattle.std.specs.List.{slice_get}
-use Rattle.std.specs.Option.{option_and_then}
-use Rattle.pr_function_hides.proofs.Replies.AsideReplies.{on-aside, reply-aside}
+use Rattle.pr_function_hides.proofs.Replies.FunctionSteps.{Before, Makes, Patches, begins_copy, breaks, ends_copy, ends_step, fed-makes, lifts_on, makes, nothing, patches_next, plants_on, reads, refuses, refuses_read, refuses_write, writes}
 use Rattle.pr_function_hides.proofs.Copying.CopyRows.{breakpoint-stands}
-use Rattle.pr_function_hides.proofs.Replies.FunctionSets.{first-has, has-with, has-without, not-in-none}
+use Rattle.pr_function_hides.proofs.Replies.FunctionSets.{first-has, not-in-none}
 use Rattle.pr_function_hides.proofs.Replies.OwnFiles.{IsBeside, IsWithin}
 use Rattle.pr_function_hides.proofs.Replies.PlantedReplies.{AfterAside, AfterStage, LeftSo, So, fed-so, planted_after}
-use Rattle.pr_function_hides.proofs.Replies.PlantedWalk.{event-kept, marks_then}
-use Rattle.pr_function_laws.proofs.OrdinaryTruss.OrdinaryStops.{over-over, stop-looked}
+use Rattle.pr_function_laws.proofs.Marks.MarkWalk as walk
+use Rattle.pr_function_laws.proofs.Marks.MarkWalk.{less-in, more-in, then-in}
 use Rattle.pr_line.specs.declared.events.Event.{Event}
 use Rattle.pr_line.specs.declared.options.Options.{Options}
 use Rattle.pr_model.specs.Replies.{bytes_in}
 use Rattle.pr_model.specs.declared.calls.Reply.{Reply}
-use Rattle.pr_num.specs.Control.{clear_fault}
-use Rattle.pr_num.specs.declared.errnos.Errno.{Errno}
-use Rattle.pr_num.specs.declared.errnos.Errno.TheVariants.{Noent}
 use Rattle.pr_rec.specs.declared.lwps.LwpStatus.{LwpStatus}
 use Rattle.pr_report_laws.proofs.Invariant.StandLemmas.{Each, EachBut, each-but}
-use Rattle.pr_truss.specs.Asides.{marks_at, patching, with_aside, with_lifts, with_marks, with_patches}
-use Rattle.pr_truss.specs.Closings.{with_closing}
-use Rattle.pr_truss.specs.Feeding.{fed, with_reply}
-use Rattle.pr_truss.specs.FunctionEvents.{fresh_event, function_event, step_of}
-use Rattle.pr_truss.specs.FunctionFeeding.{after_first, after_patch, fed_functions, is_to_plant, planted_if, with_aside_answered, with_code_answered, with_code_read, with_function_reply, with_function_step_answered, with_functions_begun, with_next_function, with_patch_answered, with_pending_told, with_plant_answered, with_planted, with_refused_opening}
-use Rattle.pr_truss.specs.FunctionStops.{after_function_text, with_call_shown, with_copy_begun, with_copy_ended, with_fresh_event, with_function_event, with_function_run_answered, with_function_status_answered, with_function_stop, with_function_stop_read, with_function_text_answered, with_last_event, with_last_stop, with_memory_replaced, with_other_event, with_step_begun, with_step_completed, with_trap_over}
-use Rattle.pr_truss.specs.Marks.{first_function, has_function, has_functions, no_functions, no_marks, put_back, standing, with_function, with_step, without_function}
-use Rattle.pr_truss.specs.Openings.{at_step, learnt, step_after, with_refused_step, with_step_done}
+use Rattle.pr_truss.specs.Asides.{marks_at, patching}
+use Rattle.pr_truss.specs.FunctionEvents.{function_event}
+use Rattle.pr_truss.specs.FunctionFeeding.{fed_functions, is_to_plant}
+use Rattle.pr_truss.specs.Marks.{first_function, has_function, has_functions, no_functions, no_marks, put_back, standing, with_step}
 use Rattle.pr_truss.specs.Processes.{without_last}
-use Rattle.pr_truss.specs.Records.{status_lwp}
 use Rattle.pr_truss.specs.Replies.{answer_of}
-use Rattle.pr_truss.specs.Stops.{with_run_answered, with_status_answered, with_stop, with_stop_over, with_text_answered}
-use Rattle.pr_truss.specs.Trusses.{TrussState, first_of_program, first_truss, idle as begun, opening_or, traced_at, with_traced}
+use Rattle.pr_truss.specs.Trusses.{TrussState, first_of_program, first_truss, idle as begun, opening_or, traced_at}
 use Rattle.pr_truss.specs.declared.asides.Aside.{Aside}
 use Rattle.pr_truss.specs.declared.asides.Aside.TheVariants.{Nothing, Reading, Planting, Patching}
-use Rattle.pr_truss.specs.declared.function_events.FunctionEvent.{FunctionEvent}
-use Rattle.pr_truss.specs.declared.function_events.FunctionEvent.TheVariants.{AfterCopy, AtBreakpoint, BeforeCopy, Completed, Other, Replaced, TraceTrap}
+use Rattle.pr_truss.specs.declared.function_events.FunctionEvent.TheVariants.{AtBreakpoint}
 use Rattle.pr_truss.specs.declared.marks.Marks.{Marks}
 use Rattle.pr_truss.specs.declared.marks.Stepped.{Stepped}
 use Rattle.pr_truss.specs.declared.processes.Traced.{Traced}
 use Rattle.pr_truss.specs.declared.replies.Answer.{Answer}
 use Rattle.pr_truss.specs.declared.replies.Answer.TheVariants.{Accepted, Interrupted, Gone, Refused}
 use Rattle.pr_truss.specs.declared.stages.AfterClosing.TheVariants.{GoOn, OpenNext, RunParent}
-use Rattle.pr_truss.specs.declared.stages.OpeningStep.{OpeningStep}
-use Rattle.pr_truss.specs.declared.stages.OpeningStep.TheVariants as opening
 use Rattle.pr_truss.specs.declared.stages.Stage.{Stage}
-use Rattle.pr_truss.specs.declared.stages.Stage.TheVariants.{Spawning, OpeningControl, Opening, Polling, ReadingStatus, ReadingText, Running, Closing, Finished}
-use Rattle.pr_truss_laws.proofs.Replies.FedSteps.{opens-next}
-use Rattle.pr_truss_laws.proofs.Files.HeldLemmas.{at_place, set-at}
+use Rattle.pr_truss.specs.declared.stages.Stage.TheVariants.{OpeningControl, ReadingStatus, Running, Closing}
+use Rattle.pr_truss_laws.proofs.Files.HeldLemmas.{at_place}
 
 -- What is so of each function that truss has planted or lifted, or is to plant or to lift, is so of each one after a
 -- reply: it comes to none but those that it has just planted. So it is of another thing and each function that it is to
@@ -58,38 +44,30 @@ StageSo X t (Closing q next) =
     EachBut (So X) t.traced q × LeftSo X (without_last (traced_at t q)) (traced_at t q)
 StageSo X t stage = Each (So X) t.traced
 
+abbrev pub BesideAt : (ℕ → Marks → Type 0) → TrussState → Aside → Stage → Type 0
+BesideAt X t Nothing stage = StageSo X t stage
+BesideAt X t aside stage = Each (So X) t.traced
+
 abbrev pub BesideSo : (ℕ → Marks → Type 0) → TrussState → Aside → Type 0
-BesideSo X t Nothing = StageSo X t t.stage
-BesideSo X t aside = Each (So X) t.traced
+BesideSo X t aside = BesideAt X t aside t.stage
 
 module _ (P : ℕ → ℕ → Type 0) where
   -- of each function of a set, in the process of an id
   abbrev pub AllIn : ℕ → List Bool → Type 0
   AllIn pid set = (i : ℕ) → has_function set i ≡ true → P pid i
 
-  pub record MarksIn (pid : ℕ) (m : Marks) : Type 0 where
-    pub planted : AllIn pid m.planted
-    pub lifted : AllIn pid m.lifted
-    pub stepped : (step : Stepped) → m.stepped ≡ Some step → P pid step.function
+  abbrev pub MarksIn : ℕ → Marks → Type 0
+  MarksIn pid m = walk.MarksIn (P pid) m
 
   -- ---- sets
 
   none-in : (pid : ℕ) → AllIn pid no_functions
   none-in pid i is = absurd (not-in-none i is)
 
-  more-in : (pid : ℕ) (set : List Bool) (i : ℕ) → AllIn pid set → P pid i → AllIn pid (with_function set i)
-  more-in pid set i all here j is = elim (has-with set i j is) [
-    | inl same ↦ subst (P pid) (sym same) here
-    | inr has ↦ all j has
-  ]
-
-  less-in : (pid : ℕ) (set : List Bool) (i : ℕ) → AllIn pid set → AllIn pid (without_function set i)
-  less-in pid set i all j is = let x = has-without set i j is in all j x.has
-
   step-in : (pid : ℕ) (set : List Bool) (o : Option Stepped) → AllIn pid set
       → ((step : Stepped) → o ≡ Some step → P pid step.function) → AllIn pid (with_step o set)
   step-in pid set None all here = all
-  step-in pid set (Some step) all here = more-in pid set step.function all (here step refl)
+  step-in pid set (Some step) all here = more-in (P pid) set step.function all (here step refl)
 
   back-in : (pid : ℕ) (m : Marks) → MarksIn pid m → AllIn pid (put_back m)
   unfolding put_back
@@ -100,38 +78,7 @@ module _ (P : ℕ → ℕ → Type 0) where
   standing-in pid m w = step-in pid m.planted m.stepped w.planted w.stepped
 
   pub no-marks-in : (pid : ℕ) → MarksIn pid no_marks
-  no-marks-in pid = record {
-    planted = none-in pid;
-    lifted = none-in pid;
-    stepped = λ step is. absurd (none-some step is);
-  }
-
-  -- with an event
-  then-in : (pid : ℕ) (m : Marks) (l : LwpStatus) (e : FunctionEvent) → MarksIn pid m
-      → ((function : ℕ) → e ≡ AtBreakpoint function → P pid function) → MarksIn pid (marks_then m l e)
-  unfolding step_of
-  then-in pid m l (AtBreakpoint function) w met = record {
-    planted = w.planted;
-    lifted = w.lifted;
-    stepped = λ step is.
-        subst (P pid) (ap (λ (x : Stepped). x.function) (same_Some (step_of l function) step is)) (met function refl);
-  }
-  then-in pid m l (Completed step) w met =
-      record { planted = w.planted; lifted = w.lifted; stepped = λ other is. absurd (none-some other is) }
-  then-in pid m l TraceTrap w met = record { planted = w.planted; lifted = w.lifted; stepped = w.stepped }
-  then-in pid m l BeforeCopy w met = record {
-    planted = w.planted;
-    lifted = standing-in pid m w;
-    stepped = λ other is. absurd (none-some other is);
-  }
-  then-in pid m l AfterCopy w met = record {
-    planted = w.planted;
-    lifted = none-in pid;
-    stepped = λ other is. absurd (none-some other is);
-  }
-  then-in pid m l Replaced w met = no-marks-in pid
-  then-in pid m l Other w met =
-      record { planted = w.planted; lifted = w.lifted; stepped = λ other is. absurd (none-some other is) }
+  no-marks-in pid = walk.no-marks-in (P pid)
 
   abbrev BeforeStage : TrussState → Stage → Type 0
   BeforeStage t stage = StageSo MarksIn t stage
@@ -162,23 +109,6 @@ module _ (P : ℕ → ℕ → Type 0) where
     patching-in ts q plants lifts clear one two =
         elim (is_some (first_function plants) || is_some (first_function lifts) || clear)
         as (λ b. AsideSo N ts (cond b (Patching q plants lifts clear) Nothing)) [ true ↦ (one, two) | false ↦ tt ]
-
-    idle-in : (v : TrussState) → v.aside ≡ Nothing → AsideSo N v.traced v.aside
-    idle-in v idle = subst (AsideSo N v.traced) (sym idle) tt
-
-    next-in : (u : TrussState) (q i : ℕ)
-        → AsideSo N (with_next_function u q i).traced (with_next_function u q i).aside
-    unfolding with_next_function
-    next-in u q i =
-        elim (nat_lt i (length u.options.functions))
-        as (λ b. let v : TrussState = cond b (with_aside u (Reading q i)) (with_aside u Nothing) in
-        AsideSo N v.traced v.aside) [ true ↦ tt | false ↦ tt ]
-
-    refused-in : (u : TrussState) (q : ℕ) (errno : Errno) → AllIn (traced_at u q).pid (marks_at u q).planted
-        → AsideSo N (with_refused_opening u q errno).traced (with_refused_opening u q errno).aside
-    unfolding with_refused_opening with_refused_step with_lifts
-    refused-in u q errno planted =
-        patching-in u.traced q no_functions (marks_at u q).planted false (none-in (traced_at u q).pid) planted
 
     -- ---- a reply
 
@@ -212,7 +142,7 @@ module _ (P : ℕ → ℕ → Type 0) where
       stage-marks (ReadingStatus q) within w = (
         w,
         λ l e accepted told fresh.
-            then-in (PidAt q) (marks_at t q) l (function_event t.options (marks_at t q) l.id e) (w q within)
+            then-in (P (PidAt q)) (marks_at t q) l (function_event t.options (marks_at t q) l.id e) (w q within)
             (met-in q l e (w q within)),
       )
       stage-marks (Running q) within w =
@@ -235,14 +165,14 @@ module _ (P : ℕ → ℕ → Type 0) where
 
           by : (a : Answer) (plant lift : Option ℕ) → ((i : ℕ) → plant ≡ Some i → a ≡ Accepted → P (PidAt q) i)
               → AllIn (PidAt q) (planted_after set a plant lift)
-          by Accepted (Some i) lift here = more-in (PidAt q) set i m.planted (here i refl refl)
+          by Accepted (Some i) lift here = more-in (P (PidAt q)) set i m.planted (here i refl refl)
           by Interrupted (Some i) lift here = m.planted
           by Gone (Some i) lift here = m.planted
           by (Refused errno) (Some i) lift here = m.planted
-          by Accepted None (Some i) here = less-in (PidAt q) set i m.planted
-          by Interrupted None (Some i) here = less-in (PidAt q) set i m.planted
-          by Gone None (Some i) here = less-in (PidAt q) set i m.planted
-          by (Refused errno) None (Some i) here = less-in (PidAt q) set i m.planted
+          by Accepted None (Some i) here = less-in (P (PidAt q)) set i m.planted
+          by Interrupted None (Some i) here = less-in (P (PidAt q)) set i m.planted
+          by Gone None (Some i) here = less-in (P (PidAt q)) set i m.planted
+          by (Refused errno) None (Some i) here = less-in (P (PidAt q)) set i m.planted
           by Accepted None None here = m.planted
           by Interrupted None None here = m.planted
           by Gone None None here = m.planted
@@ -271,239 +201,55 @@ module _ (P : ℕ → ℕ → Type 0) where
 
       -- ---- what is done next
 
-      abbrev IsIn : TrussState → Type 0
-      IsIn v = AsideSo N v.traced v.aside
+      patches-in : (aside : Aside) (stage : Stage) (p : ℕ) (plants lifts : List Bool)
+          → Patches t r aside stage p plants lifts → IsWithin (length t.traced) stage
+          → IsBeside (length t.traced) aside → BesideAt MarksIn t aside stage
+          → AsideSo (λ pid i. Unit {0}) t.traced aside → AllIn (PidAt p) plants × AllIn (PidAt p) lifts
+      patches-in aside stage p plants lifts (breaks {q = q} {i = i} {l = l} {e = e} tells) within at w it = (
+        back-in (PidAt q) (marks_at t q) (w q within),
+        more-in (P (PidAt q)) no_functions i (none-in (PidAt q)) (met-in q l e (w q within) i tells.is),
+      )
+      patches-in aside stage p plants lifts (ends_step {q = q}) within at w it =
+          (back-in (PidAt q) (marks_at t q) (w q within), none-in (PidAt q))
+      patches-in aside stage p plants lifts (begins_copy {q = q}) within at w it =
+          (none-in (PidAt q), let m = w q within in m.planted)
+      patches-in aside stage p plants lifts (ends_copy {q = q}) within at w it =
+          let m = w q within in
+          (step-in (PidAt q) (marks_at t q).lifted (marks_at t q).stepped m.lifted m.stepped, none-in (PidAt q))
+      patches-in aside stage p plants lifts (refuses {q = q}) within at w it =
+          (none-in (PidAt q), let m = w q within in m.planted)
+      patches-in aside stage p plants lifts (refuses_read {q = q}) within at w it =
+          (none-in (PidAt q), let m = w q at in m.planted)
+      patches-in aside stage p plants lifts (refuses_write {q = q}) within at w it =
+          (none-in (PidAt q), let m = w q at in m.planted)
+      patches-in aside stage p plants lifts (plants_on {q = q} {plants = set} i) within at w it =
+          (less-in (P (PidAt q)) set i it.0, it.1)
+      patches-in aside stage p plants lifts (lifts_on {q = q} {lifts = set} i) within at w it =
+          (it.0, less-in (P (PidAt q)) set i it.1)
 
-      module _ (idle : t.aside ≡ Nothing) where
-        plain-in : (stage : Stage) → t.stage ≡ stage → IsIn (with_reply t r stage)
-        plain-in stage at = idle-in (with_reply t r stage) (reply-aside t r stage at ∙ idle)
+      before-in : (aside : Aside) (stage : Stage) (us : List Traced) (b : Aside) → Before t r aside stage us b
+          → t.aside ≡ aside → IsWithin (length t.traced) stage → IsBeside (length t.traced) aside
+          → BesideAt MarksIn t aside stage → AsideSo (λ pid i. Unit {0}) t.traced aside → AsideSo N us b
+      before-in aside stage us b nothing is within at w it = tt
+      before-in aside stage us b (reads it_is) is within at w it = tt
+      before-in aside stage us b (writes {q = q} {i = i} it_is accepted plants) is within at w it =
+          subst (λ n. N n i) (sym it_is.1) (learns q i is accepted plants)
+      before-in aside stage us b
+          (patches_next {q = q} {plants = plants} {lifts = lifts} clear it_is these) is within at w it =
+          let x = patches-in aside stage q plants lifts these within at w it in
+          patching-in us q plants lifts clear (subst (λ n. AllIn n plants) (sym it_is.1) x.0)
+          (subst (λ n. AllIn n lifts) (sym it_is.1) x.1)
 
-        module _ (q : ℕ) (within : q < length t.traced) (w : Each (So MarksIn) t.traced) where
-          abbrev m : Marks
-          m = marks_at t q
-
-          its : MarksIn (PidAt q) m
-          its = w q within
-
-          -- the process at the place is the same
-          same-pid : (l : LwpStatus) (e : FunctionEvent) → (traced_at (with_function_event t q l e) q).pid ≡ PidAt q
-          same-pid l e =
-              let a = event-kept t off follow q l within e in
-              a.pids q
-              ∙ ap (λ (x : Traced). x.pid)
-              (set-at t.traced q (record (traced_at t q) { marks = marks_then m l e }) within)
-
-          patched-in : (l : LwpStatus) (e : FunctionEvent) (plants lifts : List Bool) → AllIn (PidAt q) plants
-              → AllIn (PidAt q) lifts
-              → AsideSo N (with_function_event t q l e).traced (patching q plants lifts false)
-          patched-in l e plants lifts one two =
-              patching-in (with_function_event t q l e).traced q plants lifts false
-              (subst (λ n. AllIn n plants) (sym (same-pid l e)) one)
-              (subst (λ n. AllIn n lifts) (sym (same-pid l e)) two)
-
-          event-in : (l : LwpStatus) (e : FunctionEvent)
-              → ((function : ℕ) → e ≡ AtBreakpoint function → P (PidAt q) function)
-              → IsIn (with_function_event t q l e)
-          unfolding with_function_event with_step_begun with_step_completed with_trap_over with_copy_begun
-              with_copy_ended with_other_event with_memory_replaced with_call_shown with_patches
-          event-in l (AtBreakpoint function) met =
-              patched-in l (AtBreakpoint function) _ _ (back-in (PidAt q) m its)
-              (more-in (PidAt q) no_functions function (none-in (PidAt q)) (met function refl))
-          event-in l (Completed step) met =
-              patched-in l (Completed step) _ _ (back-in (PidAt q) m its) (none-in (PidAt q))
-          event-in l TraceTrap met =
-              let over = over-over (with_marks t q (record m { flags = clear_fault })) q in
-              idle-in (with_trap_over t q) (over.aside ∙ idle)
-          event-in l BeforeCopy met = patched-in l BeforeCopy _ _ (none-in (PidAt q)) its.planted
-          event-in l AfterCopy met =
-              patched-in l AfterCopy _ _ (step-in (PidAt q) m.lifted m.stepped its.lifted its.stepped)
-              (none-in (PidAt q))
-          event-in l Replaced met =
-              let over = stop-looked (with_marks t q no_marks) q l follow in
-              idle-in (with_memory_replaced t q l) (over.aside ∙ idle)
-          event-in l Other met = patched-in l Other _ _ (back-in (PidAt q) m its) (none-in (PidAt q))
-
-          fresh-in : (l : LwpStatus) (e : Option Event) → IsIn (with_fresh_event t q l e)
-          fresh-in l None =
-              let over = stop-looked t q l follow in
-              subst IsIn (sym (ap (λ b. cond b (with_last_stop t q l) (with_stop t q l)) off))
-              (idle-in (with_stop t q l) (over.aside ∙ idle))
-          fresh-in l (Some e) =
-              let fe : FunctionEvent = function_event t.options m l.id e in
-              subst IsIn (sym (ap (λ b. cond b (with_last_event t q l fe) (with_function_event t q l fe)) off))
-              (event-in l fe (met-in q l e its))
-
-          read-in : (l : Option LwpStatus) → IsIn (with_function_stop_read t q l)
-          unfolding with_function_stop
-          read-in None =
-              let over = over-over t q in
-              subst IsIn (sym (ap (λ b. cond b (with_lifts (with_stop_over t q) q false) (with_stop_over t q)) off))
-              (idle-in (with_stop_over t q) (over.aside ∙ idle))
-          read-in (Some l) = fresh-in l (fresh_event (traced_at t q) l)
-
-          status-in : (a : Answer) → answer_of r ≡ a → t.stage ≡ ReadingStatus q
-              → IsIn (with_function_status_answered t q r a)
-          unfolding with_function_status_answered with_reply
-          status-in Accepted is at = read-in (option_and_then status_lwp (bytes_in r))
-          status-in (Refused errno) is at =
-              subst (λ a. IsIn (with_status_answered t q r a)) is (plain-in (ReadingStatus q) at)
-          status-in Gone is at = subst (λ a. IsIn (with_status_answered t q r a)) is (plain-in (ReadingStatus q) at)
-          status-in Interrupted is at = absurd (calm is)
-
-          text-in : (l : LwpStatus) (from len : ℕ) (a : Answer) → t.stage ≡ ReadingText q l from len
-              → IsIn (after_function_text t (with_text_answered t q l len r) q a)
-          unfolding with_reply
-          text-in l from len Gone at = plain-in (ReadingText q l from len) at
-          text-in l from len _ at =
-              let shown : TrussState = with_text_answered t q l len r in
-              subst IsIn (sym (ap (λ b. cond b (with_lifts shown q false) shown) off))
-              (plain-in (ReadingText q l from len) at)
-
-          unflagged-in : t.stage ≡ Running q
-              → IsIn (with_reply (with_marks t q (record m { flags = 0 })) r (Running q))
-          unflagged-in at =
-              idle-in (with_reply (with_marks t q (record m { flags = 0 })) r (Running q))
-              (reply-aside (with_marks t q (record m { flags = 0 })) r (Running q) at ∙ idle)
-
-          run-in : (a : Answer) → answer_of r ≡ a → t.stage ≡ Running q → IsIn (with_function_run_answered t q a)
-          unfolding with_function_run_answered with_reply
-          run-in Interrupted is at = absurd (calm is)
-          run-in Accepted is at =
-              subst (λ b. IsIn (with_run_answered (with_marks t q (record m { flags = 0 })) q b)) is (unflagged-in at)
-          run-in (Refused errno) is at =
-              subst (λ b. IsIn (with_run_answered (with_marks t q (record m { flags = 0 })) q b)) is (unflagged-in at)
-          run-in Gone is at =
-              subst (λ b. IsIn (with_run_answered (with_marks t q (record m { flags = 0 })) q b)) is (unflagged-in at)
-
-          at-step-aside : (u : TrussState) (step : Option OpeningStep) → (at_step u q step).aside ≡ u.aside
-          at-step-aside u None = on-aside (opens-next u)
-          at-step-aside u (Some now) = refl
-
-          begun-in : (u : TrussState) (step : OpeningStep) → u.aside ≡ Nothing → IsIn (with_functions_begun u q step)
-          begun-in u opening.TraceExits none = next-in u q 0
-          begun-in u _ none = idle-in u none
-
-          opening-in : (now : OpeningStep) (a : Answer) → a ≢ Interrupted
-              → IsIn (with_function_step_answered t q now r a)
-          unfolding with_function_step_answered with_step_done with_refused_step
-          opening-in now Accepted other =
-              begun-in (with_step_done t q r now) now
-              (at-step-aside (with_traced t q (learnt (traced_at t q) r now)) (step_after t.options r now) ∙ idle)
-          opening-in now (Refused errno) other = refused-in t q errno its.planted
-          opening-in now Gone other = idle-in (with_refused_step t q Noent) idle
-          opening-in now Interrupted other = absurd (other refl)
-
-        stage-in : (stage : Stage) → t.stage ≡ stage → IsWithin (length t.traced) stage → BeforeStage t stage
-            → IsIn (with_function_reply t r stage)
-        unfolding with_function_reply with_function_text_answered
-        stage-in (Opening q now) at within w = opening-in q within w now (answer_of r) calm
-        stage-in (ReadingStatus q) at within w = status-in q within w (answer_of r) refl at
-        stage-in (ReadingText q l from len) at within w = text-in q within w l from len (answer_of r) at
-        stage-in (Running q) at within w = run-in q within w (answer_of r) refl at
-        stage-in (Spawning program) at within w = plain-in (Spawning program) at
-        stage-in (OpeningControl pid) at within w = plain-in (OpeningControl pid) at
-        stage-in Polling at within w = plain-in Polling at
-        stage-in (Closing q next) at within w = plain-in (Closing q next) at
-        stage-in Finished at within w = plain-in Finished at
-        stage-in _ at within w = absurd within
-
-      -- ---- where something comes before the call of the stage
-
-      abbrev idle_now : TrussState
-      idle_now = with_aside t Nothing
-
-      code-in : (q i : ℕ) → t.aside ≡ Reading q i → AllIn (PidAt q) (marks_at t q).planted → (a : Answer)
-          → answer_of r ≡ a → IsIn (with_code_answered idle_now q i r a)
-      unfolding with_code_answered with_code_read with_refused_step
-      code-in q i at planted Accepted is = by (is_to_plant t.options i (bytes_in r)) refl
-        where
-          by : (b : Bool) → is_to_plant t.options i (bytes_in r) ≡ b
-              → IsIn (cond b (with_aside idle_now (Planting q i)) (with_next_function idle_now q (i + 1)))
-          by true read = learns q i at is read
-          by false other = next-in idle_now q (i + 1)
-      code-in q i at planted (Refused errno) is = refused-in idle_now q errno planted
-      code-in q i at planted Gone is = tt
-      code-in q i at planted Interrupted is = absurd (calm is)
-
-      plant-in : (q i : ℕ) → AllIn (PidAt q) (marks_at t q).planted → (a : Answer) → answer_of r ≡ a
-          → IsIn (with_plant_answered idle_now q i a)
-      unfolding with_plant_answered with_refused_step
-      plant-in q i planted Accepted is = next-in (with_planted idle_now q i) q (i + 1)
-      plant-in q i planted (Refused errno) is = refused-in idle_now q errno planted
-      plant-in q i planted Gone is = tt
-      plant-in q i planted Interrupted is = absurd (calm is)
-
-      -- after one of the patches, or after all
-      after-in : (u : TrussState) (rest : Aside) (q : ℕ) (stage : Stage) (a : Answer) → a ≢ Interrupted
-          → u.aside ≡ Nothing → AsideSo N u.traced rest → IsIn (after_patch u rest q stage a)
-      unfolding after_patch with_pending_told
-      after-in u rest q (Closing c OpenNext) a other idle it = it
-      after-in u rest q (Closing c GoOn) Gone other idle it = idle-in (with_closing u q) idle
-      after-in u rest q (Closing c GoOn) _ other idle it = it
-      after-in u rest q (Closing c (RunParent parent)) Gone other idle it = idle-in (with_closing u q) idle
-      after-in u rest q (Closing c (RunParent parent)) _ other idle it = it
-      after-in u rest q stage Accepted other idle it = it
-      after-in u rest q stage (Refused errno) other idle it = it
-      after-in u rest q stage Gone other idle it = idle-in (with_closing (with_pending_told u) q) idle
-      after-in u rest q stage Interrupted other idle it = absurd (other refl)
-
-      module _ (q : ℕ) (within : q < length t.traced) where
-        abbrev with_set : List Bool → TrussState
-        with_set set = with_marks idle_now q (record (marks_at t q) { planted = set })
-
-        set-pid : (set : List Bool) → (traced_at (with_set set) q).pid ≡ PidAt q
-        set-pid set =
-            ap (λ (x : Traced). x.pid)
-            (set-at t.traced q (record (traced_at t q) { marks = record (marks_at t q) { planted = set } }) within)
-
-        rest-in : (u : TrussState) (plants lifts : List Bool) (clear : Bool) → (traced_at u q).pid ≡ PidAt q
-            → AllIn (PidAt q) plants → AllIn (PidAt q) lifts → AsideSo N u.traced (patching q plants lifts clear)
-        rest-in u plants lifts clear same one two =
-            patching-in u.traced q plants lifts clear (subst (λ n. AllIn n plants) (sym same) one)
-            (subst (λ n. AllIn n lifts) (sym same) two)
-
-        planted-if-in : (i : ℕ) (plants lifts : List Bool) (clear : Bool) (a b : Answer) → a ≢ Interrupted
-            → AllIn (PidAt q) plants → AllIn (PidAt q) lifts
-            → IsIn (after_patch (planted_if idle_now q i b) (patching q (without_function plants i) lifts clear) q
-            t.stage a)
-        planted-if-in i plants lifts clear a Accepted other one two =
-            after-in _ _ q t.stage a other refl
-            (rest-in (with_set (with_function (marks_at t q).planted i)) (without_function plants i) lifts clear
-            (set-pid (with_function (marks_at t q).planted i)) (less-in (PidAt q) plants i one) two)
-        planted-if-in i plants lifts clear a _ other one two =
-            after-in _ _ q t.stage a other refl
-            (rest-in idle_now (without_function plants i) lifts clear refl (less-in (PidAt q) plants i one) two)
-
-        first-in : (plants lifts : List Bool) (clear : Bool) (a : Answer) → a ≢ Interrupted → AllIn (PidAt q) plants
-            → AllIn (PidAt q) lifts → (plant lift : Option ℕ)
-            → IsIn (after_first idle_now q plants lifts clear a plant lift)
-        first-in plants lifts clear a other one two (Some i) lift = planted-if-in i plants lifts clear a a other one two
-        first-in plants lifts clear a other one two None (Some i) =
-            after-in _ _ q t.stage a other refl
-            (rest-in (with_set (without_function (marks_at t q).planted i)) plants (without_function lifts i) clear
-            (set-pid (without_function (marks_at t q).planted i)) one (less-in (PidAt q) lifts i two))
-        first-in plants lifts clear a other one two None None = after-in idle_now Nothing q t.stage a other refl tt
-
-      aside-in : (aside : Aside) → t.aside ≡ aside → IsBeside (length t.traced) aside → BeforeAside t aside
-          → AsideSo (λ pid i. Unit {0}) t.traced aside → IsIn (with_aside_answered t r aside)
-      unfolding with_aside_answered with_patch_answered
-      aside-in Nothing at within w it = stage-in at t.stage refl at_stage w
-      aside-in (Reading q i) at within w it =
-          let m = w q within in code-in q i at m.planted (answer_of r) refl
-      aside-in (Planting q i) at within w it =
-          let m = w q within in plant-in q i m.planted (answer_of r) refl
-      aside-in (Patching q plants lifts clear) at within w it =
-          first-in q within plants lifts clear (answer_of r) calm it.0 it.1 (first_function plants)
-          (first_function lifts)
-      aside-in _ at within w it = absurd within
+      steps-in : (v : TrussState) → Makes t r t.aside t.stage v → AsideSo N v.traced v.aside
+      steps-in v (makes {us = us} {b = b} edits next s) =
+          subst (λ (ts : List Traced). AsideSo N ts v.aside) (sym s.traced)
+          (subst (AsideSo N us) (sym s.aside)
+          (before-in t.aside t.stage us b next refl at_stage at_aside before there))
 
       pub truss-later : TrussSo (fed_functions t r)
-      unfolding fed_functions
       truss-later = record {
         marks = marks-later;
-        aside =
-            subst IsIn (sym (ap (λ b. cond b (with_aside_answered t r t.aside) (fed t r)) has))
-            (aside-in t.aside refl at_aside before there);
+        aside = steps-in (fed_functions t r) (fed-makes t r off follow at_stage at_aside calm has);
       }
 
 -- ---- where the same is so of those that it is to plant for the first time

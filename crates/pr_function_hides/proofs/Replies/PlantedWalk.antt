@@ -1,28 +1,24 @@
-use Rattle.pr_line.specs.Events.{event_of}
-use Rattle.pr_line.specs.Selections.{is_selected}
-use Rattle.pr_line.specs.declared.events.Event.{Event}
 use Rattle.pr_rec.specs.declared.lwps.LwpStatus.{LwpStatus}
 use Rattle.pr_truss.specs.Asides.{marks_at, with_aside, with_marks, with_patches}
-use Rattle.pr_truss.specs.Records.{child_of}
-use Rattle.pr_truss.specs.Closings.{polls_or_finished, with_going_on, with_next_left, with_next_opening}
 use Rattle.pr_truss.specs.FunctionStops.{with_call_shown, with_copy_begun, with_copy_ended, with_function_event, with_memory_replaced, with_other_event, with_step_begun, with_step_completed, with_trap_over}
 use Rattle.pr_truss.specs.Marks.{no_marks}
-use Rattle.pr_truss.specs.Stops.{asked_range, followed_child, with_child_or, with_event, with_event_over, with_event_shown, with_old_stop_over, with_stop, with_stop_over, with_text_or_shown}
-use Rattle.pr_truss.specs.Trusses.{TrussState, nobody, opening_or, traced_at, with_traced}
+use Rattle.pr_truss.specs.Stops.{with_old_stop_over, with_stop, with_stop_over}
+use Rattle.pr_truss.specs.Trusses.{TrussState, nobody, traced_at, with_traced}
 use Rattle.pr_truss.specs.declared.asides.Aside.{Aside}
 use Rattle.pr_truss.specs.declared.function_events.FunctionEvent.TheVariants.{Other, AtBreakpoint, Completed, TraceTrap, BeforeCopy, AfterCopy, Replaced}
 use Rattle.pr_truss.specs.declared.function_events.FunctionEvent.{FunctionEvent}
 use Rattle.pr_truss.specs.declared.marks.Marks.{Marks}
 use Rattle.pr_truss.specs.declared.processes.Traced.{Traced}
 use Rattle.pr_truss_laws.proofs.Files.HeldLemmas.{at_place, set-at}
-use Rattle.std.proofs.Common.{◌≡◌, ◌<◌, ◌-◌, ℕ, Bool, true, false, cond, Option, Some, None, List, length, refl, sym, subst, ap, ◌∙◌, inl, inr}
+use Rattle.std.proofs.Common.{◌≡◌, ◌<◌, ◌-◌, ℕ, false, None, List, length, refl, sym, subst, ap, ◌∙◌, inl, inr}
 use Rattle.std.proofs.lemmas.Bool.{cases_eq}
 use Rattle.std.proofs.lemmas.List.{get_or-set_other, length-set}
-use Rattle.std.specs.List.{slice_get, slice_set}
+use Rattle.std.specs.List.{slice_set}
 pub use Rattle.pr_function_laws.proofs.Marks.MarkWalk.{marks_then}
+use Rattle.pr_function_hides.proofs.Replies.FunctionSteps.{over, stop}
 
--- One walk over the replies of a truss with functions that follows no children and was not interrupted: what is so of
--- the marks of each process stays so, but where a breakpoint is planted or lifted, an event is read, or it is run.
+-- What a truss with functions that follows no children and does not leave makes of a stop leaves its processes as they
+-- are, with their marks, but for those of the process that stands on a new event.
 
 -- ---- the same processes, with the same marks
 
@@ -65,67 +61,21 @@ set-alike u q t within pid marks = record {
   ];
 }
 
-either : (u : TrussState) (b : Bool) (v w : TrussState) → IsAlike u v → IsAlike u w → IsAlike u (cond b v w)
-either u true v w x y = x
-either u false v w x y = y
-
 -- ---- where truss does not leave its processes, and follows none
 
-module _ (u : TrussState) (off : u.leaving ≡ false) (follow : u.options.follow ≡ false) where
-  pub over-alike : (q : ℕ) → IsAlike u (with_stop_over u q)
-  unfolding with_stop_over
-  over-alike q = either u u.leaving _ _ (same_alike u _ refl) (same_alike u _ refl)
-
-  pub event-over-alike : (q : ℕ) (l : LwpStatus) → IsAlike u (with_event_over u q l)
-  unfolding with_event_over followed_child
-  event-over-alike q l =
-      subst (IsAlike u) (sym (ap (λ f. with_child_or u q (cond f (child_of l) None)) follow)) (over-alike q)
-
-  polls-alike : (t : Option Traced) → IsAlike u (polls_or_finished u t)
-  polls-alike None = same_alike u _ refl
-  polls-alike (Some t) = same_alike u _ refl
-
-  pub going-alike : IsAlike u (with_going_on u)
-  unfolding with_going_on
-  going-alike =
-      subst (IsAlike u)
-      (sym (ap (λ b. cond b (with_next_left u) (polls_or_finished u (slice_get u.traced 0))) off))
-      (polls-alike (slice_get u.traced 0))
-
-  next-alike : (pid : Option ℕ) → IsAlike u (opening_or u (with_going_on u) pid)
-  next-alike None = going-alike
-  next-alike (Some pid) = same_alike u _ refl
-
-  pub opening-alike : IsAlike u (with_next_opening u)
-  unfolding with_next_opening
-  opening-alike = next-alike (slice_get u.options.pids u.begun)
-
-module _ (u : TrussState) (off : u.leaving ≡ false) (follow : u.options.follow ≡ false) (q : ℕ) (l : LwpStatus)
+module _ (u : TrussState) (off : u.leaving ≡ false) (follow : u.options.follow ≡ false) (q : ℕ)
     (within : q < length u.traced) where
-  shown-alike : (range : Option (ℕ × ℕ)) → IsAlike u (with_text_or_shown u q l range)
-  unfolding with_event_shown
-  shown-alike None = alike-join u (with_event_shown u q l None) _ (same_alike u _ refl)
-      (event-over-alike (with_event_shown u q l None) off follow q l)
-  shown-alike (Some range) = same_alike u _ refl
+  over-alike : IsAlike u (with_stop_over u q)
+  over-alike = same_alike u _ (let n = over u off follow q within in n.traced)
 
-  event-alike : (e : Option Event) → IsAlike u (with_event u q l e)
-  event-alike None = over-alike u off follow q
-  event-alike (Some e) =
-      either u (is_selected u.options e) _ _ (shown-alike (asked_range u.options e))
-      (event-over-alike u off follow q l)
-
-  old-alike : IsAlike u (with_old_stop_over u q)
+  stop-alike : (l : LwpStatus) → IsAlike u (with_stop u q l)
   unfolding with_old_stop_over
-  old-alike =
+  stop-alike l = stop (IsAlike u) u off follow q l within (λ v n. same_alike u v n.traced) (λ some.
       let t : Traced = record (traced_at u q) { old = (traced_at u q).old - 1 } in
       alike-join u (with_traced u q t) _ (set-alike u q t within refl refl)
-      (over-alike (with_traced u q t) off follow q)
-
-  pub stop-alike : IsAlike u (with_stop u q l)
-  unfolding with_stop
-  stop-alike =
-      either u _ _ _ (over-alike u off follow q)
-      (either u _ _ _ old-alike (either u _ _ _ (over-alike u off follow q) (event-alike (event_of l))))
+      (same_alike (with_traced u q t) _
+      (let n = over (with_traced u q t) off follow q (subst (λ k. q < k) (sym (length-set u.traced q t)) within) in
+      n.traced)))
 
 -- ---- with other marks of the process
 
@@ -138,10 +88,10 @@ module _ (u : TrussState) (off : u.leaving ≡ false) (follow : u.options.follow
   set-within n = subst (λ k. q < k) (sym (length-set u.traced q (record (traced_at u q) { marks = n }))) within
 
   over-marked : (n : Marks) → IsAlike (with_marks u q n) (with_stop_over (with_marks u q n) q)
-  over-marked n = over-alike (with_marks u q n) off follow q
+  over-marked n = over-alike (with_marks u q n) off follow q (set-within n)
 
   stop-marked : (n : Marks) → IsAlike (with_marks u q n) (with_stop (with_marks u q n) q l)
-  stop-marked n = stop-alike (with_marks u q n) off follow q l (set-within n)
+  stop-marked n = stop-alike (with_marks u q n) off follow q (set-within n) l
 
   -- another aside
   beside : (w v : TrussState) (a : Aside) → IsAlike w v → IsAlike w (with_aside v a)
@@ -155,7 +105,7 @@ module _ (u : TrussState) (off : u.leaving ≡ false) (follow : u.options.follow
   event-kept (Completed step) =
       beside _ _ _
       (alike-join (with_marks u q (record m { stepped = None; flags = _ })) _ _ (same_alike _ _ refl)
-      (over-alike _ off follow q))
+      (over-alike _ off follow q (set-within _)))
   event-kept TraceTrap = over-marked _
   event-kept BeforeCopy = beside _ _ _ (stop-marked _)
   event-kept AfterCopy = beside _ _ _ (stop-marked _)
