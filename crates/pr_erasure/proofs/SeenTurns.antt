@@ -3,6 +3,7 @@
 pub mod DecisionLemmas
 pub mod EffectLemmas
 pub mod FaultLemmas
+pub mod KeptSettings
 pub mod PointLemmas
 pub mod ProperLemmas
 pub mod RowLemmas

@@ -1,11 +1,10 @@
-use Rattle.std.proofs.Common.{◌≡◌, ◌≢◌, ◌==◌, ℕ, true, false, cond, Option, Some, None, length, refl, sym, subst, ap}
+use Rattle.std.proofs.Common.{◌≡◌, ◌≢◌, ℕ, true, false, cond, Option, Some, None, refl, sym, subst, ap}
 use Rattle.std.proofs.Common.{◌∙◌}
 use Rattle.std.proofs.lemmas.Bool.{false≢true}
 use Rattle.std.proofs.lemmas.Option.{same_Some}
 use Rattle.std.specs.Option.{option_map}
-use Rattle.pr_function_hides.proofs.StoppedCopies.CopyTurns.{Came, Goes, acts, changes-go, come-gone, goes-if, goes-next, goes-same}
-use Rattle.pr_function_hides.proofs.StoppedCopies.CopyTurns.{goes-spared, kept, new, own-goes}
-use Rattle.pr_function_laws.proofs.OpenedProcesses.StopTurns.{FaultsSo, counted-moved, directed-leaves, end-rises, faults}
+use Rattle.pr_function_laws.proofs.OpenedProcesses.ComingLwps.{Came, acts, changes-go, counted-goes, kept, new}
+use Rattle.pr_function_laws.proofs.OpenedProcesses.StopTurns.{FaultsSo, counted-moved, directed-leaves, faults}
 use Rattle.pr_function_laws.proofs.OpenedProcesses.StopTurns.{free-stopless, kind-so, no_fault}
 use Rattle.pr_hidden.proofs.Follows.FaultRows.{HowFaulted, bpt-effect, by_instruction, by_return, how-faulted}
 use Rattle.pr_keeps.proofs.RowLemmas.{row-kind}
@@ -15,11 +14,10 @@ use Rattle.pr_lawful.proofs.ProcessParts.FileLemmas.{choice}
 use Rattle.pr_lawful.proofs.LawfulTurns.SuitingLemmas.{SuitsTransition}
 use Rattle.pr_lawful.proofs.LawfulTurns.TurnLemmas.{acting, row-suits}
 use Rattle.pr_model.proofs.TurnLemmas.{turn-taken}
-use Rattle.pr_model.specs.Changes.{Ending, all_changed, ended, ends_lwp, ends_process}
+use Rattle.pr_model.specs.Changes.{all_changed, ended}
 use Rattle.pr_model.specs.InstructionEffects as instruction
 use Rattle.pr_model.specs.InstructionEffects.{InstructionEffect, instruction_effect}
 use Rattle.pr_model.specs.Lawful.{IsLawfulSystem}
-use Rattle.pr_model.specs.Lives.{with_lwp_ended, without_lwp}
 use Rattle.pr_model.specs.LwpTurns.{LwpTurn, settled, turn_of, with_counted}
 use Rattle.pr_model.specs.Machines.{fault_incurred, traced}
 use Rattle.pr_model.specs.Moves.{moved}
@@ -36,13 +34,12 @@ use Rattle.pr_model.specs.declared.stops.Point.{Point}
 use Rattle.pr_model.specs.declared.stops.Point.TheVariants.{Fault}
 use Rattle.pr_model.specs.declared.stops.Stop.TheVariants as stop
 use Rattle.pr_num.proofs.ByIdLaws.{under-change_under, under-change_under_other, under-map_each}
-use Rattle.pr_num.specs.ById.{IsRising, change_under, under}
+use Rattle.pr_num.specs.ById.{change_under, under}
 use Rattle.pr_num.specs.Control.{async_mode, has_flags}
 use Rattle.pr_num.specs.declared.faults.Flt.{Flt}
 use Rattle.pr_num.specs.declared.faults.Flt.TheVariants.{Bpt, Trace, Watch}
 use Rattle.pr_report_laws.proofs.Machine.TurnSettings.{turn-settings}
 use Rattle.pr_truss_laws.proofs.EventStops.BridgeLemmas.{mapped-some}
-use Rattle.pr_truss_laws.proofs.Machine.FrameLemmas.{end-spares}
 use Rattle.pr_truss_laws.proofs.EventStops.OwnTurnLemmas.{meeting-same}
 use Rattle.pr_truss_laws.proofs.Machine.StillLemmas.{halting-leaves, row-directed, stop-settled, stopped-live}
 use Rattle.pr_truss_laws.specs.Stills.{HasSameSettings, IsHalting, stopped_lwp, with_lwp_stopped}
@@ -66,7 +63,7 @@ same-phase p n m k same stops (old j there is at) = old j there (same ∙ is) (s
 came-old : (id : ℕ) (l : TracedLwp) (p : TracedProcess) (n : ℕ) (k : TracedLwp) → n ≢ id → Came id l p n k
     → IsOldPhase p n k
 came-old id l p n k apart (new stops phase) = fresh phase
-came-old id l p n k apart (kept m there stops phase) = old m there phase stops
+came-old id l p n k apart (kept m there stops phase current) = old m there phase stops
 came-old id l p n k apart (acts same stops phase) = absurd (apart same)
 
 directed-phase : (l : TracedLwp) → (directed l).phase ≡ l.phase
@@ -148,31 +145,17 @@ module _ (s : TracedSystem) (pid : ℕ) (p : TracedProcess) (id : ℕ) (l : Trac
       (sym (under-change_under_other id n (moved traced row.transition.move) (λ is. apart (sym is)) m.0.lwps)
       ∙ ap (λ (y : TracedProcess). lwp_of y n) m.1.1 ∙ there)
 
-  ended-goes : (how : Option Ending) (u : TracedSystem)
-      → ((x : TracedProcess) (e : Ending) → how ≡ Some e → process_of u pid ≡ Some x → IsRising x.lwps)
-      → Goes id l pid u (ended_if traced pid p id l how u)
-  unfolding ended with_lwp_ended without_lwp
-  ended-goes None u rises = goes-same id l pid u
-  ended-goes (Some (ends_process status)) u rises = goes-spared id l pid u _ (end-spares pid pid p status u)
-  ended-goes (Some ends_lwp) u rises =
-      goes-if id l pid (length p.lwps == 1) u _ _ (goes-spared id l pid u _ (end-spares pid pid p 0 u))
-      (own-goes id l pid (without_lwp id) u (λ x at. (refl, come-gone id l id x (rises x ends_lwp refl at))))
-
   counted-old : (x : TracedProcess) → process_of counts pid ≡ Some x → x.ended ≡ None → OthersOld x
   unfolding with_lwp_of with_counted
   counted-old x found live n k apart there =
-      let two =
-      goes-next id l pid moves ended_now counts
-      (ended-goes row.transition.ending moves (end-rises pid p id l free row.transition s a.lawful suits))
-      (own-goes id l pid (with_counted row.did row.begun) ended_now
-      (λ y at. (refl, λ i j here. kept j here refl refl))) in
+      let two = counted-goes id l pid p row s a.lawful suits in
       let was = two.from x found live in
       by was.0 was.1.0 was.1.1.0 (was.1.1.1 n k there)
     where
       by : (y : TracedProcess) → process_of moves pid ≡ Some y → y.ended ≡ None → Came id l y n k
           → IsOldPhase p n k
       by y at lives (new stops phase) = fresh phase
-      by y at lives (kept m here stops phase) =
+      by y at lives (kept m here stops phase current) =
           same-phase p n m k phase stops (moved-old y at lives n m apart here)
       by y at lives (acts same stops phase) = absurd (apart same)
 

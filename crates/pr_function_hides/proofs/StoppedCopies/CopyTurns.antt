@@ -1,18 +1,14 @@
-use Rattle.std.proofs.Common.{◌≡◌, ◌==◌, ◌&&◌, ◌≢◌, ◌+◌, nat_lt, ℕ, Bool, true, false, cond, is_some, None, Some, Option, List, [], ◌∷◌, length, refl, sym, subst, ap, ◌∙◌, inl, inr}
-use Rattle.std.proofs.lemmas.Bool.{false≢true, cases_eq, eqb-false, eqb-true}
+use Rattle.std.proofs.Common.{◌≡◌, ◌≢◌, nat_lt, ℕ, Bool, true, false, cond, None, Some, Option, List, length, refl, sym, subst, ap, ◌∙◌, inl, inr}
+use Rattle.std.proofs.lemmas.Bool.{false≢true, cases_eq}
 use Rattle.std.proofs.lemmas.Option.{same_Some, none-some}
-use Rattle.pr_num.proofs.ByIdLaws.{under-change_under, under-change_under_other, under-inserted, under-inserted_other, under-map_each, under-without_id, under-without_id_other}
-use Rattle.pr_num.specs.ById.{IsRising, change_under, inserted, under, without_id}
+use Rattle.pr_num.proofs.ByIdLaws.{under-change_under, under-change_under_other, under-map_each}
+use Rattle.pr_num.specs.ById.{change_under, under}
 use Rattle.pr_num.specs.Control.{async_mode, has_flags}
-use Rattle.pr_num.specs.Files.{FileTable}
-use Rattle.pr_num.specs.Programs.{Program}
 use Rattle.pr_num.specs.Signals.{signal_number}
 use Rattle.pr_num.specs.declared.errnos.Errno.TheVariants.{Intr}
 use Rattle.pr_num.specs.declared.signals.Sig.TheVariants.{Segv}
 use Rattle.pr_num.specs.declared.syscalls.Sysno.{Sysno}
 use Rattle.pr_num.specs.Limits.{frame_limit}
-use Rattle.pr_parts.specs.FileCalls.{with_all_shared}
-use Rattle.pr_keeps.proofs.LoanLemmas.{lent-keeps}
 use Rattle.pr_keeps.proofs.RowLemmas.{row-kind}
 use Rattle.pr_keeps.specs.RowKinds as kind
 use Rattle.pr_keeps.specs.RowKinds.{IsInCall, RowKind, at_it, asleep_in_it}
@@ -22,37 +18,36 @@ use Rattle.pr_lawful.proofs.ProcessParts.FileLemmas.{choice}
 use Rattle.pr_lawful.proofs.LawfulTurns.SuitingLemmas.{SuitsTransition}
 use Rattle.pr_lawful.proofs.LawfulTurns.TurnLemmas.{acting, row-suits}
 use Rattle.pr_model.proofs.TurnLemmas.{turn-taken}
-use Rattle.pr_model.specs.Changes.{Change, Effect, Ending, all_changed, becomes, changed, disposition_is, does, ended, ends, ends_lwp, ends_process, files_are, forks, held_is, job_stops, makes_lwp, reaps, resumed, resumes, signals, signals_itself, sleeps as effect_sleeps, space_is, suspends, takes_shared, with_disposition_of, with_fds, with_held, with_job_stop, with_shared_taken, with_space, with_suspended}
+use Rattle.pr_model.specs.Changes.{Effect, all_changed, does, ended, ends, ends_process, sleeps as effect_sleeps, takes_shared}
 use Rattle.pr_model.specs.CallEffects.{call_effect}
 use Rattle.pr_model.specs.InstructionEffects as instruction
 use Rattle.pr_model.specs.InstructionEffects.{InstructionEffect, instruction_effect}
 use Rattle.pr_model.specs.Lawful.{IsLawfulSystem}
-use Rattle.pr_model.specs.Lives.{Birth, forked, lent_to, new_lwp, started, with_child, with_lent, with_loan_back, with_lwp_ended, with_made, with_new_lwp, with_program, with_reaped, without_lwp}
 use Rattle.pr_model.specs.LwpTurns.{LwpTurn, settled, turn_of, with_counted}
-use Rattle.pr_model.specs.Machines.{call_over, fault_incurred, fault_posted, no_marks, step_taken, stopped_as_directed, traced}
+use Rattle.pr_model.specs.Machines.{call_over, fault_incurred, fault_posted, step_taken, stopped_as_directed, traced}
 use Rattle.pr_model.specs.Moves.{Move, moved}
 use Rattle.pr_model.specs.Moves as move
 use Rattle.pr_model.specs.Points.{after_meeting, is_traced, stop_at, stopped_at, with_others_directed, with_stop_at}
 use Rattle.pr_model.specs.Rows.{Row, entered_row, executed_row, finished, handler_row, incurred_row, interrupted_row, own_taken_row, performed_row, posted_row, ran_row, requested_row, returned_row, row_for, shared_taken_row, watched_row}
-use Rattle.pr_model.specs.Signals.{handler_held, handler_registers, is_kill, with_frame}
-use Rattle.pr_model.specs.State.{TracedControl, TracedLwp, TracedProcess, TracedSystem, live_process, lwp_of, process_of, with_lwp, with_lwp_of, with_process, with_process_if}
+use Rattle.pr_model.specs.Signals.{handler_held, handler_registers, with_frame}
+use Rattle.pr_model.specs.State.{TracedControl, TracedLwp, TracedProcess, TracedSystem, live_process, lwp_of, process_of, with_lwp, with_lwp_of, with_process}
 use Rattle.pr_model.specs.Stops.{directed, with_all_directed}
 use Rattle.pr_model.specs.Transitions.{Transition, after_transition, died, dropped, ended_if, ending, entered, handled, incurred, interrupted, job_stopped, moving, own_taken, performed, posted, ran, requested, returned, shared_taken, trapped}
 use Rattle.pr_model.specs.declared.events.Res.{Res}
 use Rattle.pr_model.specs.declared.events.Res.TheVariants.{Ended, Error, Value}
 use Rattle.pr_model.specs.declared.lwps.Current.{Current}
 use Rattle.pr_model.specs.declared.lwps.Phase.{Phase}
-use Rattle.pr_model.specs.declared.lwps.Phase.TheVariants.{Entered, User}
+use Rattle.pr_model.specs.declared.lwps.Phase.TheVariants.{Entered}
 use Rattle.pr_model.specs.declared.stops.Point.{Point}
 use Rattle.pr_model.specs.declared.stops.Point.TheVariants.{Signal, Fault, Entry, Exit}
 use Rattle.pr_model.specs.declared.stops.Stop.TheVariants as stop
 use Rattle.pr_truss.specs.FunctionEvents.{copies_memory}
 use Rattle.pr_truss_laws.proofs.EventStops.BridgeLemmas.{mapped-some}
-use Rattle.pr_truss_laws.proofs.Machine.FrameLemmas.{Spares, end-spares, ended-same, generated-spares, lent-apart, loan_back-spares, made-spares, reaped-spares}
 use Rattle.pr_truss_laws.proofs.EventStops.OwnTurnLemmas.{meeting-same}
 use Rattle.pr_truss_laws.specs.Stills.{HasSameSettings, IsUndisturbed}
 use Rattle.pr_report_laws.proofs.Machine.TurnSettings.{turn-settings}
-use Rattle.pr_function_laws.proofs.OpenedProcesses.StopTurns.{directed-leaves, end-rises, free-stopless}
+use Rattle.pr_function_laws.proofs.OpenedProcesses.ComingLwps.{Came, Come, acts, changes-go, counted-goes, kept, new}
+use Rattle.pr_function_laws.proofs.OpenedProcesses.StopTurns.{directed-leaves, free-stopless}
 use Rattle.pr_function_hides.specs.Copying.{HasNoCopyGoing, HaveNoCopyGoing, IsNot, StopsAtCopies, is_in_copy, leaves_copy, makes_copy}
 
 -- Where the lwps of a process stop at the entry of each fork, vfork and exec, no turn makes one of a lwp that has not
@@ -94,248 +89,6 @@ alone-clear but p q alone all = record {
       alike-clear was.0 k (ap (λ (x : TracedLwp). x.control.stop) was.1.1)
       (ap (λ (x : TracedLwp). x.phase) was.1.1) (all.each n was.0 other was.1.0);
 }
-
--- ---- what a turn changes before its move
-
--- Where an lwp comes from in the turn of another one: it is new, and in its program; it was there, at the same call and
--- on the same stop; or it is the one whose turn it is.
-pub data Came (id : ℕ) (l : TracedLwp) (p : TracedProcess) (n : ℕ) (k : TracedLwp) : Type 0 where
-  new : k.control.stop ≡ None → k.phase ≡ User → Came id l p n k
-  kept : (m : TracedLwp) → lwp_of p n ≡ Some m → k.control.stop ≡ m.control.stop → k.phase ≡ m.phase
-      → Came id l p n k
-  acts : n ≡ id → k.control.stop ≡ l.control.stop → k.phase ≡ l.phase → Came id l p n k
-
-module _ (id : ℕ) (l : TracedLwp) where
-  abbrev pub Come : TracedProcess → TracedProcess → Type 0
-  Come p q = (n : ℕ) (k : TracedLwp) → lwp_of q n ≡ Some k → Came id l p n k
-
-  come-self : (p : TracedProcess) → Come p p
-  come-self p n k there = kept k there refl refl
-
-  come-next : (p q r : TracedProcess) → Come p q → Come q r → Come p r
-  come-next p q r one two n k there = by (two n k there)
-    where
-      on : (m : TracedLwp) → Came id l p n m → k.control.stop ≡ m.control.stop → k.phase ≡ m.phase → Came id l p n k
-      on m (new stops phase) s h = new (s ∙ stops) (h ∙ phase)
-      on m (kept o at stops phase) s h = kept o at (s ∙ stops) (h ∙ phase)
-      on m (acts is stops phase) s h = acts is (s ∙ stops) (h ∙ phase)
-
-      by : Came id l q n k → Came id l p n k
-      by (new stops phase) = new stops phase
-      by (kept m at stops phase) = on m (one n m at) stops phase
-      by (acts is stops phase) = acts is stops phase
-
-  come-alone : (p q : TracedProcess) → IsUndisturbed p q → Come p q
-  come-alone p q alone n k there =
-      let was = alone.each n k there in
-      kept was.0 was.1.0 (ap (λ (x : TracedLwp). x.control.stop) was.1.1)
-      (ap (λ (x : TracedLwp). x.phase) was.1.1)
-
-  -- one lwp is changed, but for its stop and its phase
-  come-lwp : (target : ℕ) (f : TracedLwp → TracedLwp) → ((m : TracedLwp) → (f m).control.stop ≡ m.control.stop)
-      → ((m : TracedLwp) → (f m).phase ≡ m.phase) → (p : TracedProcess) → Come p (with_lwp target f p)
-  unfolding with_lwp
-  come-lwp target f stops phase p n k there = elim (cases_eq target n) [
-    | inl same ↦ own same
-    | inr other ↦ kept k (sym (under-change_under_other target n f other p.lwps) ∙ there) refl refl
-  ]
-    where
-      own : target ≡ n → Came id l p n k
-      own same =
-          let m =
-          mapped-some f (lwp_of p n) k (sym (under-change_under n f p.lwps)
-          ∙ subst (λ i. under n (change_under i f p.lwps) ≡ Some k) same there) in
-          kept m.0 m.1.0 (ap (λ (x : TracedLwp). x.control.stop) (sym m.1.1) ∙ stops m.0)
-          (ap (λ (x : TracedLwp). x.phase) (sym m.1.1) ∙ phase m.0)
-
-  come-new : (fresh held : ℕ) (regs : List ℕ) (p : TracedProcess) → Come p (with_new_lwp traced fresh regs held p)
-  unfolding with_new_lwp new_lwp no_marks traced
-  come-new fresh held regs p = by (is_some (lwp_of p fresh))
-    where
-      fresh_lwp : TracedLwp
-      fresh_lwp = new_lwp traced regs held (no_marks false)
-
-      joined : Come p (record p { next_lwp = fresh + 1; lwps = inserted fresh fresh_lwp p.lwps })
-      joined n k there = elim (cases_eq fresh n) [
-        | inl same ↦ own n k
-            (same_Some fresh_lwp k (sym (under-inserted n fresh_lwp p.lwps)
-            ∙ subst (λ i. under n (inserted i fresh_lwp p.lwps) ≡ Some k) same there))
-        | inr other ↦ kept k (sym (under-inserted_other fresh n fresh_lwp other p.lwps) ∙ there) refl refl
-      ]
-        where
-          own : (n : ℕ) (k : TracedLwp) → fresh_lwp ≡ k → Came id l p n k
-          own n k is =
-              new (ap (λ (y : TracedLwp). y.control.stop) (sym is)) (ap (λ (y : TracedLwp). y.phase) (sym is))
-
-      by : (b : Bool) → Come p (cond b p (record p { next_lwp = fresh + 1; lwps = inserted fresh fresh_lwp p.lwps }))
-      by true = come-self p
-      by false = joined
-
-  -- it runs another program with this one lwp
-  come-program : (program : Program) (p : TracedProcess) → Come p (with_program traced id l program p)
-  unfolding with_program started
-  come-program program p n k there = by (id == n) refl there
-    where
-      by : (b : Bool) → (id == n) ≡ b → cond b (Some (started traced l)) None ≡ Some k → Came id l p n k
-      by true same is =
-          let it = same_Some (started traced l) k is in
-          acts (sym (eqb-true id n same)) (ap (λ (y : TracedLwp). y.control.stop) (sym it))
-          (ap (λ (y : TracedLwp). y.phase) (sym it))
-      by false other is = absurd (none-some k is)
-
-  pub come-gone : (gone : ℕ) (p : TracedProcess) → IsRising p.lwps → Come p (without_lwp gone p)
-  unfolding without_lwp
-  come-gone gone p rises n k there = elim (cases_eq gone n) [
-    | inl same ↦ absurd
-        (none-some k (sym (under-without_id 0 n p.lwps rises)
-        ∙ subst (λ i. under n (without_id i p.lwps) ≡ Some k) same there))
-    | inr other ↦ kept k (sym (under-without_id_other gone n other p.lwps) ∙ there) refl refl
-  ]
-
-  module _ (pid : ℕ) where
-    -- the process of this id, where it lives later, lived before, and its lwps came from there
-    pub record Goes (s u : TracedSystem) : Type 0 where
-      pub from : (q : TracedProcess) → process_of u pid ≡ Some q → q.ended ≡ None
-          → (p : TracedProcess) × ((process_of s pid ≡ Some p) × ((p.ended ≡ None) × Come p q))
-
-    pub goes-same : (s : TracedSystem) → Goes s s
-    goes-same s = record { from = λ q there live. (q, (there, (live, come-self q))) }
-
-    pub goes-next : (s u v : TracedSystem) → Goes s u → Goes u v → Goes s v
-    goes-next s u v one two = record {
-      from = λ r there live.
-          let b = two.from r there live in
-          let a = one.from b.0 b.1.0 b.1.1.0 in
-          (a.0, (a.1.0, (a.1.1.0, come-next a.0 b.0 r a.1.1.1 b.1.1.1)));
-    }
-
-    pub goes-if : (b : Bool) (s u v : TracedSystem) → Goes s u → Goes s v → Goes s (cond b u v)
-    goes-if true s u v one other = one
-    goes-if false s u v one other = other
-
-    pub goes-spared : (s u : TracedSystem) → Spares pid s u → Goes s u
-    goes-spared s u spares = record {
-      from = λ q there live.
-          let a = spares.from q there live in
-          (a.0, (a.1.0, (sym (ended-same a.0 q a.1.1) ∙ live, come-alone a.0 q a.1.1)));
-    }
-
-    pub own-goes : (f : TracedProcess → TracedProcess) (s : TracedSystem)
-        → ((x : TracedProcess) → process_of s pid ≡ Some x → ((f x).ended ≡ x.ended) × Come x (f x))
-        → Goes s (with_process pid f s)
-    unfolding with_process
-    own-goes f s keeps = record {
-      from = λ q there live.
-          let m = mapped-some f (process_of s pid) q (sym (under-change_under pid f s.processes) ∙ there) in
-          let k = keeps m.0 m.1.0 in (
-            m.0,
-            (
-              m.1.0,
-              (
-                sym k.0 ∙ ap (λ (x : TracedProcess). x.ended) m.1.1 ∙ live,
-                subst (Come m.0) m.1.1 k.1,
-              ),
-            ),
-          );
-    }
-
-    files-go : (files : FileTable) (s : TracedSystem) → Goes s (record s { files = files })
-    files-go files s = record { from = λ q there live. (q, (there, (live, come-self q))) }
-
-    lwp-goes : (target : ℕ) (f : TracedLwp → TracedLwp) (s : TracedSystem)
-        → ((m : TracedLwp) → (f m).control.stop ≡ m.control.stop) → ((m : TracedLwp) → (f m).phase ≡ m.phase)
-        → Goes s (with_process pid (with_lwp target f) s)
-    unfolding with_lwp
-    lwp-goes target f s stops phase =
-        own-goes (with_lwp target f) s (λ x at. (refl, come-lwp target f stops phase x))
-
-    module _ (p : TracedProcess) where
-      child-goes : (birth : Birth) (args : List ℕ) (s : TracedSystem)
-          → Goes s (cond (s.made == pid) s (with_child traced birth pid p l args s))
-      unfolding with_child lent_to
-      child-goes birth args s = by (s.made == pid) refl
-        where
-          shared : TracedSystem
-          shared = record s { files = with_all_shared s.files p.fds }
-
-          lent : TracedSystem
-          lent = with_lent birth pid s.made shared
-
-          child : TracedProcess
-          child = forked traced birth pid p l args s.clock
-
-          lent-goes : Goes s lent
-          lent-goes =
-              lent-keeps (Goes s) birth pid s.made
-              (λ u before. goes-next s u _ before
-              (own-goes (lent_to s.made) u (λ x at. (refl, λ n k there. kept k there refl refl)))) shared
-              (files-go (with_all_shared s.files p.fds) s)
-
-          by : (b : Bool) → (s.made == pid) ≡ b → Goes s (cond b s (with_made child lent))
-          by true is = goes-same s
-          by false is =
-              let apart : lent.made ≢ pid = lent-apart pid birth pid s.made shared (eqb-false s.made pid is) in
-              goes-next s lent _ lent-goes (goes-spared lent _ (made-spares pid child lent apart))
-
-      reaped-goes : (child : ℕ) (s : TracedSystem) → Goes s (cond (child == pid) s (with_reaped child s))
-      reaped-goes child s = by (child == pid) refl
-        where
-          by : (b : Bool) → (child == pid) ≡ b → Goes s (cond b s (with_reaped child s))
-          by true is = goes-same s
-          by false is = goes-spared s _ (reaped-spares pid child s (eqb-false child pid is))
-
-      program-goes : (program : Program) (s : TracedSystem)
-          → Goes s
-          (with_process_if p.lender (with_loan_back pid p) (with_process pid (with_program traced id l program) s))
-      unfolding with_program
-      program-goes program s =
-          let run : TracedSystem = with_process pid (with_program traced id l program) s in
-          goes-next s run _
-          (own-goes (with_program traced id l program) s (λ x at. (refl, come-program program x)))
-          (goes-spared run _ (loan_back-spares pid pid p run))
-
-      lwp-joins : (fresh held : ℕ) (regs : List ℕ) (x : TracedProcess)
-          → (with_new_lwp traced fresh regs held x).ended ≡ x.ended
-      unfolding with_new_lwp
-      lwp-joins fresh held regs x =
-          elim (is_some (lwp_of x fresh)) as
-          (λ b. (cond b x (record x {
-            next_lwp = fresh + 1;
-            lwps = inserted fresh (new_lwp traced regs held (traced.marks false)) x.lwps;
-          })).ended ≡ x.ended) [ true ↦ refl | false ↦ refl ]
-
-      change-goes : (c : Change) (s : TracedSystem) → Goes s (changed traced pid p id l c s)
-      unfolding changed with_fds with_space with_shared_taken with_job_stop with_disposition_of with_held resumed
-          with_suspended
-      change-goes (files_are files fds) s =
-          goes-next s (record s { files = files }) _ (files-go files s)
-          (own-goes (with_fds fds) (record s { files = files }) (λ x at. (refl, come-self x)))
-      change-goes (space_is space) s = own-goes (with_space space) s (λ x at. (refl, come-self x))
-      change-goes (signals target g info) s =
-          goes-if (is_kill g && (target == pid)) s s _ (goes-same s)
-          (goes-spared s _ (generated-spares pid target None g info s))
-      change-goes (signals_itself g info) s =
-          goes-if (is_kill g) s s _ (goes-same s) (goes-spared s _ (generated-spares pid pid (Some id) g info s))
-      change-goes (takes_shared g) s = own-goes (with_shared_taken g) s (λ x at. (refl, come-self x))
-      change-goes (job_stops g) s = own-goes (with_job_stop g) s (λ x at. (refl, come-self x))
-      change-goes (disposition_is g d) s = own-goes (with_disposition_of g d) s (λ x at. (refl, come-self x))
-      change-goes (held_is held) s = lwp-goes id (with_held held) s (λ k. refl) (λ k. refl)
-      change-goes (resumes frame frames) s = lwp-goes id (resumed frame frames) s (λ k. refl) (λ k. refl)
-      change-goes (forks birth args) s = child-goes birth args s
-      change-goes (reaps child) s = reaped-goes child s
-      change-goes (becomes program) s = program-goes program s
-      change-goes (makes_lwp fresh regs held) s =
-          own-goes (with_new_lwp traced fresh regs held) s
-          (λ x at. (lwp-joins fresh held regs x, come-new fresh held regs x))
-      change-goes (suspends target suspended) s =
-          lwp-goes target (with_suspended suspended) s (λ k. refl) (λ k. refl)
-
-      pub changes-go : (cs : List Change) (s : TracedSystem) → Goes s (all_changed traced pid p id l cs s)
-      unfolding all_changed
-      changes-go [] s = goes-same s
-      changes-go (c ∷ cs) s =
-          let next : TracedSystem = changed traced pid p id l c s in
-          goes-next s next _ (change-goes c s) (changes-go cs next)
 
 -- ---- rows
 
@@ -612,7 +365,7 @@ module _ (s : TracedSystem) (pid : ℕ) (p : TracedProcess) (id : ℕ) (l : Trac
           → HasNoCopyGoing k × (n ≡ id → (k.control.stop ≡ None) × (is_in_copy k.phase ≡ false))
       by (new stops phase) = clear stops (ap is_in_copy phase)
       by (acts same stops phase) = own same stops phase
-      by (kept m at stops phase) = elim (cases_eq n id) [
+      by (kept m at stops phase current) = elim (cases_eq n id) [
         | inl same ↦
             let it : m ≡ l = same_Some m l (sym at ∙ ap (lwp_of p) same ∙ a.there) in
             own same (stops ∙ ap (λ (y : TracedLwp). y.control.stop) it) (phase ∙ ap (λ (y : TracedLwp). y.phase) it)
@@ -662,41 +415,28 @@ module _ (s : TracedSystem) (pid : ℕ) (p : TracedProcess) (id : ℕ) (l : Trac
     where
       other_by : (n : ℕ) (k : TracedLwp) → n ≢ id → IsNot but n → Came id l y n k → HasNoCopyGoing k
       other_by n k apart other (new stops phase) = free-clear k stops (ap is_in_copy phase)
-      other_by n k apart other (kept o at stops phase) = alike-clear o k stops phase (m.others n o apart other at)
+      other_by n k apart other (kept o at stops phase current) =
+          alike-clear o k stops phase (m.others n o apart other at)
       other_by n k apart other (acts same stops phase) = absurd (apart same)
 
       left_by : (k : TracedLwp) → IsNot but id → Came id l y id k → leaves_copy k.control.stop ≡ false
       left_by k other (new stops phase) = ap leaves_copy stops
-      left_by k other (kept o at stops phase) = ap leaves_copy stops ∙ m.left o other at
+      left_by k other (kept o at stops phase current) = ap leaves_copy stops ∙ m.left o other at
       left_by k other (acts same stops phase) = ap leaves_copy (stops ∙ free)
 
       enters_by : (k : TracedLwp) → IsNot but id → is_in_copy k.phase ≡ true → Came id l y id k
           → MeetsEntry row.point k.phase
       enters_by k other is (new stops phase) = absurd (false≢true (sym (ap is_in_copy phase) ∙ is))
-      enters_by k other is (kept o at stops phase) =
+      enters_by k other is (kept o at stops phase current) =
           subst (MeetsEntry row.point) (sym phase) (m.enters o other at (ap is_in_copy (sym phase) ∙ is))
       enters_by k other is (acts same stops phase) =
           absurd (false≢true (sym (ap is_in_copy phase ∙ out-now other) ∙ is))
-
-  ended-goes : (how : Option Ending) (u : TracedSystem)
-      → ((x : TracedProcess) (e : Ending) → how ≡ Some e → process_of u pid ≡ Some x → IsRising x.lwps)
-      → Goes id l pid u (ended_if traced pid p id l how u)
-  unfolding ended with_lwp_ended without_lwp
-  ended-goes None u rises = goes-same id l pid u
-  ended-goes (Some (ends_process status)) u rises = goes-spared id l pid u _ (end-spares pid pid p status u)
-  ended-goes (Some ends_lwp) u rises =
-      goes-if id l pid (length p.lwps == 1) u _ _ (goes-spared id l pid u _ (end-spares pid pid p 0 u))
-      (own-goes id l pid (without_lwp id) u (λ x at. (refl, come-gone id l id x (rises x ends_lwp refl at))))
 
   counts-meets : (IsNot but id → SparesCopies row) → (x : TracedProcess) → process_of counts pid ≡ Some x
       → x.ended ≡ None → Meets but id row.point x
   unfolding with_lwp_of with_counted
   counts-meets spares x found live =
-      let two =
-      goes-next id l pid moves ended_now counts
-      (ended-goes row.transition.ending moves (end-rises pid p id l free row.transition s a.lawful suits))
-      (own-goes id l pid (with_counted row.did row.begun) ended_now
-      (λ y at. (refl, λ n k there. kept k there refl refl))) in
+      let two = counted-goes id l pid p row s a.lawful suits in
       let was = two.from x found live in
       come-meets was.0 x was.1.1.1 (moved-meets spares was.0 was.1.0 was.1.1.0)
 

@@ -1,41 +1,34 @@
-use Rattle.std.proofs.Common.{◌≡◌, ◌==◌, ◌&&◌, ◌≢◌, ℕ, Bool, true, false, cond, is_some, None, Some, Option, List, [], ◌∷◌, length, refl, sym, subst, ap, ◌∙◌, inl, inr, ◌+◌}
-use Rattle.std.proofs.lemmas.Bool.{false≢true, cases_eq, eqb-false}
+use Rattle.std.proofs.Common.{[], ◌≡◌, ◌≢◌, ℕ, Bool, true, false, cond, None, Some, Option, List, ◌∷◌, refl, sym, subst, ap, ◌∙◌, inl, inr}
+use Rattle.std.proofs.lemmas.Bool.{false≢true, cases_eq}
 use Rattle.std.proofs.lemmas.Option.{same_Some, none-some}
 use Rattle.std.specs.Option.{option_map}
-use Rattle.pr_num.proofs.ByIdLaws.{under-change_under, under-change_under_other, under-inserted, under-inserted_other, under-map_each, under-without_id, under-without_id_other, All-under}
-use Rattle.pr_num.specs.ById.{IsRising, change_under, inserted, map_each, under, without_id}
+use Rattle.pr_num.proofs.ByIdLaws.{under-change_under, under-change_under_other, under-map_each}
+use Rattle.pr_num.specs.ById.{change_under, map_each, under}
 use Rattle.pr_num.specs.Control.{async_mode, has_flags}
-use Rattle.pr_num.specs.Files.{FileTable}
-use Rattle.pr_num.specs.Programs.{Program}
 use Rattle.pr_num.specs.Spaces.{Space}
 use Rattle.pr_lawful.proofs.ProcessParts.FileLemmas.{choice}
 use Rattle.pr_num.specs.declared.faults.Flt.{Flt}
 use Rattle.pr_num.specs.declared.faults.Flt.TheVariants.{Trace, Watch}
 use Rattle.pr_num.specs.declared.syscalls.Sysno.{Sysno}
-use Rattle.pr_parts.specs.FileCalls.{with_all_shared}
-use Rattle.pr_keeps.proofs.LoanLemmas.{lent-keeps}
 use Rattle.pr_keeps.proofs.RowLemmas.{row-kind}
 use Rattle.pr_keeps.specs.RowKinds as kind
 use Rattle.pr_keeps.specs.RowKinds.{RowKind}
 use Rattle.pr_lawful.proofs.LawfulTurns.EffectLemmas.{IsActing}
 use Rattle.pr_lawful.proofs.LawfulTurns.EndLemmas.{found-live}
 use Rattle.pr_lawful.proofs.LawfulTurns.SuitingLemmas.{SuitsTransition}
-use Rattle.pr_lawful.proofs.LawfulTurns.TransitionLemmas.{stayed}
 use Rattle.pr_lawful.proofs.LawfulTurns.TurnLemmas.{acting, row-suits}
 use Rattle.pr_model.proofs.TurnLemmas.{turn-taken}
-use Rattle.pr_model.specs.Changes.{Change, changed, files_are, space_is, signals, signals_itself, takes_shared, job_stops, disposition_is, held_is, resumes, forks, reaps, becomes, makes_lwp, suspends, all_changed, ended, Effect, Ending, does, ends, ends_process, ends_lwp, resumed, sleeps as effect_sleeps, with_disposition_of, with_fds, with_held, with_job_stop, with_shared_taken, with_space, with_suspended}
+use Rattle.pr_model.specs.Changes.{Change, changed, space_is, takes_shared, all_changed, ended, Effect, Ending, does, ends, sleeps as effect_sleeps, with_space}
 use Rattle.pr_model.specs.InstructionEffects.{InstructionEffect, Store, instruction_effect}
 use Rattle.pr_model.specs.InstructionEffects as instruction
-use Rattle.pr_model.specs.Lawful.{IsLawfulProcess, IsLawfulSystem}
-use Rattle.pr_model.specs.Lives.{Birth, lent_to, with_lent, with_loan_back, forked, new_lwp, started, with_child, with_lwp_ended, with_made, with_reaped, with_new_lwp, with_program, without_lwp}
+use Rattle.pr_model.specs.Lawful.{IsLawfulSystem}
 use Rattle.pr_model.specs.LwpTurns.{LwpTurn, is_held_back, settled, turn_of, with_counted}
-use Rattle.pr_model.specs.Machines.{call_over, fault_incurred, fault_posted, no_marks, step_taken, stopped_as_directed, traced}
+use Rattle.pr_model.specs.Machines.{call_over, fault_incurred, fault_posted, step_taken, stopped_as_directed, traced}
 use Rattle.pr_model.specs.Moves.{Move, moved}
 use Rattle.pr_model.specs.Moves as move
 use Rattle.pr_model.specs.Points.{after_meeting, is_traced, stopped_at, with_others_directed, with_stop_at}
 use Rattle.pr_model.specs.Rows.{Row, entered_row, executed_row, handler_row, incurred_row, interrupted_row, own_taken_row, performed_row, posted_row, ran_row, requested_row, returned_row, row_for, shared_taken_row, watched_row}
-use Rattle.pr_model.specs.Signals.{is_kill}
-use Rattle.pr_model.specs.State.{TracedLwp, TracedProcess, TracedSystem, live_process, lwp_of, process_of, with_lwp, with_lwp_of, with_process, with_process_if}
+use Rattle.pr_model.specs.State.{TracedLwp, TracedProcess, TracedSystem, live_process, lwp_of, process_of, with_lwp, with_lwp_of, with_process}
 use Rattle.pr_model.specs.Stops.{directed, has_event_stop, with_all_directed}
 use Rattle.pr_model.specs.Transitions.{Transition, after_transition, ended_if, incurred, stored_in, trapped}
 use Rattle.pr_model.specs.declared.lwps.Phase.TheVariants.{Faulted as AtFault}
@@ -43,9 +36,8 @@ use Rattle.pr_model.specs.declared.stops.Point.{Point}
 use Rattle.pr_model.specs.declared.stops.Point.TheVariants.{Signal, Fault, Entry, Exit}
 use Rattle.pr_model.specs.declared.stops.Stop.{Stop}
 use Rattle.pr_model.specs.declared.stops.Stop.TheVariants as stop
-use Rattle.pr_reached.proofs.FitStates.CalmLemmas.{AreCalm, HasLwp, IsStopless, There, changes-calm, is_there}
+use Rattle.pr_function_laws.proofs.OpenedProcesses.ComingLwps.{Came, Come, Leaves, acts, changes-go, counted-goes, kept, new}
 use Rattle.pr_truss_laws.proofs.EventStops.BridgeLemmas.{mapped-some}
-use Rattle.pr_truss_laws.proofs.Machine.FrameLemmas.{Spares, end-spares, ended-same, generated-spares, lent-apart, loan_back-spares, made-spares, reaped-spares}
 use Rattle.pr_truss_laws.proofs.EventStops.OwnTurnLemmas.{meeting-same}
 use Rattle.pr_truss_laws.specs.Stills.{IsUndisturbed}
 use Rattle.pr_model.specs.CallEffects.{call_effect}
@@ -82,12 +74,6 @@ same-stopped l k stops phase current h = record {
       let w = h.at_fault f (sym stops ∙ is) in
       record { address = w.address; phase = phase ∙ w.phase; no_current = current ∙ w.no_current };
 }
-
--- a change of an lwp that leaves its stop, its phase and its current signal
-pub record Leaves (f : TracedLwp → TracedLwp) : Type 0 where
-  pub stops : (l : TracedLwp) → (f l).control.stop ≡ l.control.stop
-  pub phase : (l : TracedLwp) → (f l).phase ≡ l.phase
-  pub current : (l : TracedLwp) → (f l).current ≡ l.current
 
 pub left-stopped : (f : TracedLwp → TracedLwp) → Leaves f → (l : TracedLwp) → IsAsStopped l → IsAsStopped (f l)
 left-stopped f leaves l h = same-stopped l (f l) (leaves.stops l) (leaves.phase l) (leaves.current l) h
@@ -126,246 +112,21 @@ alone-stopped p q alone all n k there =
     same-stopped was.0 k (ap (λ (x : TracedLwp). x.control.stop) was.1.1)
     (ap (λ (x : TracedLwp). x.phase) was.1.1) (ap (λ (x : TracedLwp). x.current) was.1.1) (all n was.0 was.1.0)
 
--- an lwp joins, which stands on no event
-new-stopped : (fresh held : ℕ) (regs : List ℕ) (x : TracedProcess) → AreAsStopped x
-    → AreAsStopped (with_new_lwp traced fresh regs held x)
-unfolding with_new_lwp new_lwp no_marks traced
-new-stopped fresh held regs x all = by (is_some (lwp_of x fresh))
+-- it is so of the lwps that came from there in the turn of an lwp that stood on no event
+come-stopped : (id : ℕ) (l : TracedLwp) → l.control.stop ≡ None → (x y : TracedProcess) → Come id l x y
+    → AreAsStopped x → AreAsStopped y
+come-stopped id l none x y come all n k there = by (come n k there)
   where
-    fresh_lwp : TracedLwp
-    fresh_lwp = new_lwp traced regs held (no_marks false)
+    by : Came id l x n k → IsAsStopped k
+    by (new stops phase) = stopless k stops
+    by (kept m at stops phase current) = same-stopped m k stops phase current (all n m at)
+    by (acts same stops phase) = stopless k (stops ∙ none)
 
-    joined : AreAsStopped (record x { next_lwp = fresh + 1; lwps = inserted fresh fresh_lwp x.lwps })
-    joined n k there = elim (cases_eq fresh n) [
-      | inl same ↦
-          stopless k
-          (ap (λ (y : TracedLwp). y.control.stop)
-          (sym (same_Some fresh_lwp k (sym (under-inserted n fresh_lwp x.lwps)
-          ∙ subst (λ i. under n (inserted i fresh_lwp x.lwps) ≡ Some k) same there))))
-      | inr other ↦ all n k (sym (under-inserted_other fresh n fresh_lwp other x.lwps) ∙ there)
-    ]
-
-    by : (b : Bool)
-        → AreAsStopped (cond b x (record x { next_lwp = fresh + 1; lwps = inserted fresh fresh_lwp x.lwps }))
-    by true = all
-    by false = joined
-
--- it runs another program with one lwp, which stood on no event
-program-stopped : (id : ℕ) (l : TracedLwp) (program : Program) (x : TracedProcess) → l.control.stop ≡ None
-    → AreAsStopped (with_program traced id l program x)
-unfolding with_program started
-program-stopped id l program x none n k there = by (id == n) there
-  where
-    by : (b : Bool) → cond b (Some (started traced l)) None ≡ Some k → IsAsStopped k
-    by true is = stopless k (ap (λ (y : TracedLwp). y.control.stop) (sym (same_Some (started traced l) k is)) ∙ none)
-    by false is = absurd (none-some k is)
-
--- an lwp is gone
-gone-stopped : (id : ℕ) (x : TracedProcess) → IsRising x.lwps → AreAsStopped x → AreAsStopped (without_lwp id x)
-unfolding without_lwp
-gone-stopped id x rises all n k there = elim (cases_eq id n) [
-  | inl same ↦ absurd
-      (none-some k (sym (under-without_id 0 n x.lwps rises)
-      ∙ subst (λ i. under n (without_id i x.lwps) ≡ Some k) same there))
-  | inr other ↦ all n k (sym (under-without_id_other id n other x.lwps) ∙ there)
-]
-
--- ---- systems
-
-module _ (pid : ℕ) where
-  -- the process of this id, where it lives later, lived before, and its lwps are as they stopped if they were so then
-  record Goes (s u : TracedSystem) : Type 0 where
-    pub from : (q : TracedProcess) → process_of u pid ≡ Some q → q.ended ≡ None
-        → (p : TracedProcess) × ((process_of s pid ≡ Some p) × ((p.ended ≡ None) × (AreAsStopped p → AreAsStopped q)))
-
-  goes-same : (s : TracedSystem) → Goes s s
-  goes-same s = record { from = λ q there live. (q, (there, (live, λ h. h))) }
-
-  goes-next : (s u v : TracedSystem) → Goes s u → Goes u v → Goes s v
-  goes-next s u v one two = record {
-    from = λ r there live.
-        let b = two.from r there live in
-        let a = one.from b.0 b.1.0 b.1.1.0 in
-        (a.0, (a.1.0, (a.1.1.0, λ h. b.1.1.1 (a.1.1.1 h))));
-  }
-
-  goes-if : (b : Bool) (s u v : TracedSystem) → Goes s u → Goes s v → Goes s (cond b u v)
-  goes-if true s u v one other = one
-  goes-if false s u v one other = other
-
-  goes-spared : (s u : TracedSystem) → Spares pid s u → Goes s u
-  goes-spared s u spares = record {
-    from = λ q there live.
-        let a = spares.from q there live in
-        (a.0, (a.1.0, (sym (ended-same a.0 q a.1.1) ∙ live, alone-stopped a.0 q a.1.1)));
-  }
-
-  own-goes : (f : TracedProcess → TracedProcess) (s : TracedSystem)
-      → ((x : TracedProcess) → process_of s pid ≡ Some x
-      → ((f x).ended ≡ x.ended) × (AreAsStopped x → AreAsStopped (f x))) → Goes s (with_process pid f s)
-  unfolding with_process
-  own-goes f s keeps = record {
-    from = λ q there live.
-        let m = mapped-some f (process_of s pid) q (sym (under-change_under pid f s.processes) ∙ there) in
-        let k = keeps m.0 m.1.0 in (
-          m.0,
-          (
-            m.1.0,
-            (
-              sym k.0 ∙ ap (λ (x : TracedProcess). x.ended) m.1.1 ∙ live,
-              λ h. subst AreAsStopped m.1.1 (k.1 h),
-            ),
-          ),
-        );
-  }
-
-  files-goes : (files : FileTable) (s : TracedSystem) → Goes s (record s { files = files })
-  files-goes files s = record { from = λ q there live. (q, (there, (live, λ h. h))) }
-
-  lwp-goes : (target : ℕ) (f : TracedLwp → TracedLwp) (s : TracedSystem) → Leaves f
-      → Goes s (with_process pid (with_lwp target f) s)
-  unfolding with_lwp
-  lwp-goes target f s leaves =
-      own-goes (with_lwp target f) s
-      (λ x at. (refl, one-stopped target f x (λ l there it. left-stopped f leaves l it)))
-
-  module _ (p : TracedProcess) (id : ℕ) (l : TracedLwp) (none : l.control.stop ≡ None) where
-    child-goes : (birth : Birth) (args : List ℕ) (s : TracedSystem)
-        → Goes s (cond (s.made == pid) s (with_child traced birth pid p l args s))
-    unfolding with_child lent_to
-    child-goes birth args s = by (s.made == pid) refl
-      where
-        shared : TracedSystem
-        shared = record s { files = with_all_shared s.files p.fds }
-
-        lent : TracedSystem
-        lent = with_lent birth pid s.made shared
-
-        child : TracedProcess
-        child = forked traced birth pid p l args s.clock
-
-        lent-goes : Goes s lent
-        lent-goes =
-            lent-keeps (Goes s) birth pid s.made
-            (λ u before. goes-next s u _ before (own-goes (lent_to s.made) u (λ x at. (refl, λ h. h)))) shared
-            (files-goes (with_all_shared s.files p.fds) s)
-
-        by : (b : Bool) → (s.made == pid) ≡ b → Goes s (cond b s (with_made child lent))
-        by true is = goes-same s
-        by false is =
-            let apart : lent.made ≢ pid = lent-apart pid birth pid s.made shared (eqb-false s.made pid is) in
-            goes-next s lent _ lent-goes (goes-spared lent _ (made-spares pid child lent apart))
-
-    reaped-goes : (child : ℕ) (s : TracedSystem) → Goes s (cond (child == pid) s (with_reaped child s))
-    reaped-goes child s = by (child == pid) refl
-      where
-        by : (b : Bool) → (child == pid) ≡ b → Goes s (cond b s (with_reaped child s))
-        by true is = goes-same s
-        by false is = goes-spared s _ (reaped-spares pid child s (eqb-false child pid is))
-
-    program-goes : (program : Program) (s : TracedSystem)
-        → Goes s
-        (with_process_if p.lender (with_loan_back pid p) (with_process pid (with_program traced id l program) s))
-    unfolding with_program
-    program-goes program s =
-        let run : TracedSystem = with_process pid (with_program traced id l program) s in
-        goes-next s run _
-        (own-goes (with_program traced id l program) s (λ x at. (refl, λ h. program-stopped id l program x none)))
-        (goes-spared run _ (loan_back-spares pid pid p run))
-
-    lwp-joins : (fresh held : ℕ) (regs : List ℕ) (x : TracedProcess)
-        → (with_new_lwp traced fresh regs held x).ended ≡ x.ended
-    unfolding with_new_lwp
-    lwp-joins fresh held regs x =
-        elim (is_some (lwp_of x fresh)) as
-        (λ b. (cond b x (record x {
-          next_lwp = fresh + 1;
-          lwps = inserted fresh (new_lwp traced regs held (traced.marks false)) x.lwps;
-        })).ended ≡ x.ended) [ true ↦ refl | false ↦ refl ]
-
-    change-goes : (c : Change) (s : TracedSystem) → Goes s (changed traced pid p id l c s)
-    unfolding changed with_fds with_space with_shared_taken with_job_stop with_disposition_of with_held resumed
-        with_suspended
-    change-goes (files_are files fds) s =
-        goes-next s (record s { files = files }) _ (files-goes files s)
-        (own-goes (with_fds fds) (record s { files = files }) (λ x at. (refl, λ h. h)))
-    change-goes (space_is space) s = own-goes (with_space space) s (λ x at. (refl, λ h. h))
-    change-goes (signals target g info) s =
-        goes-if (is_kill g && (target == pid)) s s _ (goes-same s)
-        (goes-spared s _ (generated-spares pid target None g info s))
-    change-goes (signals_itself g info) s =
-        goes-if (is_kill g) s s _ (goes-same s) (goes-spared s _ (generated-spares pid pid (Some id) g info s))
-    change-goes (takes_shared g) s = own-goes (with_shared_taken g) s (λ x at. (refl, λ h. h))
-    change-goes (job_stops g) s = own-goes (with_job_stop g) s (λ x at. (refl, λ h. h))
-    change-goes (disposition_is g d) s = own-goes (with_disposition_of g d) s (λ x at. (refl, λ h. h))
-    change-goes (held_is held) s =
-        lwp-goes id (with_held held) s
-        (record { stops = λ k. refl; phase = λ k. refl; current = λ k. refl })
-    change-goes (resumes frame frames) s =
-        lwp-goes id (resumed frame frames) s
-        (record { stops = λ k. refl; phase = λ k. refl; current = λ k. refl })
-    change-goes (forks birth args) s = child-goes birth args s
-    change-goes (reaps child) s = reaped-goes child s
-    change-goes (becomes program) s = program-goes program s
-    change-goes (makes_lwp fresh regs held) s =
-        own-goes (with_new_lwp traced fresh regs held) s
-        (λ x at. (lwp-joins fresh held regs x, new-stopped fresh held regs x))
-    change-goes (suspends target suspended) s =
-        lwp-goes target (with_suspended suspended) s
-        (record { stops = λ k. refl; phase = λ k. refl; current = λ k. refl })
-
-    changes-go : (cs : List Change) (s : TracedSystem) → Goes s (all_changed traced pid p id l cs s)
-    unfolding all_changed
-    changes-go [] s = goes-same s
-    changes-go (c ∷ cs) s =
-        let next : TracedSystem = changed traced pid p id l c s in
-        goes-next s next _ (change-goes c s) (changes-go cs next)
-
-    -- ---- the move, and an end
-
-    moved-stopped : (m : Move) (k : TracedLwp) → k.control.stop ≡ None → IsAsStopped (moved traced m k)
-    unfolding moved traced stopped_as_directed fault_incurred fault_posted step_taken call_over
-    moved-stopped move.stops k free = unfaulted (moved traced move.stops k) stop.Requested refl (λ f is. cc)
-    moved-stopped move.stays k free = stopless (moved traced move.stays k) free
-    moved-stopped (move.posts f address) k free = stopless (moved traced (move.posts f address) k) free
-    moved-stopped move.returns k free = stopless (moved traced move.returns k) free
-    moved-stopped (move.runs regs) k free = stopless (moved traced (move.runs regs) k) free
-    moved-stopped (move.enters call regs) k free = stopless (moved traced (move.enters call regs) k) free
-    moved-stopped (move.incurs f address) k free = stopless (moved traced (move.incurs f address) k) free
-    moved-stopped (move.traps f address regs) k free = stopless (moved traced (move.traps f address regs) k) free
-    moved-stopped (move.leaves call args result) k free =
-        stopless (moved traced (move.leaves call args result) k) free
-    moved-stopped (move.sleeps call args since) k free = stopless (moved traced (move.sleeps call args since) k) free
-    moved-stopped (move.takes c own) k free = stopless (moved traced (move.takes c own) k) free
-    moved-stopped move.drops k free = stopless (moved traced move.drops k) free
-    moved-stopped (move.catches frames regs held) k free =
-        stopless (moved traced (move.catches frames regs held) k) free
-
-    ended-goes : (how : Option Ending) (s : TracedSystem)
-        → ((x : TracedProcess) (e : Ending) → how ≡ Some e → process_of s pid ≡ Some x → IsRising x.lwps)
-        → Goes s (ended_if traced pid p id l how s)
-    unfolding ended with_lwp_ended without_lwp
-    ended-goes None s rises = goes-same s
-    ended-goes (Some (ends_process status)) s rises = goes-spared s _ (end-spares pid pid p status s)
-    ended-goes (Some ends_lwp) s rises =
-        goes-if (length p.lwps == 1) s _ _ (goes-spared s _ (end-spares pid pid p 0 s))
-        (own-goes (without_lwp id) s (λ x at. (refl, gone-stopped id x (rises x ends_lwp refl at))))
-
-    pub end-rises : (t : Transition) (s : TracedSystem) → IsLawfulSystem s → SuitsTransition s pid p id l t
-        → (x : TracedProcess) (e : Ending) → t.ending ≡ Some e
-        → process_of
-        (with_lwp_of pid id (moved traced t.move) (all_changed traced pid p id l t.changes s)) pid ≡ Some x
-        → IsRising x.lwps
-    unfolding all_changed
-    end-rises t s h suits x e is at =
-        let alone = suits.alone e is in
-        let same : with_lwp_of pid id (moved traced t.move) (all_changed traced pid p id l t.changes s) ≡ s =
-        ap (λ cs. with_lwp_of pid id (moved traced t.move) (all_changed traced pid p id l cs s)) alone.0
-        ∙ ap (λ m. with_lwp_of pid id (moved traced m) s) alone.1 ∙ stayed pid id s in
-        let own =
-        All-under IsLawfulProcess pid x s.processes h.processes
-        (ap (λ (v : TracedSystem). process_of v pid) (sym same) ∙ at) in
-        own.rising
+-- after its move that one is as it stopped too
+moved-stopped : (m : Move) (k : TracedLwp) → k.control.stop ≡ None → IsAsStopped (moved traced m k)
+unfolding moved traced stopped_as_directed fault_incurred fault_posted step_taken call_over
+moved-stopped move.stops k free = unfaulted (moved traced move.stops k) stop.Requested refl (λ f is. cc)
+moved-stopped _ k free = stopless _ free
 
 -- ---- the point that was met
 
@@ -512,36 +273,31 @@ module _ (s : TracedSystem) (pid : ℕ) (p : TracedProcess) (id : ℕ) (l : Trac
   counts =
       with_process pid (with_counted row.did row.begun) (ended_if traced pid p id l row.transition.ending moves)
 
-  calm-later : (x : TracedProcess) (k : TracedLwp) → process_of changes pid ≡ Some x → lwp_of x id ≡ Some k
-      → k.control.stop ≡ None
-  calm-later x k found there =
-      ((changes-calm id pid p l none row.transition.changes s calm).process.holds x found).lwp.holds k there
+  counted-stopped : AreAsStopped p → (x : TracedProcess) → process_of counts pid ≡ Some x → x.ended ≡ None
+      → AreAsStopped x
+  unfolding with_process with_lwp
+  counted-stopped all x found live =
+      let two = counted-goes id l pid p row s a.lawful suits in
+      let later = two.from x found live in
+      let m =
+      mapped-some (with_lwp id (moved traced row.transition.move)) (process_of changes pid) later.0
+      (sym (under-change_under pid (with_lwp id (moved traced row.transition.move)) changes.processes) ∙ later.1.0) in
+      let one = changes-go id l pid p row.transition.changes s in
+      let was = one.from m.0 m.1.0 (ap (λ (y : TracedProcess). y.ended) m.1.1 ∙ later.1.1.0) in
+      let came : Come id l p m.0 =
+      subst (λ (y : TracedProcess). Come id l y m.0) (same_Some was.0 p (sym was.1.0 ∙ a.found)) was.1.1.1 in
+      come-stopped id l none later.0 x later.1.1.1
+      (subst AreAsStopped m.1.1
+      (one-stopped id (moved traced row.transition.move) m.0
+      (λ k there it. moved-stopped row.transition.move k (own-stopless k (came id k there)))
+      (come-stopped id l none p m.0 came all)))
     where
-      calm : AreCalm id pid s
-      calm = record {
-        process = subst (There (HasLwp IsStopless id)) (sym a.found)
-            (is_there (HasLwp IsStopless id) p
-            (record { lwp = subst (There IsStopless) (sym a.there) (is_there IsStopless l none) }));
-      }
-
-  counted-goes : Goes pid s counts
-  unfolding with_lwp with_lwp_of with_counted
-  counted-goes =
-      let ends : TracedSystem = ended_if traced pid p id l row.transition.ending moves in
-      let one =
-      goes-next pid s changes moves (changes-go pid p id l none row.transition.changes s)
-      (own-goes pid (with_lwp id (moved traced row.transition.move)) changes
-      (λ x at. (
-        refl,
-        one-stopped id (moved traced row.transition.move) x
-            (λ k there it. moved-stopped pid p id l none row.transition.move k (calm-later x k at there)),
-      ))) in
-      let two =
-      goes-next pid s moves ends one
-      (ended-goes pid p id l none row.transition.ending moves
-      (end-rises pid p id l none row.transition s a.lawful suits)) in
-      goes-next pid s ends counts two
-      (own-goes pid (with_counted row.did row.begun) ends (λ x at. (refl, λ h. h)))
+      -- the lwp stands on no event before its move
+      own-stopless : (k : TracedLwp) → Came id l p id k → k.control.stop ≡ None
+      own-stopless k (new stops phase) = stops
+      own-stopless k (acts same stops phase) = stops ∙ none
+      own-stopless k (kept m at stops phase current) =
+          stops ∙ ap (λ (y : TracedLwp). y.control.stop) (same_Some m l (sym at ∙ a.there)) ∙ none
 
   -- the lwp as it was, after what its turn stores
   stored-there : (cs : List Change) → StoresOnly cs → (x : TracedProcess)
@@ -634,12 +390,8 @@ module _ (s : TracedSystem) (pid : ℕ) (p : TracedProcess) (id : ℕ) (l : Trac
       let still : m.0.ended ≡ None =
       sym (meeting-same (λ (y : TracedProcess). y.ended) (λ y es. refl) row.point id m.0)
       ∙ ap (λ (y : TracedProcess). y.ended) m.1.1 ∙ live in
-      let goes = counted-goes in
-      let was = goes.from m.0 m.1.0 still in
-      let same : p ≡ was.0 = same_Some p was.0 (sym a.found ∙ was.1.0) in
       subst AreAsStopped m.1.1
-      (meeting-stopped row.point id m.0 (counted-meets so m.0 m.1.0)
-      (was.1.1.1 (subst AreAsStopped same all)))
+      (meeting-stopped row.point id m.0 (counted-meets so m.0 m.1.0) (counted-stopped all m.0 m.1.0 still))
 
 -- A turn of an lwp of a process leaves the lwps as they stopped.
 pub turn-stopped : (s : TracedSystem) (pid : ℕ) (p : TracedProcess) (id : ℕ) (t : LwpTurn) → IsLawfulSystem s

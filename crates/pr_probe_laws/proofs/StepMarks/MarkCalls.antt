@@ -1,9 +1,10 @@
-use Rattle.std.proofs.Common.{Bool, List, None, Ok, Some, [], ap, eqb, false, inl, inr, refl, subst, sym, true, ℕ, ◌==◌, ◌||◌, ◌∙◌, ◌≡◌, ◌≢◌}
+use Rattle.std.proofs.Common.{[], Bool, List, None, Ok, Some, ap, eqb, false, inl, inr, refl, subst, sym, true, ℕ, ◌==◌, ◌||◌, ◌∙◌, ◌≡◌, ◌≢◌}
 use Rattle.std.proofs.lemmas.Bool.{cases_Bool, eqb-true, false≢true}
 use Rattle.std.proofs.lemmas.List.Elements.{All-cons, All-nil, All-weaker}
 use Rattle.std.proofs.lemmas.Option.{same_Some}
 use Rattle.std.specs.Bool.{IsTrue}
 use Rattle.std.specs.List.{All}
+use Rattle.pr_erasure.proofs.SeenTurns.KeptSettings.{KeepsLwp, each-lwp, one-lwp}
 use Rattle.pr_erasure.specs.Untouched.{IsUntouched, IsUntouchedLwp, IsUntouchedProcess}
 use Rattle.pr_hidden.specs.Hiders.{Hiders}
 use Rattle.pr_hidden.specs.Tidiness.{is_hider_act, is_hider_message, is_probe_message}
@@ -28,7 +29,7 @@ use Rattle.pr_model.specs.Machines.{no_marks, traced}
 use Rattle.pr_model.specs.Messages.{agent_lwp, lwp_without_one, with_address, with_agent, with_held_set, with_registers}
 use Rattle.pr_model.specs.Passive.{is_passive_act, is_passive_message}
 use Rattle.pr_model.specs.Running.{let_go, with_abort, with_directive, without_current, without_directive, without_fault}
-use Rattle.pr_model.specs.State.{TracedLwp, TracedProcess, TracedState, TracedSystem, process_of, with_process}
+use Rattle.pr_model.specs.State.{TracedLwp, TracedProcess, TracedState, TracedSystem, process_of, with_lwp, with_process}
 use Rattle.pr_model.specs.declared.calls.Call.TheVariants as call
 use Rattle.pr_model.specs.declared.calls.Call.{Call}
 use Rattle.pr_model.specs.declared.calls.Reply.TheVariants as reply
@@ -45,7 +46,7 @@ use Rattle.pr_num.specs.Sets.{common_word}
 use Rattle.pr_num.specs.declared.errnos.Errno.{Errno}
 use Rattle.pr_num.specs.declared.messages.Message.TheVariants as message
 use Rattle.pr_num.specs.declared.messages.Message.{Message}
-use Rattle.pr_probe_laws.proofs.StepMarks.MarkTurns.{IsAny, KeepsLwps, KeepsMarks, all-unmarked, generated-keeps, lwp-keeps, lwps-keep, made-keeps, process-keeps, unmarked-all, with_this_ended-keeps}
+use Rattle.pr_probe_laws.proofs.StepMarks.MarkTurns.{IsAny, all-unmarked, generated-keeps, made-keeps, process-keeps, unmarked-all, with_this_ended-keeps}
 use Rattle.pr_probe_laws.specs.StepMarks.{AreUnmarked, IsUnmarkedAt, IsUnstepped, IsUnsteppedLwp, IsUnsteppedProcess}
 
 -- A step mark comes of PCRUN with PRSTEP alone, which is sent to its process. No passive call sends that, and
@@ -62,23 +63,11 @@ edit-keeps : (m : Message) → SetsNoStep m → (l k : TracedLwp) → LwpEdit m 
     → k.control.step ≡ false
 unfolding without_current without_fault with_directive without_directive let_go with_abort lwp_without_one with_held_set
     with_registers with_address
-edit-keeps m none l k (lwp.drops_signal is) h = h
-edit-keeps m none l k (lwp.drops_fault is) h = h
-edit-keeps m none l k (lwp.directs_it is) h = h
-edit-keeps m none l k lwp.undirects h = h
-edit-keeps m none l k lwp.lets_go h = h
-edit-keeps m none l k (lwp.requests is) h = h
-edit-keeps m none l k (lwp.ends_request is) h = h
 edit-keeps m none l k (lwp.steps is) h = absurd (false≢true (sym none ∙ is))
-edit-keeps m none l k (lwp.aborts is) h = h
-edit-keeps m none l k (lwp.signal_is is) h = h
-edit-keeps m none l k (lwp.takes_back is) h = h
-edit-keeps m none l k lwp.holds h = h
-edit-keeps m none l k lwp.registers_are h = h
-edit-keeps m none l k lwp.goes_to h = h
+edit-keeps m none l k _ h = h
 
 edits-keep : (m : Message) → SetsNoStep m → (f : TracedLwp → TracedLwp) → ((l : TracedLwp) → LwpEdits m l (f l))
-    → KeepsLwps f
+    → KeepsLwp IsUnsteppedLwp f
 edits-keep m none f edits id l u = record {
   no_step =
       lwp-edits-keep m (λ (x : TracedLwp). x.control.step ≡ false) (edit-keeps m none) l (f l) (edits l) u.no_step;
@@ -90,14 +79,14 @@ agent-unmarked regs = record { no_step = refl }
 
 process-keep : (m : Message) (tail : List ℕ) → SetsNoStep m → (x y : TracedProcess) → ProcessEdit m tail x y
     → All IsUnsteppedLwp x.lwps → All IsUnsteppedLwp y.lwps
-unfolding with_agent with_space
-process-keep m tail none x y (process.one_lwp id f edits) u = lwp-keeps id f (edits-keep m none f edits) x u
-process-keep m tail none x y (process.each_lwp f edits) u = lwps-keep f (edits-keep m none f edits) x u
-process-keep m tail none x y (process.control_is e) u = u
-process-keep m tail none x y (process.takes_back is) u = u
-process-keep (message.Agent regs) tail none x y (process.gets_agent free room) u =
+unfolding with_lwp with_agent with_space
+process-keep m tail none x y (process.one_lwp id f edits) u =
+    one-lwp IsUnsteppedLwp id f (edits-keep m none f edits) x.lwps u
+process-keep m tail none x y (process.each_lwp f edits) u =
+    each-lwp IsUnsteppedLwp f (edits-keep m none f edits) x.lwps u
+process-keep m tail none x y (process.gets_agent {regs = regs} free room) u =
     All-inserted IsUnsteppedLwp agent_id (agent_lwp regs) x.lwps (agent-unmarked regs) u
-process-keep m tail none x y (process.is_written own mapped) u = u
+process-keep m tail none x y _ u = u
 
 module _ (Which : ℕ → Type 0) where
   -- to one of these processes it sets no step mark; to another it may
@@ -121,16 +110,14 @@ module _ (Which : ℕ → Type 0) where
 
   -- ---- calls
 
-  released-keeps : KeepsMarks released
-  unfolding released released_lwp
-  released-keeps x u = lwps-keep released_lwp (λ id l un. record { no_step = refl }) x u
-
   close-keeps : (s : TracedSystem) (target : ℕ) (t : TracedSystem) → CloseEdit s target t → AreUnmarked Which s
       → AreUnmarked Which t
+  unfolding released released_lwp
   close-keeps s target t edit.nothing u = u
   close-keeps s target t (edit.kills p live mode) u = with_this_ended-keeps Which target p _ s u
   close-keeps s target t (edit.releases p live spares mode) u =
-      process-keeps Which target released (λ same. released-keeps) s u
+      process-keeps Which target released
+      (λ which x it. each-lwp IsUnsteppedLwp released_lwp (λ id l un. record { no_step = refl }) x.lwps it) s u
 
   spawned-keeps : (program : Program) (held : Bool) (s : TracedSystem) → AreUnmarked Which s
       → AreUnmarked Which (with_spawned traced program held s)
@@ -147,19 +134,16 @@ module _ (Which : ℕ → Type 0) where
   call-keeps : (s : TracedState) (by : ℕ) (c : Call) (t : TracedState) → CallEdit s by c t → MarksNone s by c
       → AreUnmarked Which s.system → AreUnmarked Which t.system
   unfolding with_opened
-  call-keeps s by c t edit.looks none u = u
-  call-keeps s by c t (edit.opens free grants) none u = u
   call-keeps s by c t (edit.closes {handle = handle} {held = h} at) none u =
       close-keeps s.system h.pid (with_closed h handle s).system (close-edit s handle h) u
   call-keeps s by c t (edit.controls {handle = handle} {bytes = bytes} {held = h} {p = p} {m = m} {t = v} w e) none u =
       message-keeps s.system h.pid p m (tail_of m bytes) v
       (λ same. none.none handle bytes h m w.length refl w.handle_is same w.read)
       (live_process-found s.system h.pid p w.live) e u
-  call-keeps s by c t edit.sees_interrupt none u = u
-  call-keeps s by c t (edit.interrupts there) none u = u
   call-keeps s by c t (edit.spawns {held = held} {program = program} named grants) none u =
       spawned-keeps program held s.system u
   call-keeps s by c t (edit.sends {pid = target} {g = g} is) none u = generated-keeps Which target None g _ s.system u
+  call-keeps s by c t _ none u = u
 
   -- What a call leaves. One that was refused leaves all.
   pub called-unmarked : (s : TracedState) (k : ℕ) (c : Call) (a : Answer) → answer_to s k c ≡ Some a
