@@ -7,7 +7,7 @@ ghost use Rattle.pr_model.specs.Lawful.{IsLawful};
 ghost use Rattle.pr_model.specs.State.{TracedState};
 ghost use Rattle.pr_model.specs.declared.events.Entry.{Entry};
 ghost use Rattle.pr_num.specs.declared.errnos.Errno.{Errno};
-ghost use Rattle.pr_tool_laws.specs.Leaving.{RunsAtLast};
+ghost use Rattle.pr_tool_laws.specs.Leaving.{LeavesItsProcess};
 ghost use Rattle.pr_tool_laws.specs.Requests.{asks_still};
 ghost use Rattle.pr_reached.specs.HistoriesInRange.{StaysInRange};
 ghost use Rattle.pr_tool_laws.specs.Runs.{IsRunOf};
@@ -18,12 +18,12 @@ ghost use Rattle.pr_world.specs.Protocol.{controllers_at};
 
 /// In a legal history where these controllers make their own calls, from a lawful state in range, and in which
 /// controllers write bytes, a gcore that has finished, and was not refused, has run its process again by PCRUN, and
-/// done nothing but close since then, unless every lwp of it stood when gcore came.
+/// done nothing but close since then, unless every lwp of it stood when gcore came; then it has sent that no PCRUN.
 pub fn gcore_runs_its_process_again()
     ensures { (controllers : List ControllerState) (n k pid : ℕ) (s : TracedState) (h : List Entry) (g : GcoreState)
         → StaysInRange s h → IsRunOf n k (cores.Gcore (first_gcore pid)) controllers s h
         → slice_get (controllers_at controllers h) k ≡ Some (cores.Gcore g) → has_ended g ≡ true → g.refusal ≡ None
-        → RunsAtLast k pid s h }
+        → LeavesItsProcess k pid s h }
 {}
 
 /// In a legal history where these controllers make their own calls, from a lawful state, a gcore that has finished and

@@ -10,12 +10,13 @@ ghost use Rattle.pr_num.specs.declared.files.StoredFile.{StoredFile};
 ghost use Rattle.pr_probe.specs.ProbeText.{printed};
 ghost use Rattle.pr_probe.specs.Probes.{ProbeState, first_probe, has_ended};
 ghost use Rattle.pr_probe_laws.specs.Reasons.{TellsWhy};
-ghost use Rattle.pr_probe_laws.specs.RunAgain.{LeavesItsProcess, TakesBack};
+ghost use Rattle.pr_probe_laws.specs.TakesBack.{TakesBack};
 ghost use Rattle.pr_reached.specs.ByteHistories.{HasBytes};
 ghost use Rattle.pr_reached.specs.InRange.{IsStartInRange};
 ghost use Rattle.pr_world.specs.ControllerStates as cores;
 ghost use Rattle.pr_world.specs.ControllerStates.{ControllerState};
 ghost use Rattle.pr_reached.specs.HistoriesInRange.{StaysInRange};
+ghost use Rattle.pr_tool_laws.specs.Leaving.{LeavesItsProcess};
 ghost use Rattle.pr_tool_laws.specs.Runs.{IsRunOf};
 ghost use Rattle.pr_world.specs.Protocol.{controllers_at};
 

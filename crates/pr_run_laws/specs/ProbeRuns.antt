@@ -19,14 +19,14 @@ use Rattle.pr_probe_laws.specs.HiddenProbes.{AreLeftAlone, IsHidingAfter}
 use Rattle.pr_probe_laws.specs.ProbeCalls.{MakesProbeCalls}
 use Rattle.pr_probe_laws.specs.PutBack.{PutsBack}
 use Rattle.pr_probe_laws.specs.Reasons.{IsInterruptedPoll, TellsWhy}
-use Rattle.pr_probe_laws.specs.RunAgain.{LeavesItsProcess, TakesBack}
 use Rattle.pr_probe_laws.specs.SetsBack.{SetsBack}
 use Rattle.pr_probe_laws.specs.ShownDescriptors.{ShowsOneState}
+use Rattle.pr_probe_laws.specs.TakesBack.{TakesBack}
 use Rattle.pr_tool_laws.specs.ToolHandles.{HoldsOnly}
 use Rattle.pr_truss_laws.specs.Handles.{HasNothingOpen}
 use Rattle.pr_world.specs.ControllerStates.{ControllerState, Probe}
 use Rattle.pr_world.specs.Protocol.{controllers_at}
-use Rattle.pr_tool_laws.specs.Leaving.{SendsTo}
+use Rattle.pr_tool_laws.specs.Leaving.{LeavesItsProcess, SendsTo}
 
 -- What a run keeps of each apfiles.
 

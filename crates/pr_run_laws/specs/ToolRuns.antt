@@ -5,10 +5,11 @@ use Rattle.pr_model.specs.declared.events.Entry.{Entry}
 use Rattle.pr_model.specs.declared.tools.ToolKind.{ToolKind}
 use Rattle.pr_model.specs.declared.tools.ToolKind.TheVariants.{Prun, Pstack, Pstop}
 use Rattle.pr_num.specs.Programs.{Program}
+use Rattle.pr_tool_laws.specs.Leaving.{LeavesItsProcess}
 use Rattle.pr_tool_laws.specs.Requests.{asks_still}
 use Rattle.pr_tool_laws.specs.SentMessages.{RunsItsProcess, StopsItsProcess}
 use Rattle.pr_tool_laws.specs.ShownStates.{ShowsOneState}
-use Rattle.pr_tool_laws.specs.Stacks.{RunsAgain, ShowsOneStack}
+use Rattle.pr_tool_laws.specs.Stacks.{ShowsOneStack}
 use Rattle.pr_tool_laws.specs.ToolHandles.{HoldsOnly, LeavesTheSystem, only_reads}
 use Rattle.pr_tool_laws.specs.ToolTexts.{reads_once}
 use Rattle.pr_tools.specs.Tools.{ToolState, has_ended, printed}
@@ -21,10 +22,10 @@ use Rattle.pr_world.specs.Protocol.{controllers_at}
 
 -- The controller of a number is a tool of this kind and process. When it has finished, and was not refused, it prints
 -- what stands in one state; pstack, which reads more than once, the stacks of one state. This is so with the labels of
--- whatever programs it prints. pstack has run its process again then, unless that stood before, pstop has directed its
--- process to stop, and prun has run it; a pstack that was refused has taken back its request to stop. At any time it
--- has files of this process alone open, and none once it has finished; and one that only reads leaves the system as it
--- was.
+-- whatever programs it prints. pstack has run its process again then, and done nothing but close since, or never, where
+-- every lwp of it stood when it came; pstop has directed its process to stop, and prun has run it; a pstack that was
+-- refused has taken back its request to stop. At any time it has files of this process alone open, and none once it has
+-- finished; and one that only reads leaves the system as it was.
 pub record IsToolKept (controllers : List ControllerState) (first : TracedState) (h : List Entry)
     (k : ℕ) (kind : ToolKind) (pid : ℕ) : Type 0 where
   pub shows : (t : ToolState) (programs : List Program) → slice_get (controllers_at controllers h) k ≡ Some (Tool t)
@@ -34,7 +35,7 @@ pub record IsToolKept (controllers : List ControllerState) (first : TracedState)
       → has_ended t ≡ true → t.refusal ≡ None → kind ≡ Pstack
       → ShowsOneStack k pid programs first h (printed t programs)
   pub runs_again : (t : ToolState) → slice_get (controllers_at controllers h) k ≡ Some (Tool t) → has_ended t ≡ true
-      → t.refusal ≡ None → kind ≡ Pstack → RunsAgain k pid first h
+      → t.refusal ≡ None → kind ≡ Pstack → LeavesItsProcess k pid first h
   pub takes_back : (t : ToolState) → slice_get (controllers_at controllers h) k ≡ Some (Tool t) → has_ended t ≡ true
       → IsSome t.refusal → kind ≡ Pstack → asks_still false (exchanges k h) ≡ false
   pub stops : (t : ToolState) → slice_get (controllers_at controllers h) k ≡ Some (Tool t) → has_ended t ≡ true

@@ -1,9 +1,9 @@
-use Rattle.std.specs.Prelude.{◌≡◌, ◌≢◌, ℕ, Bool, false, List, [], ◌∷◌, ◌++◌, Some}
+use Rattle.std.specs.Prelude.{◌≡◌, ◌≢◌, ℕ, Bool, true, false, List, ◌∷◌, ◌++◌, Some}
 use Rattle.std.specs.List.{All}
 use Rattle.pr_api.specs.Entries.{call_entry}
 use Rattle.pr_model.specs.Handles.{handle_of}
 use Rattle.pr_model.specs.Legal.{state_after}
-use Rattle.pr_model.specs.State.{TracedProcess, TracedState, live_process}
+use Rattle.pr_model.specs.State.{TracedState}
 use Rattle.pr_model.specs.declared.calls.Call.{Call}
 use Rattle.pr_model.specs.declared.calls.Call.TheVariants as call
 use Rattle.pr_model.specs.declared.calls.File.TheVariants as file
@@ -13,10 +13,11 @@ use Rattle.pr_model.specs.declared.handles.Held.{Held}
 use Rattle.pr_num.specs.Messages.{spelling}
 use Rattle.pr_num.specs.declared.messages.Message.{Message}
 use Rattle.pr_num.specs.declared.messages.Message.TheVariants as message
-use Rattle.pr_tool_laws.specs.SentMessages.{IsSetGoing}
+use Rattle.pr_tools.specs.Calls.{run_bytes}
+use Rattle.pr_tool_laws.specs.SentMessages.{HasSent, IsSetGoing}
 use Rattle.pr_tool_laws.specs.Stacks.{HasLooked, OpensAtMost}
 
--- How gcore and apfiles, which stop a process, leave it: running again, unless it stood when they came.
+-- How pstack, gcore and apfiles, which stop a process, leave it: running again, unless it stood when they came.
 
 -- ---- messages
 
@@ -46,26 +47,26 @@ IsNoCall k e = (c : Call) (r : Reply) → e ≢ call_entry k c r
 
 -- ---- the process
 
--- It has run the process by PCRUN, and since then it has done nothing but close.
+-- It has run the process by PCRUN, which was not refused, and since then it has done nothing but close.
 pub record HasRunAtLast (k pid : ℕ) (first : TracedState) (h : List Entry) : Type 0 where
-  pub before : List Entry
-  pub call : Call
-  pub reply : Reply
-  pub after : List Entry
-  pub place : h ≡ before ++ call_entry k call reply ∷ after
-  pub sends : SendsTo k pid (message.Run 0) [] (state_after first before) call
-  pub was : TracedProcess
-  pub lived : live_process (state_after first before).system pid ≡ Some was
-  pub now : TracedProcess
-  pub lives : live_process (state_after first (before ++ call_entry k call reply ∷ [])).system pid ≡ Some now
-  pub goes : IsSetGoing was now
-  pub closes : All (ClosesAtMost k) after
+  pub sent : HasSent k pid run_bytes IsSetGoing first h
+  pub closes : All (ClosesAtMost k) sent.after
 
--- As pstack does, a controller has read the status of all lwps, and this says whether every lwp of the process stood in
--- the state that the read found: on an event of interest, or suspended. It has done nothing but open before: it has not
--- stopped the process itself. Where not every one did, it has run the process at last.
+-- A controller has read the status of all lwps, and this says whether every lwp of the process stood in the state that
+-- the read found: on an event of interest, or suspended. It has done nothing but open before: it has not stopped the
+-- process itself. Where not every one did, it has run the process at last.
 pub record RunsAtLast (k pid : ℕ) (first : TracedState) (h : List Entry) : Type 0 where
   pub stood : Bool
   pub looked : HasLooked k pid stood first h
   pub came : All (OpensAtMost k) looked.before
   pub runs : stood ≡ false → HasRunAtLast k pid first h
+
+-- A controller has sent the process no PCRUN, whatever its flags.
+pub record RunsNobody (k pid : ℕ) (first : TracedState) (h : List Entry) : Type 0 where
+  pub each : (front back : List Entry) (c : Call) (r : Reply) (flags : ℕ) (tail : List ℕ)
+      → h ≡ front ++ call_entry k c r ∷ back → SendsTo k pid (message.Run flags) tail (state_after first front) c → ⊥
+
+-- It has run the process at last, unless every lwp stood when it came; and where every one did, never.
+pub record LeavesItsProcess (k pid : ℕ) (first : TracedState) (h : List Entry) : Type 0 where
+  pub left : RunsAtLast k pid first h
+  pub lets_be : left.stood ≡ true → RunsNobody k pid first h

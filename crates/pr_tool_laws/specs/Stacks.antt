@@ -1,5 +1,5 @@
-use Rattle.std.specs.Prelude.{◌≡◌, ℕ, Bool, false, List, ◌∷◌, ◌++◌, Option, None, Some, option_map}
-use Rattle.std.specs.List.{All, list_all}
+use Rattle.std.specs.Prelude.{◌≡◌, ℕ, Bool, List, ◌∷◌, ◌++◌, Option, None, Some, option_map}
+use Rattle.std.specs.List.{list_all}
 use Rattle.pr_api.specs.Entries.{call_entry}
 use Rattle.pr_model.specs.Handles.{handle_of}
 use Rattle.pr_model.specs.Legal.{state_after}
@@ -17,10 +17,9 @@ use Rattle.pr_model.specs.declared.events.Entry.{Entry}
 use Rattle.pr_model.specs.declared.handles.Held.{Held}
 use Rattle.pr_model.specs.declared.tools.ToolKind.TheVariants.{Pstack}
 use Rattle.pr_num.specs.Programs.{Program}
-use Rattle.pr_tools.specs.Calls.{run_bytes, stop_bytes}
+use Rattle.pr_tools.specs.Calls.{stop_bytes}
 use Rattle.pr_tools.specs.SpaceStacks.{lwps_stacks}
 use Rattle.pr_tool_laws.specs.Reads.{IsToolRead}
-use Rattle.pr_tool_laws.specs.SentMessages.{HasSent, IsSetGoing}
 use Rattle.pr_truss_laws.specs.Stills.{IsHalting, stands_still}
 
 -- The text of pstack(1) as a function of one state of the machine.
@@ -66,7 +65,7 @@ pub record ShowsOneStack (k pid : ℕ) (programs : List Program) (first : Traced
   pub still : IsHalting process
   pub shown : process.borrower ≡ None → stacks_in pid programs (state_after first before).system ≡ Some text
 
--- ---- what it leaves
+-- ---- what it finds when it comes
 
 -- a call opens a file
 pub record IsOpen (c : Call) : Type 0 where
@@ -84,8 +83,8 @@ OpensAtMost k e = (c : Call) (r : Reply) → e ≡ call_entry k c r → IsOpen c
 unfoldable pub all_still : TracedProcess → Bool
 all_still p = list_all (λ (e : ℕ × TracedLwp). stands_still e.1) p.lwps
 
--- pstack has read the status of all lwps. The process lived, and this says whether every lwp of it stood in the state
--- that the read found: on an event of interest, or suspended.
+-- A controller has read the status of all lwps, as pstack does. The process lived, and this says whether every lwp of
+-- it stood in the state that the read found: on an event of interest, or suspended.
 pub record HasLooked (k pid : ℕ) (stood : Bool) (first : TracedState) (h : List Entry) : Type 0 where
   pub before : List Entry
   pub call : Call
@@ -96,10 +95,3 @@ pub record HasLooked (k pid : ℕ) (stood : Bool) (first : TracedState) (h : Lis
   pub process : TracedProcess
   pub lives : live_process (state_after first before).system pid ≡ Some process
   pub means : stood ≡ all_still process
-
--- It has done nothing but open before that look, and where not every lwp stood then, it has run the process.
-pub record RunsAgain (k pid : ℕ) (first : TracedState) (h : List Entry) : Type 0 where
-  pub stood : Bool
-  pub looked : HasLooked k pid stood first h
-  pub came : All (OpensAtMost k) looked.before
-  pub runs : stood ≡ false → HasSent k pid run_bytes IsSetGoing first h

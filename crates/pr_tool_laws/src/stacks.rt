@@ -8,8 +8,9 @@ ghost use Rattle.pr_num.specs.Programs.{Program};
 ghost use Rattle.pr_num.specs.declared.files.StoredFile.{StoredFile};
 ghost use Rattle.pr_reached.specs.ByteHistories.{HasBytes};
 ghost use Rattle.pr_reached.specs.InRange.{IsStartInRange};
+ghost use Rattle.pr_tool_laws.specs.Leaving.{LeavesItsProcess};
 ghost use Rattle.pr_tool_laws.specs.Requests.{asks_still};
-ghost use Rattle.pr_tool_laws.specs.Stacks.{RunsAgain, ShowsOneStack};
+ghost use Rattle.pr_tool_laws.specs.Stacks.{ShowsOneStack};
 ghost use Rattle.pr_tools.specs.Tools.{ToolState, first_tool, has_ended, printed};
 ghost use Rattle.pr_truss_laws.specs.Exchanges.{exchanges};
 ghost use Rattle.pr_world.specs.ControllerStates.{ControllerState};
@@ -39,18 +40,19 @@ pub fn pstack_shows_one_state()
 
 /// In a legal history where these controllers make their own calls, from a lawful state in range or from a first state,
 /// and in which controllers write bytes, a pstack that has finished, and was not refused, has run its process again by
-/// PCRUN, unless every lwp of it stood when pstack came.
+/// PCRUN, and done nothing but close since then, unless every lwp of it stood when pstack came; then it has sent that
+/// no PCRUN.
 pub fn pstack_runs_its_process_again()
     ensures later { (controllers : List ControllerState) (n k pid : ℕ) (s : TracedState) (h : List Entry)
         (t : ToolState) → StaysInRange s h → IsRunOf n k (cores.Tool (first_tool Pstack pid)) controllers s h
         → slice_get (controllers_at controllers h) k ≡ Some (cores.Tool t) → has_ended t ≡ true → t.refusal ≡ None
-        → RunsAgain k pid s h }
+        → LeavesItsProcess k pid s h }
     ensures first { (programs : List Program) (files : List StoredFile) (spawns : List ℕ)
         (controllers : List ControllerState) (n k pid : ℕ) (h : List Entry) (t : ToolState)
         → IsStart programs files spawns → IsStartInRange programs files → HasBytes h
         → IsRunOf n k (cores.Tool (first_tool Pstack pid)) controllers (first_state programs files spawns) h
         → slice_get (controllers_at controllers h) k ≡ Some (cores.Tool t) → has_ended t ≡ true → t.refusal ≡ None
-        → RunsAgain k pid (first_state programs files spawns) h }
+        → LeavesItsProcess k pid (first_state programs files spawns) h }
 {}
 
 /// In a legal history where these controllers make their own calls, a pstack that has finished and was refused has no

@@ -1,7 +1,6 @@
 use Rattle.std.proofs.Common.{◌≡◌, ◌≢◌, ◌++◌, ◌∷◌, ℕ, Bool, true, false, cond, codes, List, [], Option, Some, None, IsSome, is_some, refl, sym, subst, ap, ◌∙◌, slice_get}
 use Rattle.std.proofs.lemmas.Bool.{false≢true}
 use Rattle.std.proofs.lemmas.List.Elements.{All-nil}
-use Rattle.std.specs.List.{All}
 use Rattle.pr_api.specs.Entries.{call_entry}
 use Rattle.pr_core.specs.CoreText.{printed, report}
 use Rattle.pr_core.specs.Gcores.{GcoreState, fed, first_gcore, has_ended, passes_over}
@@ -33,14 +32,15 @@ use Rattle.pr_rec.specs.Reading.{record_read}
 use Rattle.pr_rec.specs.RecordBytes.{status_bytes}
 use Rattle.pr_core.specs.Gcores.{lends}
 use Rattle.pr_tool_laws.proofs.RunningAgain.LeavingLemmas.{others-none}
-use Rattle.pr_tool_laws.proofs.RunningAgain.LookLemmas.{legal-at, looks}
+use Rattle.pr_tool_laws.proofs.RunningAgain.LeavingStages.{leaves}
+use Rattle.pr_tool_laws.proofs.RunningAgain.LookLemmas.{legal-at}
 use Rattle.pr_tool_laws.proofs.Stages.ProtocolLemmas.{KeptByCalls, KeptByOthers, own-keeps}
 use Rattle.pr_tool_laws.proofs.RunningAgain.RequestLemmas.{asks-push}
 use Rattle.pr_tool_laws.proofs.Sending.SentStages.{exchange, others-made, own-made}
 use Rattle.pr_tool_laws.proofs.Pstack.StackReads.{read-answer}
 use Rattle.pr_tool_laws.proofs.Stages.StageLemmas.{state-called}
 use Rattle.pr_tool_laws.proofs.Records.WholeLemmas.{front-bytes, front-legal}
-use Rattle.pr_tool_laws.specs.Leaving.{RunsAtLast}
+use Rattle.pr_tool_laws.specs.Leaving.{LeavesItsProcess}
 use Rattle.pr_reached.specs.HistoriesInRange.{StaysInRange}
 use Rattle.pr_tool_laws.specs.Runs.{IsRunOf}
 use Rattle.pr_tool_laws.specs.Requests.{asks_still}
@@ -268,15 +268,12 @@ line-is g pid e its ended was =
 pub gcore-runs-again : (controllers : List ControllerState) (n k pid : ℕ) (s : TracedState) (h : List Entry)
     (g : GcoreState) → StaysInRange s h → IsRunOf n k (Gcore (first_gcore pid)) controllers s h
     → slice_get (controllers_at controllers h) k ≡ Some (Gcore g) → has_ended g ≡ true → g.refusal ≡ None
-    → RunsAtLast k pid s h
+    → LeavesItsProcess k pid s h
 unfolding Leads
 gcore-runs-again controllers n k pid s h g stays run ends ended accepted =
     let kept = on-its-way n k pid s controllers h g stays.lawful run ends in
-    let both =
-    subst (Leads n k pid s h (state_after s h) g) (ended-closes g ended) (kept.leads accepted) in
-    let look = looks n k pid g.stood s h stays.lawful stays.in_range stays.bytes run.legal both.0.0
-    (All (OpensAtMost k)) both.0.1 in
-    record { stood = g.stood; looked = look.0; came = look.1; runs = both.1 }
+    leaves n k pid g.stood s h stays run.legal
+    (subst (Leads n k pid s h (state_after s h) g) (ended-closes g ended) (kept.leads accepted))
 
 pub gcore-takes-back : (controllers : List ControllerState) (n k pid : ℕ) (s : TracedState) (h : List Entry)
     (g : GcoreState) → IsLawful s → IsRunOf n k (Gcore (first_gcore pid)) controllers s h

@@ -18,7 +18,8 @@ use Rattle.pr_rec.specs.Reading.{record_read}
 use Rattle.pr_tools.specs.Calls.{run_bytes, stop_bytes}
 use Rattle.pr_tools.specs.Handles.{last_open}
 use Rattle.pr_tools.specs.Replies.{bytes_read}
-use Rattle.pr_tool_laws.proofs.RunningAgain.RequestLemmas.{is_message, other-asks, run-asks, stop-asks}
+use Rattle.pr_tool_laws.proofs.RunningAgain.NoRunLemmas.{is_message}
+use Rattle.pr_tool_laws.proofs.RunningAgain.RequestLemmas.{other-asks, run-asks, stop-asks}
 use Rattle.pr_tool_laws.specs.Requests.{asks_after}
 use Rattle.pr_core_laws.proofs.OpenFiles.GcoreHolds.{refused-reply}
 

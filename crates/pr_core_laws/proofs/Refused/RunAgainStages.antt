@@ -1,6 +1,5 @@
 use Rattle.std.proofs.Common.{◌≡◌, ◌≢◌, ◌++◌, ◌∷◌, ℕ, Bool, true, false, cond, List, [], Option, Some, None, refl, sym, subst, ap, ◌∙◌, arith}
 use Rattle.std.proofs.lemmas.Bool.{false≢true}
-use Rattle.std.proofs.lemmas.List.Elements.{All-nil}
 use Rattle.std.proofs.lemmas.Option.{none-some, same_Some}
 use Rattle.pr_api.specs.Entries.{call_entry}
 use Rattle.pr_core.specs.GcoreStages.{control_place, kind_of_part, part_after, place_of_part, stage_after}
@@ -14,7 +13,7 @@ use Rattle.pr_model.specs.Handles.{handle_of}
 use Rattle.pr_model.specs.Lawful.{IsLawful}
 use Rattle.pr_model.specs.Legal.{IsLegalEntry, after, state_after}
 use Rattle.pr_model.specs.Replies.{number_of}
-use Rattle.pr_model.specs.State.{Places, TracedState, live_process}
+use Rattle.pr_model.specs.State.{Places, TracedState}
 use Rattle.pr_model.specs.declared.calls.Call.{Call}
 use Rattle.pr_model.specs.declared.calls.Call.TheVariants as call
 use Rattle.pr_model.specs.declared.calls.File.{File}
@@ -25,17 +24,19 @@ use Rattle.pr_model.specs.declared.events.Act.{Act}
 use Rattle.pr_model.specs.declared.events.Actor.{Actor}
 use Rattle.pr_model.specs.declared.events.Entry.{Entry}
 use Rattle.pr_num.specs.Limits.{read_limit}
+use Rattle.pr_num.specs.Messages.{message_code}
 use Rattle.pr_num.specs.Records.{status_ranges}
+use Rattle.pr_num.specs.Words.{word_bytes}
 use Rattle.pr_num.specs.declared.errnos.Errno.{Errno}
 use Rattle.pr_num.specs.declared.errnos.Errno.TheVariants.{Busy}
 use Rattle.pr_rec.specs.Reading.{record_read}
-use Rattle.pr_tool_laws.proofs.RunningAgain.LeavingLemmas.{Comes, HasLookedFirst, closes-more, comes-still, looked-still, opens-more, others-none, ran-still}
-use Rattle.pr_tool_laws.proofs.Sending.SentEffects.{runs}
+use Rattle.pr_tool_laws.proofs.RunningAgain.LeavingLemmas.{Comes, closes-more, comes-still, looked-still, opens-more, others-none, ran-now}
+use Rattle.pr_tool_laws.proofs.RunningAgain.LeavingStages.{HasOnlyLooked, RanOrLetBe, only-looked-still, ran-or-let-still}
+use Rattle.pr_tool_laws.proofs.RunningAgain.NoRunLemmas.{IsNoRun, another, call-none, is_message, no-message, opens-nobody, runs-nobody-on}
 use Rattle.pr_tool_laws.proofs.Pstack.StackReads.{control_of}
-use Rattle.pr_tool_laws.proofs.Stages.StageLemmas.{state-called}
 use Rattle.pr_tool_laws.proofs.OwnFiles.StandingLemmas.{IsOther, others-keep}
-use Rattle.pr_tool_laws.specs.Leaving.{ClosesAtMost, HasRunAtLast}
-use Rattle.pr_tools.specs.Calls.{run_bytes}
+use Rattle.pr_tool_laws.specs.Leaving.{HasRunAtLast}
+use Rattle.pr_tools.specs.Calls.{run_bytes, stop_bytes}
 use Rattle.pr_tools.specs.Handles.{handle_at, last_open, most_open}
 use Rattle.pr_tools.specs.Replies.{bytes_read}
 use Rattle.pr_tools.specs.Stacks.{process_stands}
@@ -44,16 +45,21 @@ use Rattle.pr_core_laws.proofs.OpenFiles.GcoreHolds.{Holds, goes_on, granted-at,
 use Rattle.pr_core_laws.proofs.OneState.GcoreStages.{open_at}
 use Rattle.pr_core_laws.proofs.OpenFiles.HandleLemmas.{HasFirst, HasOpen, file_of}
 
--- The stages of gcore, with what it has noted of the process when it came, and whether it has run that again.
+-- The stages of gcore, with what it has noted of the process when it came, and whether it has run that since.
 
 -- the memory is read by calls that leave the handles
 pub keeps-memory : (g : GcoreState) (w : Option MemoryWalk) → keeps_handles (memory_call g w) ≡ true
 keeps-memory g None = refl
 keeps-memory g (Some w) = refl
 
+-- and that send no message
+memory-plain : (g : GcoreState) (w : Option MemoryWalk) → is_message (memory_call g w) ≡ false
+memory-plain g None = refl
+memory-plain g (Some w) = refl
+
 module _ (n k pid : ℕ) (first : TracedState) where
   abbrev Looked : List Entry → GcoreState → Type 0
-  Looked h g = HasLookedFirst k pid first h g.stood
+  Looked h g = HasOnlyLooked k pid first h g.stood
 
   -- its control file is open
   abbrev pub Control : TracedState → GcoreState → Type 0
@@ -67,7 +73,7 @@ module _ (n k pid : ℕ) (first : TracedState) where
   Leads h s g stage.OpenMemory = Comes k h
   Leads h s g stage.ReadFirst = Comes k h
   Leads h s g stage.Run = Looked h g × Control s g × (g.stood ≡ false)
-  Leads h s g stage.Close = Looked h g × (g.stood ≡ false → HasRunAtLast k pid first h)
+  Leads h s g stage.Close = RanOrLetBe k pid first h g.stood
   Leads h s g stage.Release = ⊥
   Leads h s g _ = Looked h g
 
@@ -91,8 +97,9 @@ module _ (n k pid : ℕ) (first : TracedState) where
     comes-on : Comes k h → Comes k (h ++ entry ∷ [])
     comes-on so = comes-still k h entry (λ c r is. absurd (others-none k actor it other c r is)) so
 
-    looked-on : (stood : Bool) → HasLookedFirst k pid first h stood → HasLookedFirst k pid first (h ++ entry ∷ []) stood
-    looked-on stood so = looked-still k pid first h entry stood so
+    looked-on : (stood : Bool) → HasOnlyLooked k pid first h stood → HasOnlyLooked k pid first (h ++ entry ∷ []) stood
+    looked-on stood so =
+        only-looked-still k pid first h entry stood (λ c r is. absurd (others-none k actor it other c r is)) so
 
     pub leads-still : (g : GcoreState) (p : GcoreStage) → Leads h found g p
         → Leads (h ++ entry ∷ []) (after found entry) g p
@@ -111,10 +118,8 @@ module _ (n k pid : ℕ) (first : TracedState) where
       },
       so.2,
     )
-    leads-still g stage.Close so = (
-      looked-on g.stood so.0,
-      λ not. ran-still k pid first h entry (λ c r is. absurd (others-none k actor it other c r is)) (so.1 not),
-    )
+    leads-still g stage.Close so =
+        ran-or-let-still k pid first h entry g.stood (λ c r is. absurd (others-none k actor it other c r is)) so
     leads-still g stage.Release so = absurd so
     leads-still g _ so = looked-on g.stood so
 
@@ -138,8 +143,19 @@ module _ (n k pid : ℕ) (first : TracedState) where
     abbrev Next : GcoreState → Type 0
     Next u = u.refusal ≡ None → Now u
 
-    on : (stood : Bool) → HasLookedFirst k pid first h stood → HasLookedFirst k pid first longer stood
-    on stood so = looked-still k pid first h it stood so
+    -- by a call that does not run the process, as one that sends no message
+    on-by : IsNoRun k pid s c → (stood : Bool) → HasOnlyLooked k pid first h stood
+        → HasOnlyLooked k pid first longer stood
+    on-by none stood so = only-looked-still k pid first h it stood (call-none k pid first h c a.reply none) so
+
+    on : (d : Call) → Some d ≡ Some c → is_message d ≡ false → (stood : Bool) → HasOnlyLooked k pid first h stood
+        → HasOnlyLooked k pid first longer stood
+    on d same plain = on-by (no-message k pid s c d same plain)
+
+    -- PCSTOP does not run it
+    stop-none : (number : ℕ) → Some (call.Ctl number stop_bytes) ≡ Some c → IsNoRun k pid s c
+    unfolding message_code word_bytes
+    stop-none number same = another k pid s c number stop_bytes same refl
 
     -- it opens a file more
     opens-on : (name : File) (way : Mode) (of : ℕ) → Some (call.Open of 0 name way) ≡ Some c → Comes k h
@@ -164,24 +180,32 @@ module _ (n k pid : ℕ) (first : TracedState) where
     first-look : (g : GcoreState) → HasFirst k pid most_open s.opens g.opened
         → Some (call.Read (number_of (handle_at g.opened (place_of_part part.Lstatus))) 0 read_limit) ≡ Some c
         → Comes k h → ((e : Errno) → a.reply ≢ reply.Fail e)
-        → HasLookedFirst k pid first longer (process_stands (bytes_read a.reply))
+        → HasOnlyLooked k pid first longer (process_stands (bytes_read a.reply))
     unfolding place_of_part kind_of_part
     first-look g holds same comes accepts =
-        let file = holds.each 3 (file_of k pid file.Lstatus) (omega arith) refl in (
-          record {
-            before = h;
-            call = c;
-            reply = a.reply;
-            after = [];
-            place = refl;
-            handle = file.number;
-            is_read = sym (same_Some _ c same) ∙ ap (λ (o : Option ℕ). call.Read (number_of o) 0 read_limit) file.at;
-            there = file.stands;
-            granted = accepts;
-            noted = refl;
-          },
-          comes,
-        )
+        let file = holds.each 3 (file_of k pid file.Lstatus) (omega arith) refl in
+        record {
+          looked = (
+            record {
+              before = h;
+              call = c;
+              reply = a.reply;
+              after = [];
+              place = refl;
+              handle = file.number;
+              is_read =
+                  sym (same_Some _ c same) ∙ ap (λ (o : Option ℕ). call.Read (number_of o) 0 read_limit) file.at;
+              there = file.stands;
+              granted = accepts;
+              noted = refl;
+            },
+            comes,
+          );
+          nobody =
+              runs-nobody-on k pid first h it
+              (call-none k pid first h c a.reply (no-message k pid s c _ same refl))
+              (opens-nobody k pid first h comes);
+        }
 
     -- it runs the process
     run-now : (g : GcoreState) → Control s g
@@ -190,31 +214,7 @@ module _ (n k pid : ℕ) (first : TracedState) where
     run-now g control same accepts =
         let is : c ≡ call.Ctl control.number run_bytes =
         sym (same_Some _ c same) ∙ ap (λ (o : Option ℕ). call.Ctl (number_of o) run_bytes) control.at in
-        let done =
-        runs s k control.number (control_of k pid) a lawful control.stands refl
-        (ap (answer_to s k) (sym is) ∙ given) accepts in
-        record {
-          before = h;
-          call = c;
-          reply = a.reply;
-          after = [];
-          place = refl;
-          sends = record {
-            handle = control.number;
-            held = control_of k pid;
-            sends = is;
-            there = control.stands;
-            of = refl;
-            file = refl;
-          };
-          was = done.was;
-          lived = done.lived;
-          now = done.now;
-          lives =
-              ap (λ (x : TracedState). live_process x.system pid) (state-called first h k c a given) ∙ done.lives;
-          goes = done.becomes;
-          closes = All-nil (ClosesAtMost k);
-        }
+        ran-now k first h c a lawful given control.number (control_of k pid) is control.stands refl accepts
 
     -- ---- behind what was read
 
@@ -223,7 +223,11 @@ module _ (n k pid : ℕ) (first : TracedState) where
     run-next u looked control = by u.stood refl
       where
         by : (b : Bool) → u.stood ≡ b → Now (cond b (at_stage u stage.Close) (at_stage u stage.Run))
-        by true stood = (looked, λ not. absurd (false≢true (sym not ∙ stood)))
+        by true stood = record {
+          looked = looked.looked;
+          ran = λ not. absurd (false≢true (sym not ∙ stood));
+          lets_be = λ standing. looked.nobody;
+        }
         by false stood = (looked, control, stood)
 
     mapping-next : (u : GcoreState) (w : Option MemoryWalk) → Looked longer u → Control a.state u
@@ -274,24 +278,26 @@ module _ (n k pid : ℕ) (first : TracedState) where
     step-on g stage.OpenMemory holds so same right = λ none. opens-on _ _ _ same so
     step-on g stage.ReadFirst holds so same right =
         λ none. first-look g (holds refl) same so (granted-at stage.ReadFirst a.reply refl right)
-    step-on g stage.Stop holds so same right = λ none. on g.stood so
-    step-on g stage.AwaitStop holds so same right = λ none. on g.stood so
-    step-on g stage.ReadStatus holds so same right = status-next g (bytes_read a.reply) (on g.stood so)
-    step-on g (stage.ReadPart part.Psinfo) holds so same right = λ none. on g.stood so
-    step-on g (stage.ReadPart part.Lstatus) holds so same right = λ none. on g.stood so
-    step-on g (stage.ReadPart part.Sigact) holds so same right = λ none. on g.stood so
-    step-on g (stage.ReadPart part.Map) holds so same right = λ none. on g.stood so
+    step-on g stage.Stop holds so same right = λ none. on-by (stop-none _ same) g.stood so
+    step-on g stage.AwaitStop holds so same right = λ none. on _ same refl g.stood so
+    step-on g stage.ReadStatus holds so same right = status-next g (bytes_read a.reply) (on _ same refl g.stood so)
+    step-on g (stage.ReadPart part.Psinfo) holds so same right = λ none. on _ same refl g.stood so
+    step-on g (stage.ReadPart part.Lstatus) holds so same right = λ none. on _ same refl g.stood so
+    step-on g (stage.ReadPart part.Sigact) holds so same right = λ none. on _ same refl g.stood so
+    step-on g (stage.ReadPart part.Map) holds so same right = λ none. on _ same refl g.stood so
     step-on g (stage.ReadPart part.Fds) holds so same right =
-        λ none. mapping-next _ _ (on g.stood so) (control-on g _ same refl (holds refl))
+        λ none. mapping-next _ _ (on _ same refl g.stood so) (control-on g _ same refl (holds refl))
     step-on g stage.ReadMemory holds so same right =
-        λ none. piece-next g (bytes_read a.reply) g.walk (on g.stood so)
+        λ none. piece-next g (bytes_read a.reply) g.walk
+        (on _ same (memory-plain (at_stage g stage.ReadMemory) g.walk) g.stood so)
         (control-on g _ same (keeps-memory (at_stage g stage.ReadMemory) g.walk) (holds refl))
-    step-on g stage.Run holds so same right =
-        λ none. (on g.stood so.0, λ not. run-now g so.1 same (granted-at stage.Run a.reply refl right))
-    step-on g stage.Close holds so same right = λ none. (
-      on g.stood so.0,
-      λ not. ran-still k pid first h it (closes-more k c a.reply (last_open g.opened) same) (so.1 not),
-    )
+    step-on g stage.Run holds so same right = λ none. record {
+      looked = looked-still k pid first h it g.stood so.0.looked;
+      ran = λ not. run-now g so.1 same (granted-at stage.Run a.reply refl right);
+      lets_be = λ stood. absurd (false≢true (sym so.2 ∙ stood));
+    }
+    step-on g stage.Close holds so same right =
+        λ none. ran-or-let-still k pid first h it g.stood (closes-more k c a.reply (last_open g.opened) same) so
     step-on g stage.Release holds so same right = absurd so
 
     -- a gcore that was fed the reply to its call

@@ -33,7 +33,7 @@ use Rattle.pr_truss_laws.proofs.Machine.OutlastLemmas.{Outlasts, others-entry}
 use Rattle.pr_truss_laws.proofs.Machine.StillLemmas.{halting-leaves}
 use Rattle.pr_truss_laws.specs.Handles.{HasNoOtherWriter}
 use Rattle.pr_truss_laws.specs.Stills.{IsHalting, IsUndisturbed, stopped_lwp, with_lwp_stopped}
-use Rattle.pr_probe_laws.proofs.Ending.LetsBe.{first_byte}
+use Rattle.pr_tool_laws.proofs.RunningAgain.NoRunLemmas.{first_byte}
 use Rattle.pr_tool_laws.specs.Leaving.{SendsTo}
 
 -- The agent is gone: a process that stops without one gets none by what others do, and with which call apfiles writes

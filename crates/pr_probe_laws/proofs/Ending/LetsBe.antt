@@ -1,4 +1,4 @@
-use Rattle.std.proofs.Common.{◌≡◌, ◌==◌, ◌⊎◌, ◌-◌, ◌+◌, ◌∷◌, ◌++◌, ℕ, Bool, true, false, cond, List, [], Option, Some, None, nat_lt, option_map, slice_get, refl, sym, subst, ap, ◌∙◌, inl, inr, arith}
+use Rattle.std.proofs.Common.{◌≡◌, ◌⊎◌, ◌-◌, ◌+◌, ◌∷◌, ◌++◌, ℕ, Bool, true, false, cond, List, [], Option, Some, None, nat_lt, option_map, slice_get, refl, sym, ap, ◌∙◌, inl, inr, arith}
 use Rattle.std.proofs.lemmas.Bool.{false≢true}
 use Rattle.std.proofs.lemmas.Option.{none-some, same_Some}
 use Rattle.pr_api.specs.Entries.{call_entry}
@@ -10,7 +10,6 @@ use Rattle.pr_model.specs.declared.calls.Call.{Call}
 use Rattle.pr_model.specs.declared.calls.Call.TheVariants as call
 use Rattle.pr_model.specs.declared.calls.File.TheVariants as file
 use Rattle.pr_model.specs.declared.calls.Reply.{Reply}
-use Rattle.pr_model.specs.declared.events.Act.TheVariants as act
 use Rattle.pr_model.specs.declared.events.Entry.{Entry}
 use Rattle.pr_model.specs.declared.handles.Held.{Held}
 use Rattle.pr_num.specs.Limits.{descriptor_limit}
@@ -39,8 +38,8 @@ use Rattle.pr_probe_laws.proofs.Files.FilePlaces.{HasFirst, held_of}
 use Rattle.pr_probe_laws.proofs.Files.OwnCallRows as rows
 use Rattle.pr_probe_laws.proofs.Files.OwnFiles.{needs}
 use Rattle.pr_probe_laws.proofs.Sets.SetStages.{others-call}
-use Rattle.pr_tool_laws.specs.Leaving.{SendsTo}
-use Rattle.pr_probe_laws.specs.RunAgain.{RunsNobody}
+use Rattle.pr_tool_laws.proofs.RunningAgain.NoRunLemmas.{IsNoRun, another, call-none, no-message, nobody-yet, runs-nobody-on}
+use Rattle.pr_tool_laws.specs.Leaving.{RunsNobody}
 
 -- An apfiles that found every lwp standing runs its process never.
 
@@ -176,49 +175,19 @@ fed-follows p r =
 
 -- ---- the messages
 
--- with which byte bytes begin
-abbrev pub first_byte : List ℕ → ℕ
-first_byte [] = 0
-first_byte (b ∷ bytes) = b
-
-run-first : (flags : ℕ) (tail : List ℕ) → first_byte (spelling (message.Run flags) tail) ≡ 5
-unfolding message_code word_bytes
-run-first flags tail = refl
-
-abbrev is_ctl_call : Call → Bool
-is_ctl_call (call.Ctl handle bytes) = true
-is_ctl_call _ = false
-
 module _ (k pid : ℕ) (s : TracedState) (c : Call) where
-  -- the call does not run the process
-  abbrev IsNoRun : Type 0
-  IsNoRun = (flags : ℕ) (tail : List ℕ) → SendsTo k pid (message.Run flags) tail s c → ⊥
-
-  -- it is no message, or another one
-  no-message : (d : Call) → Some d ≡ Some c → is_ctl_call d ≡ false → IsNoRun
-  no-message d same none flags tail it =
-      false≢true (sym none ∙ ap is_ctl_call (same_Some d c same ∙ it.sends))
-
-  another : (to : ℕ) (bytes : List ℕ) → Some (call.Ctl to bytes) ≡ Some c → (first_byte bytes == 5) ≡ false → IsNoRun
-  another to bytes same apart flags tail it =
-      let calls : call.Ctl to bytes ≡ call.Ctl it.handle (spelling (message.Run flags) tail) =
-      same_Some (call.Ctl to bytes) c same ∙ it.sends in
-      let its : bytes ≡ spelling (message.Run flags) tail = cc in
-      false≢true (sym apart ∙ ap (λ (bs : List ℕ). first_byte bs == 5) its
-      ∙ ap (λ (n : ℕ). n == 5) (run-first flags tail))
-
   sets : (to : ℕ) (kind : SetKind) (word : ℕ)
-      → Some (call.Ctl to (spelling (trace_message kind word) [])) ≡ Some c → IsNoRun
+      → Some (call.Ctl to (spelling (trace_message kind word) [])) ≡ Some c → IsNoRun k pid s c
   unfolding trace_message message_code word_bytes
-  sets to Signals word same = another to _ same refl
-  sets to Faults word same = another to _ same refl
-  sets to Entries word same = another to _ same refl
-  sets to Exits word same = another to _ same refl
+  sets to Signals word same = another k pid s c to _ same refl
+  sets to Faults word same = another k pid s c to _ same refl
+  sets to Entries word same = another k pid s c to _ same refl
+  sets to Exits word same = another k pid s c to _ same refl
 
   module _ (p : ProbeState) where
     -- what goes to the agent's file goes to no control file of the process
     to-agent : HasFirst k pid 6 s.opens p.opened → (bytes : List ℕ)
-        → Some (call.Ctl (number_of (handle_at p.opened (place_of AgentControl))) bytes) ≡ Some c → IsNoRun
+        → Some (call.Ctl (number_of (handle_at p.opened (place_of AgentControl))) bytes) ≡ Some c → IsNoRun k pid s c
     unfolding place_of file_of lwp_of mode_of
     to-agent holds bytes same flags tail it =
         let its = holds.each AgentControl (omega arith) in
@@ -232,35 +201,35 @@ module _ (k pid : ℕ) (s : TracedState) (c : Call) where
         ap (λ (x : Held). x.file) (same_Some (held_of k pid AgentControl) it.held both) ∙ it.file in
         absurd cc
 
-    shuts : (o : Option ℕ) → option_map call.Close o ≡ Some c → IsNoRun
+    shuts : (o : Option ℕ) → option_map call.Close o ≡ Some c → IsNoRun k pid s c
     shuts None same = absurd (none-some c same)
-    shuts (Some number) same = no-message (call.Close number) same refl
+    shuts (Some number) same = no-message k pid s c (call.Close number) same refl
 
     no-run : (g : ProbeStage) → is_run g ≡ false → HasFirst k pid (needs g) s.opens p.opened
-        → call_of p g ≡ Some c → IsNoRun
+        → call_of p g ≡ Some c → IsNoRun k pid s c
     unfolding needs call_of asking_call message_code word_bytes
-    no-run (stage.Open f) still holds same = no-message _ same refl
-    no-run stage.ReadFirst still holds same = no-message _ same refl
-    no-run stage.Stop still holds same = another _ _ same refl
-    no-run stage.AwaitStop still holds same = no-message _ same refl
-    no-run stage.ReadStatus still holds same = no-message _ same refl
-    no-run stage.ReadMap still holds same = no-message _ same refl
-    no-run stage.SaveCode still holds same = another _ _ same refl
-    no-run stage.SaveStack still holds same = another _ _ same refl
+    no-run (stage.Open f) still holds same = no-message k pid s c _ same refl
+    no-run stage.ReadFirst still holds same = no-message k pid s c _ same refl
+    no-run stage.Stop still holds same = another k pid s c _ _ same refl
+    no-run stage.AwaitStop still holds same = no-message k pid s c _ same refl
+    no-run stage.ReadStatus still holds same = no-message k pid s c _ same refl
+    no-run stage.ReadMap still holds same = no-message k pid s c _ same refl
+    no-run stage.SaveCode still holds same = another k pid s c _ _ same refl
+    no-run stage.SaveStack still holds same = another k pid s c _ _ same refl
     no-run (stage.Trace kind) still holds same = sets _ kind _ same
-    no-run stage.MakeAgent still holds same = another _ _ same refl
-    no-run stage.PlantCode still holds same = another _ _ same refl
+    no-run stage.MakeAgent still holds same = another k pid s c _ _ same refl
+    no-run stage.PlantCode still holds same = another k pid s c _ _ same refl
     no-run (stage.Asking d SetRegisters) still holds same = to-agent holds _ same
     no-run (stage.Asking d RunAgent) still holds same = to-agent holds _ same
-    no-run (stage.Asking d Await) still holds same = no-message _ same refl
-    no-run (stage.Asking d ReadAgent) still holds same = no-message _ same refl
-    no-run (stage.Asking d ReadKind) still holds same = another _ _ same refl
+    no-run (stage.Asking d Await) still holds same = no-message k pid s c _ same refl
+    no-run (stage.Asking d ReadAgent) still holds same = no-message k pid s c _ same refl
+    no-run (stage.Asking d ReadKind) still holds same = another k pid s c _ _ same refl
     no-run stage.UntraceExits still holds same = sets _ Exits _ same
     no-run stage.SetExit still holds same = to-agent holds _ same
     no-run stage.RunExit still holds same = to-agent holds _ same
-    no-run stage.AwaitExit still holds same = no-message _ same refl
-    no-run stage.WriteCode still holds same = another _ _ same refl
-    no-run stage.WriteStack still holds same = another _ _ same refl
+    no-run stage.AwaitExit still holds same = no-message k pid s c _ same refl
+    no-run stage.WriteCode still holds same = another k pid s c _ _ same refl
+    no-run stage.WriteStack still holds same = another k pid s c _ _ same refl
     no-run (stage.Retrace kind) still holds same = sets _ kind _ same
     no-run (stage.Restore kind) still holds same = sets _ kind _ same
     no-run stage.Close still holds same = shuts (last_open p.opened) same
@@ -268,49 +237,7 @@ module _ (k pid : ℕ) (s : TracedState) (c : Call) where
 
 -- ---- an entry later
 
--- an entry of a list that is one longer is the last, or one of the list
-last-or-before : (h front : List Entry) (e d : Entry) (back : List Entry) → h ++ e ∷ [] ≡ front ++ d ∷ back
-    → ((h ≡ front) × (e ≡ d)) ⊎ ((rest : List Entry) × (h ≡ front ++ d ∷ rest))
-last-or-before [] [] e d back is = inl (refl, cc)
-last-or-before [] (f ∷ []) e d back is = absurd cc
-last-or-before [] (f ∷ g ∷ front) e d back is = absurd cc
-last-or-before (x ∷ h) [] e d back is =
-    let here : x ≡ d = cc in inr (h, ap (λ (y : Entry). y ∷ h) here)
-last-or-before (x ∷ h) (f ∷ front) e d back is =
-    let here : x ≡ f = cc in
-    let rest : h ++ e ∷ [] ≡ front ++ d ∷ back = cc in
-    by here (last-or-before h front e d back rest)
-  where
-    by : x ≡ f → ((h ≡ front) × (e ≡ d)) ⊎ ((rest : List Entry) × (h ≡ front ++ d ∷ rest))
-        → ((x ∷ h ≡ f ∷ front) × (e ≡ d)) ⊎ ((rest : List Entry) × (x ∷ h ≡ f ∷ (front ++ d ∷ rest)))
-    by here (inl both) =
-        inl (ap (λ (y : Entry). y ∷ h) here ∙ ap (λ (es : List Entry). f ∷ es) both.0, both.1)
-    by here (inr more) =
-        inr (more.0, ap (λ (y : Entry). y ∷ h) here ∙ ap (λ (es : List Entry). f ∷ es) more.1)
-
 module _ (k pid : ℕ) (first : TracedState) where
-  -- another entry, which runs nobody
-  runs-nobody-on : (h : List Entry) (e : Entry)
-      → ((c : Call) (r : Reply) → e ≡ call_entry k c r → IsNoRun k pid (state_after first h) c)
-      → RunsNobody k pid first h → RunsNobody k pid first (h ++ e ∷ [])
-  runs-nobody-on h e none so = record {
-    each = λ front back c r flags tail place it.
-        elim (last-or-before h front e (call_entry k c r) back place) [
-          | inl last ↦
-              none c r last.1 flags tail
-              (subst (λ (es : List Entry). SendsTo k pid (message.Run flags) tail (state_after first es) c)
-              (sym last.0) it)
-          | inr before ↦ so.each front before.0 c r flags tail before.1 it
-        ];
-  }
-
-  nobody-yet : RunsNobody k pid first []
-  nobody-yet = record { each = λ front back c r flags tail place it. none-there (call_entry k c r) back front place }
-    where
-      none-there : (d : Entry) (back front : List Entry) → [] ≡ front ++ d ∷ back → ⊥
-      none-there d back [] place = cc
-      none-there d back (f ∷ front) place = cc
-
   -- where every lwp stood it has run nobody
   record IsLetting (h : List Entry) (p : ProbeState) : Type 0 where
     comes : is_coming p.stage ≡ true → RunsNobody k pid first h
@@ -347,12 +274,8 @@ module _ (k pid : ℕ) (first : TracedState) where
 
       more : is_run p.stage ≡ false → RunsNobody k pid first h → RunsNobody k pid first (h ++ call_entry k c r ∷ [])
       more still nobody =
-          runs-nobody-on h (call_entry k c r)
-          (λ d v is.
-          let made : act.Call c r ≡ act.Call d v = ap (λ (x : Entry). x.act) is in
-          let its : c ≡ d = cc in
-          subst (IsNoRun k pid (state_after first h)) its
-          (no-run k pid (state_after first h) c p p.stage still holds next)) nobody
+          runs-nobody-on k pid first h (call_entry k c r)
+          (call-none k pid first h c r (no-run k pid (state_after first h) c p p.stage still holds next)) nobody
 
       by : (fed p r).stood ≡ true → (is_coming p.stage ≡ true) ⊎ ((fed p r).stood ≡ p.stood)
           → RunsNobody k pid first (h ++ call_entry k c r ∷ [])

@@ -1,6 +1,5 @@
 use Rattle.std.proofs.Common.{◌≡◌, ℕ, true, List, [], Some, None, subst, slice_get}
 use Rattle.std.proofs.lemmas.List.Elements.{All-nil}
-use Rattle.std.specs.List.{All}
 use Rattle.pr_model.specs.Legal.{IsLegal}
 use Rattle.pr_model.specs.State.{TracedState}
 use Rattle.pr_model.specs.declared.events.Entry.{Entry}
@@ -8,7 +7,7 @@ use Rattle.pr_probe.proofs.FedLemmas.{ended-closes}
 use Rattle.pr_probe.specs.Probes.{ProbeState, first_probe, has_ended}
 use Rattle.pr_probe.specs.declared.probe_stages.ProbeStage.{ProbeStage}
 use Rattle.pr_probe.specs.declared.probe_stages.ProbeStage.TheVariants.{Close}
-use Rattle.pr_tool_laws.proofs.RunningAgain.LookLemmas.{looks}
+use Rattle.pr_tool_laws.proofs.RunningAgain.LeavingStages.{leaves}
 use Rattle.pr_tool_laws.proofs.Stages.ProtocolLemmas.{KeptByCalls, KeptByOthers, own-keeps}
 use Rattle.pr_world.specs.Controllers.{after_reply, next_call}
 use Rattle.pr_world.specs.ControllerStates.{ControllerState, Probe}
@@ -21,7 +20,7 @@ use Rattle.pr_probe_laws.proofs.Ending.RunAgainStages.{Leads, called-leads, lead
 use Rattle.pr_probe_laws.proofs.Sets.SetLaw as sets
 use Rattle.pr_probe_laws.proofs.Sets.SetLaw.{IsProbeKnown, calls-known, others-known}
 use Rattle.pr_probe_laws.proofs.Sets.SetStages.{others-call}
-use Rattle.pr_probe_laws.specs.RunAgain.{LeavesItsProcess, RunsNobody}
+use Rattle.pr_tool_laws.specs.Leaving.{LeavesItsProcess, RunsNobody}
 
 -- apfiles runs its process again.
 
@@ -60,12 +59,7 @@ module _ (n k pid : ℕ) (first : TracedState) where
   unfolding Leads
   at-last h p stays legal closing so lets =
       let both = subst (λ (g : ProbeStage). Leads k pid first h p g) closing so in
-      let look = looks n k pid p.stood first h stays.lawful stays.in_range stays.bytes legal both.0.0
-      (All (OpensAtMost k)) both.0.1 in
-      record {
-        left = record { stood = p.stood; looked = look.0; came = look.1; runs = both.1 };
-        lets_be = lets;
-      }
+      leaves n k pid p.stood first h stays legal (record { looked = both.0; ran = both.1; lets_be = lets })
 
 -- In the end it has done so, unless it was refused.
 pub runs-at-last : (controllers : List ControllerState) (n k pid : ℕ) (s : TracedState) (h : List Entry)

@@ -1,19 +1,17 @@
 use Rattle.std.proofs.Common.{◌≡◌, ◌≢◌, ◌∷◌, ◌++◌, ℕ, Bool, false, List, [], Option, Some, None, refl, sym, subst, ap, ◌∙◌, arith}
 use Rattle.std.proofs.lemmas.Bool.{false≢true}
-use Rattle.std.proofs.lemmas.List.Elements.{All-nil}
 use Rattle.std.proofs.lemmas.Option.{same_Some}
 use Rattle.pr_api.specs.Entries.{call_entry}
 use Rattle.pr_model.specs.Calls.{Answer, answer_to}
 use Rattle.pr_model.specs.Lawful.{IsLawful}
 use Rattle.pr_model.specs.Legal.{state_after}
 use Rattle.pr_model.specs.Replies.{number_of}
-use Rattle.pr_model.specs.State.{TracedState, live_process}
+use Rattle.pr_model.specs.State.{TracedState}
 use Rattle.pr_model.specs.declared.calls.Call.{Call}
 use Rattle.pr_model.specs.declared.calls.Call.TheVariants as call
 use Rattle.pr_model.specs.declared.calls.File.{File}
 use Rattle.pr_model.specs.declared.calls.Mode.{Mode}
 use Rattle.pr_model.specs.declared.calls.Reply.TheVariants as reply
-use Rattle.pr_model.specs.declared.events.Act.TheVariants as act
 use Rattle.pr_model.specs.declared.events.Entry.{Entry}
 use Rattle.pr_num.specs.Limits.{read_limit}
 use Rattle.pr_num.specs.declared.errnos.Errno.{Errno}
@@ -29,9 +27,7 @@ use Rattle.pr_probe.specs.declared.probe_stages.ProbeFile.TheVariants.{Control, 
 use Rattle.pr_probe.specs.declared.probe_stages.ProbeStage.{ProbeStage}
 use Rattle.pr_probe.specs.declared.probe_stages.ProbeStage.TheVariants as stage
 use Rattle.pr_probe.specs.declared.traced_sets.SetKind.TheVariants.{Signals, Faults, Entries, Exits}
-use Rattle.pr_tool_laws.proofs.RunningAgain.LeavingLemmas.{Comes, HasLookedFirst, comes-still, looked-still, opens-more, ran-still}
-use Rattle.pr_tool_laws.proofs.Sending.SentEffects.{runs}
-use Rattle.pr_tool_laws.proofs.Stages.StageLemmas.{state-called}
+use Rattle.pr_tool_laws.proofs.RunningAgain.LeavingLemmas.{Comes, HasLookedFirst, comes-still, looked-still, opens-more, ran-now, ran-still}
 use Rattle.pr_tools.specs.Calls.{run_bytes}
 use Rattle.pr_tools.specs.Handles.{handle_at, last_open}
 use Rattle.pr_tools.specs.Replies.{bytes_read}
@@ -40,7 +36,7 @@ use Rattle.pr_probe_laws.proofs.Files.FilePlaces.{HasFirst, held_of}
 use Rattle.pr_probe_laws.proofs.PuttingBack.ProbeCalls.{asked-next}
 use Rattle.pr_probe_laws.proofs.Sets.SetCalls.{only-closes, taken}
 use Rattle.pr_probe_laws.proofs.Sets.SetStages.{Knows}
-use Rattle.pr_tool_laws.specs.Leaving.{ClosesAtMost, HasRunAtLast, IsNoCall}
+use Rattle.pr_tool_laws.specs.Leaving.{HasRunAtLast, IsNoCall}
 
 -- The stages of apfiles, with what it has noted of the process when it came, and whether it has run that again.
 
@@ -142,31 +138,7 @@ module _ (k pid : ℕ) (first : TracedState) where
         let file = holds.each Control (omega arith) in
         let is : c ≡ call.Ctl file.number run_bytes =
         sym (same_Some _ c same) ∙ ap (λ (o : Option ℕ). call.Ctl (number_of o) run_bytes) file.at in
-        let done =
-        runs s k file.number (held_of k pid Control) a lawful file.stands refl
-        (ap (answer_to s k) (sym is) ∙ given) accepts in
-        record {
-          before = h;
-          call = c;
-          reply = a.reply;
-          after = [];
-          place = refl;
-          sends = record {
-            handle = file.number;
-            held = held_of k pid Control;
-            sends = is;
-            there = file.stands;
-            of = refl;
-            file = refl;
-          };
-          was = done.was;
-          lived = done.lived;
-          now = done.now;
-          lives =
-              ap (λ (x : TracedState). live_process x.system pid) (state-called first h k c a given) ∙ done.lives;
-          goes = done.becomes;
-          closes = All-nil (ClosesAtMost k);
-        }
+        ran-now k first h c a lawful given file.number (held_of k pid Control) is file.stands refl accepts
 
     leads-asked : (p : ProbeState) (d : ℕ) → Looked longer p → Leads longer (asked p d) (stage_asked d)
     unfolding Leads

@@ -29,7 +29,8 @@ use Rattle.pr_probe.specs.declared.probe_stages.ProbeStage.TheVariants as stage
 use Rattle.pr_probe.specs.declared.traced_sets.SetKind.TheVariants.{Signals, Faults, Entries, Exits}
 use Rattle.pr_tool_laws.proofs.RunningAgain.LookLemmas.{HasNoted, looks, noted-still}
 use Rattle.pr_tool_laws.proofs.Stages.ProtocolLemmas.{KeptByCalls, KeptByOthers, own-keeps}
-use Rattle.pr_tool_laws.proofs.RunningAgain.RequestLemmas.{asks-push, is_message, other-asks, run-asks, stop-asks}
+use Rattle.pr_tool_laws.proofs.RunningAgain.NoRunLemmas.{is_message}
+use Rattle.pr_tool_laws.proofs.RunningAgain.RequestLemmas.{asks-push, other-asks, run-asks, stop-asks}
 use Rattle.pr_tool_laws.proofs.Sending.SentStages.{exchange, others-made, own-made}
 use Rattle.pr_tool_laws.proofs.Stages.ToolLemmas.{place-still}
 use Rattle.pr_tool_laws.specs.Leaving.{SendsTo}
@@ -49,7 +50,7 @@ use Rattle.pr_probe_laws.proofs.Files.FilePlaces.{HasFirst, held_of}
 use Rattle.pr_probe_laws.proofs.Files.OwnCallRows as rows
 use Rattle.pr_probe_laws.proofs.Files.OwnFiles.{needs}
 use Rattle.pr_probe_laws.proofs.PuttingBack.ProbeCalls.{asked-next, granted}
-use Rattle.pr_probe_laws.specs.RunAgain.{TakesBack}
+use Rattle.pr_probe_laws.specs.TakesBack.{TakesBack}
 
 -- An apfiles that was refused before it made an agent has taken back its request to stop, unless every lwp stood.
 

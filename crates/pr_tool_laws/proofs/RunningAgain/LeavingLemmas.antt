@@ -1,23 +1,34 @@
-use Rattle.std.proofs.Common.{◌≡◌, ◌∷◌, ◌++◌, ℕ, Bool, List, [], Option, Some, None, option_map, sym, ap, ◌∙◌}
+use Rattle.std.proofs.Common.{◌≡◌, ◌≢◌, ◌∷◌, ◌++◌, ℕ, Bool, List, [], Option, Some, None, option_map, sym, ap, ◌∙◌}
 use Rattle.std.proofs.lemmas.List.Elements.{All-append, All-cons, All-nil}
 use Rattle.std.proofs.lemmas.Option.{none-some, same_Some}
 use Rattle.std.specs.List.{All}
 use Rattle.pr_api.specs.Entries.{call_entry}
+use Rattle.pr_model.specs.Calls.{Answer, answer_to}
+use Rattle.pr_model.specs.Handles.{handle_of}
+use Rattle.pr_model.specs.Lawful.{IsLawful}
+use Rattle.pr_model.specs.Legal.{state_after}
 use Rattle.pr_model.specs.State.{TracedState}
 use Rattle.pr_model.specs.declared.calls.Call.{Call}
 use Rattle.pr_model.specs.declared.calls.Call.TheVariants as call
 use Rattle.pr_model.specs.declared.calls.File.{File}
+use Rattle.pr_model.specs.declared.calls.File.TheVariants as file
 use Rattle.pr_model.specs.declared.calls.Mode.{Mode}
 use Rattle.pr_model.specs.declared.calls.Reply.{Reply}
+use Rattle.pr_model.specs.declared.calls.Reply.TheVariants as reply
 use Rattle.pr_model.specs.declared.events.Act.{Act}
 use Rattle.pr_model.specs.declared.events.Act.TheVariants as act
 use Rattle.pr_model.specs.declared.events.Actor.{Actor}
 use Rattle.pr_model.specs.declared.events.Actor.TheVariants.{Controller, Lwp, Clock}
 use Rattle.pr_model.specs.declared.events.Entry.{Entry}
+use Rattle.pr_model.specs.declared.handles.Held.{Held}
+use Rattle.pr_num.specs.declared.errnos.Errno.{Errno}
+use Rattle.pr_tools.specs.Calls.{run_bytes}
 use Rattle.pr_tool_laws.proofs.RunningAgain.LookLemmas.{HasNoted, noted-still}
 use Rattle.pr_tool_laws.proofs.OwnFiles.StandingLemmas.{IsOther}
-use Rattle.pr_tool_laws.proofs.Stages.ToolLemmas.{place-still}
+use Rattle.pr_tool_laws.proofs.Sending.SentEffects.{runs}
+use Rattle.pr_tool_laws.proofs.Sending.SentPlaces.{sent-now, sent-still}
 use Rattle.pr_tool_laws.specs.Leaving.{ClosesAtMost, HasRunAtLast, IsNoCall}
+use Rattle.pr_tool_laws.specs.SentMessages.{IsSetGoing}
 use Rattle.pr_tool_laws.specs.Stacks.{OpensAtMost}
 
 -- What a controller that stops a process has done so far, an entry later.
@@ -76,18 +87,22 @@ module _ (k pid : ℕ) (first : TracedState) where
 
     pub ran-still : ClosesAtMost k e → HasRunAtLast k pid first h → HasRunAtLast k pid first (h ++ e ∷ [])
     ran-still close it = record {
-      before = it.before;
-      call = it.call;
-      reply = it.reply;
-      after = it.after ++ e ∷ [];
-      place = place-still h it.before (call_entry k it.call it.reply) it.after e it.place;
-      sends = it.sends;
-      was = it.was;
-      lived = it.lived;
-      now = it.now;
-      lives = it.lives;
-      goes = it.goes;
+      sent = sent-still k run_bytes IsSetGoing first h pid e it.sent;
       closes =
-          All-append (ClosesAtMost k) it.after (e ∷ []) it.closes
+          All-append (ClosesAtMost k) it.sent.after (e ∷ []) it.closes
           (All-cons (ClosesAtMost k) e [] close (All-nil (ClosesAtMost k)));
+    }
+
+-- it runs the process now
+pub ran-now : (k : ℕ) (first : TracedState) (h : List Entry) (c : Call) (a : Answer) → IsLawful (state_after first h)
+    → answer_to (state_after first h) k c ≡ Some a → (number : ℕ) (held : Held) → c ≡ call.Ctl number run_bytes
+    → handle_of (state_after first h).opens k number ≡ Some held → held.file ≡ file.Ctl
+    → ((e : Errno) → a.reply ≢ reply.Fail e) → HasRunAtLast k held.pid first (h ++ call_entry k c a.reply ∷ [])
+ran-now k first h c a lawful given number held is stands control accepts =
+    let done =
+    runs (state_after first h) k number held a lawful stands control
+    (ap (answer_to (state_after first h) k) (sym is) ∙ given) accepts in
+    record {
+      sent = sent-now k run_bytes IsSetGoing first h c a given number held is stands control done;
+      closes = All-nil (ClosesAtMost k);
     }

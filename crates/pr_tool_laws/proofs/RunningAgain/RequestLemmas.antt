@@ -31,6 +31,7 @@ use Rattle.pr_tool_laws.specs.Runs.{IsRunOf}
 use Rattle.pr_tool_laws.proofs.Stages.KindLemmas.{fed-kind}
 use Rattle.pr_tool_laws.proofs.Stages.LawLemmas.{tool-keeps}
 use Rattle.pr_tool_laws.proofs.OwnFiles.NothingOpenLemmas.{refused-reply}
+use Rattle.pr_tool_laws.proofs.RunningAgain.NoRunLemmas.{is_message}
 use Rattle.pr_tool_laws.proofs.Sending.SentStages.{exchange, others-made, own-made}
 use Rattle.pr_tool_laws.proofs.OwnFiles.StandingLemmas.{IsOther}
 use Rattle.pr_tool_laws.proofs.Stages.ToolLemmas.{close-passes, ended-closes}
@@ -55,11 +56,6 @@ pub stop-asks : (asks : Bool) (handle : ℕ) (e : Errno)
     → asks_after asks (call.Ctl handle stop_bytes) (reply.Fail e) ≡ asks
 unfolding message_code operands word_bytes
 stop-asks asks handle e = refl
-
--- a call that is no control message
-abbrev pub is_message : Call → Bool
-is_message (call.Ctl handle bytes) = true
-is_message _ = false
 
 pub other-asks : (asks : Bool) (c : Call) (r : Reply) → is_message c ≡ false → asks_after asks c r ≡ asks
 other-asks asks (call.Ctl handle bytes) r is = cc

@@ -2,7 +2,6 @@ use Rattle.std.proofs.Common.{◌≡◌, ◌≢◌, ◌∷◌, ◌++◌, ℕ, Bo
 use Rattle.std.proofs.lemmas.Bool.{false≢true}
 use Rattle.std.proofs.lemmas.List.Elements.{All-nil}
 use Rattle.std.proofs.lemmas.List.{get_or-set_other}
-use Rattle.std.specs.List.{All}
 use Rattle.std.proofs.lemmas.Option.{none-some, same_Some}
 use Rattle.pr_api.specs.Entries.{call_entry}
 use Rattle.pr_lawful.proofs.LawfulStates.CallLemmas.{call-state}
@@ -28,13 +27,15 @@ use Rattle.pr_model.specs.declared.handles.Held.{Held}
 use Rattle.pr_model.specs.declared.tools.ToolKind.{ToolKind}
 use Rattle.pr_model.specs.declared.tools.ToolKind.TheVariants.{Pstack}
 use Rattle.pr_num.specs.Limits.{read_limit}
+use Rattle.pr_num.specs.Messages.{message_code}
+use Rattle.pr_num.specs.Words.{word_bytes}
 use Rattle.pr_num.specs.declared.errnos.Errno.{Errno}
-use Rattle.pr_tools.specs.Calls.{run_bytes}
-use Rattle.pr_tools.specs.Handles.{handle_at, nothing_open, with_handle}
+use Rattle.pr_tools.specs.Calls.{run_bytes, stop_bytes}
+use Rattle.pr_tools.specs.Handles.{handle_at, last_open, nothing_open, with_handle}
 use Rattle.pr_tools.specs.Replies.{bytes_read, is_passed_over, refusal_in}
 use Rattle.pr_tools.specs.Stacks.{process_stands}
 use Rattle.pr_tools.specs.Steps.{after as step_after, after_in_pstack, control_place, ctl_mode_of, file_of, first_step, memory_place, record_place}
-use Rattle.pr_tools.specs.Tools.{ToolState, accepted, advanced, answered, at_step, call_of, fed, first_tool, has_ended, next_call_of, refused, with_answer, with_closed, with_first, with_next, with_record, with_run_next, with_walk}
+use Rattle.pr_tools.specs.Tools.{ToolState, accepted, advanced, answered, at_step, call_of, control_file, fed, first_tool, has_ended, next_call_of, refused, with_answer, with_closed, with_first, with_next, with_record, with_run_next, with_walk}
 use Rattle.pr_tools.specs.declared.handles.Opened.{Opened}
 use Rattle.pr_tools.specs.declared.stacks.Walk.{Walk}
 use Rattle.pr_tools.specs.declared.steps.Step.{Step}
@@ -45,21 +46,21 @@ use Rattle.pr_reached.specs.HistoriesInRange.{StaysInRange}
 use Rattle.pr_tool_laws.specs.Runs.{IsRunOf}
 use Rattle.pr_tool_laws.proofs.Stages.KindLemmas.{fed-kind, fed-pid, refused-still}
 use Rattle.pr_tool_laws.proofs.Stages.LawLemmas.{tool-keeps}
-use Rattle.pr_tool_laws.proofs.RunningAgain.LeavingLemmas.{Comes, HasLookedFirst, comes-still, looked-still, opens-more, others-none}
-use Rattle.pr_tool_laws.proofs.RunningAgain.LookLemmas.{HasNoted, looks}
-use Rattle.pr_tool_laws.proofs.Sending.SentEffects.{runs}
-use Rattle.pr_tool_laws.proofs.Sending.SentPlaces.{sent-now, sent-still}
+use Rattle.pr_tool_laws.proofs.RunningAgain.LeavingLemmas.{Comes, closes-more, comes-still, looked-still, opens-more, others-none, ran-now}
+use Rattle.pr_tool_laws.proofs.RunningAgain.LeavingStages.{HasOnlyLooked, RanOrLetBe, leaves, only-looked-still, ran-or-let-still}
+use Rattle.pr_tool_laws.proofs.RunningAgain.LookLemmas.{HasNoted}
+use Rattle.pr_tool_laws.proofs.RunningAgain.NoRunLemmas.{IsNoRun, another, call-none, is_message, no-message, opens-nobody, runs-nobody-on}
 use Rattle.pr_tool_laws.proofs.Pstack.StackLaw.{entry-lawful}
 use Rattle.pr_tool_laws.proofs.Pstack.StackReads.{control_of, new-stands, old-stands, status_of}
 use Rattle.pr_tool_laws.proofs.Pstack.StackSteps.{with_control}
 use Rattle.pr_tool_laws.proofs.Stages.StageLemmas.{state-called}
 use Rattle.pr_tool_laws.proofs.OwnFiles.StandingLemmas.{IsOther, others-handles}
 use Rattle.pr_tool_laws.proofs.Stages.ToolLemmas.{ended-closes}
-use Rattle.pr_tool_laws.specs.SentMessages.{HasSent, IsSetGoing}
-use Rattle.pr_tool_laws.specs.Stacks.{OpensAtMost, RunsAgain}
+use Rattle.pr_tool_laws.specs.Leaving.{LeavesItsProcess}
+use Rattle.pr_tool_laws.specs.Stacks.{OpensAtMost}
 use Rattle.pr_truss_laws.proofs.Files.OpensLemmas.{Opens, held_by, keeps_handles, open-opens, plain-leaves}
 
--- pstack runs its process again, unless that stood when it came.
+-- pstack runs its process again, or lets it be where that stood when it came.
 
 -- ---- what was not refused
 
@@ -116,7 +117,10 @@ module _ (k pid : ℕ) (first : TracedState) where
   Status s t = Has record_place (status_of k pid) s t.opened
 
   abbrev Looked : List Entry → ToolState → Type 0
-  Looked h t = HasLookedFirst k pid first h t.stood
+  Looked h t = HasOnlyLooked k pid first h t.stood
+
+  abbrev Left : List Entry → ToolState → Type 0
+  Left h t = RanOrLetBe k pid first h t.stood
 
   -- what is so at a step of a pstack that was not refused
   unfoldable So : List Entry → TracedState → ToolState → Step → Type 0
@@ -129,8 +133,8 @@ module _ (k pid : ℕ) (first : TracedState) where
   So h s t step.ReadFile = Control s t × Looked h t
   So h s t step.ReadText = Control s t × Looked h t
   So h s t step.ReadFrame = Control s t × Looked h t
-  So h s t step.Run = Control s t × Looked h t
-  So h s t step.Close = Looked h t × (t.stood ≡ false → HasSent k pid run_bytes IsSetGoing first h)
+  So h s t step.Run = Control s t × Looked h t × (t.stood ≡ false)
+  So h s t step.Close = Left h t
   So h s t _ = ⊥
 
   abbrev SoNow : List Entry → TracedState → ToolState → Type 0
@@ -150,9 +154,12 @@ module _ (k pid : ℕ) (first : TracedState) where
       stands = others-handles n k has.number s actor it legal other ∙ has.stands;
     }
 
+    others-look : (t : ToolState) → Looked h t → Looked (h ++ entry ∷ []) t
+    others-look t so =
+        only-looked-still k pid first h entry t.stood (λ c r same. absurd (others-none k actor it other c r same)) so
+
     others-both : (t : ToolState) → Control s t × Looked h t → Control (after s entry) t × Looked (h ++ entry ∷ []) t
-    others-both t so =
-        (others-has control_place (control_of k pid) t.opened so.0, looked-still k pid first h entry t.stood so.1)
+    others-both t so = (others-has control_place (control_of k pid) t.opened so.0, others-look t so.1)
 
     others-come : Comes k h → Comes k (h ++ entry ∷ [])
     others-come so = comes-still k h entry (λ c r same. absurd (others-none k actor it other c r same)) so
@@ -181,11 +188,10 @@ module _ (k pid : ℕ) (first : TracedState) where
     others-so t step.ReadFile so = others-both t so
     others-so t step.ReadText so = others-both t so
     others-so t step.ReadFrame so = others-both t so
-    others-so t step.Run so = others-both t so
-    others-so t step.Close so = (
-      looked-still k pid first h entry t.stood so.0,
-      λ not. sent-still k run_bytes IsSetGoing first h pid entry (so.1 not),
-    )
+    others-so t step.Run so =
+        (others-has control_place (control_of k pid) t.opened so.0, others-look t so.1, so.2)
+    others-so t step.Close so =
+        ran-or-let-still k pid first h entry t.stood (λ c r same. absurd (others-none k actor it other c r same)) so
     others-so t _ so = absurd so
 
   -- ---- its own calls
@@ -218,8 +224,12 @@ module _ (k pid : ℕ) (first : TracedState) where
     runs-next u control looked = by u.stood refl
       where
         by : (b : Bool) → u.stood ≡ b → Next (cond b (at_step u step.Close) (at_step u step.Run))
-        by true stood = (looked, λ not. absurd (false≢true (sym not ∙ stood)))
-        by false stood = (control, looked)
+        by true stood = record {
+          looked = looked.looked;
+          ran = λ not. absurd (false≢true (sym not ∙ stood));
+          lets_be = λ still. looked.nobody;
+        }
+        by false stood = (control, looked, stood)
 
     walks-on : (u : ToolState) (w : Option Walk) → Control a.state u → Looked longer u → Next (with_walk u w)
     unfolding So with_walk
@@ -373,8 +383,20 @@ module _ (k pid : ℕ) (first : TracedState) where
         control-still : Control s t → Control a.state t
         control-still control = same-has control_place (control_of k pid) t.opened still control
 
-        both-still : Control s t × Looked h t → Control a.state t × Looked longer t
-        both-still so = (control-still so.0, looked-still k pid first h it t.stood so.1)
+        both-still : IsNoRun k pid s c → Control s t × Looked h t → Control a.state t × Looked longer t
+        both-still none so = (
+          control-still so.0,
+          only-looked-still k pid first h it t.stood (call-none k pid first h c a.reply none) so.1,
+        )
+
+        -- one that sends no message
+        reads-still : is_message d ≡ false → Control s t × Looked h t → Control a.state t × Looked longer t
+        reads-still plain so = both-still (no-message k pid s c d (sym is ∙ its p at) plain) so
+
+      -- PCSTOP does not run the process
+      stop-none : t.step ≡ step.Stop → IsNoRun k pid s c
+      unfolding call_of message_code word_bytes
+      stop-none at = another k pid s c (control_file t) stop_bytes (its step.Stop at) refl
 
       -- its first look at the process
       first-look : t.step ≡ step.ReadFirst → Control s t × Status s t × Comes k h
@@ -382,11 +404,22 @@ module _ (k pid : ℕ) (first : TracedState) where
           → Next (accepted t a.reply step.ReadFirst)
       unfolding So accepted call_of with_next after_in_pstack
       first-look at has accepts =
-          goes-on (record t { stood = process_stands (bytes_read a.reply) }) step.ReadFirst kind at
-          (control-still step.ReadFirst at (call.Read has.1.number 0 read_limit) called refl has.0, (looked, has.2))
+          goes-on (record t { stood = process_stands (bytes_read a.reply) }) step.ReadFirst kind at (
+            control-still step.ReadFirst at (call.Read has.1.number 0 read_limit) called refl has.0,
+            record {
+              looked = (looked, has.2);
+              nobody =
+                  runs-nobody-on k pid first h it (call-none k pid first h c a.reply reads)
+                  (opens-nobody k pid first h has.2);
+            },
+          )
         where
           called : call_of t step.ReadFirst ≡ Some (call.Read has.1.number 0 read_limit)
           called = ap (λ (o : Option ℕ). Some (call.Read (number_of o) 0 read_limit)) has.1.at
+
+          reads : IsNoRun k pid s c
+          reads =
+              no-message k pid s c (call.Read has.1.number 0 read_limit) (sym called ∙ its step.ReadFirst at) refl
 
           looked : HasNoted k pid (process_stands (bytes_read a.reply)) first longer
           looked = record {
@@ -403,23 +436,22 @@ module _ (k pid : ℕ) (first : TracedState) where
           }
 
       -- it runs the process
-      running : t.step ≡ step.Run → Control s t × Looked h t → ((e : Errno) → a.reply ≢ reply.Fail e)
-          → Next (accepted t a.reply step.Run)
+      running : t.step ≡ step.Run → Control s t × Looked h t × (t.stood ≡ false)
+          → ((e : Errno) → a.reply ≢ reply.Fail e) → Next (accepted t a.reply step.Run)
       unfolding So accepted call_of with_next after_in_pstack
       running at so accepts =
-          goes-on t step.Run kind at (looked-still k pid first h it t.stood so.1, λ not. sent)
+          goes-on t step.Run kind at (record {
+            looked = looked-still k pid first h it t.stood so.1.looked;
+            ran = λ not.
+                ran-now k first h c a lawful given so.0.number (control_of k pid) same so.0.stands refl accepts;
+            lets_be = λ stood. absurd (false≢true (sym so.2 ∙ stood));
+          })
         where
           called : call_of t step.Run ≡ Some (call.Ctl so.0.number run_bytes)
           called = ap (λ (o : Option ℕ). Some (call.Ctl (number_of o) run_bytes)) so.0.at
 
           same : c ≡ call.Ctl so.0.number run_bytes
           same = call-is step.Run at (call.Ctl so.0.number run_bytes) called refl
-
-          sent : HasSent k pid run_bytes IsSetGoing first longer
-          sent =
-              sent-now k run_bytes IsSetGoing first h c a given so.0.number (control_of k pid) same so.0.stands refl
-              (runs s k so.0.number (control_of k pid) a lawful so.0.stands refl (ap (answer_to s k) (sym same) ∙ given)
-              accepts)
 
       -- ---- step by step
 
@@ -432,17 +464,19 @@ module _ (k pid : ℕ) (first : TracedState) where
       step-so step.OpenMemory at so none = third-file at so (granted-at step.OpenMemory a.reply (λ e. refl) none)
       step-so step.ReadFirst at so none = first-look at so (granted-at step.ReadFirst a.reply (λ e. refl) none)
       step-so step.Stop at so none =
-          goes-on (record t { until = until_in a.reply }) step.Stop kind at (both-still step.Stop at _ refl refl so)
-      step-so step.AwaitStop at so none = goes-on t step.AwaitStop kind at (both-still step.AwaitStop at _ refl refl so)
+          goes-on (record t { until = until_in a.reply }) step.Stop kind at
+          (both-still step.Stop at _ refl refl (stop-none at) so)
+      step-so step.AwaitStop at so none =
+          goes-on t step.AwaitStop kind at (reads-still step.AwaitStop at _ refl refl refl so)
       step-so step.ReadFile at so none =
           goes-on (with_record t (bytes_read a.reply)) step.ReadFile kind at
-          (both-still step.ReadFile at _ refl refl so)
+          (reads-still step.ReadFile at _ refl refl refl so)
       step-so step.ReadText at so none =
-          let later = both-still step.ReadText at _ refl refl so in
+          let later = reads-still step.ReadText at _ refl refl refl so in
           goes-on (with_first t (bytes_read a.reply)) step.ReadText kind at
           (walks-on (with_first t (bytes_read a.reply)) _ later.0 later.1)
       step-so step.ReadFrame at so none =
-          let later = both-still step.ReadFrame at _ refl refl so in
+          let later = reads-still step.ReadFrame at _ refl refl refl so in
           by t.walk later.0 later.1
         where
           by : (w : Option Walk) → Control a.state t → Looked longer t
@@ -452,13 +486,11 @@ module _ (k pid : ℕ) (first : TracedState) where
       step-so step.Run at so none = running at so (granted-at step.Run a.reply (λ e. refl) none)
       step-so step.Close at so none = closes at so
         where
-          closes : t.step ≡ step.Close → Looked h t × (t.stood ≡ false → HasSent k pid run_bytes IsSetGoing first h)
-              → Next (with_closed t)
-          closes is both =
-              subst (λ (p : Step). So longer a.state (with_closed t) p) (sym is) (
-                looked-still k pid first h it t.stood both.0,
-                λ not. sent-still k run_bytes IsSetGoing first h pid it (both.1 not),
-              )
+          closes : t.step ≡ step.Close → Left h t → Next (with_closed t)
+          closes is left =
+              subst (λ (p : Step). So longer a.state (with_closed t) p) (sym is)
+              (ran-or-let-still k pid first h it t.stood
+              (closes-more k c a.reply (last_open t.opened) (its step.Close is)) left)
       step-so _ at so none = absurd so
 
       called-so : SoNow h s t → Takes t a.reply → Next (fed t a.reply)
@@ -512,7 +544,7 @@ module _ (n k pid : ℕ) (first : TracedState) where
 
   -- who has ended is at its closes
   ended-at : (h : List Entry) (t : ToolState) → has_ended t ≡ true → SoNow k pid first h (state_after first h) t
-      → Looked k pid first h t × (t.stood ≡ false → HasSent k pid run_bytes IsSetGoing first h)
+      → Left k pid first h t
   unfolding So
   ended-at h t ended so = subst (So k pid first h (state_after first h) t) (ended-closes t ended) so
 
@@ -520,7 +552,7 @@ module _ (n k pid : ℕ) (first : TracedState) where
 pub runs-again : (controllers : List ControllerState) (n k pid : ℕ) (s : TracedState) (h : List Entry) (t : ToolState)
     → StaysInRange s h → IsRunOf n k (Tool (first_tool Pstack pid)) controllers s h
     → slice_get (controllers_at controllers h) k ≡ Some (Tool t) → has_ended t ≡ true → t.refusal ≡ None
-    → RunsAgain k pid s h
+    → LeavesItsProcess k pid s h
 unfolding first_tool
 runs-again controllers n k pid s h t stays run ends ended accepted =
     let begun : IsRunKept n k pid s [] (first_tool Pstack pid) =
@@ -528,7 +560,4 @@ runs-again controllers n k pid s h t stays run ends ended accepted =
     let kept =
     tool-keeps n k s (IsRunKept n k pid s) (others-kept n k pid s) (calls-kept n k pid s) controllers h
     (first_tool Pstack pid) t run ends begun in
-    let both = ended-at n k pid s h t ended (kept.so accepted) in
-    let look = looks n k pid t.stood s h stays.lawful stays.in_range stays.bytes run.legal both.0.0
-    (All (OpensAtMost k)) both.0.1 in
-    record { stood = t.stood; looked = look.0; came = look.1; runs = both.1 }
+    leaves n k pid t.stood s h stays run.legal (ended-at n k pid s h t ended (kept.so accepted))

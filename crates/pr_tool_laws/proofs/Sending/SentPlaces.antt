@@ -21,7 +21,7 @@ use Rattle.pr_tool_laws.specs.SentMessages.{HasSent}
 module _ (k : ℕ) (bytes : List ℕ) (Becomes : TracedProcess → TracedProcess → Type 0) (first : TracedState)
     (h : List Entry) where
   -- it was sent earlier
-  pub sent-still : (pid : ℕ) (e : Entry) → HasSent k pid bytes Becomes first h
+  abbrev pub sent-still : (pid : ℕ) (e : Entry) → HasSent k pid bytes Becomes first h
       → HasSent k pid bytes Becomes first (h ++ e ∷ [])
   sent-still pid e it = record {
     before = it.before;
@@ -45,15 +45,15 @@ module _ (k : ℕ) (bytes : List ℕ) (Becomes : TracedProcess → TracedProcess
   module _ (c : Call) (a : Answer) (given : answer_to (state_after first h) k c ≡ Some a) (number : ℕ) (held : Held)
       (same : c ≡ call.Ctl number bytes) (there : handle_of (state_after first h).opens k number ≡ Some held)
       (control : held.file ≡ file.Ctl) (done : IsDone held.pid Becomes (state_after first h) a) where
-    entry-is : call_entry k c a.reply ≡ call_entry k (call.Ctl number bytes) (reply.Used done.used)
+    pub entry-is : call_entry k c a.reply ≡ call_entry k (call.Ctl number bytes) (reply.Used done.used)
     entry-is =
         ap (λ (d : Call). call_entry k d a.reply) same
         ∙ ap (λ (r : Reply). call_entry k (call.Ctl number bytes) r) done.reply
 
-    state-is : state_after first (h ++ call_entry k (call.Ctl number bytes) (reply.Used done.used) ∷ []) ≡ a.state
+    pub state-is : state_after first (h ++ call_entry k (call.Ctl number bytes) (reply.Used done.used) ∷ []) ≡ a.state
     state-is = ap (λ (e : Entry). state_after first (h ++ e ∷ [])) (sym entry-is) ∙ state-called first h k c a given
 
-    pub sent-now : HasSent k held.pid bytes Becomes first (h ++ call_entry k c a.reply ∷ [])
+    abbrev pub sent-now : HasSent k held.pid bytes Becomes first (h ++ call_entry k c a.reply ∷ [])
     sent-now = record {
       before = h;
       handle = number;

@@ -7,24 +7,12 @@ use Rattle.pr_model.specs.declared.calls.Call.{Call}
 use Rattle.pr_model.specs.declared.calls.Reply.{Reply}
 use Rattle.pr_model.specs.declared.events.Entry.{Entry}
 use Rattle.pr_num.specs.declared.messages.Message.TheVariants as message
-use Rattle.pr_tool_laws.specs.Leaving.{RunsAtLast, SendsTo}
+use Rattle.pr_tool_laws.specs.Leaving.{SendsTo}
 use Rattle.pr_tool_laws.specs.Requests.{asks_still}
 use Rattle.pr_tool_laws.specs.Stacks.{HasLooked}
 use Rattle.pr_truss_laws.specs.Exchanges.{exchanges}
 
--- How apfiles leaves its process.
-
--- A controller has sent the process no PCRUN, whatever its flags.
-pub record RunsNobody (k pid : ℕ) (first : TracedState) (h : List Entry) : Type 0 where
-  pub each : (front back : List Entry) (c : Call) (r : Reply) (flags : ℕ) (tail : List ℕ)
-      → h ≡ front ++ call_entry k c r ∷ back → SendsTo k pid (message.Run flags) tail (state_after first front) c → ⊥
-
--- It has run the process at last, unless every lwp stood when it came; and where every one did, never.
-pub record LeavesItsProcess (k pid : ℕ) (first : TracedState) (h : List Entry) : Type 0 where
-  pub left : RunsAtLast k pid first h
-  pub lets_be : left.stood ≡ true → RunsNobody k pid first h
-
--- ---- without an agent
+-- Whether an apfiles that has made no agent has taken back its request to stop.
 
 -- A controller has made no agent in the process: each PCAGENT of its was refused.
 pub record MakesNoAgent (k pid : ℕ) (first : TracedState) (h : List Entry) : Type 0 where
