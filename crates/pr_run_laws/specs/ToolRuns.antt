@@ -5,12 +5,16 @@ use Rattle.pr_model.specs.declared.events.Entry.{Entry}
 use Rattle.pr_model.specs.declared.tools.ToolKind.{ToolKind}
 use Rattle.pr_model.specs.declared.tools.ToolKind.TheVariants.{Prun, Pstack, Pstop}
 use Rattle.pr_num.specs.Programs.{Program}
+use Rattle.pr_num.specs.declared.errnos.Errno.{Errno}
 use Rattle.pr_tool_laws.specs.Leaving.{LeavesItsProcess}
+use Rattle.pr_tool_laws.specs.ReadOnce.{ReadsOnce}
 use Rattle.pr_tool_laws.specs.Requests.{asks_still}
 use Rattle.pr_tool_laws.specs.SentMessages.{RunsItsProcess, StopsItsProcess}
 use Rattle.pr_tool_laws.specs.ShownStates.{ShowsOneState}
 use Rattle.pr_tool_laws.specs.Stacks.{ShowsOneStack}
+use Rattle.pr_tool_laws.specs.ToolCalls.{MakesToolCalls}
 use Rattle.pr_tool_laws.specs.ToolHandles.{HoldsOnly, LeavesTheSystem, only_reads}
+use Rattle.pr_tool_laws.specs.ToolRefusals.{TellsWhy}
 use Rattle.pr_tool_laws.specs.ToolTexts.{reads_once}
 use Rattle.pr_tools.specs.Tools.{ToolState, has_ended, printed}
 use Rattle.pr_truss_laws.specs.Exchanges.{exchanges}
@@ -24,8 +28,9 @@ use Rattle.pr_world.specs.Protocol.{controllers_at}
 -- what stands in one state; pstack, which reads more than once, the stacks of one state. This is so with the labels of
 -- whatever programs it prints. pstack has run its process again then, and done nothing but close since, or never, where
 -- every lwp of it stood when it came; pstop has directed its process to stop, and prun has run it; a pstack that was
--- refused has taken back its request to stop. At any time it has files of this process alone open, and none once it has
--- finished; and one that only reads leaves the system as it was.
+-- refused has taken back its request to stop. One that only reads has read once then. When it has finished and was
+-- refused, its line tells why. At any time it makes the calls of its table alone, and has files of this process alone
+-- open, and none once it has finished; and one that only reads leaves the system as it was.
 pub record IsToolKept (controllers : List ControllerState) (first : TracedState) (h : List Entry)
     (k : ℕ) (kind : ToolKind) (pid : ℕ) : Type 0 where
   pub shows : (t : ToolState) (programs : List Program) → slice_get (controllers_at controllers h) k ≡ Some (Tool t)
@@ -48,3 +53,9 @@ pub record IsToolKept (controllers : List ControllerState) (first : TracedState)
       → HasNothingOpen k (state_after first h)
   pub leaves : (t : ToolState) → slice_get (controllers_at controllers h) k ≡ Some (Tool t) → only_reads kind ≡ true
       → LeavesTheSystem k first h
+  pub calls : MakesToolCalls kind k pid first h
+  pub once : (t : ToolState) → slice_get (controllers_at controllers h) k ≡ Some (Tool t) → has_ended t ≡ true
+      → t.refusal ≡ None → only_reads kind ≡ true → ReadsOnce kind k pid h
+  pub refuses : (t : ToolState) (e : Errno) (programs : List Program)
+      → slice_get (controllers_at controllers h) k ≡ Some (Tool t) → has_ended t ≡ true → t.refusal ≡ Some e
+      → TellsWhy kind k pid e first h (printed t programs)

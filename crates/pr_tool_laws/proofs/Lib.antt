@@ -8,3 +8,4 @@ pub mod Records
 pub mod RunningAgain
 pub mod Sending
 pub mod Stages
+pub mod ToolCalls

@@ -3,6 +3,7 @@ pub mod Leaving
 pub mod OneState
 pub mod OwnCalls
 pub mod PassiveCalls
+pub mod ReadOnce
 pub mod Reads
 pub mod Requests
 pub mod Runs
@@ -10,5 +11,7 @@ pub mod SentMessages
 pub mod ShownStates
 pub mod Stacks
 pub mod TextsOfRecords
+pub mod ToolCalls
 pub mod ToolHandles
+pub mod ToolRefusals
 pub mod ToolTexts

@@ -1,7 +1,9 @@
-//! Laws of the proc tools: what a tool prints is how things were in one state, and what it has done to its process.
+//! Laws of the proc tools: what a tool prints is how things were in one state, which calls it makes and why it was
+//! refused, and what it has done to its process.
 //! Each public function carries one law in its contract, and does nothing.
 #![tactic(auto)]
 
+mod calls;
 mod handles;
 mod programs;
 mod sent;
@@ -9,6 +11,7 @@ mod shown;
 mod stacks;
 mod texts;
 
+pub use calls::{a_refused_tool_tells_why, a_tool_reads_once, tools_make_their_own_calls};
 pub use handles::{
     tools_open_their_own_process_alone, tools_that_have_finished_have_nothing_open,
     tools_that_read_leave_the_system,

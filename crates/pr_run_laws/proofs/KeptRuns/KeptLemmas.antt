@@ -71,6 +71,8 @@ use Rattle.pr_tool_laws.proofs.RunningAgain.RunAgainLemmas.{runs-again}
 use Rattle.pr_tool_laws.proofs.Sending.SentLaw.{prun-runs, pstop-stops}
 use Rattle.pr_tool_laws.proofs.Pstack.StackLaw.{shows-one-stack}
 use Rattle.pr_tool_laws.proofs.Records.WholeLemmas.{tool-shows}
+use Rattle.pr_tool_laws.proofs.ToolCalls.CallLaw.{tool-makes-calls, tool-tells-why}
+use Rattle.pr_tool_laws.proofs.ToolCalls.OnceLaw.{tool-reads-once}
 use Rattle.pr_tools.specs.Tools.{first_tool}
 use Rattle.pr_world.specs.ControllerStates.{FnTruss, Gcore, Probe, Tool}
 use Rattle.pr_world.specs.Protocol.{Follows}
@@ -224,6 +226,15 @@ tools-kept s n h range bytes legal own k kind pid at = record {
   leaves = λ t ends once.
       tool-leaves n k kind pid once (first_state_of s) (controllers_of s) h t (first-held s k)
       (tool-run s n h legal own k kind kind pid at refl) ends;
+  calls =
+      tool-makes-calls (controllers_of s) n k kind pid (first_state_of s) h
+      (tool-run s n h legal own k kind kind pid at refl);
+  once = λ t ends ended accepted only.
+      tool-reads-once (controllers_of s) n k kind pid (first_state_of s) h t only
+      (tool-run s n h legal own k kind kind pid at refl) ends ended accepted;
+  refuses = λ t e programs ends ended was.
+      tool-tells-why (controllers_of s) n k kind pid (first_state_of s) h t e programs
+      (tool-run s n h legal own k kind kind pid at refl) ends ended was;
 }
 
 -- ---- cores

@@ -182,11 +182,11 @@ empty-place o place none within = ap (λ (x : Opened). handle_at x place) none �
     at : (p : ℕ) → handle_at nothing_open p ≡ None
     at p = nothing nothing_open.handles p (held-none nothing_open.handles refl)
 
-place-count : (o : Opened) (place : ℕ) (x : Option ℕ) → length (with_handle o place x).handles ≡ length o.handles
+pub place-count : (o : Opened) (place : ℕ) (x : Option ℕ) → length (with_handle o place x).handles ≡ length o.handles
 unfolding with_handle
 place-count o place x = length-set o.handles place x
 
-nothing-whole : length nothing_open.handles ≡ most_open
+pub nothing-whole : length nothing_open.handles ≡ most_open
 unfolding nothing_open
 nothing-whole = refl
 

@@ -114,7 +114,7 @@ own-made k h c r xs made =
 -- ---- a close
 
 -- a close of a handle that is open
-closed-is : (s : TracedState) (k number : ℕ) (held : Held) (a : Answer) → handle_of s.opens k number ≡ Some held
+pub closed-is : (s : TracedState) (k number : ℕ) (held : Held) (a : Answer) → handle_of s.opens k number ≡ Some held
     → answer_to s k (call.Close number) ≡ Some a → a ≡ record { state = with_closed held number s; reply = reply.Done }
 unfolding answer_to close_answer
 closed-is s k number held a stands given = sym (same_Some _ a given) ∙ ap (close_held s number) stands

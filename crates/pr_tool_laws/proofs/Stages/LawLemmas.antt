@@ -146,7 +146,7 @@ tree-law n k pid first once controllers h t programs run ends ended accepted =
 
 -- ---- how each tool goes on
 
-pflags-reads : IsReader Pflags
+pub pflags-reads : IsReader Pflags
 unfolding first_step after after_in_reader file_of way_out bytes_shown IsToolRead
 pflags-reads = record {
   starts = refl;
@@ -158,7 +158,7 @@ pflags-reads = record {
   finds = λ k pid s c it. it;
 }
 
-psig-reads : IsReader Psig
+pub psig-reads : IsReader Psig
 unfolding first_step after after_in_reader file_of way_out bytes_shown IsToolRead
 psig-reads = record {
   starts = refl;
@@ -170,7 +170,7 @@ psig-reads = record {
   finds = λ k pid s c it. it;
 }
 
-pmap-reads : IsReader Pmap
+pub pmap-reads : IsReader Pmap
 unfolding first_step after after_in_reader file_of way_out bytes_shown IsToolRead
 pmap-reads = record {
   starts = refl;
@@ -182,7 +182,7 @@ pmap-reads = record {
   finds = λ k pid s c it. it;
 }
 
-pfiles-reads : IsReader Pfiles
+pub pfiles-reads : IsReader Pfiles
 unfolding first_step after after_in_reader file_of way_out bytes_shown IsToolRead
 pfiles-reads = record {
   starts = refl;
@@ -194,7 +194,7 @@ pfiles-reads = record {
   finds = λ k pid s c it. it;
 }
 
-pwait-reads : IsReader Pwait
+pub pwait-reads : IsReader Pwait
 unfolding first_step after after_in_pwait file_of way_out bytes_shown IsToolRead
 pwait-reads = record {
   starts = refl;

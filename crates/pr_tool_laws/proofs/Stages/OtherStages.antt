@@ -39,11 +39,11 @@ module _ (k pid : ℕ) (first : TracedState) where
   others-tree h e t (at_first same) = at_first same
   others-tree h e t (has_read has) = has_read (read-still k Ptree pid first h e t has)
 
-  list-call : next_call_of (first_tool Ptree pid) ≡ Some call.List
+  pub list-call : next_call_of (first_tool Ptree pid) ≡ Some call.List
   unfolding next_call_of call_of first_tool first_step
   list-call = refl
 
-  list-fed : (bytes : List ℕ)
+  pub list-fed : (bytes : List ℕ)
       → fed (first_tool Ptree pid) (reply.Bytes bytes) ≡ having_read Ptree pid nothing_open
       (take (record_room Ptree) bytes)
   unfolding fed refusal_in accepted advanced with_record with_next bytes_in first_tool first_step after after_in_ptree
