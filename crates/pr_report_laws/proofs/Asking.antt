@@ -1,4 +1,4 @@
--- What truss traces, writes, looks at and asks for, of which refusals it tells, and what it prints with -c.
+-- What truss traces, selects, writes, looks at and asks for, of which refusals it tells, and what it prints with -c.
 pub mod AskedLaws
 pub mod CountLaws
 pub mod HeldRefused
@@ -10,4 +10,5 @@ pub mod NamedRuns
 pub mod OnceShown
 pub mod ReadShown
 pub mod RefusedOpens
+pub mod SelectedLaws
 pub mod ShownLaws

@@ -1,7 +1,7 @@
-use Rattle.std.specs.Prelude.{◌≡◌, ◌==◌, ◌||◌, ◌&&◌, ◌+◌, ◌^◌, ◌≤◌, ℕ, Bool, true, false, Option, List, [], filter, is_none, is_some, not, length, take, nat_lt, option_and_then, unwrap_or, Some, None, if◌then◌else◌}
+use Rattle.std.specs.Prelude.{◌≡◌, ◌≢◌, ◌==◌, ◌||◌, ◌&&◌, ◌+◌, ◌^◌, ◌≤◌, ℕ, Bool, true, false, Option, List, [], filter, is_none, is_some, not, length, take, nat_lt, option_and_then, unwrap_or, Some, None, Ok, Err, if◌then◌else◌}
 use Rattle.std.specs.List.{All}
 use Rattle.pr_line.specs.Events.{event_of}
-use Rattle.pr_line.specs.Selections.{is_chosen, never_returns}
+use Rattle.pr_line.specs.Selections.{is_chosen, is_selected, never_returns}
 use Rattle.pr_line.specs.TextRanges.{text_range}
 use Rattle.pr_line.specs.declared.events.Event.{Event}
 use Rattle.pr_line.specs.declared.events.Event.TheVariants.{Entered, Left, Received, Incurred}
@@ -9,17 +9,24 @@ use Rattle.pr_line.specs.declared.options.Options.{Options}
 use Rattle.pr_model.specs.declared.calls.Call.TheVariants.{Ctl}
 use Rattle.pr_model.specs.declared.calls.Reply.TheVariants as reply
 use Rattle.pr_num.specs.Control.{async_mode, fork_mode, klc_mode, rlc_mode}
+use Rattle.pr_num.specs.Faults.{fault_number}
 use Rattle.pr_num.specs.Limits.{asked_limit, lwp_limit}
 use Rattle.pr_num.specs.Messages.{spelling}
-use Rattle.pr_num.specs.Sets.{common_word, minus_word, with_number}
+use Rattle.pr_num.specs.Sets.{common_word, has_number, minus_word, with_number}
+use Rattle.pr_num.specs.Signals.{signal_number}
 use Rattle.pr_num.specs.Syscalls.{is_fork_call, syscall_number}
+use Rattle.pr_num.specs.declared.errnos.Errno.{Errno}
+use Rattle.pr_num.specs.declared.faults.Flt.{Flt}
+use Rattle.pr_num.specs.declared.infos.Info.{Info}
 use Rattle.pr_num.specs.declared.messages.Message.{Message}
+use Rattle.pr_num.specs.declared.signals.Sig.{Sig}
 use Rattle.pr_num.specs.declared.stop_reasons.StopReason.{StopReason}
 use Rattle.pr_num.specs.declared.stop_reasons.StopReason.TheVariants.{SysExit}
 use Rattle.pr_num.specs.declared.syscalls.Sysno.{Sysno}
 use Rattle.pr_num.specs.declared.syscalls.Sysno.TheVariants.{Exit, Fork, LwpExit, Vfork}
 use Rattle.pr_rec.specs.InRange.{IsLwpStatus, IsStatus}
 use Rattle.pr_rec.specs.RecordBytes.{lstatus_bytes, status_bytes}
+use Rattle.pr_rec.specs.declared.lwps.Disposition.{Disposition}
 use Rattle.pr_rec.specs.declared.lwps.LwpStatus.{LwpStatus}
 use Rattle.pr_rec.specs.declared.statuses.Status.{Status}
 use Rattle.pr_truss.specs.Messages.{all_modes, message_call, traced_entries, traced_exits, traced_faults, traced_signals}
@@ -59,6 +66,26 @@ pub record TracesWhatIsAsked (o : Options) : Type 0 where
   pub entries : traced_entries o ≡ common_word o.calls calls_without_return
   pub exits : o.follow ≡ false → traced_exits o ≡ minus_word o.calls calls_without_return
   pub exits_and_forks : o.follow ≡ true → traced_exits o ≡ and_forks (minus_word o.calls calls_without_return)
+
+-- ---- what is shown
+
+-- Which events truss shows, or counts with -c: the signals of -s and the faults of -m; and of the calls of -t exit and
+-- lwp_exit as they are entered, since these never return (exit(2), _lwp_exit(2)), and each other one as it ends, with
+-- an errno or with a value. The value 0 of fork and vfork is not shown: that is the child's stop at its birth, since
+-- the parent gets the id of the child (fork(2), vfork(2)).
+pub record SelectsWhatIsNamed (o : Options) : Type 0 where
+  pub signals : (signal : Sig) (disposition : Disposition) (info : Info)
+      → is_selected o (Received signal disposition info) ≡ has_number o.signals (signal_number signal)
+  pub faults : (fault : Flt) (pc : ℕ) → is_selected o (Incurred fault pc) ≡ has_number o.faults (fault_number fault)
+  pub entries : (call : Sysno) (arguments : List ℕ) → is_selected o (Entered call arguments)
+      ≡ has_number (common_word o.calls calls_without_return) (syscall_number call)
+  pub refused : (call : Sysno) (arguments : List ℕ) (errno : Errno) → is_selected o (Left call arguments (Err errno))
+      ≡ has_number (minus_word o.calls calls_without_return) (syscall_number call)
+  pub returned : (call : Sysno) (arguments : List ℕ) (value : ℕ) → value ≢ 0
+      → is_selected o (Left call arguments (Ok value))
+      ≡ has_number (minus_word o.calls calls_without_return) (syscall_number call)
+  pub returned_zero : (call : Sysno) (arguments : List ℕ) → is_selected o (Left call arguments (Ok 0))
+      ≡ has_number (minus_word o.calls (and_forks calls_without_return)) (syscall_number call)
 
 -- ---- what is written
 

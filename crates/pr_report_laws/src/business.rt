@@ -2,7 +2,13 @@ ghost use Rattle.std.specs.Prelude.{ℕ, List};
 ghost use Rattle.pr_line.specs.declared.options.Options.{Options};
 ghost use Rattle.pr_model.specs.State.{TracedState};
 ghost use Rattle.pr_model.specs.declared.events.Entry.{Entry};
-ghost use Rattle.pr_report_laws.specs.Asked.{AsksForItsLines, ReadsItsReplies, TracesWhatIsAsked, WritesOneMessage};
+ghost use Rattle.pr_report_laws.specs.Asked.{
+  AsksForItsLines,
+  ReadsItsReplies,
+  SelectsWhatIsNamed,
+  TracesWhatIsAsked,
+  WritesOneMessage,
+};
 ghost use Rattle.pr_report_laws.specs.Counted.{PrintsItsCounts};
 ghost use Rattle.pr_report_laws.specs.HeldRefusals.{TellsNoRefusalOfWhatItHolds, TellsRefusalsOfOpens};
 ghost use Rattle.pr_report_laws.specs.LaterSends.{SendsLittleLater};
@@ -158,4 +164,12 @@ pub fn truss_traces_writes_and_asks_for_no_more_than_it_is_asked()
     ensures writes { WritesOneMessage }
     ensures reads { (o : Options) → AsksForItsLines o }
     ensures replies { ReadsItsReplies }
+{}
+
+/// What truss shows, or counts with -c, is what its options name: the signals of -s, the faults of -m, and of the calls
+/// of -t exit and lwp_exit as they are entered, and each other one as it ends. A fork or vfork that gives 0 it does not
+/// show: that is the child's stop at its birth (fork(2), vfork(2)).
+#[tactic(auto, using(crate::proofs::Asking::SelectedLaws::selecting))]
+pub fn truss_selects_what_its_options_name()
+    ensures { (o : Options) → SelectsWhatIsNamed o }
 {}

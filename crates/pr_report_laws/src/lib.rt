@@ -28,8 +28,9 @@ pub use business::{
     truss_closes_the_control_file_of_a_process_last, truss_looks_at_a_process_in_its_place,
     truss_opens_each_file_in_its_place, truss_polls_soon_by_the_control_files_that_it_has_open,
     truss_prints_what_it_has_counted, truss_reads_memory_for_its_lines,
-    truss_sends_little_once_it_has_polled, truss_shows_what_it_reads_right_then_and_once,
-    truss_tells_no_refusal_of_what_it_has_hold_of, truss_tells_refusals_of_what_it_opens,
+    truss_selects_what_its_options_name, truss_sends_little_once_it_has_polled,
+    truss_shows_what_it_reads_right_then_and_once, truss_tells_no_refusal_of_what_it_has_hold_of,
+    truss_tells_refusals_of_what_it_opens,
     truss_traces_writes_and_asks_for_no_more_than_it_is_asked,
 };
 pub use children::no_child_is_left;

@@ -1,4 +1,4 @@
-use Rattle.std.specs.Prelude.{◌≡◌, ◌∷◌, ◌++◌, ℕ, true, false, List, None, Some, slice_get}
+use Rattle.std.specs.Prelude.{◌≡◌, ◌∷◌, ◌++◌, ℕ, true, false, List, [], None, Some, slice_get}
 use Rattle.pr_api.specs.Entries.{call_entry}
 use Rattle.pr_hidden.specs.HiddenSteps.{IsHidden}
 use Rattle.pr_hidden.specs.Hiders.{Hiders}
@@ -36,7 +36,7 @@ use Rattle.pr_tool_laws.specs.Leaving.{LeavesItsProcess, SendsTo}
 -- traced sets back, on the conditions of SetsBack, has run the process again, or never, where every lwp of it stood
 -- when it came, and its text is that of one state, on the conditions of ShowsOneState. When it has finished and was
 -- refused, its line has the errno of a call of its own, or of what it read; and where it made no agent it has taken
--- back its request to stop, unless every lwp stood.
+-- back its request to stop, unless every lwp stood. While it has not finished it prints nothing.
 pub record IsProbeKept (controllers : List ControllerState) (first : TracedState) (h : List Entry) (k pid : ℕ)
     : Type 0 where
   pub calls : MakesProbeCalls k pid first h
@@ -56,6 +56,8 @@ pub record IsProbeKept (controllers : List ControllerState) (first : TracedState
       → has_ended p ≡ true → p.refusal ≡ Some e → TellsWhy k pid e first h (printed p)
   pub shows : (p : ProbeState) → slice_get (controllers_at controllers h) k ≡ Some (Probe p) → has_ended p ≡ true
       → p.refusal ≡ None → ShowsOneState k pid first h (printed p)
+  pub silent : (p : ProbeState) → slice_get (controllers_at controllers h) k ≡ Some (Probe p) → has_ended p ≡ false
+      → printed p ≡ []
 
 -- Programs see nothing of those who hide what they do in a history, whoever they are, where all other calls are
 -- passive, programs leave alone what is hidden, and those who hide are tidy: the steps that are not hidden are a run

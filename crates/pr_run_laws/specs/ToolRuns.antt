@@ -1,4 +1,4 @@
-use Rattle.std.specs.Prelude.{◌≡◌, ℕ, true, false, List, None, Some, IsSome, slice_get}
+use Rattle.std.specs.Prelude.{◌≡◌, ℕ, true, false, List, [], None, Some, IsSome, slice_get}
 use Rattle.pr_model.specs.Legal.{state_after}
 use Rattle.pr_model.specs.State.{TracedState}
 use Rattle.pr_model.specs.declared.events.Entry.{Entry}
@@ -26,11 +26,12 @@ use Rattle.pr_world.specs.Protocol.{controllers_at}
 
 -- The controller of a number is a tool of this kind and process. When it has finished, and was not refused, it prints
 -- what stands in one state; pstack, which reads more than once, the stacks of one state. This is so with the labels of
--- whatever programs it prints. pstack has run its process again then, and done nothing but close since, or never, where
--- every lwp of it stood when it came; pstop has directed its process to stop, and prun has run it; a pstack that was
--- refused has taken back its request to stop. One that only reads has read once then. When it has finished and was
--- refused, its line tells why. At any time it makes the calls of its table alone, and has files of this process alone
--- open, and none once it has finished; and one that only reads leaves the system as it was.
+-- whatever programs it prints. While it has not finished it prints nothing. pstack has run its process again then, and
+-- done nothing but close since, or never, where every lwp of it stood when it came; pstop has directed its process to
+-- stop, and prun has run it; a pstack that was refused has taken back its request to stop. One that only reads has read
+-- once then. When it has finished and was refused, its line tells why. At any time it makes the calls of its table
+-- alone, and has files of this process alone open, and none once it has finished; and one that only reads leaves the
+-- system as it was.
 pub record IsToolKept (controllers : List ControllerState) (first : TracedState) (h : List Entry)
     (k : ℕ) (kind : ToolKind) (pid : ℕ) : Type 0 where
   pub shows : (t : ToolState) (programs : List Program) → slice_get (controllers_at controllers h) k ≡ Some (Tool t)
@@ -39,6 +40,8 @@ pub record IsToolKept (controllers : List ControllerState) (first : TracedState)
   pub stack : (t : ToolState) (programs : List Program) → slice_get (controllers_at controllers h) k ≡ Some (Tool t)
       → has_ended t ≡ true → t.refusal ≡ None → kind ≡ Pstack
       → ShowsOneStack k pid programs first h (printed t programs)
+  pub silent : (t : ToolState) (programs : List Program) → slice_get (controllers_at controllers h) k ≡ Some (Tool t)
+      → has_ended t ≡ false → printed t programs ≡ []
   pub runs_again : (t : ToolState) → slice_get (controllers_at controllers h) k ≡ Some (Tool t) → has_ended t ≡ true
       → t.refusal ≡ None → kind ≡ Pstack → LeavesItsProcess k pid first h
   pub takes_back : (t : ToolState) → slice_get (controllers_at controllers h) k ≡ Some (Tool t) → has_ended t ≡ true

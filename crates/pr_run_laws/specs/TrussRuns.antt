@@ -22,7 +22,7 @@ use Rattle.pr_truss.specs.NextCalls.{next_call_of}
 use Rattle.pr_truss.specs.Trusses.{first_truss}
 use Rattle.pr_truss.specs.declared.reports.Report.{Report}
 use Rattle.pr_report_laws.specs.AsChildren.{IsNeverOpenedAsChild}
-use Rattle.pr_report_laws.specs.Asked.{AsksForItsLines, ReadsItsReplies, TracesWhatIsAsked, WritesOneMessage}
+use Rattle.pr_report_laws.specs.Asked.{AsksForItsLines, ReadsItsReplies, SelectsWhatIsNamed, TracesWhatIsAsked, WritesOneMessage}
 use Rattle.pr_report_laws.specs.Counted.{PrintsItsCounts}
 use Rattle.pr_report_laws.specs.LineReads.{ReadsForItsLines}
 use Rattle.pr_report_laws.specs.Looks.{LooksAtWhatItLeaves, LooksInPlace}
@@ -235,10 +235,13 @@ pub record ReleasesItsProcesses (k : ℕ) (o : Options) (first : TracedState) (h
 
 -- ---- what its options say
 
--- Truss has traced what its options choose, and with -f the calls that make a child. Each write of it to a control file
--- is one message. It asks for the memory of its lines alone; and with -c it prints what was refused, and its counts.
+-- Truss has traced what its options choose, and with -f the calls that make a child. What it shows is what they name,
+-- exit and lwp_exit as they are entered and the other calls as they end, but for the stop of a child at its birth. Each
+-- write of truss to a control file is one message. It asks for the memory of its lines alone; and with -c it prints
+-- what was refused, and its counts.
 pub record KeepsToItsOptions (o : Options) (xs : List Exchange) : Type 0 where
   pub traces : TracesWhatIsAsked o
+  pub selects : SelectsWhatIsNamed o
   pub writes : WritesOneMessage
   pub asks : AsksForItsLines o
   pub replies : ReadsItsReplies

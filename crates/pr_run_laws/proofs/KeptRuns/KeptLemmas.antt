@@ -88,6 +88,7 @@ use Rattle.pr_run_laws.specs.ToolRuns.{IsToolKept}
 use Rattle.pr_run_laws.specs.Tracers.{IsTracer}
 use Rattle.pr_run_laws.specs.TrussRuns.{IsTrussKept}
 use Rattle.pr_run_laws.proofs.BytesWritten.ByteLemmas.{follows-bytes}
+use Rattle.pr_run_laws.proofs.KeptRuns.SilentLemmas.{gcore-silent, probe-silent, tool-silent}
 use Rattle.pr_run_laws.proofs.TrussControllers.FunctionLemmas.{all-steppable, function-kept, function-run}
 use Rattle.pr_run_laws.proofs.PassiveControllers.TracerLemmas.{tracers-passive}
 use Rattle.pr_run_laws.proofs.TrussControllers.TrussHiders.{all-patchable, first-held, hide-trusses, plan-named, shown-truss}
@@ -205,6 +206,7 @@ tools-kept s n h range bytes legal own k kind pid at = record {
   stack = λ t programs ends ended accepted same.
       shows-one-stack (controllers_of s) n k pid (first_state_of s) h t programs (run-stays s h range bytes)
       (tool-run s n h legal own k kind Pstack pid at same) ends ended accepted;
+  silent = λ t programs ends unfinished. tool-silent t programs unfinished;
   runs_again = λ t ends ended accepted same.
       runs-again (controllers_of s) n k pid (first_state_of s) h t (run-stays s h range bytes)
       (tool-run s n h legal own k kind Pstack pid at same) ends ended accepted;
@@ -256,6 +258,7 @@ gcores-kept s n h range bytes legal own k pid at = record {
   shows = λ g ends ended accepted.
       shows-one-core (controllers_of s) n k pid (first_state_of s) h g (run-stays s h range bytes)
       (gcore-run s n h legal own k pid at) ends ended accepted;
+  silent = λ g ends unfinished. gcore-silent g unfinished;
   runs_again = λ g ends ended accepted.
       gcore-runs-again (controllers_of s) n k pid (first_state_of s) h g (run-stays s h range bytes)
       (gcore-run s n h legal own k pid at) ends ended accepted;
@@ -318,6 +321,7 @@ probes-kept s n h range bytes legal own k pid at = record {
   shows = λ p ends ended accepted.
       shows-one (controllers_of s) n k pid (first_state_of s) h p (state-reached s range) bytes
       (probe-run s n h legal own k pid at) ends ended accepted;
+  silent = λ p ends unfinished. probe-silent p unfinished;
 }
 
 first-unstepped : (s : Scenario) → IsUnstepped (first_state_of s).system

@@ -34,6 +34,7 @@ use Rattle.pr_report_laws.proofs.Asking.NamedRuns.{runs-named}
 use Rattle.pr_report_laws.proofs.Asking.OnceShown.{shows-stops-once}
 use Rattle.pr_report_laws.proofs.Asking.ReadShown.{shows-what-is-new}
 use Rattle.pr_report_laws.proofs.Asking.RefusedOpens.{tells-of-opens}
+use Rattle.pr_report_laws.proofs.Asking.SelectedLaws.{selects-named}
 use Rattle.pr_report_laws.proofs.Asking.ShownLaws.{shows-read}
 use Rattle.pr_report_laws.proofs.OwnFiles.CalledFiles.{calls-files, polls-once}
 use Rattle.pr_report_laws.proofs.OwnFiles.ControlsLast.{closes-controls-last}
@@ -336,6 +337,7 @@ truss-kept controllers n first h k o reached bytes at none legal own =
       business = does-business o (exchanges k h) stays.0;
       keeps = record {
         traces = what-traces o;
+        selects = selects-named o;
         writes = one-message;
         asks = asks-lines o;
         replies = reads-replies;
