@@ -1,14 +1,10 @@
--- Histories in words grow by a block an entry, and handles are named while they are open.
+-- Histories in words grow by a block an entry.
 use Rattle.std.proofs.Common.{◌≡◌, ℕ, ◌+◌, false, List, [], ◌∷◌, ◌++◌, length, refl, sym, ap, ◌∙◌, append_assoc, arith}
 use Rattle.std.proofs.lemmas.List.{append-nil}
-use Rattle.pr_num.specs.ById.{IsRising, without_id}
-use Rattle.pr_num.proofs.ByIdLaws.{under-inserted, under-inserted_other, under-without_id, under-without_id_other}
-use Rattle.pr_model.specs.declared.calls.File.{File}
-use Rattle.pr_model.specs.declared.calls.Mode.{Mode}
 use Rattle.pr_model.specs.declared.events.Entry.{Entry}
 use Rattle.pr_hist.specs.Entries.{blocks, text_of, words_of}
-use Rattle.pr_hist.specs.Laws.{NamesClosed, NamesOpened, names_behind}
-use Rattle.pr_hist.specs.Names.{Handles, Names, closed, named, names_after, opened}
+use Rattle.pr_hist.specs.Laws.{names_behind}
+use Rattle.pr_hist.specs.Names.{Names}
 use Rattle.pr_hist.specs.News.{names_beyond}
 
 -- the blocks of one entry more
@@ -34,23 +30,5 @@ pub text_of-end : (names : Names) (es : List Entry) (e : Entry)
 text_of-end names es e =
     blocks-end 0 names es e ∙ ap (λ k. text_of names es ++ words_of false k (names_behind names 0 es) e)
     {x = 0 + length es} {y = length es} (omega arith)
-
-pub opens-named : (names : Handles) (pid lwp : ℕ) (file : File) (mode : Mode) (h : ℕ)
-    → NamesOpened names pid lwp file mode h
-unfolding names_after opened named
-opens-named names pid lwp file mode h = record {
-  its_own = under-inserted h (record { pid = pid; lwp = lwp; file = file; mode = mode }) (without_id h names);
-  others = λ other apart.
-      under-inserted_other h other (record { pid = pid; lwp = lwp; file = file; mode = mode }) apart
-      (without_id h names)
-      ∙ under-without_id_other h other apart names;
-}
-
-pub closes-named : (names : Handles) (h : ℕ) → IsRising names → NamesClosed names h
-unfolding names_after closed
-closes-named names h rising = record {
-  its_own = under-without_id 0 h names rising;
-  others = λ other apart. under-without_id_other h other apart names;
-}
 
 pub ruleset growing_text = (text_of-none, text_of-end)

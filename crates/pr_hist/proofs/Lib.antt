@@ -1,7 +1,14 @@
+pub mod BehindLemmas
 pub mod BlockLemmas
 pub mod CellLemmas
+pub mod HandleLaws
 pub mod HistoryLaws
 pub mod LaneLemmas
 pub mod LineLemmas
+pub mod MarkLaws
 pub mod MessageLemmas
+pub mod MoveLaws
+pub mod NamedLemmas
+pub mod PartLaws
+pub mod ProgramLaws
 pub mod StandLemmas

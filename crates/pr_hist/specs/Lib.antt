@@ -1,3 +1,4 @@
+pub mod Acts
 pub mod Briefs
 pub mod Calls
 pub mod Charts
@@ -14,6 +15,7 @@ pub mod News
 pub mod OperandWords
 pub mod Phrases
 pub mod Pictures
+pub mod Processes
 pub mod Records
 pub mod Refusals
 pub mod Selections

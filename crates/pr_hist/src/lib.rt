@@ -34,7 +34,10 @@ pub use drawings::chart_of;
 pub use entries::words_of;
 pub use histories::{selected_text, text_of};
 pub use laws::{
-    a_lane_stands_still_since_a_stop, a_text_grows_by_a_block, handles_are_named_while_open,
+    a_chart_grows_by_the_rows_that_are_told, a_lane_shows_what_last_became_of_its_lwp,
+    a_lane_stands_still_since_a_stop, a_part_grows_by_the_blocks_that_are_told,
+    a_process_last_moved_in_the_last_entry_of_its_lwps, a_process_runs_what_entries_tell,
+    a_text_grows_by_a_block, handles_are_named_while_open,
 };
 pub use listings::Listing;
 pub use names::{Known, Names};
