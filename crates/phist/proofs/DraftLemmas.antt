@@ -1,8 +1,8 @@
--- What the parts of a scenario make of its programs: a program block adds its instructions, and no other part adds any.
-use Rattle.std.proofs.Common.{◌≡◌, ℕ, ◌+◌, true, nat_lt, List, [], ◌∷◌, length, sym, subst, arith}
-use Rattle.std.specs.Prelude.{codes, is_some, nat_le, option_map, slice_get, sum_by}
+-- What the parts of a scenario make of its programs: a program block adds the one that is read from its lines, and no
+-- other part adds any.
+use Rattle.std.proofs.Common.{◌≡◌, ℕ, ◌+◌, true, nat_lt, List, [], ◌∷◌, ◌++◌, length, Ok, refl, sym, ap, ◌∙◌, subst}
+use Rattle.std.specs.Prelude.{codes, is_some, nat_le, option_map, slice_get}
 use Rattle.std.specs.Result.{IfOk}
-use Rattle.std.proofs.lemmas.List.Sums.{sum_by_push}
 use Rattle.std.proofs.lemmas.Slice.Eq.{bytes_eq-Decides}
 use Rattle.pr_model.specs.FirstState.{first_size}
 use Rattle.pr_num.specs.Limits.{all_mappings_limit, controller_limit, file_limit, file_size_limit, list_line_limit, schedule_limit, spawn_limit, turn_limit}
@@ -32,76 +32,75 @@ use Rattle.pr_text.specs.Comments.{begins_comment}
 use Rattle.pr_text.specs.Names.{name_of}
 use Rattle.pr_text.specs.Steps.{folded, none, ok_or, one}
 use Rattle.pr_text.specs.Words.{texts_of}
-use Rattle.phist.proofs.CodeLemmas.{block-program, coded}
 
--- how many instructions the programs have that were read so far
-abbrev pub size : Draft → ℕ
-size d = sum_by (λ p. length p.code) d.programs
-
-abbrev pub Sized : ℕ → Draft → Type 0
-Sized total d = size d ≡ total
+-- this is so of the programs that were read so far
+abbrev pub Has : (List Program → Type 0) → Draft → Type 0
+Has P d = P d.programs
 
 -- ---- lines outside blocks
 
-turns-sized : (d : Draft) (n total : ℕ) → Sized total d → IfOk (with_turns d n) (Sized total)
+turns-keeps : (d : Draft) (n : ℕ) (P : List Program → Type 0) → Has P d → IfOk (with_turns d n) (Has P)
 unfolding with_turns
-turns-sized d n total s =
-    if_ok (Sized total) (is_some d.turns) _ _ (λ _. tt)
-    (λ _. if_ok (Sized total) (nat_le n turn_limit) _ _ (λ _. s) (λ _. tt))
+turns-keeps d n P s =
+    if_ok (Has P) (is_some d.turns) _ _ (λ _. tt)
+    (λ _. if_ok (Has P) (nat_le n turn_limit) _ _ (λ _. s) (λ _. tt))
 
-file-sized : (d : Draft) (name bytes : List ℕ) (total : ℕ) → Sized total d → IfOk (with_file d name bytes) (Sized total)
+file-keeps : (d : Draft) (name bytes : List ℕ) (P : List Program → Type 0) → Has P d
+    → IfOk (with_file d name bytes) (Has P)
 unfolding with_file
-file-sized d name bytes total s =
-    if_ok (Sized total) (is_some (place_of d.file_names name)) _ _ (λ _. tt)
-    (λ _. if_ok (Sized total) (nat_lt (length d.file_names) file_limit) _ _
-    (λ _. if_ok (Sized total) (nat_le (length bytes) file_size_limit) _ _ (λ _. s) (λ _. tt)) (λ _. tt))
+file-keeps d name bytes P s =
+    if_ok (Has P) (is_some (place_of d.file_names name)) _ _ (λ _. tt)
+    (λ _. if_ok (Has P) (nat_lt (length d.file_names) file_limit) _ _
+    (λ _. if_ok (Has P) (nat_le (length bytes) file_size_limit) _ _ (λ _. s) (λ _. tt)) (λ _. tt))
 
-process-sized : (d : Draft) (place bytes total : ℕ) → Sized total d → IfOk (with_process d place bytes) (Sized total)
-process-sized d place bytes total s =
-    if_ok (Sized total) (nat_lt (length d.spawns) spawn_limit) _ _
-    (λ _. if_ok (Sized total) (nat_le (d.mapped + bytes) all_mappings_limit) _ _ (λ _. s) (λ _. tt)) (λ _. tt)
+process-keeps : (d : Draft) (place bytes : ℕ) (P : List Program → Type 0) → Has P d
+    → IfOk (with_process d place bytes) (Has P)
+process-keeps d place bytes P s =
+    if_ok (Has P) (nat_lt (length d.spawns) spawn_limit) _ _
+    (λ _. if_ok (Has P) (nat_le (d.mapped + bytes) all_mappings_limit) _ _ (λ _. s) (λ _. tt)) (λ _. tt)
 
-spawn-sized : (d : Draft) (name : List ℕ) (total : ℕ) → Sized total d → IfOk (with_spawn d name) (Sized total)
+spawn-keeps : (d : Draft) (name : List ℕ) (P : List Program → Type 0) → Has P d → IfOk (with_spawn d name) (Has P)
 unfolding with_spawn
-spawn-sized d name total s =
-    then_ok (Sized total) (ok_or UnknownName (place_of d.program_names name)) _
-    (λ place _. then_ok (Sized total) (ok_or UnknownName (option_map first_size (slice_get d.programs place))) _
-    (λ bytes _. process-sized d place bytes total s))
+spawn-keeps d name P s =
+    then_ok (Has P) (ok_or UnknownName (place_of d.program_names name)) _
+    (λ place _. then_ok (Has P) (ok_or UnknownName (option_map first_size (slice_get d.programs place))) _
+    (λ bytes _. process-keeps d place bytes P s))
 
-controller-sized : (d : Draft) (plan : Plan) (total : ℕ) → Sized total d → IfOk (with_controller d plan) (Sized total)
+controller-keeps : (d : Draft) (plan : Plan) (P : List Program → Type 0) → Has P d
+    → IfOk (with_controller d plan) (Has P)
 unfolding with_controller
-controller-sized d plan total s =
-    if_ok (Sized total) (nat_lt (length d.controllers) controller_limit) _ _ (λ _. s) (λ _. tt)
+controller-keeps d plan P s =
+    if_ok (Has P) (nat_lt (length d.controllers) controller_limit) _ _ (λ _. s) (λ _. tt)
 
-schedule-sized : (d : Draft) (turns : List Turns) (total : ℕ) → Sized total d
-    → IfOk (with_schedule d turns) (Sized total)
+schedule-keeps : (d : Draft) (turns : List Turns) (P : List Program → Type 0) → Has P d
+    → IfOk (with_schedule d turns) (Has P)
 unfolding with_schedule
-schedule-sized d turns total s =
-    if_ok (Sized total) (nat_le (length d.schedule + turn_count turns) schedule_limit) _ _ (λ _. s) (λ _. tt)
+schedule-keeps d turns P s =
+    if_ok (Has P) (nat_le (length d.schedule + turn_count turns) schedule_limit) _ _ (λ _. s) (λ _. tt)
 
-item-sized : (d : Draft) (i : Item) (total : ℕ) → Sized total d → IfOk (with_item d i) (Sized total)
+item-keeps : (d : Draft) (i : Item) (P : List Program → Type 0) → Has P d → IfOk (with_item d i) (Has P)
 unfolding with_item with_truss
-item-sized d item.Blank total s = s
-item-sized d (item.Turns n) total s = turns-sized d n total s
-item-sized d (item.File name bytes) total s = file-sized d name bytes total s
-item-sized d (item.Program name) total s = s
-item-sized d (item.Spawn name) total s = spawn-sized d name total s
-item-sized d item.Script total s = s
-item-sized d (item.Truss asked) total s =
-    then_ok (Sized total) (ok_or UnknownName (functions_of d.program_names d.programs asked.functions)) _
-    (λ functions _. if_ok (Sized total) (knows_program d asked.options.program) _ _
-    (λ _. controller-sized d (Truss (record asked.options { functions = functions })) total s) (λ _. tt))
-item-sized d (item.Tool kind pid) total s = controller-sized d (Tool kind pid) total s
-item-sized d (item.Gcore pid) total s = controller-sized d (Gcore pid) total s
-item-sized d (item.Probe pid) total s = controller-sized d (Probe pid) total s
-item-sized d (item.Schedule turns) total s = schedule-sized d turns total s
+item-keeps d item.Blank P s = s
+item-keeps d (item.Turns n) P s = turns-keeps d n P s
+item-keeps d (item.File name bytes) P s = file-keeps d name bytes P s
+item-keeps d (item.Program name) P s = s
+item-keeps d (item.Spawn name) P s = spawn-keeps d name P s
+item-keeps d item.Script P s = s
+item-keeps d (item.Truss asked) P s =
+    then_ok (Has P) (ok_or UnknownName (functions_of d.program_names d.programs asked.functions)) _
+    (λ functions _. if_ok (Has P) (knows_program d asked.options.program) _ _
+    (λ _. controller-keeps d (Truss (record asked.options { functions = functions })) P s) (λ _. tt))
+item-keeps d (item.Tool kind pid) P s = controller-keeps d (Tool kind pid) P s
+item-keeps d (item.Gcore pid) P s = controller-keeps d (Gcore pid) P s
+item-keeps d (item.Probe pid) P s = controller-keeps d (Probe pid) P s
+item-keeps d (item.Schedule turns) P s = schedule-keeps d turns P s
 
-pub line-sized : (d : Draft) (n : ℕ) (this : List ℕ) (total : ℕ) → Sized total d
-    → IfOk (numbered n (line_added d this)) (Sized total)
+pub line-keeps : (d : Draft) (n : ℕ) (this : List ℕ) (P : List Program → Type 0) → Has P d
+    → IfOk (numbered n (line_added d this)) (Has P)
 unfolding line_added
-line-sized d n this total s =
-    numbered_ok (Sized total) n (line_added d this)
-    (then_ok (Sized total) (item_in this) (with_item d) (λ i _. item-sized d i total s))
+line-keeps d n this P s =
+    numbered_ok (Has P) n (line_added d this)
+    (then_ok (Has P) (item_in this) (with_item d) (λ i _. item-keeps d i P s))
 
 -- ---- what a line says that begins a block
 
@@ -130,91 +129,102 @@ said P word all [] is = let no : ⊥ = cc in absurd no
 said P word all (first ∷ operands) is =
     subst (λ (w : List ℕ). IfOk (item_of (w ∷ operands)) P) (sym ((bytes_eq-Decides first word).0 is)) (all operands)
 
+-- what is begun is what its line says
 begun-said : (P : Item → Type 0) (d : Draft) (n : ℕ) (first : List ℕ) → IfOk (item_of (texts_of first)) P
-    → IfOk (numbered n (begun d first)) P
+    → IfOk (numbered n (begun d first)) (λ i. (item_in first ≡ Ok i) × P i)
 unfolding begun
 begun-said P d n first p =
-    numbered_ok P n (begun d first)
-    (then_ok P (item_in first) _
-    (λ i is. then_ok P (may_begin d i) _
-    (λ _ _. of_ok P (item_in first) i is (then_ok P (readable first) _ (λ _ _. p)))))
+    let Q : Item → Type 0 = λ i. (item_in first ≡ Ok i) × P i in
+    numbered_ok Q n (begun d first)
+    (then_ok Q (item_in first) _
+    (λ i is. then_ok Q (may_begin d i) _
+    (λ _ _. (is, of_ok P (item_in first) i is (then_ok P (readable first) _ (λ _ _. p))))))
 
 -- ---- program blocks
 
-program-block : (d : Draft) (n : ℕ) (i : Item) (body : List (List ℕ)) (last : List ℕ) (total : ℕ) → IsProgram i
-    → size d + coded body ≡ total → IfOk (block_added n d i body last) (Sized total)
+program-block : (P : List Program → Type 0) (d : Draft) (n : ℕ) (i : Item) (body : List (List ℕ)) (last : List ℕ)
+    → IsProgram i
+    → ((name : List ℕ) (p : Program) → i ≡ item.Program name → program_read name (n + 1) body ≡ Ok p
+    → P (d.programs ++ p ∷ []))
+    → IfOk (block_added n d i body last) (Has P)
 unfolding block_added program_added with_program
-program-block d n (item.Program name) body last total is sum =
-    then_ok (Sized total) (program_read name (n + 1) body) _
-    (λ p read. then_ok (Sized total) (numbered (n + (length body + 1)) (ended last)) _
-    (λ _ _. omega (
-      arith,
-      sum,
-      sum_by_push (λ q. length q.code) d.programs p,
-      of_ok (λ q. length q.code ≡ coded body) (program_read name (n + 1) body) p read (block-program name (n + 1) body),
-    )))
-program-block d n _ body last total is sum = absurd is
+program-block P d n (item.Program name) body last is adds =
+    then_ok (Has P) (program_read name (n + 1) body) _
+    (λ p read. then_ok (Has P) (numbered (n + (length body + 1)) (ended last)) _ (λ _ _. adds name p refl read))
+program-block P d n _ body last is adds = absurd is
 
-pub program-sized : (d : Draft) (n : ℕ) (first : List ℕ) (body : List (List ℕ)) (last : List ℕ) (total : ℕ)
-    → first_is (codes "program") (texts_of first) ≡ true → size d + coded body ≡ total
-    → IfOk (part_added d (block n first body last)) (Sized total)
+pub program-adds : (P : List Program → Type 0) (d : Draft) (n : ℕ) (first : List ℕ) (body : List (List ℕ))
+    (last : List ℕ) → first_is (codes "program") (texts_of first) ≡ true
+    → ((name : List ℕ) (p : Program) → item_in first ≡ Ok (item.Program name) → program_read name (n + 1) body ≡ Ok p
+    → P (d.programs ++ p ∷ []))
+    → IfOk (part_added d (block n first body last)) (Has P)
 unfolding part_added
-program-sized d n first body last total begins sum =
-    then_ok (Sized total) (numbered n (begun d first)) _
-    (λ i is. program-block d n i body last total
-    (of_ok IsProgram (numbered n (begun d first)) i is
-    (begun-said IsProgram d n first (said IsProgram (codes "program") program-said (texts_of first) begins))) sum)
+program-adds P d n first body last begins adds =
+    then_ok (Has P) (numbered n (begun d first)) _
+    (λ i is.
+    let Q : Item → Type 0 = λ j. (item_in first ≡ Ok j) × IsProgram j in
+    let begun_is : Q i =
+    of_ok Q (numbered n (begun d first)) i is
+    (begun-said IsProgram d n first (said IsProgram (codes "program") program-said (texts_of first) begins)) in
+    program-block P d n i body last begun_is.1
+    (λ name p same read. adds name p (begun_is.0 ∙ ap Ok same) read))
 
 -- ---- script blocks
 
-call-sized : (d : Draft) (l : ScriptLine) (total : ℕ) → Sized total d → IfOk (call_added d l) (Sized total)
+call-keeps : (d : Draft) (l : ScriptLine) (P : List Program → Type 0) → Has P d → IfOk (call_added d l) (Has P)
 unfolding call_added
-call-sized d (call.Open name pid lwp file mode) total s = s
-call-sized d (call.Close name) total s = s
-call-sized d (call.Read name at len) total s = s
-call-sized d (call.Poll names) total s = s
-call-sized d (call.Write name bytes) total s = s
-call-sized d (call.Interrupt controller) total s = s
-call-sized d (call.Spawn program held) total s =
-    if_ok (Sized total) (has_program d program) _ _ (λ _. s) (λ _. tt)
-call-sized d (call.Kill pid sig) total s = s
-call-sized d (call.Until moment) total s = s
-call-sized d call.List total s =
-    if_ok (Sized total) (nat_lt d.lists list_line_limit) _ _ (λ _. s) (λ _. tt)
+call-keeps d (call.Open name pid lwp file mode) P s = s
+call-keeps d (call.Close name) P s = s
+call-keeps d (call.Read name at len) P s = s
+call-keeps d (call.Poll names) P s = s
+call-keeps d (call.Write name bytes) P s = s
+call-keeps d (call.Interrupt controller) P s = s
+call-keeps d (call.Spawn program held) P s =
+    if_ok (Has P) (has_program d program) _ _ (λ _. s) (λ _. tt)
+call-keeps d (call.Kill pid sig) P s = s
+call-keeps d (call.Until moment) P s = s
+call-keeps d call.List P s =
+    if_ok (Has P) (nat_lt d.lists list_line_limit) _ _ (λ _. s) (λ _. tt)
 
-in-script-sized : (d : Draft) (l : InScript) (total : ℕ) → Sized total d → IfOk (script_line_added d l) (Sized total)
+in-script-keeps : (d : Draft) (l : InScript) (P : List Program → Type 0) → Has P d
+    → IfOk (script_line_added d l) (Has P)
 unfolding script_line_added
-in-script-sized d in_script.Blank total s = s
-in-script-sized d (in_script.Line l) total s = call-sized d l total s
+in-script-keeps d in_script.Blank P s = s
+in-script-keeps d (in_script.Line l) P s = call-keeps d l P s
 
-script-line-sized : (total n : ℕ) (d : Draft) (this : List ℕ) → Sized total d
-    → IfOk (script_line_read n d this) (Sized total)
+script-line-keeps : (P : List Program → Type 0) (n : ℕ) (d : Draft) (this : List ℕ) → Has P d
+    → IfOk (script_line_read n d this) (Has P)
 unfolding script_line_read
-script-line-sized total n d this s =
-    numbered_ok (Sized total) n (script_words_added d this)
-    (then_ok (Sized total) (readable this) _
-    (λ _ _. then_ok (Sized total) (script_line_of (texts_of this)) (script_line_added d)
-    (λ l _. in-script-sized d l total s)))
+script-line-keeps P n d this s =
+    numbered_ok (Has P) n (script_words_added d this)
+    (then_ok (Has P) (readable this) _
+    (λ _ _. then_ok (Has P) (script_line_of (texts_of this)) (script_line_added d)
+    (λ l _. in-script-keeps d l P s)))
 
-script-block : (d : Draft) (n : ℕ) (i : Item) (body : List (List ℕ)) (last : List ℕ) (total : ℕ) → IsScript i
-    → Sized total d → IfOk (block_added n d i body last) (Sized total)
+script-block : (d : Draft) (n : ℕ) (i : Item) (body : List (List ℕ)) (last : List ℕ)
+    (P : List Program → Type 0) → IsScript i
+    → Has P d → IfOk (block_added n d i body last) (Has P)
 unfolding block_added script_added with_script
-script-block d n item.Script body last total is s =
-    then_ok (Sized total) (folded script_line_read (n + 1) d body) _
-    (λ e read. then_ok (Sized total) (numbered (n + (length body + 1)) (ended last)) _
-    (λ _ _. of_ok (Sized total) (folded script_line_read (n + 1) d body) e read
-    (folded_ok (Sized total) script_line_read (script-line-sized total) (n + 1) d body s)))
-script-block d n _ body last total is s = absurd is
+script-block d n item.Script body last P is s =
+    then_ok (Has P) (folded script_line_read (n + 1) d body) _
+    (λ e read. then_ok (Has P) (numbered (n + (length body + 1)) (ended last)) _
+    (λ _ _. of_ok (Has P) (folded script_line_read (n + 1) d body) e read
+    (folded_ok (Has P) script_line_read (script-line-keeps P) (n + 1) d body s)))
+script-block d n _ body last P is s = absurd is
 
-pub script-sized : (d : Draft) (n : ℕ) (first : List ℕ) (body : List (List ℕ)) (last : List ℕ) (total : ℕ)
-    → first_is (codes "script") (texts_of first) ≡ true → Sized total d
-    → IfOk (part_added d (block n first body last)) (Sized total)
+pub script-keeps : (d : Draft) (n : ℕ) (first : List ℕ) (body : List (List ℕ)) (last : List ℕ)
+    (P : List Program → Type 0)
+    → first_is (codes "script") (texts_of first) ≡ true → Has P d
+    → IfOk (part_added d (block n first body last)) (Has P)
 unfolding part_added
-script-sized d n first body last total begins s =
-    then_ok (Sized total) (numbered n (begun d first)) _
-    (λ i is. script-block d n i body last total
-    (of_ok IsScript (numbered n (begun d first)) i is
-    (begun-said IsScript d n first (said IsScript (codes "script") script-said (texts_of first) begins))) s)
+script-keeps d n first body last P begins s =
+    then_ok (Has P) (numbered n (begun d first)) _
+    (λ i is.
+    let Q : Item → Type 0 = λ j. (item_in first ≡ Ok j) × IsScript j in
+    let begun_is : Q i =
+    of_ok Q (numbered n (begun d first)) i is
+    (begun-said IsScript d n first (said IsScript (codes "script") script-said (texts_of first) begins)) in
+    script-block d n i body last P begun_is.1 s)
 
 -- ---- a block without end is refused
 

@@ -6,6 +6,7 @@ ghost use Rattle.pr_num.specs.Limits.{checked_limit, spawn_limit};
 ghost use Rattle.pr_scen.specs.Lines.{first_is, is_end};
 ghost use Rattle.pr_scen.specs.Reading.{scenario_of};
 ghost use Rattle.pr_scen.specs.Scenarios.{IsWithinLimits};
+ghost use Rattle.pr_text.specs.TextLines.{lines_of};
 ghost use Rattle.pr_text.specs.Words.{texts_of};
 ghost use Rattle.phist.specs.Sources.{HasItsLines, block_after, block_begun, code_after, code_from, code_lines, inside_or_out, is_code, listing_of, listings_of, names_of};
 
@@ -184,12 +185,14 @@ fn names_from(
 }
 
 /// What a scenario tells before the first entry of its history: its programs with their lines, and which of them its
-/// first processes run. Where it was read from this text, each program has as many lines as instructions.
+/// first processes run. Where it was read from this text, each program has those lines of its own block that are
+/// instructions, and each of them is the instruction of its place.
 pub fn names_of(alloc: Global, scenario: Scenario, text: &[u8]) -> Result<Names, NoMemory>
     requires limits { IsWithinLimits scenario }
     requires few { length text.now ≤ checked_limit }
     ensures names { IfOk result (λ names. names ≡ names_of scenario text.now) }
-    ensures lines { scenario_of text.now ≡ Ok scenario → IfOk result (λ names. All HasItsLines names.listings) }
+    ensures lines { scenario_of text.now ≡ Ok scenario → IfOk result
+        (λ names. All (HasItsLines (lines_of text.now)) names.listings) }
 {
     let Scenario {
         turns: _,

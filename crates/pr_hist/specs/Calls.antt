@@ -105,7 +105,7 @@ answer_text full names c (reply.Half n) = until_text n
 answer_text full names c (reply.Bytes bytes) = bytes_answer full names c bytes
 answer_text full names c (reply.Pid p) = decimal p
 answer_text full names c (reply.Ready h) = handle_text names h ++ moved_text names h
-answer_text full names c (reply.Fail e) = refusal_text c e
+answer_text full names c (reply.Fail e) = refusal_text names c e
 
 -- a call and its answer
 unfoldable pub call_text : Bool → Names → Call → Reply → List ℕ

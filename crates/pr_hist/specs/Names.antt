@@ -1,5 +1,5 @@
 -- What is known before an entry: open handles by what they stand for, processes by what they run, and when they moved.
-use Rattle.std.specs.Prelude.{ℕ, Bool, true, false, Option, Some, None, List, [], ◌++◌, codes, decimal, if◌then◌else◌}
+use Rattle.std.specs.Prelude.{ℕ, Bool, true, false, Option, Some, None, List, [], ◌++◌, codes, decimal, option_map, if◌then◌else◌}
 use Rattle.std.specs.List.{flat_map, slice_get}
 use Rattle.pr_num.specs.ById.{under, inserted, without_id}
 use Rattle.pr_model.specs.FileNames.{file_name}
@@ -66,6 +66,10 @@ layout_by (Some k) = layout_of k.file
 
 unfoldable pub layout_in : Names → ℕ → Layout
 layout_in names h = layout_by (under h names.handles)
+
+-- the process whose file is open by a handle
+unfoldable pub process_by : Names → ℕ → Option ℕ
+process_by names h = option_map (λ k. k.pid) (under h names.handles)
 
 -- ---- what processes run
 

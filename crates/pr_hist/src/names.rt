@@ -4,7 +4,7 @@ ghost use Rattle.std.specs.List.{flat_map};
 ghost use Rattle.std.specs.Option.{option_copied};
 ghost use Rattle.pr_num.specs.ById.{under, without_id};
 ghost use Rattle.pr_plain.specs.HistoryText.{target_text};
-ghost use Rattle.pr_hist.specs.Names.{closed, handle_text, handles_after, handles_text, is_memory, known_text, layout_in, listed_text, listing_at, listing_by, listing_of, memory_by, mode_words, named, names_after, opened};
+ghost use Rattle.pr_hist.specs.Names.{closed, handle_text, handles_after, handles_text, is_memory, known_text, layout_in, listed_text, listing_at, listing_by, listing_of, memory_by, mode_words, named, names_after, opened, process_by};
 ghost use Rattle.pr_hist.specs.News.{known_at_start, names_beyond, nothing_known, running_after, runs_now, started};
 
 use crate::fields::{Layout, layout_of};
@@ -120,6 +120,17 @@ impl Names {
         ensures { option_copied result ≡ under handle self.now.handles }
     {
         self.handles.get(handle)
+    }
+
+    /// The process whose file is open by a handle.
+    #[tactic(auto, unfolding(crate::specs::Names::process_by))]
+    pub fn process_by(&self, handle: u32) -> Option<u32>
+        ensures { result ≡ process_by self.now handle }
+    {
+        match self.handles.get(handle) {
+            None => None,
+            Some(known) => Some(known.pid),
+        }
     }
 
     /// The listing of the program that a process runs, where that is known.

@@ -1,7 +1,8 @@
 //! Why a call of a controller is refused (proc(4)).
 ghost use Rattle.std.specs.Prelude.{◌≡◌, ◌++◌, OnOk};
-ghost use Rattle.pr_hist.specs.Refusals.{close_reason, control_reason, interrupt_reason, kill_reason, open_reason, poll_reason, read_reason, spawn_reason, until_reason, busy_reason, by_message, control_reason_of, invalid_reason, reason, refusal_text, sentence_text};
+ghost use Rattle.pr_hist.specs.Refusals.{busy_by, busy_reason, close_reason, control_reason, full_reason, interrupt_reason, invalid_reason, kill_reason, message_reason, no_message_reason, open_reason, poll_reason, read_reason, reason, refusal_text, sentence_text, spawn_reason, until_reason, wait_reason, write_reason};
 
+use crate::names::Names;
 use pr_model::Call;
 use pr_msg::{Message, decode_one};
 use pr_num::{Errno, NoMemory};
@@ -54,7 +55,7 @@ fn poll_reason(errno: Errno) -> &'static [u8]
     match errno {
         Errno::Badf => b"a handle is not open, or not this controller's",
         Errno::Inval => b"there is no handle, or there are more than 1,024",
-        Errno::Intr => b"the wait was interrupted",
+        Errno::Intr => b"this controller was interrupted",
         _ => b"",
     }
 }
@@ -103,12 +104,12 @@ fn until_reason(errno: Errno) -> &'static [u8]
     ensures { result.now ≡ until_reason errno }
 {
     match errno {
-        Errno::Intr => b"the wait was interrupted",
+        Errno::Intr => b"this controller was interrupted",
         _ => b"",
     }
 }
 
-/// Why a control message, where the message does not tell why is refused.
+/// Why a control message is refused, where the message does not tell why.
 #[tactic(auto, unfolding(crate::specs::Refusals::control_reason))]
 fn control_reason(errno: Errno) -> &'static [u8]
     ensures { result.now ≡ control_reason errno }
@@ -116,27 +117,41 @@ fn control_reason(errno: Errno) -> &'static [u8]
     match errno {
         Errno::Badf => b"the handle is not open, not this controller's, or not of a control file",
         Errno::Noent => b"the process or the lwp has ended",
-        Errno::Intr => b"the wait was interrupted",
         Errno::Io => b"not all of the bytes are mapped",
         Errno::Again => b"the queue of signals is full",
-        Errno::Nomem => b"there are 64 of these already",
         _ => b"",
     }
 }
 
-/// Why a message is refused with EBUSY.
+/// Why a process but 0 refuses a message with EBUSY.
 #[tactic(auto, unfolding(crate::specs::Refusals::busy_reason))]
 fn busy_reason(message: &Message) -> &'static [u8]
     ensures { result.now ≡ busy_reason message.now }
 {
     match message {
-        Message::Run { .. } => b"an agent exists, or nothing is stopped or directed to stop",
+        Message::Run { .. } => {
+            b"an agent exists, or the lwp is neither stopped nor directed to stop"
+        }
         Message::Sreg { .. } => b"the lwp is not stopped",
         Message::Svaddr { .. } => b"the lwp is not stopped",
         Message::Watch { .. } => b"the process has lent its memory",
-        Message::Agent { .. } => b"an agent exists, an lwp is not stopped, or the memory is lent",
+        Message::Agent { .. } => {
+            b"an agent exists, an lwp is neither stopped nor suspended, or the memory is lent"
+        }
         Message::Write { .. } => b"the process has lent its memory",
-        _ => { b"process 0 takes no message" }
+        _ => b"",
+    }
+}
+
+/// The same by the process, where it is known: process 0 takes no message.
+#[tactic(auto, unfolding(crate::specs::Refusals::busy_by))]
+fn busy_by(process: Option<u32>, message: &Message) -> &'static [u8]
+    ensures { result.now ≡ busy_by process message.now }
+{
+    match process {
+        None => b"the process takes no such message as it stands",
+        Some(pid) if pid == 0 => b"process 0 takes no message",
+        Some(_) => busy_reason(message),
     }
 }
 
@@ -149,43 +164,82 @@ fn invalid_reason(message: &Message) -> &'static [u8]
         Message::Set { .. } => b"process 0 takes no message",
         Message::Unset { .. } => b"process 0 takes no message",
         Message::Watch { .. } => b"the area overlaps another one",
-        _ => { b"the bytes begin with no message that can be given here" }
+        _ => b"",
     }
 }
 
-/// Why a message is refused that stands for itself.
-#[tactic(auto, unfolding(crate::specs::Refusals::by_message))]
-fn by_message(message: &Message, errno: Errno) -> &'static [u8]
-    ensures { result.now ≡ by_message message.now errno }
+/// Why a message is refused with ENOMEM.
+#[tactic(auto, unfolding(crate::specs::Refusals::full_reason))]
+fn full_reason(message: &Message) -> &'static [u8]
+    ensures { result.now ≡ full_reason message.now }
+{
+    match message {
+        Message::Watch { .. } => b"64 areas are watched already",
+        Message::Agent { .. } => b"the process has 64 lwps already",
+        _ => b"",
+    }
+}
+
+/// Why a message to this process, where it is known, is refused.
+#[tactic(auto, unfolding(crate::specs::Refusals::message_reason))]
+fn message_reason(process: Option<u32>, message: &Message, errno: Errno) -> &'static [u8]
+    ensures { result.now ≡ message_reason process message.now errno }
 {
     match errno {
-        Errno::Busy => busy_reason(message),
+        Errno::Busy => busy_by(process, message),
         Errno::Inval => invalid_reason(message),
+        Errno::Nomem => full_reason(message),
         _ => control_reason(errno),
     }
 }
 
-/// Why a write of control messages is refused.
-#[tactic(auto, unfolding(crate::specs::Refusals::control_reason_of))]
-fn control_reason_of(bytes: &[u8], errno: Errno) -> &'static [u8]
-    ensures { result.now ≡ control_reason_of bytes.now errno }
+/// Why bytes are refused that begin with no message.
+#[tactic(auto, unfolding(crate::specs::Refusals::no_message_reason))]
+fn no_message_reason(errno: Errno) -> &'static [u8]
+    ensures { result.now ≡ no_message_reason errno }
+{
+    match errno {
+        Errno::Inval => b"the bytes begin with no message",
+        _ => control_reason(errno),
+    }
+}
+
+/// Why a write of control messages to this process, where it is known, is refused.
+#[tactic(auto, unfolding(crate::specs::Refusals::write_reason))]
+fn write_reason(process: Option<u32>, bytes: &[u8], errno: Errno) -> &'static [u8]
+    ensures { result.now ≡ write_reason process bytes.now errno }
 {
     match decode_one(bytes) {
-        Err(_) => by_message(&Message::Stop, errno),
-        Ok((message, _)) => by_message(&message, errno),
+        Err(_) => no_message_reason(errno),
+        Ok((message, _)) => message_reason(process, &message, errno),
+    }
+}
+
+/// Why a wait for a stop is refused.
+#[tactic(auto, unfolding(crate::specs::Refusals::wait_reason))]
+fn wait_reason(errno: Errno) -> &'static [u8]
+    ensures { result.now ≡ wait_reason errno }
+{
+    match errno {
+        Errno::Inval => b"the bytes begin with no message that can be waited for",
+        Errno::Busy => b"process 0 takes no message",
+        Errno::Intr => b"this controller was interrupted",
+        _ => control_reason(errno),
     }
 }
 
 /// Why a call is refused.
 #[tactic(auto, unfolding(crate::specs::Refusals::reason))]
-fn reason(call: &Call, errno: Errno) -> &'static [u8]
-    ensures { result.now ≡ reason call.now errno }
+fn reason(names: &Names, call: &Call, errno: Errno) -> &'static [u8]
+    ensures { result.now ≡ reason names.now call.now errno }
 {
     match call {
         Call::Open { .. } => open_reason(errno),
         Call::Close { .. } => close_reason(errno),
-        Call::Ctl { bytes, .. } => control_reason_of(bytes.as_slice(), errno),
-        Call::CtlWait { bytes, .. } => control_reason_of(bytes.as_slice(), errno),
+        Call::Ctl { handle, bytes } => {
+            write_reason(names.process_by(*handle), bytes.as_slice(), errno)
+        }
+        Call::CtlWait { .. } => wait_reason(errno),
         Call::Read { .. } => read_reason(errno),
         Call::Poll { .. } => poll_reason(errno),
         Call::Interrupt { .. } => interrupt_reason(errno),
@@ -210,9 +264,14 @@ fn write_sentence(text: &mut Text, sentence: &[u8]) -> Result<(), NoMemory>
 
 /// A refusal.
 #[tactic(auto, unfolding(crate::specs::Refusals::refusal_text))]
-pub fn write_refusal(text: &mut Text, call: &Call, errno: Errno) -> Result<(), NoMemory>
-    ensures { OnOk result (text.new ≡ text.old ++ refusal_text call.now errno) }
+pub fn write_refusal(
+    text: &mut Text,
+    names: &Names,
+    call: &Call,
+    errno: Errno,
+) -> Result<(), NoMemory>
+    ensures { OnOk result (text.new ≡ text.old ++ refusal_text names.now call.now errno) }
 {
     text.text(errno.name().as_bytes())?;
-    write_sentence(text, reason(call, errno))
+    write_sentence(text, reason(names, call, errno))
 }

@@ -115,7 +115,7 @@ fn write_answer(
         Reply::Bytes(bytes) => write_bytes(text, full, names, call, bytes.as_slice()),
         Reply::Pid(pid) => text.decimal(u64::from(*pid)),
         Reply::Ready(handle) => write_ready(text, names, *handle),
-        Reply::Fail(errno) => write_refusal(text, call, *errno),
+        Reply::Fail(errno) => write_refusal(text, names, call, *errno),
     }
 }
 

@@ -6,6 +6,7 @@ use Rattle.pr_num.specs.Limits.{spawn_limit}
 use Rattle.pr_num.specs.declared.memory.NoMemory.{NoMemory}
 use Rattle.pr_scen.specs.Reading.{scenario_of}
 use Rattle.pr_scen.specs.Scenarios.{IsWithinLimits, Scenario}
+use Rattle.pr_text.specs.TextLines.{lines_of}
 use Rattle.phist.proofs.LineLemmas.{programs-have-their-lines}
 use Rattle.phist.specs.Sources.{HasItsLines, code_lines, listings_of, names_of}
 use Rattle.phist.proofs.sources.names_of.Goals as goal
@@ -26,13 +27,14 @@ returns-clause-names c =
     (λ names. names ≡ known_at_start (listings_of parts.programs.items (code_lines text)) spawns))
     c.as_slice.ensures.value told)
 
--- names that were made of a scenario have its programs, each with its lines
+-- names that were made of a scenario have its programs, each with its own lines
 have-lines : (result : Result Names NoMemory) (s : Scenario) (text : List ℕ)
     → IfOk result (λ names. names ≡ names_of s text) → scenario_of text ≡ Ok s
-    → IfOk result (λ names. All HasItsLines names.listings)
+    → IfOk result (λ names. All (HasItsLines (lines_of text)) names.listings)
 unfolding names_of
 have-lines (Ok names) s text is read =
-    subst (λ (n : Names). All HasItsLines n.listings) (sym is) (programs-have-their-lines text s read)
+    subst (λ (n : Names). All (HasItsLines (lines_of text)) n.listings) (sym is)
+    (programs-have-their-lines text s read)
 have-lines (Err error) s text is read = tt
 
 pub returns-clause-lines : goal.returns-clause-lines
