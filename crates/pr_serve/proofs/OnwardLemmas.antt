@@ -1,5 +1,5 @@
 -- A run that was made in part goes on to an end: what is so of each world to which more moves lead, and of the last.
-use Rattle.std.proofs.Common.{◌≡◌, ◌≤◌, ◌+◌, ◌-◌, ◌++◌, ◌∙◌, ℕ, zero, suc, false, List, [], ◌∷◌, Option, Some, None, IfSome, length, refl, sym, ap, subst, arith, append_assoc, length-append}
+use Rattle.std.proofs.Common.{◌≡◌, ◌≤◌, ◌+◌, ◌-◌, ◌++◌, ◌∙◌, ℕ, zero, suc, false, List, [], ◌∷◌, Option, Some, None, length, refl, sym, ap, subst, arith, append_assoc, length-append}
 use Rattle.std.proofs.lemmas.List.{append-nil}
 use Rattle.std.proofs.lemmas.Option.{none-some, same_Some}
 use Rattle.pr_api.proofs.ShapeLemmas.{machine-shaped}
@@ -7,7 +7,7 @@ use Rattle.pr_api.specs.Views.{IsLawful, KernelView, kernel_of}
 use Rattle.pr_lawful.proofs.LawfulStates.HistoryLemmas.{history-state}
 use Rattle.pr_lawful.proofs.LawfulStates.StartLemmas.{first-lawful}
 use Rattle.pr_model.specs.Lawful.{IsLawful as IsLawfulState, IsLawfulSystem}
-use Rattle.pr_model.specs.Legal.{IsLegalEntry, after, state_after}
+use Rattle.pr_model.specs.Legal.{IsLegalEntry, after}
 use Rattle.pr_model.specs.State.{TracedState}
 use Rattle.pr_model.specs.declared.events.Act.{Act}
 use Rattle.pr_model.specs.declared.events.Act.TheVariants.{Call, Turn, Tick}
@@ -192,46 +192,11 @@ told-end s w range told came within =
       begins = on.begins;
     }
 
--- the same world, of which all is seen that its machine says
-as_machine : TracedState → WorldState → WorldState
-as_machine m w = record w { kernel = kernel_of m w.kernel.history w.kernel.places }
-
-machine-came : (first w : WorldState) (m : TracedState) → w.kernel.machine ≡ Some m → CameFrom first w
-    → CameFrom first (as_machine m w)
-unfolding kernel_of as_machine
-machine-came first w m is came = record {
-  led = record {
-    entries = came.led.entries;
-    history = came.led.history;
-    places = came.led.places;
-    controllers = came.led.controllers;
-    machine =
-        let P : Option TracedState → Type 0 =
-        λ o. IfSome first.kernel.machine (IsMachineRun first.controllers came.led.entries o) in
-        subst P is came.led.machine;
-  };
-  calls = came.calls;
-}
-
-machine-told : (w : WorldState) (m : TracedState) → TellsMachine (as_machine m w)
-unfolding kernel_of as_machine
-machine-told w m = record { machine = m; is = refl }
-
-machine-history : (w : WorldState) (m : TracedState) → (as_machine m w).kernel.history ≡ w.kernel.history
-unfolding kernel_of as_machine
-machine-history w m = refl
-
 -- a run that threads made in part may go on to an end
 pub led-end : (s : Scenario) (history : List Entry) → IsScenarioInRange s → IsLedTo s history → HasEnd s history
 led-end s history range led =
-    let w = led.world in
-    let m = state_after (first_state_of s) led.came.led.entries in
-    let same = machine-history w m in
-    let come = machine-came (first_world s) w m (run-of s w led.came).state led.came in
-    let few : length (as_machine m w).kernel.history ≤ s.turns =
-    omega (arith, led.within, ap length led.is, ap length same) in
-    let end = told-end s (as_machine m w) range (machine-told w m) come few in
-    subst (HasEnd s) (same ∙ sym led.is) end
+    let few : length led.world.kernel.history ≤ s.turns = omega (arith, led.within, ap length led.is) in
+    subst (HasEnd s) (sym led.is) (told-end s led.world range led.told led.came few)
 
 -- and one of which nothing was made yet
 pub first-end : (s : Scenario) → IsScenarioInRange s → HasEnd s []

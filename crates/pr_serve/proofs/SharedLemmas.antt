@@ -91,25 +91,31 @@ unfolding ran ran_so
 shown-status text w = refl
 
 left-stopped : (s : Scenario) (w : WorldState) (h : List Entry) (old new : Option (List ℕ)) → CameFrom (first_world s) w
-    → length w.kernel.history ≤ w.kernel.places → LeftWith w.kernel.history h old new → StoppedThreads s h old new
-left-stopped s w h old new came within left = record {
+    → TellsMachine w → length w.kernel.history ≤ w.kernel.places → LeftWith w.kernel.history h old new
+    → StoppedThreads s h old new
+left-stopped s w h old new came told within left = record {
   unwritten = left.unwritten;
-  so_far =
-      inr (record
-      { world = w; came = came; is = left.is; within = omega (arith, within, ap length left.is, led-places s w came) });
+  so_far = inr (record {
+    world = w;
+    came = came;
+    told = told;
+    is = left.is;
+    within = omega (arith, within, ap length left.is, led-places s w came);
+  });
 }
 
 responds-left : (answer : Answer) (s : Scenario) (w : WorldState) (status : Status) (h : List Entry)
-    (old new : Option (List ℕ)) (before after : ℕ) → CameFrom (first_world s) w
+    (old new : Option (List ℕ)) (before after : ℕ) → CameFrom (first_world s) w → TellsMachine w
     → length w.kernel.history ≤ w.kernel.places
     → Responds answer (LeftWith w.kernel.history h old new) status h old new before after
     → Responds answer (StoppedThreads s h old new) status h old new before after
-responds-left answer s w status h old new before after came within r = record {
+responds-left answer s w status h old new before after came told within r = record {
   whole = r.whole;
   cut = r.cut;
   rose = r.rose;
   memory =
-      λ m. ⊎_elim (λ (left : LeftWith w.kernel.history h old new). inl (left-stopped s w h old new came within left))
+      λ m. ⊎_elim
+      (λ (left : LeftWith w.kernel.history h old new). inl (left-stopped s w h old new came told within left))
       (λ late. inr late) (r.memory m);
   no_fault = r.no_fault;
   read = r.read;
@@ -131,12 +137,12 @@ shown-one showing s w (Ok end) status h old new before after came told within en
         ends = record { came = came; told = told; over = is-over w end ended; within = within };
         is = refl;
       };
-      responds = responds-left (ran (run_shown showing) w) s w status h old new before after came within shown;
+      responds = responds-left (ran (run_shown showing) w) s w status h old new before after came told within shown;
     })
 shown-one showing s w (Err e) status h old new before after came told within ended shown stopped =
     inr (record {
       status_is = stopped.status_is;
-      left = left-stopped s w h old new came within stopped.left;
+      left = left-stopped s w h old new came told within stopped.left;
       no_fault =
           stopped.no_fault;
     })
@@ -152,6 +158,7 @@ module _ (showing : Showing) where
       record {
         world = w;
         came = shown.ends.came;
+        told = shown.ends.told;
         is = same;
         within = omega (arith, shown.ends.within, ap length same, led-places s w shown.ends.came);
       }

@@ -4,7 +4,7 @@ use Rattle.pr_num.specs.Limits.{scenario_limit}
 use Rattle.pr_run_laws.specs.Prefixes.{IsPrefix}
 use Rattle.pr_run_laws.specs.ScenarioRuns.{IsKept, first_world, history_after, run_of}
 use Rattle.pr_scen.specs.Scenarios.{Scenario}
-use Rattle.pr_world.specs.Runs.{CameFrom}
+use Rattle.pr_world.specs.Runs.{CameFrom, TellsMachine}
 use Rattle.pr_world.specs.Worlds.{WorldState}
 use Rattle.pr_serve.specs.Hidings.{AreUnseen}
 use Rattle.pr_serve.specs.Inputs.{Took, scenario_of_input}
@@ -28,11 +28,13 @@ pub record IsAfterMoves (input : Option (List ℕ)) (history : List Entry) : Typ
   pub is : history ≡ history_after moves scenario
   pub prefix : IsPrefix history (run_of scenario).kernel.history
 
--- The history of a world to which the first world of a scenario was led, in whatever order its actors moved. It has no
--- more entries than the scenario has turns.
+-- The history of a world to which the first world of a scenario was led, in whatever order its actors moved. Its kernel
+-- is that of a machine: so which lwp can move, which call is ready and what the clock says is what the machine's state
+-- after this history says. It has no more entries than the scenario has turns.
 pub record IsLedTo (s : Scenario) (history : List Entry) : Type 0 where
   pub world : WorldState
   pub came : CameFrom (first_world s) world
+  pub told : TellsMachine world
   pub is : history ≡ world.kernel.history
   pub within : length history ≤ s.turns
 
