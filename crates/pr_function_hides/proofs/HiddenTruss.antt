@@ -1,7 +1,5 @@
 use Rattle.std.proofs.Common.{◌≡◌, ◌&&◌, ◌||◌, ◌==◌, ◌++◌, ℕ, Bool, true, false, not, IfOk, Option, Some, None, Result}
 use Rattle.std.proofs.Common.{Ok, Err, List, [], ◌∷◌, All, refl, sym, subst, ap, ◌∙◌, inl, inr}
-use Rattle.pr_reached.specs.ByteHistories.{HasBytes}
-use Rattle.pr_reached.specs.Reached.{IsReached}
 use Rattle.std.proofs.lemmas.Bool.{and_parts, cases_Bool, eqb-true, false≢true}
 use Rattle.std.proofs.lemmas.List.{append_assoc}
 use Rattle.std.proofs.lemmas.List.Elements.{All-head, All-tail}
@@ -11,12 +9,11 @@ use Rattle.std.proofs.Common.{get_or}
 use Rattle.pr_api.specs.Entries.{call_entry}
 use Rattle.pr_erasure.specs.Untouched.{IsUntouched}
 use Rattle.pr_function_hides.proofs.Tidy.CalledCovers.{covers-push}
-use Rattle.pr_function_hides.specs.FunctionHiders.{AreTrusses}
 use Rattle.pr_function_hides.specs.OwnSteps.{AreStepsOwn}
 use Rattle.pr_function_hides.specs.PassiveOthers.{AreOthersPassive}
 use Rattle.pr_function_hides.specs.TidyCloses.{LeavesNoBreakpoint, LeavesNoFault}
 use Rattle.pr_function_hides.specs.TidyFaults.{ClearsOwnFaultsAlone, PostsNoOwnFault, is_clearing}
-use Rattle.pr_function_hides.specs.TidyWrites.{AreUndisturbed, WritesTidily}
+use Rattle.pr_function_hides.specs.TidyWrites.{WritesTidily}
 use Rattle.pr_function_hides.proofs.Clean.CleanLaw.{leaves-no-fault}
 use Rattle.pr_function_hides.proofs.LeavingFaults.ClearedLaw.{clears-alone}
 use Rattle.pr_function_hides.proofs.Closing.ClosingLaw.{leaves-none}
@@ -25,7 +22,6 @@ use Rattle.pr_function_hides.proofs.FaultStops.PostedLaw.{posts-none}
 use Rattle.pr_function_hides.proofs.StepMarks.StepLaw.{own-steps}
 use Rattle.pr_function_hides.specs.RunsOfTrusses.{IsRunOfTrusses}
 use Rattle.pr_function_hides.proofs.Tidy.WritesLaw.{writes-tidily}
-use Rattle.pr_function_hides.specs.SleptCopies.{NoneSleepsInCopy}
 use Rattle.pr_lawful.proofs.LawfulStates.HistoryLemmas.{history-state}
 use Rattle.pr_lawful.proofs.Following.UseLemmas.{live-lawful}
 use Rattle.pr_num.proofs.ByIdLemmas.{under-at}
@@ -65,8 +61,6 @@ use Rattle.pr_num.specs.declared.messages.Message.TheVariants as message
 use Rattle.pr_num.specs.declared.messages.MsgFault.{MsgFault}
 use Rattle.pr_probe_laws.proofs.StepMarks.MarkCalls.{untouched-unstepped}
 use Rattle.pr_probe_laws.specs.StepMarks.{IsUnstepped}
-use Rattle.pr_reached.specs.ByteHistories.{HasBytes}
-use Rattle.pr_tool_laws.specs.OwnCalls.{AreOwnCalls}
 use Rattle.pr_world.specs.ControllerStates.{ControllerState}
 
 -- A history of trusses with calls of functions is tidy, and programs see nothing of them.

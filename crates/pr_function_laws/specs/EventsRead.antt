@@ -1,5 +1,5 @@
 -- The next read of a process tells truss, which shows calls of functions, what event of the process came.
-use Rattle.std.specs.Prelude.{◌≡◌, ◌≢◌, ◌<◌, ◌++◌, ℕ, true, All, List, [], ◌∷◌, length}
+use Rattle.std.specs.Prelude.{◌≡◌, ◌<◌, ◌++◌, ℕ, true, All, List, [], ◌∷◌, length}
 use Rattle.pr_line.specs.Selections.{is_selected}
 use Rattle.pr_line.specs.declared.options.Options.{Options}
 use Rattle.pr_model.specs.Events.{events_of}

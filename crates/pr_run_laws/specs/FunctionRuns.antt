@@ -51,7 +51,7 @@ use Rattle.pr_model.specs.Legal.{state_after}
 use Rattle.pr_model.specs.State.{TracedState}
 use Rattle.pr_model.specs.declared.events.Entry.{Entry}
 use Rattle.pr_run_laws.specs.NamedFunctions.{AreShowable}
-use Rattle.pr_report_laws.specs.Asked.{ReadsItsReplies}
+use Rattle.pr_report_laws.specs.Asked.{ReadsItsReplies, SelectsWhatIsNamed}
 use Rattle.pr_report_laws.specs.OwnFiles.{CallsItsFiles, ClosesControlsLast}
 use Rattle.pr_truss.specs.FunctionCalls.{next_function_call_of}
 use Rattle.pr_truss.specs.Trusses.{first_truss, traced_at}
@@ -122,9 +122,11 @@ pub record IsFunctionTrussKept (controllers : List ControllerState) (first : Tra
   -- The messages by which it reads the code of a function, plants its breakpoint and lifts it, byte for byte.
   pub messages : (control function : ℕ) (f : Function) → slice_get o.functions function ≡ Some f
       → AreBreakpointCalls o control function f
-  -- The calls that it has traced are words of its options, with fork, vfork and exec besides. Of each status of a
-  -- process it reads the representative lwp as it stands there, and of each record of lwps all of them.
+  -- The calls that it has traced are words of its options, with fork, vfork and exec besides; and the events that these
+  -- select are those of the signals, faults and calls that they name. Of each status of a process it reads the
+  -- representative lwp as it stands there, and of each record of lwps all of them.
   pub words : TracesItsWords o
+  pub selects : SelectsWhatIsNamed o
   pub replies : ReadsItsReplies
   -- In a process that it opens it plants just the functions whose code it reads there. Those that it has marked as
   -- planted in a process its calls and their replies tell: each PCWRITE that plants one was granted, since it opened

@@ -21,15 +21,12 @@ use Rattle.pr_function_hides.proofs.FaultStops.StoppedFaults.{LeftAs}
 use Rattle.pr_function_hides.proofs.FaultStops.StoppedWalk.{posted-on}
 use Rattle.pr_function_hides.specs.RunsOfTrusses.{IsRunOfTrusses}
 use Rattle.pr_function_hides.proofs.Replies.TreatedEvents.{first-of-none}
-use Rattle.pr_function_hides.specs.FunctionHiders.{AreTrusses}
 use Rattle.pr_function_hides.specs.PassiveOthers.{AreOthersPassive}
-use Rattle.pr_function_hides.specs.SleptCopies.{NoneSleepsInCopy}
 use Rattle.pr_function_hides.specs.TidyCloses.{LeavesNoFault}
-use Rattle.pr_function_hides.specs.TidyWrites.{AreUndisturbed}
 use Rattle.pr_hidden.specs.Hiders.{Hiders, covers_at, hides}
 use Rattle.pr_hidden.specs.Tidiness.{IsPassiveBut}
 use Rattle.pr_model.specs.Handles.{handle_of}
-use Rattle.pr_model.specs.Legal.{IsLegal, state_after}
+use Rattle.pr_model.specs.Legal.{state_after}
 use Rattle.pr_model.specs.State.{TracedLwp, TracedProcess, TracedState, live_process, lwp_of}
 use Rattle.pr_model.specs.declared.calls.Call.{Call}
 use Rattle.pr_model.specs.declared.calls.Call.TheVariants as call
@@ -39,9 +36,6 @@ use Rattle.pr_model.specs.declared.handles.Held.{Held}
 use Rattle.pr_model.specs.declared.lwps.Phase.TheVariants.{Faulted as AtFault}
 use Rattle.pr_num.specs.declared.faults.Flt.{Flt}
 use Rattle.pr_probe_laws.specs.StepMarks.{IsUnstepped}
-use Rattle.pr_reached.specs.ByteHistories.{HasBytes}
-use Rattle.pr_reached.specs.Reached.{IsReached}
-use Rattle.pr_tool_laws.specs.OwnCalls.{AreOwnCalls}
 use Rattle.pr_truss.specs.Asides.{marks_at}
 use Rattle.pr_truss.specs.FunctionCalls.{call_beside, function_call_of, patch_call}
 use Rattle.pr_truss.specs.Marks.{first_function, no_functions}

@@ -1,9 +1,7 @@
-use Rattle.std.proofs.Common.{◌≡◌, ◌⊎◌, ◌<◌, ◌++◌, ℕ, true, false, Some, None, List, [], ◌∷◌, length, sym, subst, ap}
+use Rattle.std.proofs.Common.{◌≡◌, ◌⊎◌, ◌<◌, ◌++◌, ℕ, true, Some, None, List, [], ◌∷◌, length, sym, subst, ap}
 use Rattle.std.proofs.Common.{◌∙◌, inl, inr}
-use Rattle.std.proofs.lemmas.Bool.{false≢true}
 use Rattle.std.proofs.lemmas.Option.{none-some}
 use Rattle.pr_api.specs.Entries.{call_entry}
-use Rattle.pr_function_hides.proofs.Files.CallFacts.{same-truss}
 use Rattle.pr_function_hides.proofs.Closing.ClosingCalls.{IsClosing, is-closing, last-pid, left-closing}
 use Rattle.pr_function_hides.proofs.Closing.ClosingCourse.{goes_so, leaves_so, no_leaves, no_opens}
 use Rattle.pr_function_hides.proofs.Closing.ClosingCourse as Course
@@ -16,7 +14,6 @@ use Rattle.pr_function_hides.proofs.Tidy.TidyLaw.{kept-at}
 use Rattle.pr_function_hides.specs.Copying.{IsEmpty}
 use Rattle.pr_function_hides.specs.RunsOfTrusses.{IsRunOfTrusses}
 use Rattle.pr_function_hides.specs.TidyCloses.{LeavesNoBreakpoint}
-use Rattle.pr_function_hides.specs.TidyWrites.{IsTrussAfter}
 use Rattle.pr_hidden.specs.Covers.{Patch}
 use Rattle.pr_hidden.specs.Hiders.{Hiders, covers_at, hides}
 use Rattle.pr_model.specs.Handles.{handle_of}
@@ -34,7 +31,6 @@ use Rattle.pr_truss.specs.Trusses.{TrussState, traced_at}
 use Rattle.pr_truss.specs.declared.asides.Aside.{Aside}
 use Rattle.pr_truss.specs.declared.stages.AfterClosing.{AfterClosing}
 use Rattle.pr_truss.specs.declared.stages.AfterClosing.TheVariants.{OpenNext, GoOn}
-use Rattle.pr_truss.specs.declared.stages.OpeningStep.{OpeningStep}
 use Rattle.pr_truss.specs.declared.stages.Stage.TheVariants.{Closing}
 use Rattle.pr_world.specs.ControllerStates.{ControllerState}
 

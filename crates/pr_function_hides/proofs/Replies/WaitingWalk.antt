@@ -1,12 +1,9 @@
-use Rattle.std.proofs.Common.{◌≡◌, ◌≢◌, ◌<◌, ◌++◌, ℕ, Bool, true, false, Option, Some, None, List, [], ◌∷◌, length, position, append_assoc, refl, sym, subst, ap, ◌∙◌}
+use Rattle.std.proofs.Common.{◌≡◌, ◌<◌, ◌++◌, ℕ, Bool, true, Option, Some, None, List, [], ◌∷◌, length, position, refl, sym, subst, ap, ◌∙◌}
 use Rattle.std.proofs.lemmas.Option.{same_Some}
-use Rattle.std.specs.List.{slice_get}
-use Rattle.std.specs.Option.{option_and_then}
 use Rattle.pr_line.specs.declared.events.Event.{Event}
 use Rattle.pr_line.specs.declared.options.Options.{Options}
-use Rattle.pr_model.specs.Replies.{bytes_in, handle_in}
+use Rattle.pr_model.specs.Replies.{handle_in}
 use Rattle.pr_rec.specs.declared.lwps.LwpStatus.{LwpStatus}
-use Rattle.pr_report_laws.proofs.Invariant.StandLemmas.{Each}
 use Rattle.pr_report_laws.proofs.Memory.WatchMemory.{accepted-granted}
 use Rattle.pr_truss.specs.Asides.{marks_at}
 use Rattle.pr_truss.specs.FunctionCalls.{function_call_of, next_function_call_of}
@@ -15,11 +12,10 @@ use Rattle.pr_truss.specs.FunctionFeeding.{fed_functions}
 use Rattle.pr_truss.specs.Marks.{first_function, has_functions}
 use Rattle.pr_truss.specs.NextCalls.{call_of, open_control}
 use Rattle.pr_truss.specs.Processes.{newly_traced}
-use Rattle.pr_truss.specs.Records.{event_stops, status_lwp}
 use Rattle.pr_truss.specs.Replies.{answer_of}
 use Rattle.pr_truss.specs.Trusses.{TrussState, first_truss, traced_at}
 use Rattle.pr_truss.specs.declared.asides.Aside.{Aside}
-use Rattle.pr_truss.specs.declared.asides.Aside.TheVariants.{Nothing, Reading, Planting, Patching, AwaitingStop, Asking, AwaitingAgain}
+use Rattle.pr_truss.specs.declared.asides.Aside.TheVariants.{Nothing, Planting, Patching}
 use Rattle.pr_truss.specs.declared.function_events.FunctionEvent.{FunctionEvent}
 use Rattle.pr_truss.specs.declared.function_events.FunctionEvent.TheVariants.{Other, AtBreakpoint, Completed, TraceTrap, BeforeCopy, AfterCopy, Replaced}
 use Rattle.pr_truss.specs.declared.marks.Marks.{Marks}
@@ -28,14 +24,14 @@ use Rattle.pr_truss.specs.declared.replies.Answer.{Answer}
 use Rattle.pr_truss.specs.declared.replies.Answer.TheVariants.{Accepted, Interrupted, Gone, Refused}
 use Rattle.pr_truss.specs.declared.stages.Stage.{Stage}
 use Rattle.pr_truss.specs.declared.stages.Stage.TheVariants.{OpeningControl, ReadingStatus, OpeningChildControl, Running, ReadingLwps}
-use Rattle.pr_truss_laws.specs.Exchanges.{Exchange, IsGranted}
+use Rattle.pr_truss_laws.specs.Exchanges.{Exchange}
 use Rattle.pr_function_laws.proofs.CallTurns.CalledLaws.{functions-both}
 use Rattle.pr_function_laws.proofs.Marks.MarkWalk.{AfterSo, AsideIn, BesideSo, Holds, MarksIn, StageSo, fed-holds, marks_then}
 use Rattle.pr_function_laws.proofs.NextCalls.PatchCalls.{next-staged}
 use Rattle.pr_function_laws.proofs.NextCalls.TreatedLaws.{options-at}
 use Rattle.pr_function_laws.proofs.OpenedProcesses.OpenedLaws.{calls-rest}
 use Rattle.pr_function_laws.specs.Runs.{MakesFunctionCalls, functions_after}
-use Rattle.pr_function_hides.specs.Waiting.{HasItsControlAlone, KeepsWhatWaits, LeavesCopiesAlone, ReadsLwpAt, ReadsOfCopy, is_of_copy, of_lwps, of_status}
+use Rattle.pr_function_hides.specs.Waiting.{KeepsWhatWaits, LeavesCopiesAlone, ReadsLwpAt, is_of_copy, of_lwps, of_status}
 
 -- What waits to be planted again in the process of a control file is the same after each reply, but where an event is
 -- read that is before or behind a call that copies or replaces the memory.

@@ -14,7 +14,7 @@ use Rattle.pr_lawful.proofs.ProcessParts.FileLemmas.{choice}
 use Rattle.pr_lawful.proofs.LawfulTurns.SuitingLemmas.{SuitsTransition}
 use Rattle.pr_lawful.proofs.LawfulTurns.TurnLemmas.{acting, row-suits}
 use Rattle.pr_model.proofs.TurnLemmas.{turn-taken}
-use Rattle.pr_model.specs.Changes.{all_changed, ended}
+use Rattle.pr_model.specs.Changes.{all_changed}
 use Rattle.pr_model.specs.InstructionEffects as instruction
 use Rattle.pr_model.specs.InstructionEffects.{InstructionEffect, instruction_effect}
 use Rattle.pr_model.specs.Lawful.{IsLawfulSystem}

@@ -1,4 +1,4 @@
-use Rattle.std.proofs.Common.{◌≡◌, ◌≢◌, ◌⊎◌, ◌<◌, ◌++◌, ℕ, true, false, List, [], ◌∷◌, length, sym, subst, ◌∙◌, inl}
+use Rattle.std.proofs.Common.{◌≡◌, ◌++◌, ℕ, List, [], ◌∷◌, sym, subst, ◌∙◌, inl}
 use Rattle.std.proofs.Common.{inr}
 use Rattle.std.proofs.lemmas.Bool.{cases_Bool}
 use Rattle.std.proofs.lemmas.List.{append-nil, append_assoc}
@@ -7,11 +7,8 @@ use Rattle.pr_api.specs.Entries.{call_entry}
 use Rattle.pr_function_hides.proofs.Files.CallFacts.{legal-here, same-truss}
 use Rattle.pr_function_hides.proofs.Replies.ClosingWalk.{first-closes}
 use Rattle.pr_function_hides.proofs.StepMarks.StepsGoing.{truss-steps}
-use Rattle.pr_function_hides.proofs.StepMarks.StepsKept as Kept
-use Rattle.pr_function_hides.proofs.StepMarks.StepsKept.{After, Closes, Going, Releaser, SetsAt, StepsKept, kept, other-steps}
-use Rattle.pr_function_hides.proofs.StepMarks.StepsKept.{releaser-holds, sets-lasting, tick-steps, turn-steps}
-use Rattle.pr_function_hides.proofs.StepMarks.StepsOwn as Own
-use Rattle.pr_function_hides.proofs.Tidy.TidyKept.{Holder, Truss}
+use Rattle.pr_function_hides.proofs.StepMarks.StepsKept.{Going, SetsAt, StepsKept, other-steps}
+use Rattle.pr_function_hides.proofs.StepMarks.StepsKept.{tick-steps, turn-steps}
 use Rattle.pr_function_hides.specs.RunsOfTrusses.{IsRunOfTrusses}
 use Rattle.pr_function_laws.proofs.Marks.KeptPlaces.{first-kept}
 use Rattle.pr_function_laws.proofs.Pending.KnownFiles.{known-first}
@@ -20,19 +17,15 @@ use Rattle.pr_hidden.specs.Tidiness.{IsPassiveBut}
 use Rattle.pr_model.specs.Legal.{IsLegal, IsLegalEntry, state_after}
 use Rattle.pr_model.specs.State.{TracedState}
 use Rattle.pr_model.specs.declared.calls.Call.{Call}
-use Rattle.pr_model.specs.declared.calls.Call.TheVariants as call
 use Rattle.pr_model.specs.declared.calls.Reply.{Reply}
-use Rattle.pr_model.specs.declared.calls.Reply.TheVariants as reply
 use Rattle.pr_model.specs.declared.events.Act.{Act}
 use Rattle.pr_model.specs.declared.events.Act.TheVariants as act
 use Rattle.pr_model.specs.declared.events.Actor.{Actor}
 use Rattle.pr_model.specs.declared.events.Actor.TheVariants.{Clock, Controller, Lwp}
 use Rattle.pr_model.specs.declared.events.Entry.{Entry}
-use Rattle.pr_num.specs.declared.errnos.Errno.{Errno}
-use Rattle.pr_probe_laws.proofs.StepMarks.MarkCalls.{MarksNone}
 use Rattle.pr_probe_laws.proofs.StepMarks.MarkTurns.{IsOne}
 use Rattle.pr_probe_laws.specs.StepMarks.{IsUnmarkedAt, IsUnstepped, IsUnsteppedProcess}
-use Rattle.pr_truss.specs.Trusses.{TrussState, first_truss, traced_at}
+use Rattle.pr_truss.specs.Trusses.{first_truss}
 use Rattle.pr_world.specs.ControllerStates.{ControllerState}
 pub use Rattle.pr_function_hides.proofs.StepMarks.StepsKept.{Calm, IsGone, Over}
 

@@ -1,10 +1,9 @@
-use Rattle.std.proofs.Common.{◌≡◌, ◌<◌, ℕ, Bool, true, false, Option, Some, None, List, [], ◌∷◌, sym, subst, ap, ◌∙◌, refl, arith, inl, inr, cond}
+use Rattle.std.proofs.Common.{◌≡◌, ◌<◌, ℕ, Bool, true, false, Option, Some, None, List, sym, subst, ap, ◌∙◌, refl, arith, inl, inr, cond}
 use Rattle.std.proofs.lemmas.Bool.{false≢true}
 use Rattle.std.proofs.lemmas.List.Elements.{All-head, All-tail}
 use Rattle.std.proofs.lemmas.Option.{same_Some, slice_get_within}
 use Rattle.std.specs.List.{All, cons_option}
 use Rattle.pr_lawful.proofs.ProcessParts.HandleLemmas.{handle-at}
-use Rattle.pr_line.specs.declared.options.Options.{Options}
 use Rattle.pr_model.specs.Handles.{handle_of}
 use Rattle.pr_model.specs.Lawful.{IsLawful}
 use Rattle.pr_model.specs.Replies.{number_of}

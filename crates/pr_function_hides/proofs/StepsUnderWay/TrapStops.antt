@@ -14,7 +14,7 @@ use Rattle.pr_model.specs.declared.stops.Point.{Point}
 use Rattle.pr_model.specs.declared.stops.Point.TheVariants.{Fault, Signal}
 use Rattle.pr_model.specs.declared.stops.Stop.TheVariants as stop
 use Rattle.pr_num.proofs.ByIdLaws.{under-change_under, under-change_under_other}
-use Rattle.pr_num.specs.ById.{IsRising, under}
+use Rattle.pr_num.specs.ById.{IsRising}
 use Rattle.pr_num.specs.declared.faults.Flt.{Flt}
 use Rattle.pr_num.specs.declared.faults.Flt.TheVariants.{Trace}
 use Rattle.pr_report_laws.proofs.Machine.FrameLaws.{alone-lwp}

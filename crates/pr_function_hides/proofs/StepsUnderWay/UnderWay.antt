@@ -1,4 +1,4 @@
-use Rattle.std.proofs.Common.{◌≡◌, ◌<◌, ◌+◌, ◌++◌, ℕ, true, not, Option, Some, None, List, [], ◌∷◌, length, position, append-nil, append_assoc, refl, sym, subst, ap, ◌∙◌, arith, inl, inr}
+use Rattle.std.proofs.Common.{◌≡◌, ◌<◌, ◌++◌, ℕ, true, not, Option, Some, None, List, [], ◌∷◌, length, position, append-nil, append_assoc, refl, sym, subst, ap, ◌∙◌, arith, inl, inr}
 use Rattle.std.proofs.lemmas.Bool.{eqb-true, ne_eqb}
 use Rattle.std.proofs.lemmas.List.Elements.{All-head, All-tail}
 use Rattle.std.proofs.lemmas.Option.{none-some, same_Some, slice_get_within}
@@ -50,7 +50,7 @@ use Rattle.pr_truss.specs.declared.stages.Stage.TheVariants.{Polling, ReadingSta
 use Rattle.pr_truss_laws.proofs.Machine.ForeignLemmas.{exclusive-sole}
 use Rattle.pr_truss_laws.proofs.Machine.FrameLemmas.{was-made}
 use Rattle.pr_truss_laws.proofs.Machine.HaltLemmas.{HaltsOn, others-halt, outlasts-halts}
-use Rattle.pr_truss_laws.proofs.Files.HeldLemmas.{at_place, held}
+use Rattle.pr_truss_laws.proofs.Files.HeldLemmas.{at_place}
 use Rattle.pr_truss_laws.proofs.Machine.OutlastLemmas.{own-call-elsewhere}
 use Rattle.pr_truss_laws.proofs.Machine.StillLemmas.{frozen-turns}
 use Rattle.pr_truss_laws.specs.Exchanges.{Exchange, exchange_of, exchanges}

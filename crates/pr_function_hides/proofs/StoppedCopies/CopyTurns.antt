@@ -18,7 +18,7 @@ use Rattle.pr_lawful.proofs.ProcessParts.FileLemmas.{choice}
 use Rattle.pr_lawful.proofs.LawfulTurns.SuitingLemmas.{SuitsTransition}
 use Rattle.pr_lawful.proofs.LawfulTurns.TurnLemmas.{acting, row-suits}
 use Rattle.pr_model.proofs.TurnLemmas.{turn-taken}
-use Rattle.pr_model.specs.Changes.{Effect, all_changed, does, ended, ends, ends_process, sleeps as effect_sleeps, takes_shared}
+use Rattle.pr_model.specs.Changes.{Effect, all_changed, does, ends, ends_process, sleeps as effect_sleeps}
 use Rattle.pr_model.specs.CallEffects.{call_effect}
 use Rattle.pr_model.specs.InstructionEffects as instruction
 use Rattle.pr_model.specs.InstructionEffects.{InstructionEffect, instruction_effect}

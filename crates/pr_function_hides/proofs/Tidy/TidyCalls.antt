@@ -52,7 +52,7 @@ use Rattle.pr_function_hides.proofs.Tidy.OwnTidy.{Kind, kind, left-kind}
 use Rattle.pr_function_hides.proofs.Memory.Unborrowed.{IsUnborrowed, unborrowed-now}
 use Rattle.pr_function_hides.proofs.Memory.WriteReplies.{mapped-user, write-granted}
 use Rattle.pr_function_hides.specs.FunctionHiders.{ArePatchable, IsTrussAt, patch_of}
-use Rattle.pr_function_hides.proofs.Replies.OwnFiles.{HasItsFiles, HoldsItsFiles}
+use Rattle.pr_function_hides.proofs.Replies.OwnFiles.{HasItsFiles}
 use Rattle.pr_function_hides.specs.RunsOfTrusses.{IsRunOfTrusses}
 use Rattle.pr_function_hides.specs.TidyWrites.{IsMappedIn, IsTrussAfter}
 use Rattle.pr_function_hides.proofs.Tidy.TidyKept.{AreMappedIn, Course, Holder, Kept, Truss, goes_on}

@@ -16,7 +16,7 @@ use Rattle.pr_function_laws.proofs.Marks.SoundLemmas.{IsSound}
 use Rattle.pr_function_hides.proofs.Files.FilesCalls.{Files, files-of}
 use Rattle.pr_function_hides.proofs.Replies.FilesWalk.{AreApart}
 use Rattle.pr_function_hides.proofs.Replies.LeavingStages.{IsLeft}
-use Rattle.pr_function_hides.proofs.Replies.OwnFiles.{GoesOn, HasItsFiles, HoldsItsFiles, both-hold}
+use Rattle.pr_function_hides.proofs.Replies.OwnFiles.{GoesOn, HasItsFiles}
 use Rattle.pr_function_hides.proofs.Replies.PlantedReplies.{So}
 use Rattle.pr_function_hides.proofs.Replies.RunFlags.{FlagsOf}
 use Rattle.pr_function_hides.proofs.Memory.Unborrowed.{IsUnborrowed}

@@ -43,7 +43,6 @@ use Rattle.pr_function_laws.proofs.Stepping.BreakpointLemmas.{IsOwnEntry}
 use Rattle.pr_function_laws.proofs.Marks.MarkLemmas.{first-below}
 use Rattle.pr_function_laws.proofs.NextCalls.PatchCalls.{next-beside, next-staged}
 use Rattle.pr_function_laws.proofs.Marks.SoundLemmas.{AsideIsBelow, function-sound}
-use Rattle.pr_function_hides.proofs.Files.CallFacts.{calm-reply}
 use Rattle.pr_function_hides.proofs.Tidy.CalledCovers.{IsAsPatched, call-still}
 use Rattle.pr_function_hides.proofs.Tidy.CopyFree.{last-bare, replaced-bare}
 use Rattle.pr_function_hides.proofs.FirstPlanted.FirstLaw.{firsts-on}

@@ -59,7 +59,7 @@ use Rattle.pr_function_laws.proofs.Pending.PendingWalk.{On, Pending, is_to_run}
 use Rattle.pr_function_laws.proofs.Listing.RanProcesses.{ran-unmet, start-unmet}
 use Rattle.pr_function_laws.proofs.Listing.RestPlaces.{Cause, RestsAt, about, begun, ran, read, rest-cause, rested}
 use Rattle.pr_function_laws.proofs.Listing.BusyStages.{is_reading}
-use Rattle.pr_function_laws.specs.ListedEvents.{events_to_show, is_to_show, none, to_show_in}
+use Rattle.pr_function_laws.specs.ListedEvents.{events_to_show, is_to_show, to_show_in}
 use Rattle.pr_function_laws.specs.OneEvent.{HasMetNothing, is_looked_at}
 use Rattle.pr_function_laws.specs.Opened.{IsFunctionRun, WasNotInterrupted, functions_at, is_opened}
 use Rattle.pr_function_laws.specs.Runs.{functions_on}

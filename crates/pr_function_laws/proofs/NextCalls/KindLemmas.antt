@@ -18,7 +18,6 @@ use Rattle.pr_truss.specs.declared.function_events.FunctionEvent.TheVariants.{Af
 use Rattle.pr_truss.specs.declared.marks.Marks.{Marks}
 use Rattle.pr_truss.specs.declared.marks.Stepped.{Stepped}
 use Rattle.pr_truss.specs.declared.processes.Traced.{Traced}
-use Rattle.pr_rec.specs.declared.lwps.LwpStatus.{LwpStatus}
 use Rattle.pr_function_laws.specs.EventKinds.{AreEventKinds, LooksAtEachEvent, copying_calls}
 
 -- What each event is to the breakpoints of truss.

@@ -8,7 +8,6 @@ use Rattle.pr_truss.specs.declared.replies.Answer.TheVariants.{Interrupted}
 use Rattle.pr_truss.specs.declared.stages.AfterClosing.{AfterClosing}
 use Rattle.pr_truss.specs.declared.stages.Stage.{Stage}
 use Rattle.pr_truss_laws.proofs.Replies.FedSteps.{fed-step}
-use Rattle.pr_truss_laws.proofs.Soon.PolledLemmas.{leaves}
 use Rattle.pr_truss_laws.proofs.Replies.ReplySteps as row
 use Rattle.pr_truss_laws.proofs.Replies.ReplySteps.{Closes, GoesOn, Looks, ReplyStep, Returns, Settles, StopOver, on-staged}
 

@@ -18,7 +18,7 @@ use Rattle.pr_lawful.proofs.LawfulTurns.EndLemmas.{found-live}
 use Rattle.pr_lawful.proofs.LawfulTurns.SuitingLemmas.{SuitsTransition}
 use Rattle.pr_lawful.proofs.LawfulTurns.TurnLemmas.{acting, row-suits}
 use Rattle.pr_model.proofs.TurnLemmas.{turn-taken}
-use Rattle.pr_model.specs.Changes.{Change, changed, space_is, takes_shared, all_changed, ended, Effect, Ending, does, ends, sleeps as effect_sleeps, with_space}
+use Rattle.pr_model.specs.Changes.{Change, changed, space_is, all_changed, Effect, Ending, does, ends, sleeps as effect_sleeps, with_space}
 use Rattle.pr_model.specs.InstructionEffects.{InstructionEffect, Store, instruction_effect}
 use Rattle.pr_model.specs.InstructionEffects as instruction
 use Rattle.pr_model.specs.Lawful.{IsLawfulSystem}

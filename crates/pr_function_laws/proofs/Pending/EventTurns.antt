@@ -13,7 +13,6 @@ use Rattle.pr_model.specs.State.{TracedControl, TracedProcess, TracedState, live
 use Rattle.pr_model.specs.declared.events.Act.TheVariants.{Turn}
 use Rattle.pr_model.specs.declared.events.Actor.TheVariants.{Lwp}
 use Rattle.pr_model.specs.declared.stops.Point.{Point}
-use Rattle.pr_model.specs.declared.stops.Point.TheVariants as point
 use Rattle.pr_num.specs.Control.{async_mode, has_flags}
 use Rattle.pr_reached.specs.Fits.{IsFitSystem}
 use Rattle.pr_report_laws.proofs.Machine.OwnTurnLaws.{halting-picks}

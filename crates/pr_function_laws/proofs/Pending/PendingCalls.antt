@@ -13,7 +13,6 @@ use Rattle.pr_model.specs.declared.calls.File.TheVariants as file
 use Rattle.pr_model.specs.declared.calls.Mode.{Mode}
 use Rattle.pr_model.specs.declared.calls.Mode.TheVariants.{WriteExcl}
 use Rattle.pr_model.specs.declared.handles.Held.{Held}
-use Rattle.pr_num.specs.declared.messages.Message.TheVariants as message
 use Rattle.pr_report_laws.proofs.Invariant.OtherSteps.{lives-later}
 use Rattle.pr_report_laws.proofs.Releasing.ReleaseStays.{not-allowed}
 use Rattle.pr_truss.specs.Replies.{answer_of}

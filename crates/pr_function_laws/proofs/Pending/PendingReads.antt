@@ -1,4 +1,4 @@
-use Rattle.std.proofs.Common.{◌≡◌, ◌≢◌, ◌<◌, ◌++◌, ℕ, true, false, cond, Option, Some, None, List, ◌∷◌, length, refl, sym, subst, ap, ◌∙◌}
+use Rattle.std.proofs.Common.{◌≡◌, ◌<◌, ◌++◌, ℕ, true, cond, Option, Some, None, List, ◌∷◌, length, refl, sym, subst, ap, ◌∙◌}
 use Rattle.std.proofs.lemmas.Bool.{eq-eqb, false≢true}
 use Rattle.std.proofs.lemmas.Option.{none-some, same_Some}
 use Rattle.std.specs.List.{All}
@@ -20,7 +20,6 @@ use Rattle.pr_model.specs.declared.calls.File.TheVariants as file
 use Rattle.pr_model.specs.declared.calls.Mode.TheVariants.{Read}
 use Rattle.pr_model.specs.declared.calls.Reply.{Reply}
 use Rattle.pr_model.specs.declared.calls.Reply.TheVariants as reply
-use Rattle.pr_model.specs.declared.events.Act.TheVariants as act
 use Rattle.pr_model.specs.declared.events.Entry.{Entry}
 use Rattle.pr_model.specs.declared.handles.Held.{Held}
 use Rattle.pr_reached.proofs.RecordsInRange.EntryRanges.{records-range}
@@ -52,7 +51,7 @@ use Rattle.pr_truss_laws.specs.Exchanges.{Exchange, exchange_of, exchanges}
 use Rattle.pr_truss_laws.specs.Stills.{IsFrozen}
 use Rattle.pr_function_laws.proofs.Stepping.BreakpointLemmas.{IsOwnEntry, own-entry}
 use Rattle.pr_function_laws.proofs.Pending.FrontLemmas as fronts
-use Rattle.pr_function_laws.proofs.Marks.KeptPlaces.{AtStage, Kept, opens}
+use Rattle.pr_function_laws.proofs.Marks.KeptPlaces.{AtStage, Kept}
 use Rattle.pr_function_laws.proofs.Pending.KnownFiles.{Before, Knows}
 use Rattle.pr_function_laws.proofs.Pending.KnownLaws.{known-at}
 use Rattle.pr_function_laws.proofs.OpenedProcesses.OpenedCalls.{lowest}

@@ -5,7 +5,6 @@ use Rattle.std.proofs.lemmas.Option.{none-some, same_Some}
 use Rattle.std.specs.List.{All}
 use Rattle.pr_line.specs.declared.options.Options.{Options}
 use Rattle.pr_model.specs.declared.calls.Call.{Call}
-use Rattle.pr_model.specs.declared.calls.Call.TheVariants as call
 use Rattle.pr_model.specs.declared.calls.Reply.{Reply}
 use Rattle.pr_model.specs.declared.calls.Reply.TheVariants as reply
 use Rattle.pr_num.specs.declared.errnos.Errno.{Errno}
@@ -23,7 +22,7 @@ use Rattle.pr_truss.specs.NextCalls.{call_of, next_call_of}
 use Rattle.pr_truss.specs.Records.{child_of}
 use Rattle.pr_truss.specs.Replies.{answer_of}
 use Rattle.pr_truss.specs.Stops.{followed_child}
-use Rattle.pr_truss.specs.Trusses.{TrussState, first_of_program, first_truss, idle, opening_or, with_stage}
+use Rattle.pr_truss.specs.Trusses.{TrussState, first_of_program, first_truss, idle, opening_or}
 use Rattle.pr_truss.specs.declared.processes.Traced.{Traced}
 use Rattle.pr_truss.specs.declared.replies.Answer.TheVariants.{Accepted, Interrupted}
 use Rattle.pr_truss.specs.declared.stages.AfterClosing.{AfterClosing}
@@ -41,7 +40,7 @@ use Rattle.pr_truss_laws.specs.Sent.{sends}
 use Rattle.pr_truss_laws.specs.Soon.{IsNoPoll}
 use Rattle.pr_function_laws.proofs.OrdinaryTruss.OrdinaryCalls.{sees-sends, stands-sends}
 use Rattle.pr_function_laws.proofs.OrdinaryTruss.OrdinaryExchanges.{IsFit, Turn, first-fit, goes_on, goes_out, next-fit, turn}
-use Rattle.pr_function_laws.specs.Ordinary.{IsLike, IsTakenUp, LiftsAtLast, PassesOver, PlantsAtFirst, SeesTo, StandsFor, clears_fault, common, entries, exits, faults, in_place, leaves, lifts_at_last, ordinary, own_fault, plants_at_first, reads_code, refused, runs, same, signals, waits}
+use Rattle.pr_function_laws.specs.Ordinary.{IsLike, IsTakenUp, LiftsAtLast, PlantsAtFirst, SeesTo, StandsFor, clears_fault, common, entries, exits, faults, in_place, leaves, lifts_at_last, ordinary, own_fault, plants_at_first, reads_code, refused, runs, same, signals, waits}
 use Rattle.pr_function_laws.specs.Runs.{MakesFunctionCalls, functions_after}
 use Rattle.pr_function_laws.specs.Soon.{IsCalm}
 

@@ -1,4 +1,4 @@
-use Rattle.std.proofs.Common.{◌≡◌, ◌<◌, ◌++◌, ℕ, Bool, true, false, Option, Some, None, List, [], ◌∷◌, length, append-nil, append_assoc, refl, sym, subst, ap, ◌∙◌, inr}
+use Rattle.std.proofs.Common.{◌≡◌, ◌<◌, ◌++◌, ℕ, true, false, Option, Some, None, List, [], ◌∷◌, length, append-nil, append_assoc, refl, sym, subst, ap, ◌∙◌, inr}
 use Rattle.std.proofs.lemmas.Bool.{false≢true}
 use Rattle.std.proofs.lemmas.List.{append_cancel_left, length-map}
 use Rattle.std.proofs.lemmas.List.Elements.{All-cons}
@@ -62,7 +62,6 @@ use Rattle.pr_function_laws.proofs.OrdinaryTruss.OrdinaryEntries.{front-run, wat
 use Rattle.pr_function_laws.proofs.OrdinaryTruss.OrdinaryExchanges.{IsFit, Turn, goes_on, goes_out}
 use Rattle.pr_function_laws.proofs.OrdinaryTruss.OrdinaryFiles.{Follows, run-halfway}
 use Rattle.pr_function_laws.proofs.OrdinaryTruss.OrdinaryLaws.{plain-next}
-use Rattle.pr_function_laws.proofs.OrdinaryTruss.OrdinaryReplies.{at-ordinary}
 use Rattle.pr_function_laws.proofs.OrdinaryTruss.OrdinaryShown.{shown-ordinary, shown-told}
 use Rattle.pr_function_laws.proofs.OrdinaryTruss.OrdinaryStops.{FitsAside}
 use Rattle.pr_function_laws.proofs.NextCalls.PatchCalls.{next-staged}

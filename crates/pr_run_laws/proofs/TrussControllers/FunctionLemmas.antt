@@ -77,6 +77,7 @@ use Rattle.pr_function_laws.proofs.NextCalls.KindLemmas.{event-kinds, looks-at-e
 use Rattle.pr_function_laws.proofs.NextCalls.BreakpointCallLemmas.{breakpoint-calls}
 use Rattle.pr_function_laws.proofs.NextCalls.TracedWords.{traces-its-words}
 use Rattle.pr_report_laws.proofs.Asking.AskedLaws.{reads-replies}
+use Rattle.pr_report_laws.proofs.Asking.SelectedLaws.{selects-named}
 
 -- A truss that shows calls of functions among the controllers of a run.
 
@@ -182,6 +183,7 @@ function-kept controllers n s h k o reached awake bytes none at some named legal
       looks_new = looks-at-each;
       messages = breakpoint-calls o;
       words = traces-its-words o;
+      selects = selects-named o;
       replies = reads-replies;
       copies = λ opens. finds-so n k o s h run reached awake bytes opens;
       replaced = λ opens. writes-none-so n k o s h run reached awake bytes opens;
