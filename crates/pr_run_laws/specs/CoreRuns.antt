@@ -22,8 +22,8 @@ use Rattle.pr_world.specs.Protocol.{controllers_at}
 -- of one state, on the conditions of ShowsOneCore, and has run the process again, and done nothing but close since, or
 -- never, where every lwp of it stood when it came. While it has not finished it prints nothing, and so no part of a
 -- core. When it has finished and was refused, it has taken back its request to stop, and its line has the errno of a
--- call of its own, or EBUSY of a process that had lent its memory. At any time it has made the calls of its table alone,
--- and has files of this process alone open, and none once it has finished.
+-- call of its own, or EBUSY of a process that had lent its memory. At any time it has made the calls of its table
+-- alone, and has files of this process alone open, and none once it has finished.
 pub record IsGcoreKept (controllers : List ControllerState) (first : TracedState) (h : List Entry) (k pid : ℕ)
     : Type 0 where
   pub shows : (g : GcoreState) → slice_get (controllers_at controllers h) k ≡ Some (Gcore g) → has_ended g ≡ true

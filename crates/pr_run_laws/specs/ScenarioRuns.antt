@@ -69,8 +69,8 @@ first_world s = record {
 -- What every run of a scenario keeps, in whatever order its actors move: each entry is what the machine does; each
 -- controller makes exactly the calls that its definition prescribes for the replies that it got, and the clock goes on
 -- only where it is awaited; and if controllers only stopped, ran and read, the programs did what they could have done
--- without controllers. Truss without functions, the tools and gcore do no more than that: where no controller is a script, none asks by an agent,
--- and none shows calls of functions, the programs always did so.
+-- without controllers. Truss without functions, the tools and gcore do no more than that: where no controller is a
+-- script, none asks by an agent, and none shows calls of functions, the programs always did so.
 --
 -- Of a truss that shows calls of functions it is said which calls it makes and what it has learnt from their replies,
 -- of which its text is a function; that it traces all of each process that it has opened, alone; and that it lifts a
