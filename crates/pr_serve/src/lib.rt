@@ -2,25 +2,7 @@
 //! And `strip_hidden`, what programs see of a history of a scenario.
 #![tactic(auto)]
 
-mod answers;
-mod checks;
-mod commands;
-mod core_inputs;
-mod cores;
-mod hidings;
-mod inputs;
-mod judgements;
-mod outcomes;
-mod reports;
-mod responses;
-mod running;
-mod runs;
 mod serving;
-mod sharing;
-mod showings;
-mod stripping;
-mod wrongs;
 
-pub use hidings::strip_hidden;
-pub use outcomes::{Outcome, Status, number};
-pub use serving::serve;
+pub use pr_commands::{Status, number, strip_hidden};
+pub use serving::{Outcome, serve};

@@ -1,16 +1,24 @@
 ghost use Rattle.std.specs.Prelude.{◌≡◌, map, string_bytes, true};
-ghost use Rattle.pr_serve.specs.Commands.{work_of};
-ghost use Rattle.pr_serve.specs.Histories.{HistoryIsKept};
-ghost use Rattle.pr_serve.specs.Rows.{EndsWith, ends_of, making_of, reads_nothing};
-ghost use Rattle.pr_serve.specs.Statuses.{number};
+ghost use Rattle.pr_commands.specs.Commands.{work_of};
+ghost use Rattle.pr_commands.specs.Histories.{HistoryIsKept};
+ghost use Rattle.pr_commands.specs.Rows.{EndsWith, ends_of, making_of, reads_nothing};
+ghost use Rattle.pr_commands.specs.Statuses.{number};
 
-use crate::commands::work_of;
-use crate::outcomes::{Ending, Outcome, number};
-use crate::running::carry_out;
+use pr_commands::{Ending, carry_out, number, work_of};
 use pr_io::{Gate, Sink, Source};
+use pr_model::History;
 use std::alloc::Global;
 use std::sync::Wait;
 use std::thread::Threads;
+
+/// What a call of the program leaves besides what it wrote.
+#[derive(Drop)]
+pub struct Outcome {
+    /// The status that the process ends with.
+    pub status: u8,
+    /// The history of the run; empty where none was made.
+    pub history: History,
+}
 
 /// Does what the words after the program's name ask for, from `source` to `sink`. The workers of a run on several
 /// threads pass `gate` before each of their turns.

@@ -8,8 +8,8 @@ use Rattle.pr_run_laws.specs.ScenarioRuns.{IsKept, controller_of, first_state_of
 use Rattle.pr_scen.specs.Reading.{scenario_of}
 use Rattle.pr_scen.specs.Refusals.{ScenFault}
 use Rattle.pr_scen.specs.Scenarios.{Scenario}
-use Rattle.pr_serve.specs.Histories.{HistoryIsKept, Making, by_threads, in_rounds, no_run}
-use Rattle.pr_serve.specs.Inputs.{Took, scenario_of_input, too_long}
+use Rattle.pr_commands.specs.Histories.{HistoryIsKept, Making, by_threads, in_rounds, no_run}
+use Rattle.pr_commands.specs.Inputs.{Took, scenario_of_input, too_long}
 
 -- the scenario that was read is the one of the bytes that were there
 same-scenario : (left : List ℕ) (new input : Option (List ℕ)) (s t : Scenario)

@@ -1,0 +1,17 @@
+pub mod CheckLemmas
+pub mod CommandLemmas
+pub mod CoreLemmas
+pub mod EarlyLemmas
+pub mod FindingLemmas
+pub mod GivingLemmas
+pub mod InputLemmas
+pub mod MadeLemmas
+pub mod OnwardLemmas
+pub mod PieceLemmas
+pub mod ReadingLemmas
+pub mod ReportLemmas
+pub mod RunEndLemmas
+pub mod RunLemmas
+pub mod SeenLemmas
+pub mod SharedLemmas
+pub mod UnseenLemmas

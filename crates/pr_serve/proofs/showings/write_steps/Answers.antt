@@ -1,6 +1,0 @@
-use Rattle.std.proofs.Common.{rules}
-use Rattle.pr_output.proofs.Joined.{Puts-nothing}
-use Rattle.pr_serve.proofs.showings.write_steps.Goals as goal
-
-pub returns-in_err-trace : goal.returns-in_err-trace
-returns-in_err-trace g c = Puts-nothing _ _ _ _ (search rules)
