@@ -11,7 +11,7 @@ use Rattle.pr_model.specs.Generation.{with_deletions}
 use Rattle.pr_model.specs.Machines.{traced}
 use Rattle.pr_model.specs.Signals.{generated}
 use Rattle.pr_model.specs.State.{TracedLwp, TracedProcess, TracedSystem, live_process}
-use Rattle.pr_proc.specs.Room.{has_room_for, has_room_in, has_room_of}
+use Rattle.pr_post.specs.Room.{has_room_for, has_room_in, has_room_of}
 use Rattle.pr_call.specs.Effects.{after_effect}
 use Rattle.pr_call.specs.FileAnswers.{settled}
 use Rattle.pr_call.specs.declared.answers.Refusal.TheVariants.{Fails, Files}

@@ -5,8 +5,8 @@ use Rattle.pr_parts.specs.PendingSignals.{has_room}
 use Rattle.pr_model.specs.Generation.{with_deletions}
 use Rattle.pr_model.specs.Messages.{Aim, is_kill_of, kill_by, killed, ssig_answer, unkill_by, with_process_changed, with_signal_set}
 use Rattle.pr_model.specs.State.{TracedLwp, TracedProcess, TracedSystem, lwp_of}
-use Rattle.pr_proc.proofs.SignalLemmas.{room-deletions}
-use Rattle.pr_proc.specs.Room.{has_room_for, has_room_in, has_room_of}
+use Rattle.pr_post.proofs.RoomLemmas.{room-deletions}
+use Rattle.pr_post.specs.Room.{has_room_for, has_room_in, has_room_of}
 use Rattle.pr_ctl.proofs.AimLemmas.{aimed-on_lwp}
 use Rattle.pr_ctl.specs.Aims.{aim_at}
 use Rattle.pr_ctl.specs.Changes.{aimed_by, aimed_changed}

@@ -10,7 +10,6 @@ pub mod MarkLemmas
 pub mod OrderLemmas
 pub mod ProgramLemmas
 pub mod SendingLemmas
-pub mod SignalLemmas
 pub mod SizeLemmas
 pub mod SpaceLemmas
 pub mod TotalLemmas

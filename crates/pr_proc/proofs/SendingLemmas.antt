@@ -10,8 +10,8 @@ use Rattle.pr_model.specs.Readers.{Life, life_of}
 use Rattle.pr_model.specs.SignalCalls.{refuses, sends_nothing, sends, sending}
 use Rattle.pr_model.specs.State.{TracedProcess, TracedSystem, live_process}
 use Rattle.pr_proc.proofs.LifeLemmas.{live_process-made}
-use Rattle.pr_proc.proofs.SignalLemmas.{room-deletions}
-use Rattle.pr_proc.specs.Room.{has_room_for}
+use Rattle.pr_post.proofs.RoomLemmas.{room-deletions}
+use Rattle.pr_post.specs.Room.{has_room_for}
 use Rattle.pr_proc.specs.Sendings.{IsSent}
 use Rattle.pr_proc.specs.declared.sending.Sending.TheVariants as sent
 

@@ -7,7 +7,6 @@ pub mod Marks
 pub mod Orders
 pub mod ProcessesLending
 pub mod Refusals
-pub mod Room
 pub mod Sendings
 pub mod Shows
 pub mod Totals

@@ -3,7 +3,7 @@ use Rattle.pr_num.specs.declared.signals.Sig.{Sig}
 use Rattle.pr_model.specs.Generation.{with_deletions}
 use Rattle.pr_model.specs.SignalCalls as calls
 use Rattle.pr_model.specs.State.{TracedSystem, live_process}
-use Rattle.pr_proc.specs.Room.{has_room_for}
+use Rattle.pr_post.specs.Room.{has_room_for}
 use Rattle.pr_proc.specs.declared.sending.Sending.{Sending}
 use Rattle.pr_proc.specs.declared.sending.Sending.TheVariants.{Refused, Nothing, Sent}
 

@@ -11,7 +11,6 @@ ghost use Rattle.pr_model.specs.Machines.{traced, zombie_control};
 ghost use Rattle.pr_model.specs.State.{live_process, with_process};
 
 use crate::loans::{give_back, leave_lender};
-use crate::signals::tell;
 use crate::{Proc, Processes, Sys, live};
 use pr_file::Files;
 use pr_mem::Space;
@@ -98,11 +97,11 @@ fn orphan_each(processes: &mut Processes, parent: u32)
 }
 
 /// Tells a process that a child of it ended.
-#[tactic(auto, using(crate::proofs::SignalLemmas::rooms))]
+#[tactic(auto, using(pr_post::proofs::RoomLemmas::rooms))]
 fn tell_of_child(process: &mut Proc, pid: u32, status: u64)
     ensures { process.new ≡ signalled None Cld (of_child pid status) process.old }
 {
-    tell(process, None, Sig::Cld, Info::of_child(pid, status));
+    post(process, None, Sig::Cld, Info::of_child(pid, status));
 }
 
 /// Tells the parent of a process that ended, unless that is process 0 or there is none.

@@ -3,19 +3,11 @@ ghost use Rattle.std.specs.Option.{option_copied};
 ghost use Rattle.pr_model.specs.Readers.{space_seen};
 ghost use Rattle.pr_model.specs.State.{has_agent, live_process};
 
-use crate::{Processes, Programs};
-use pr_file::{Fds, Files};
+use crate::{Proc, Processes, Programs};
+use pr_file::Files;
 use pr_mem::Space;
-use pr_model::{Control, ProcessOf, System};
-use pr_num::{AGENT, ById};
-use pr_sig::Pendings;
-use pr_watch::Areas;
-
-/// An lwp with its pending signals.
-pub type Lwp = pr_model::Lwp<Pendings>;
-
-/// A process with its address space, descriptors, pending signals, lwps and watched areas.
-pub type Proc = ProcessOf<Space, Fds, Pendings, ById<Lwp>, Control<Areas>>;
+use pr_model::System;
+use pr_num::AGENT;
 
 /// The system with its files. Contracts see it as the traced system of the definitions.
 pub type Sys = System<Programs, Files, Processes>;

@@ -13,7 +13,7 @@ use Rattle.pr_parts.specs.SignalRules.{deleted_by}
 use Rattle.pr_parts.specs.declared.signals.Queued.{Queued}
 use Rattle.pr_model.specs.Generation.{ends_job_stop, lwp_without_pending, with_deletions, without_job_stop, without_pending}
 use Rattle.pr_model.specs.State.{TracedLwp, TracedProcess}
-use Rattle.pr_proc.specs.Room.{has_room_for, has_room_in, has_room_of}
+use Rattle.pr_post.specs.Room.{has_room_for, has_room_in, has_room_of}
 
 -- SIGCLD does not queue: there is always room
 pub room-child : (p : TracedProcess) → IsTrue (has_room_for None Cld p)
