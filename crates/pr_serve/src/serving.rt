@@ -51,13 +51,13 @@ pub fn serve<R: Threads + Wait + Sync, S: Source, K: Sink, G: Gate + Sync>(
     ensures unread { reads_nothing (work_of (map string_bytes words.now)) ≡ true → source.new ≡ source.old }
 
     // However the call ends, there is no history, or it is that of a run. Then it is legal and follows the protocol;
-    // where it is passive, or no controller is a script or asks by an agent, tracing is transparent in it; where other
-    // calls are passive, programs leave breakpoints and agents alone, and those who hide these are tidy, programs see
-    // nothing of them, and what `plain` writes of it is a run of the machine without controllers; each truss has
-    // shown of each process exactly the selected events that came while it had hold of it, as `ShowsHeld` says, on the
-    // conditions of `ShowsItsEvents`, and all else that `IsTrussKept` says is so of it; the memory in a line is that of
-    // the state in which truss read it; and each tool that has finished, and was not refused, prints what stands in one
-    // state.
+    // where it is passive, or no controller is a script, asks by an agent or shows calls of functions, tracing is
+    // transparent in it; where other calls are passive, programs leave breakpoints and agents alone, and those who hide
+    // these are tidy, programs see nothing of them, and what `plain` writes of it is a run of the machine without
+    // controllers; each truss has shown of each process exactly the selected events that came while it had hold of it,
+    // as `ShowsHeld` says, on the conditions of `ShowsItsEvents`, and all else that `IsTrussKept` says is so of it, or,
+    // where it shows calls of functions, what `IsFunctionTrussKept` says; the memory in a line is that of the state in
+    // which truss read it; and each tool that has finished, and was not refused, prints what stands in one state.
     ensures kept { HistoryIsKept (making_of (work_of (map string_bytes words.now))) (S.left source.old)
         (S.left source.new) result.history.entries }
 {

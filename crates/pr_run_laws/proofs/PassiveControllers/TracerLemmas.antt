@@ -21,7 +21,7 @@ use Rattle.pr_run_laws.proofs.PassiveControllers.PassiveLemmas.{gcore-passive, t
 use Rattle.pr_run_laws.specs.Tracers.{IsTracer}
 use Rattle.pr_tool_laws.specs.PassiveCalls.{IsPassiveCall}
 
--- Where no controller is a script or asks by an agent, a history is passive.
+-- Where no controller is a script, asks by an agent or shows calls of functions, a history is passive.
 
 pub core-passive : (c : ControllerState) → IsTracer c → IfSome (next_call c) IsPassiveCall
 unfolding next_call IsTracer
