@@ -17,7 +17,7 @@ use Rattle.pr_model.specs.declared.events.Res.TheVariants.{Value, Ended}
 use Rattle.pr_model.specs.declared.events.Turned.{Turned}
 use Rattle.pr_num.specs.Agents.{agent_id}
 use Rattle.pr_num.specs.declared.syscalls.Sysno.{Sysno}
-use Rattle.pr_num.specs.declared.syscalls.Sysno.TheVariants.{Exit, Exec, Fork, Vfork, LwpCreate}
+use Rattle.pr_num.specs.declared.syscalls.Sysno.TheVariants.{Exit, Exec, Fork, Vfork, Kill, LwpCreate, Sigqueue}
 use Rattle.pr_hist.specs.declared.lanes.Lane.{Lane}
 use Rattle.pr_hist.specs.declared.lanes.Stand.{Stand}
 use Rattle.pr_hist.specs.declared.lanes.Stand.TheVariants.{Absent, New, Runs, OnEvent, Requested, Asleep, JobStopped, Ends}
@@ -83,6 +83,8 @@ born e = by e.act
 -- whether a turn leaves no other lwp of its process: it ended the process, or began another program in it
 unfoldable pub ends_others : Did → Bool
 ends_others (Made Exit Ended) = true
+ends_others (Made Kill Ended) = true
+ends_others (Made Sigqueue Ended) = true
 ends_others (Made Exec (Value n)) = true
 ends_others (Acted s Died) = true
 ends_others _ = false

@@ -143,7 +143,7 @@ fn ends_others(did: Did) -> bool
     ensures { result ≡ ends_others did }
 {
     match did {
-        Did::Made(Sysno::Exit, Res::Ended) => true,
+        Did::Made(Sysno::Exit | Sysno::Kill | Sysno::Sigqueue, Res::Ended) => true,
         Did::Made(Sysno::Exec, Res::Value(_)) => true,
         Did::Acted(_, How::Died) => true,
         _ => false,
