@@ -159,7 +159,7 @@ module _ (n k : ℕ) (o : Options) (s : TracedState) (h : List Entry) (run : IsF
             inl l.each
         by-own x own (inr all) = inr (went (let l = leaves in l.went))
           where
-            leaves : LeavesOn (T f) x.reply (fed_functions (T f) x.reply)
+            leaves : LeavesOn (T f) x.reply g.at (fed_functions (T f) x.reply)
             leaves =
                 behind-it (Unit {0}) n k o (T f) (S f) g files e
                 (entry-legal (Unit {0}) n k o s h run (λ r. reached) (λ r. bytes) f e later is)
@@ -175,14 +175,14 @@ module _ (n k : ℕ) (o : Options) (s : TracedState) (h : List Entry) (run : IsF
             shared shares i within own_i =
                 shares.attached i ∙ all i (subst (λ m. i < m) shares.many within) (sym (shares.pids i) ∙ own_i)
 
-            went : Went (T f) x.reply (fed_functions (T f) x.reply)
+            went : {w : IsLeft (T f)} → Went (T f) x.reply (fed_functions (T f) x.reply) w
                 → Each (λ (u : Traced). u.pid ≡ pid → u.attached ≡ true) (fed_functions (T f) x.reply).traced
             went (halted step at some same to) =
                 subst (Each (λ (u : Traced). u.pid ≡ pid → u.attached ≡ true)) (sym same) all
-            went (looked at some shares looked_so) = shared shares
-            went (has_read l from len at some shares looked_so) = shared shares
-            went (patched clears at some shares looked_so) = shared shares
-            went (loses u at some is_lost shares looked_so) = shared shares
+            went (looked at some look r _) = shared r.shares
+            went (has_read l from len at some r _) = shared r.shares
+            went (patched clears at some r _) = shared r.shares
+            went (loses u at some is_lost r _) = shared r.shares
             went (closed_all at some last same to) =
                 subst (Each (λ (u : Traced). u.pid ≡ pid → u.attached ≡ true)) (sym same)
                 (each-remove (λ (u : Traced). u.pid ≡ pid → u.attached ≡ true) (T f).traced 0 some
