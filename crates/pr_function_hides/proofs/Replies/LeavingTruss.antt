@@ -27,6 +27,7 @@ use Rattle.pr_truss.specs.Marks.{has_functions}
 use Rattle.pr_truss.specs.Processes.{without_last}
 use Rattle.pr_truss.specs.Replies.{answer_of}
 use Rattle.pr_truss.specs.Trusses.{TrussState, nobody, traced_at, with_traced, without_traced}
+use Rattle.pr_truss.specs.declared.asides.Aside.TheVariants.{Nothing}
 use Rattle.pr_truss.specs.declared.marks.Marks.{Marks}
 use Rattle.pr_truss.specs.declared.processes.Traced.{Traced}
 use Rattle.pr_truss.specs.declared.replies.Answer.{Answer}
