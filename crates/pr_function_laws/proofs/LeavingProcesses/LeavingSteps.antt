@@ -1,6 +1,6 @@
 use Rattle.std.proofs.Common.{◌≡◌, ◌≢◌, ◌<◌, ◌||◌, ◌&&◌, ℕ, Bool, true, false, cond, is_some, Option, Some, None}
-use Rattle.std.proofs.Common.{List, [], ◌∷◌, length, refl, sym, subst, ap, ◌∙◌, inl, inr}
-use Rattle.std.proofs.lemmas.Bool.{and_parts, cases_eq, false≢true}
+use Rattle.std.proofs.Common.{List, [], ◌∷◌, length, refl, sym, subst, ap, ◌∙◌}
+use Rattle.std.proofs.lemmas.Bool.{and_parts, false≢true}
 use Rattle.std.proofs.lemmas.List.{get_or-set_other, length-set, set-get_or}
 use Rattle.std.proofs.lemmas.Option.{none-some, same_Some, slice_get_within}
 use Rattle.std.specs.List.{remove, slice_get, slice_set}
@@ -52,7 +52,7 @@ use Rattle.pr_function_laws.proofs.LeavingProcesses.LeavingLaws.{halt_aside, hal
 use Rattle.pr_function_laws.proofs.LeavingProcesses.LeavingStages.{Alike, IsLeft, Looked, Over, TellsLast, alike-join}
 use Rattle.pr_function_laws.proofs.LeavingProcesses.LeavingStages.{alike-same, asks, awaits, lifted_after, with_fewer}
 use Rattle.pr_function_laws.proofs.LeavingProcesses.LeavingStages.{closes_files, closing-over, event-over, halts, has_ended, is_looked}
-use Rattle.pr_function_laws.proofs.LeavingProcesses.LeavingStages.{lifts_all, looks, over, over-join, reads_text, stale-over}
+use Rattle.pr_function_laws.proofs.LeavingProcesses.LeavingStages.{lifts_all, looks, over, over-join, reads_text, set-field, stale-over}
 use Rattle.pr_function_laws.proofs.LeavingProcesses.LeavingStages.{stop-looked, stop-over, text, waits_again, with_no_marks}
 use Rattle.pr_function_laws.proofs.LeavingProcesses.LeavingWaits.{interrupted_at, waits-at, waits-fed}
 use Rattle.pr_function_laws.proofs.OrdinaryTruss.OrdinaryStops.{nothing-first}
@@ -233,17 +233,7 @@ shares-join u v w a b = record {
   marks = λ i other. b.marks i other ∙ a.marks i other;
 }
 
--- one process becomes another record of it
-set-field : {A : Type 0} (u : TrussState) (q : ℕ) (x : Traced) (f : Traced → A) → q < length u.traced
-    → f x ≡ f (traced_at u q) → (i : ℕ) → f (at_place (slice_set u.traced q x) i) ≡ f (traced_at u i)
-set-field u q x f within same i = elim (cases_eq i q) [
-  | inl is ↦
-      ap f (ap (at_place (slice_set u.traced q x)) is ∙ set-at u.traced q x within)
-      ∙ same ∙ ap (λ n. f (at_place u.traced n)) (sym is)
-  | inr apart ↦ ap f (get_or-set_other u.traced q i x nobody apart)
-]
-
--- the first one does
+-- the first process becomes another record of it
 shares-set : (u : TrussState) (x : Traced) → 0 < length u.traced → x.pid ≡ (traced_at u 0).pid
     → x.attached ≡ (traced_at u 0).attached → Shares u (with_traced u 0 x)
 shares-set u x within pid attached = record {
@@ -340,6 +330,9 @@ module _ (t : TrussState) (r : Reply) (on : t.leaving ≡ true) (follow : t.opti
   -- the first process is this one then
   module _ (within : 0 < length t.traced) (x : Traced) (pid : x.pid ≡ (traced_at t 0).pid)
       (attached : x.attached ≡ (traced_at t 0).attached) (v : TrussState) (a : Alike (with_traced t 0 x) v) where
+    inside : 0 < length v.traced
+    inside = subst (λ n. 0 < n) (sym (a.many ∙ length-set t.traced 0 x)) within
+
     first-is : is_looked v.stage ≡ true → FirstIs t x v
     first-is looked_at = record {
       alike = a;
@@ -348,13 +341,9 @@ module _ (t : TrussState) (r : Reply) (on : t.leaving ≡ true) (follow : t.opti
       within = inside;
       looked_at = looked_at;
     }
-      where
-        inside : 0 < length v.traced
-        inside = subst (λ n. 0 < n) (sym (a.many ∙ length-set t.traced 0 x)) within
 
     first-comes : {clear : Bool} → Then r v clear → FirstIs t x v
-    first-comes {clear} next =
-        first-is (then-at r v clear (subst (λ n. 0 < n) (sym (a.many ∙ length-set t.traced 0 x)) within) next).1
+    first-comes {clear} next = first-is (then-at r v clear inside next).1
 
   -- it stays as it is
   stays-here : {clear : Bool} (v : TrussState) → Comes r t clear v → Comes r (with_traced t 0 (traced_at t 0)) clear v
