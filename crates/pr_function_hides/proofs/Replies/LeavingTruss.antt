@@ -3,7 +3,7 @@ use Rattle.std.proofs.Common.{length, refl, sym, subst, ap, ◌∙◌, arith, in
 use Rattle.std.proofs.lemmas.Bool.{false≢true}
 use Rattle.std.proofs.lemmas.List.{get_or-set_other, length-set}
 use Rattle.std.proofs.lemmas.List.Edits.{get_or-remove_above, length-remove}
-use Rattle.std.specs.List.{remove, slice_set}
+use Rattle.std.specs.List.{remove}
 use Rattle.pr_function_hides.proofs.Replies.BareStages.{BareIf, IsBare, Told}
 use Rattle.pr_function_hides.proofs.Replies.FilesWalk.{AreApart, SameFiles, removed-apart, set-apart}
 use Rattle.pr_function_hides.proofs.Replies.FunctionSets.{first-none}
@@ -152,6 +152,21 @@ module _ (S : Traced → Type 0)
   After t r (lifts_all clear at beside within) = EachBut S t.traced 0 × S (with_fewer (traced_at t 0))
   After t r (closes_files at idle within) = EachBut S t.traced 0 × Rest (without_last (traced_at t 0))
   After t r at = Each S t.traced
+
+  -- it is so whatever is lifted, closed or replaced
+  pub after-all : (t : TrussState) (r : Reply) → ((v : Traced) → S v → S (with_fewer v))
+      → ((v : Traced) → S v → S (with_no_marks v)) → ((v u : Traced) → without_last v ≡ Some u → S v → S u)
+      → Each S t.traced → (w : IsLeft t) → After t r w
+  after-all t r fewer none lost all (looks at idle within) = (all, λ tells. none (traced_at t 0) (all 0 within))
+  after-all t r fewer none lost all (lifts_all clear at beside within) =
+      (each-but S t.traced 0 all, fewer (traced_at t 0) (all 0 within))
+  after-all t r fewer none lost all (closes_files at idle within) =
+      (each-but S t.traced 0 all, rest (without_last (traced_at t 0)) refl)
+    where
+      rest : (x : Option Traced) → without_last (traced_at t 0) ≡ x → Rest x
+      rest None is = tt
+      rest (Some u) is = lost (traced_at t 0) u is (all 0 within)
+  after-all t r fewer none lost all _ = all
 
   module _ (t : TrussState) (r : Reply) (on : t.leaving ≡ true) (follow : t.options.follow ≡ false)
       (has : has_functions t.options ≡ true) (apart : AreApart t.traced)

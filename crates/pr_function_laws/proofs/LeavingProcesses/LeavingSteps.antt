@@ -3,7 +3,7 @@ use Rattle.std.proofs.Common.{List, [], ◌∷◌, length, refl, sym, subst, ap,
 use Rattle.std.proofs.lemmas.Bool.{and_parts, false≢true}
 use Rattle.std.proofs.lemmas.List.{get_or-set_other, length-set, set-get_or}
 use Rattle.std.proofs.lemmas.Option.{none-some, same_Some, slice_get_within}
-use Rattle.std.specs.List.{remove, slice_get, slice_set}
+use Rattle.std.specs.List.{remove, slice_get}
 use Rattle.pr_line.specs.declared.events.Event.{Event}
 use Rattle.pr_model.specs.Replies.{bytes_in}
 use Rattle.pr_model.specs.declared.calls.Call.{Call}
@@ -596,15 +596,17 @@ module _ (t : TrussState) (r : Reply) (on : t.leaving ≡ true) (follow : t.opti
       let c = text-comes u l on follow idle (answer_of r) refl in
       let a = alike-join t u _ (alike-same t u refl refl refl) c.0 in
       let h = stays-here _ (a, c.1) in
-      subst (To (reads_text l from len at idle within)) (sym (staged-fed (ReadingText 0 l from len) at idle))
-      (has_read l from len (at, idle) within (first-comes within (traced_at t 0) refl refl _ h.0 h.1) h.1,
-      a.leaving ∙ on)
+      subst (To (reads_text l from len at idle within)) (sym (staged-fed (ReadingText 0 l from len) at idle)) (
+        has_read l from len (at, idle) within (first-comes within (traced_at t 0) refl refl _ h.0 h.1) h.1,
+        a.leaving ∙ on,
+      )
   row-of (lifts_all clear at beside within) goes =
       let c = patch-comes at within clear in
       subst (To (lifts_all clear at beside within))
-      (sym (beside-fed (Patching 0 no_functions (marks_at t 0).planted clear) beside))
-      (patched clear (at, beside) within (first-comes within (with_fewer (traced_at t 0)) refl refl _ c.0 c.1) c.1,
-      (let a = c.0 in a.leaving) ∙ on)
+      (sym (beside-fed (Patching 0 no_functions (marks_at t 0).planted clear) beside)) (
+        patched clear (at, beside) within (first-comes within (with_fewer (traced_at t 0)) refl refl _ c.0 c.1) c.1,
+        (let a = c.0 in a.leaving) ∙ on,
+      )
   row-of (closes_files at idle within) goes =
       subst (To (closes_files at idle within)) (sym (staged-fed (Closing 0 GoOn) at idle))
       (closed-row (at, idle) within (without_last (traced_at t 0)) refl)
