@@ -204,8 +204,9 @@ module _ (n k : ℕ) (o : Options) (t0 : TrussState) (s : TracedState) (lawful :
     made-so (waits_again until at is within) =
         all-quiet (ap acts_by (sym (same_Some _ c (beside (AwaitingAgain until) is))))
     made-so (looks at idle within) =
+        let v : Traced = traced_at t 0 in
         let now = all-quiet (ap acts_by (sym (same_Some _ c (staged ReadingLwps at idle)))) in
-        (now, λ tells. less-now (traced_at t 0) (with_no_marks (traced_at t 0)) same (none_left has-none) (now 0 within))
+        (now, λ tells. less-now v (with_no_marks v) same (none_left has-none) (now 0 within))
       where
         same : SameFiles (traced_at t 0) (with_no_marks (traced_at t 0))
         same = record { pid = refl; control = refl; status = refl; lstatus = refl; memory = refl }

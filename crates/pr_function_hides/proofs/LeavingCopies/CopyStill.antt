@@ -55,7 +55,8 @@ module _ (t : TrussState) (known : Kept Knows t) (c : Call) (r : Reply) (has : h
             let some = has.1.1.1 in absurd (omega (arith, some, none, ap (λ i. (traced_at t i).old) same))
         by (inr other) = apart has.0 q has.1.0 within other has.1.1.0
 
-    still : WaitsAt t → (q : ℕ) → q < length t.traced → (seen : Bool) → IsStill t (record (traced_at t q) { seen = seen })
+    still : WaitsAt t → (q : ℕ) → q < length t.traced → (seen : Bool)
+        → IsStill t (record (traced_at t q) { seen = seen })
     still at q within seen =
         record { old = has-old q within; known = let w = all-known at q within in w.lstatus }
 

@@ -135,8 +135,8 @@ module _ (n k : ℕ) (o : Options) (s : TracedState) (h : List Entry) (run : IsF
             let follow = follow-there (Unit {0}) n k o s h run (λ r. reached) (λ r. bytes) f e later is in
             let has = has-there (Unit {0}) n k o s h run (λ r. reached) (λ r. bytes) f e later is in
             let l =
-            fed-left (NoStep pid) step-alike (λ u. Unit {0}) (λ u v same on old seen r. tt) (T f) x.reply g.on follow has
-            (λ i j one two other. its-apart k (T f) (S f) files i j one two other) (λ q within still. tt) g.at
+            fed-left (NoStep pid) step-alike (λ u. Unit {0}) (λ u v same on old seen r. tt) (T f) x.reply g.on follow
+            has (λ i j one two other. its-apart k (T f) (S f) files i j one two other) (λ q within still. tt) g.at
             (after-all (NoStep pid) step-alike (λ u. Unit {0}) (λ u v same on old seen r. tt) (T f) x.reply
             (λ v bare. bare) (λ v bare own. refl) step-lost all g.at) in
             inl l.each
