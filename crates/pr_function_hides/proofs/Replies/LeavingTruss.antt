@@ -14,9 +14,10 @@ use Rattle.pr_function_hides.proofs.Replies.PlantedReplies.{lost-marks}
 use Rattle.pr_function_hides.specs.Copying.{IsEmpty}
 use Rattle.pr_function_laws.proofs.LeavingProcesses.LeavingSteps.{FirstIs, IsAtNext, IsAtStep, Look, NextLeft, Then, Went}
 use Rattle.pr_function_laws.proofs.LeavingProcesses.LeavingSteps.{begins, ended, finished-fed, halted, has_read, is_gone}
-use Rattle.pr_function_laws.proofs.LeavingProcesses.LeavingSteps.{leaves, left-same, looked, loses, next-is, none_left}
+use Rattle.pr_function_laws.proofs.LeavingProcesses.LeavingSteps.{leaves, looked, loses, next-is, none_left}
 use Rattle.pr_function_laws.proofs.LeavingProcesses.LeavingSteps.{patched, shuts, step-unlooked, step_at, tells_last}
 use Rattle.pr_function_laws.proofs.LeavingProcesses.LeavingSteps.{tells_neither, tells_own, to_close, to_lift, to_read}
+use Rattle.pr_function_laws.proofs.LeavingProcesses.LeavingLaws.{left-same}
 use Rattle.pr_function_laws.specs.Leaving.{AsksAgain, Directs, HaltStep, Waits, WaitsAgain, halt_next}
 use Rattle.pr_model.specs.Replies.{until_in}
 use Rattle.pr_model.specs.declared.calls.Reply.{Reply}

@@ -120,6 +120,23 @@ halted-fed o has step u r options at beside = fed step at beside ∙ halted-is s
     fed AsksAgain at beside = fed-beside o has u r options ∙ ap (with_aside_answered u r) beside
     fed (WaitsAgain until) at beside = fed-beside o has u r options ∙ ap (with_aside_answered u r) beside
 
+-- ---- the next process
+
+pub going-is : (u : TrussState) → u.leaving ≡ true → with_going_on u ≡ with_next_left u
+unfolding with_going_on
+going-is u on = ap (λ b. cond b (with_next_left u) (polls_or_finished u (slice_get u.traced 0))) on
+
+pub left-same : (u : TrussState) → ((with_next_left u).traced ≡ u.traced) × ((with_next_left u).leaving ≡ u.leaving)
+unfolding with_next_left
+left-same u = by (slice_get u.traced 0)
+  where
+    by : (t : Option Traced)
+        → ((left_or_finished u t).traced ≡ u.traced) × ((left_or_finished u t).leaving ≡ u.leaving)
+    by None = (refl, refl)
+    by (Some t) = (refl, refl)
+
+-- ---- the calls by which it leaves one
+
 module _ (o : Options) (has : has_functions o ≡ true) (off : o.follow ≡ false) where
   -- truss leaves these processes, at this stage of the first one
   record On (ts : List Traced) (now : Stage) (aside : Aside) (u : TrussState) : Type 0 where
@@ -202,10 +219,6 @@ module _ (o : Options) (has : has_functions o ≡ true) (off : o.follow ≡ fals
 
   -- ---- one process after another
 
-  going-leaves : (u : TrussState) → u.leaving ≡ true → with_going_on u ≡ with_next_left u
-  unfolding with_going_on
-  going-leaves u on = ap (λ b. cond b (with_next_left u) (polls_or_finished u (slice_get u.traced 0))) on
-
   finished-none : (u : TrussState) (c : Call) → u.options ≡ o → u.aside ≡ Nothing
       → next_function_call_of (with_stage u Finished) ≡ Some c → ⊥
   unfolding function_call_of call_of
@@ -226,20 +239,12 @@ module _ (o : Options) (has : has_functions o ≡ true) (off : o.follow ≡ fals
       leave-one t ts (LeavesAll o ts)
       (λ v ys shut made_v calm_v.
       leave-all ts v ys shut.options shut.leaving shut.idle shut.traced
-      (subst (λ (y : TrussState). MakesFunctionCalls y ys) (going-leaves v shut.leaving) made_v) calm_v)
+      (subst (λ (y : TrussState). MakesFunctionCalls y ys) (going-is v shut.leaving) made_v) calm_v)
       t.attached (with_stage u stage) xs
       (record { options = options; leaves = leaves; stage = refl; beside = free; traced = traced })
       (subst (λ (vs : List Traced). MakesFunctionCalls (left_or_finished u (slice_get vs 0)) xs) traced made) calm
 
 -- ---- the interrupt
-
-left-traced : (u : TrussState) → (with_next_left u).traced ≡ u.traced
-unfolding with_next_left
-left-traced u = by (slice_get u.traced 0)
-  where
-    by : (first : Option Traced) → (left_or_finished u first).traced ≡ u.traced
-    by None = refl
-    by (Some t) = refl
 
 -- a wait was interrupted: truss begins to leave, as this one does
 record Begins (t : TrussState) (r : Reply) : Type 0 where
@@ -320,7 +325,7 @@ module _ (n k : ℕ) (o : Options) (s : TracedState) (h : List Entry) (run : IsF
         let g = here in
         let b = begins in
         let traced : (functions_at k o (before ++ e ∷ [])).traced ≡ b.from.traced =
-        ap (λ (v : TrussState). v.traced) (then-is ∙ b.is) ∙ left-traced b.from in
+        ap (λ (v : TrussState). v.traced) (then-is ∙ b.is) ∙ (left-same b.from).0 in
         subst (λ ts. LeavesAll o ts (exchanges k later)) (sym traced)
         (leave-all o run.has run.follows_none b.from.traced b.from (exchanges k later) (b.options ∙ g.options) b.leaves
         b.free refl (subst (λ (v : TrussState). MakesFunctionCalls v (exchanges k later)) b.is made.1)

@@ -11,8 +11,8 @@ use Rattle.pr_model.specs.declared.calls.Reply.{Reply}
 use Rattle.pr_rec.specs.declared.lwps.LwpStatus.{LwpStatus}
 use Rattle.pr_truss.specs.Asides.{has_fault_to_clear, lifts_at, marks_at, patching, with_aside, with_lifts}
 use Rattle.pr_truss.specs.Asides.{with_lifts_before_closing, with_marks}
-use Rattle.pr_truss.specs.Closings.{after_closing, closed_or_removed, left_or_finished, polls_or_finished, with_closed}
-use Rattle.pr_truss.specs.Closings.{with_closing, with_going_on, with_interrupt, with_next_left}
+use Rattle.pr_truss.specs.Closings.{after_closing, closed_or_removed, left_or_finished, with_closed}
+use Rattle.pr_truss.specs.Closings.{with_closing, with_interrupt, with_next_left}
 use Rattle.pr_truss.specs.Feeding.{with_reply}
 use Rattle.pr_truss.specs.FunctionCalls.{function_call_of, next_function_call_of}
 use Rattle.pr_truss.specs.FunctionEvents.{fresh_event, function_event}
@@ -48,7 +48,7 @@ use Rattle.pr_truss.specs.declared.stages.Stage.TheVariants.{Unfollowing}
 use Rattle.pr_truss_laws.proofs.Files.HeldLemmas.{at_place, set-at}
 use Rattle.pr_truss_laws.proofs.Replies.ReplySteps.{lost-same}
 use Rattle.pr_function_laws.proofs.Marks.KeptPlaces.{AtAside, AtStage, Position}
-use Rattle.pr_function_laws.proofs.LeavingProcesses.LeavingLaws.{halt_aside, halt_stage, halted-fed, next_aside, next_stage}
+use Rattle.pr_function_laws.proofs.LeavingProcesses.LeavingLaws.{going-is, halt_aside, halt_stage, halted-fed, left-same, next_aside, next_stage}
 use Rattle.pr_function_laws.proofs.LeavingProcesses.LeavingStages.{Alike, IsLeft, Looked, Over, TellsLast, alike-join}
 use Rattle.pr_function_laws.proofs.LeavingProcesses.LeavingStages.{alike-same, asks, awaits, lifted_after, with_fewer}
 use Rattle.pr_function_laws.proofs.LeavingProcesses.LeavingStages.{closes_files, closing-over, event-over, halts, has_ended, is_looked}
@@ -267,19 +267,6 @@ next-is u idle = by (slice_get u.traced 0) refl
     by None is = none_left (refl, idle) (none u.traced is)
     by (Some t) is =
         of t.attached (ap (λ (x : Traced). x.attached) (here u.traced t is)) (slice_get_within u.traced 0 t is)
-
-going-is : (u : TrussState) → u.leaving ≡ true → with_going_on u ≡ with_next_left u
-unfolding with_going_on
-going-is u on = ap (λ b. cond b (with_next_left u) (polls_or_finished u (slice_get u.traced 0))) on
-
-pub left-same : (u : TrussState) → ((with_next_left u).traced ≡ u.traced) × ((with_next_left u).leaving ≡ u.leaving)
-unfolding with_next_left
-left-same u = by (slice_get u.traced 0)
-  where
-    by : (t : Option Traced)
-        → ((left_or_finished u t).traced ≡ u.traced) × ((left_or_finished u t).leaving ≡ u.leaving)
-    by None = (refl, refl)
-    by (Some t) = (refl, refl)
 
 -- ---- truss that has looked at the first process
 
