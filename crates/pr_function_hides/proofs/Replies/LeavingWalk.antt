@@ -45,6 +45,7 @@ module _ (S : Traced → Type 0)
   abbrev pub After : (t : TrussState) → Reply → IsLeft t → Type 0
   After t r at = Leaving.After S alike R as_old Any none-asked t r at
 
+  -- it is so whatever is lifted, closed or replaced
   pub after-all : (t : TrussState) (r : Reply) → ((v : Traced) → S v → S (with_fewer v))
       → ((v : Traced) → S v → S (with_no_marks v)) → ((v u : Traced) → without_last v ≡ Some u → S v → S u)
       → Each S t.traced → (at : IsLeft t) → After t r at

@@ -84,6 +84,7 @@ IsAtStep t step = IsAt t (halt_stage step) (halt_aside step)
 abbrev pub IsAtNext : TrussState → HaltNext → Type 0
 IsAtNext v next = IsAt v (next_stage next) (next_aside next)
 
+-- a step of the stop is one of the places where truss may stand, and it has not looked at the process there
 abbrev pub step_at : (t : TrussState) (step : HaltStep) → IsAtStep t step → 0 < length t.traced → IsLeft t
 step_at t Directs at within = halts at.0 at.1 within
 step_at t (Waits until) at within = awaits until at.0 at.1 within
@@ -170,6 +171,7 @@ pub data Went (t : TrussState) (r : Reply) (v : TrussState) : IsLeft t → Type 
       → without_last (traced_at t 0) ≡ None → v.traced ≡ remove t.traced 0 → NextLeft v
       → Went t r v (closes_files at.0 at.1 within)
 
+-- so it was at this place, and it leaves on
 pub record LeavesOn (t : TrussState) (r : Reply) (w : IsLeft t) (v : TrussState) : Type 0 where
   pub went : Went t r v w
   pub on : v.leaving ≡ true
@@ -564,6 +566,7 @@ module _ (t : TrussState) (r : Reply) (on : t.leaving ≡ true) (follow : t.opti
   unfolding with_function_reply with_reply
   finished-fed at = staged-fed Finished at.0 at.1
 
+  -- it has not finished
   abbrev pub GoesOn : IsLeft t → Type 0
   GoesOn (has_ended at idle) = ⊥
   GoesOn w = Unit {0}
