@@ -4,7 +4,6 @@ pub mod CopyHalts
 pub mod CopyHistory
 pub mod CopyLeaves
 pub mod CopyLeavingCalls
-pub mod CopyLeavingReplies
 pub mod CopyLeft
 pub mod CopyLooks
 pub mod CopyStill

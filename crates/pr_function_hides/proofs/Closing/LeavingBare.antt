@@ -1,4 +1,4 @@
-use Rattle.std.proofs.Common.{◌≡◌, ◌⊎◌, ◌<◌, ℕ, true, false, Option, Some, None, length, refl, sym, subst}
+use Rattle.std.proofs.Common.{◌≡◌, ◌⊎◌, ◌<◌, ℕ, true, false, Option, Some, length, sym, subst}
 use Rattle.std.proofs.Common.{◌∙◌, inl, inr}
 use Rattle.pr_function_hides.proofs.Replies.BareStages.{BareIf, IsBare, Told}
 use Rattle.pr_function_hides.proofs.Copying.CopyOpening.{bare-marks}
@@ -6,7 +6,7 @@ use Rattle.pr_function_hides.proofs.Copying.CopyPlaces.{IsBareMarks}
 use Rattle.pr_function_hides.proofs.Replies.FilesWalk.{AreApart, SameFiles}
 use Rattle.pr_function_hides.proofs.Replies.LeavingBegins as Begins
 use Rattle.pr_function_hides.proofs.Replies.LeavingStages.{IsLeft, closes_files, lifted_after}
-use Rattle.pr_function_hides.proofs.Replies.LeavingStages.{lifts_all, looks, with_fewer}
+use Rattle.pr_function_hides.proofs.Replies.LeavingStages.{with_fewer}
 use Rattle.pr_function_hides.proofs.Replies.LeavingTruss as Leaving
 use Rattle.pr_function_hides.proofs.Replies.OwnFiles.{IsBeside, IsWithin}
 use Rattle.pr_function_hides.proofs.Replies.PlantedReplies.{lost-marks}
@@ -14,7 +14,7 @@ use Rattle.pr_function_hides.proofs.Replies.UnplantedReplies.{lifted-none}
 use Rattle.pr_model.specs.declared.calls.Call.{Call}
 use Rattle.pr_model.specs.declared.calls.Reply.{Reply}
 use Rattle.pr_report_laws.proofs.Files.KeepLemmas.{can_wait}
-use Rattle.pr_report_laws.proofs.Invariant.StandLemmas.{Each, each-but}
+use Rattle.pr_report_laws.proofs.Invariant.StandLemmas.{Each}
 use Rattle.pr_truss.specs.Asides.{marks_at}
 use Rattle.pr_truss.specs.FunctionCalls.{next_function_call_of}
 use Rattle.pr_truss.specs.FunctionFeeding.{fed_functions}
@@ -84,10 +84,8 @@ module _ (Ended : ℕ → Type 0) where
       by (inl over) = inl over
       by (inr bare) = inr (fewer-bare v.marks (first_function v.marks.planted) bare)
 
-  rest-so : (v : Traced) (x : Option Traced) → without_last v ≡ x → HasNoneUnattached v
-      → Leaving.Rest HasNoneUnattached none-alike NoneOld as-old Ended none-planted x
-  rest-so v None is so = tt
-  rest-so v (Some u) is so = λ not.
+  lost-so : (v u : Traced) → without_last v ≡ Some u → HasNoneUnattached v → HasNoneUnattached u
+  lost-so v u is so not =
       let same = lost-same v u is in
       by same.pid (so (sym same.attached ∙ not))
     where
@@ -95,22 +93,13 @@ module _ (Ended : ℕ → Type 0) where
       by same (inl over) = inl (subst Ended (sym same) over)
       by same (inr bare) = inr (subst IsBareMarks (sym (lost-marks v u is)) bare)
 
-  after-so : (t : TrussState) (r : Reply) → Each HasNoneUnattached t.traced → (w : IsLeft t)
-      → Leaving.After HasNoneUnattached none-alike NoneOld as-old Ended none-planted t r w
-  after-so t r all (looks at idle within) = (all, λ tells not. inr bare-marks)
-  after-so t r all (lifts_all clear at beside within) =
-      (each-but HasNoneUnattached t.traced 0 all, fewer-so (traced_at t 0) (all 0 within))
-  after-so t r all (closes_files at idle within) = (
-    each-but HasNoneUnattached t.traced 0 all,
-    rest-so (traced_at t 0) (without_last (traced_at t 0)) refl (all 0 within),
-  )
-  after-so t r all _ = all
-
   pub leaves-fed : (t : TrussState) (r : Reply) → t.options.follow ≡ false → has_functions t.options ≡ true
       → (w : LeavesBare t) → Told Ended t r w.at → LeavesBare (fed_functions t r)
   leaves-fed t r follow has w told =
       Leaving.fed-left HasNoneUnattached none-alike NoneOld as-old Ended none-planted t r w.on follow has w.apart
-      (λ q within still. tt) w.at (after-so t r w.each w.at) told w.bare
+      (λ q within still. tt) w.at
+      (Leaving.after-all HasNoneUnattached none-alike NoneOld as-old Ended none-planted t r fewer-so
+      (λ v so not. inr bare-marks) lost-so w.each w.at) told w.bare
 
   -- with the first interrupt
   pub leaves-begun : (t : TrussState) (r : Reply) → t.options.follow ≡ false → has_functions t.options ≡ true

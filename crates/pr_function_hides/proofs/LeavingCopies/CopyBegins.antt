@@ -6,22 +6,13 @@ use Rattle.pr_model.specs.Calls.{Answer, answer_to}
 use Rattle.pr_model.specs.State.{TracedProcess, TracedState, live_process}
 use Rattle.pr_model.specs.declared.calls.Call.{Call}
 use Rattle.pr_model.specs.declared.calls.Call.TheVariants as call
-use Rattle.pr_model.specs.declared.calls.Reply.{Reply}
 use Rattle.pr_report_laws.proofs.Invariant.StandLemmas.{Each}
-use Rattle.pr_truss.specs.FunctionCalls.{next_function_call_of}
-use Rattle.pr_truss.specs.FunctionFeeding.{fed_functions}
-use Rattle.pr_truss.specs.Marks.{has_functions}
-use Rattle.pr_truss.specs.Openings.{with_stop_seen}
-use Rattle.pr_truss.specs.Replies.{answer_of}
 use Rattle.pr_truss.specs.Trusses.{TrussState, traced_at}
-use Rattle.pr_truss.specs.declared.asides.Aside.TheVariants.{Nothing}
-use Rattle.pr_truss.specs.declared.replies.Answer.TheVariants.{Interrupted}
 use Rattle.pr_truss.specs.declared.stages.OpeningStep.TheVariants as opening
 use Rattle.pr_truss.specs.declared.stages.Stage.{Stage}
 use Rattle.pr_truss.specs.declared.stages.Stage.TheVariants.{Opening}
 use Rattle.pr_function_laws.proofs.Marks.KeptPlaces.{AtStage}
-use Rattle.pr_function_laws.proofs.LeavingProcesses.LeavingWaits.{WaitsAt, awaits_opening, interrupted_at, polls, waits-at, waits-fed}
-use Rattle.pr_truss.specs.Closings.{with_interrupt, with_next_left}
+use Rattle.pr_function_laws.proofs.LeavingProcesses.LeavingWaits.{WaitsAt, awaits_opening, polls}
 use Rattle.pr_function_laws.proofs.OpenedProcesses.OpenedCalls.{IsSo, lowest}
 use Rattle.pr_function_laws.proofs.OpenedProcesses.OpenedLaws.{Goes}
 use Rattle.pr_function_laws.proofs.Stepping.StretchLemmas.{frozen-halting}
@@ -30,10 +21,9 @@ use Rattle.pr_function_laws.specs.Soon.{may_wait}
 use Rattle.pr_function_laws.specs.Stretches.{acts_by}
 use Rattle.pr_function_hides.proofs.Copying.CopyFeeds.{opens-of, rests-of}
 use Rattle.pr_function_hides.proofs.Copying.CopyForeign.{traced-at}
-use Rattle.pr_function_hides.proofs.LeavingCopies.CopyLeaves.{Leaves, apart-alike}
+use Rattle.pr_function_hides.proofs.LeavingCopies.CopyLeaves.{HasOld}
 use Rattle.pr_function_hides.proofs.LeavingCopies.CopyLeavingCalls.{quiet}
-use Rattle.pr_function_hides.proofs.LeavingCopies.CopyLeavingReplies.{Comes, LeavesOn, comes-seen, interrupt-left, same-less}
-use Rattle.pr_function_hides.proofs.LeavingCopies.CopyLeft.{IsLeaving, LeavesSo, has_none, is_to_stop, less-leaving, traces_still}
+use Rattle.pr_function_hides.proofs.LeavingCopies.CopyLeft.{IsLeaving, LeavesSo, has_none, is_to_stop, traces_still}
 use Rattle.pr_function_hides.proofs.Copying.CopyPlaces.{CopiesSo, OpensSo, RestsSo, counted, early, is_about, rests_new}
 use Rattle.pr_function_hides.proofs.Copying.CopyPlaces.{rests_old, stopped}
 
@@ -49,11 +39,6 @@ waits-act (call.Until moment) waits = refl
 waits-act _ waits = absurd (false≢true waits)
 
 -- ---- the processes then
-
--- a process of this id has stops that stood before truss came
-abbrev pub HasOld : TrussState → ℕ → Type 0
-HasOld t pid =
-    (q : ℕ) × ((q < length t.traced) × (((traced_at t q).pid ≡ pid) × (0 < (traced_at t q).old)))
 
 module _ (n k : ℕ) (o : Options) (t : TrussState) (s : TracedState) (g : Goes (Unit {0}) k o t s)
     (cs : CopiesSo t s.system) where
@@ -121,51 +106,10 @@ module _ (n k : ℕ) (o : Options) (t : TrussState) (s : TracedState) (g : Goes 
         rests-leaving q within (ap (λ (y : Stage). is_about y q) at ∙ ne_eqb b q (λ same. apart (sym same)))
   ]
 
-  module _ (c : Call) (a : Answer) (given : answer_to s k c ≡ Some a)
-      (over : (pid : ℕ) → pid < s.system.made → live_process s.system pid ≡ None
-      → live_process a.state.system pid ≡ None) (has : has_functions o ≡ true)
-      (next : next_function_call_of t ≡ Some c) (waits : may_wait c ≡ true)
-      (interrupted : answer_of a.reply ≡ Interrupted) where
-    abbrev r : Reply
-    r = let b : Answer = a in b.reply
-
-    -- with its interrupt it leaves what it traces
-    begun : Comes t (record t { leaving = true }) → (w : WaitsAt t) → t.aside ≡ Nothing
-        → LeavesOn t (fed_functions t r)
-    unfolding interrupted_at with_interrupt with_stop_seen
-    begun comes w idle =
-        subst (LeavesOn t) (sym (waits-fed o has t g.options r interrupted idle w)) (by w)
-      where
-        by : (w : WaitsAt t) → LeavesOn t (with_next_left (interrupted_at t w))
-        by (awaits_opening q until at) =
-            interrupt-left t (with_stop_seen t q)
-            (comes-seen t (record t { leaving = true }) q (opening-within q until at) comes)
-        by (polls at) = interrupt-left t t comes
-
-    pub first-leaves : Leaves k o (HasOld t) (fed_functions t r) a.state
-    first-leaves =
-        let kept = g.kept in
-        let both = waits-at o has t g.options (IsSo (Unit {0}) k t.options s) c waits kept.stage kept.beside next in
-        let l = begun (comes-self both.0) both.1 both.0 in
-        record {
-          options = l.options ∙ g.options;
-          on = l.on;
-          stage = l.stage;
-          beside = l.beside;
-          each = λ q within.
-              less-leaving k o (HasOld t) a.state (traced_at t q) (traced_at (fed_functions t r) q) (l.less q)
-              (let inside = subst (λ m. q < m) l.many within in
-              quiet n k o (HasOld t) s g.lawful c a given over (waits-act c waits) (traced_at t q)
-              (all-leaving both.1 q inside));
-          apart = apart-alike t.traced (fed_functions t r).traced l.many
-              (λ i. let x = l.less i in let f = x.files in f.pid) kept.apart;
-        }
-      where
-        comes-self : t.aside ≡ Nothing → Comes t (record t { leaving = true })
-        comes-self idle = record {
-          options = refl;
-          on = refl;
-          idle = idle;
-          many = refl;
-          less = λ i. same-less (traced_at t i);
-        }
+  -- and so they are after the call that is interrupted
+  pub all-now : (c : Call) (a : Answer) → answer_to s k c ≡ Some a
+      → ((pid : ℕ) → pid < s.system.made → live_process s.system pid ≡ None
+      → live_process a.state.system pid ≡ None) → may_wait c ≡ true → WaitsAt t
+      → Each (IsLeaving k o (HasOld t) a.state) t.traced
+  all-now c a given over waits at q within =
+      quiet n k o t s g.lawful c a given over (waits-act c waits) (traced_at t q) (all-leaving at q within)

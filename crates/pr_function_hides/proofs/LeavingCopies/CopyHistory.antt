@@ -45,11 +45,11 @@ use Rattle.pr_function_laws.proofs.OrdinaryTruss.OrdinaryFiles.{entry-calm}
 use Rattle.pr_function_laws.proofs.NextCalls.PatchCalls.{next-staged}
 use Rattle.pr_function_laws.specs.Opened.{IsFunctionRun, WasNotInterrupted, functions_at}
 use Rattle.pr_function_laws.specs.Runs.{functions_after}
-use Rattle.pr_function_hides.proofs.LeavingCopies.CopyBegins.{HasOld, first-leaves}
-use Rattle.pr_function_hides.proofs.LeavingCopies.CopyLeaves.{IsLeavingStage, Leaves, foreign-leaves, leaving-finds-none}
+use Rattle.pr_function_hides.proofs.LeavingCopies.CopyBegins.{all-now}
+use Rattle.pr_function_hides.proofs.LeavingCopies.CopyLeaves.{HasOld, Leaves, foreign-leaves, leaving-finds-none, left-reads-none}
 use Rattle.pr_function_hides.proofs.LeavingCopies.CopyLeavingCalls.{call-leaves}
 use Rattle.pr_function_hides.proofs.LeavingCopies.CopyLooks.{look-finds-none}
-use Rattle.pr_function_hides.proofs.LeavingCopies.CopyStill.{StillLeft, still-begins, still-fed}
+use Rattle.pr_function_hides.proofs.LeavingCopies.CopyStill.{begins-to-leave}
 use Rattle.pr_function_hides.proofs.Replies.LeavingStages.{is_looked}
 use Rattle.pr_function_hides.proofs.Copying.CopyWalk.{exchanges-then, finds-none, goes, lawful-now, legal-now, next-is, own-answer, own-over, reads-lifted, stands-after, told-lives, truss-then}
 use Rattle.pr_function_hides.specs.Copying.{IsEmpty, makes_copy}
@@ -80,8 +80,7 @@ module _ (n k : ℕ) (o : Options) (s : TracedState) (h : List Entry) (run : IsF
   -- it was not interrupted yet, or leaves its processes
   data ComesTo (front : List Entry) : Type 0 where
     is_calm : Calm front → ComesTo front
-    leaves : (t : TrussState) → Leaves k o (HasOld t) (truss front) (now front) → StillLeft t (truss front)
-        → ComesTo front
+    leaves : (t : TrussState) → Leaves k o t (truss front) (now front) → ComesTo front
 
   -- ---- one entry
 
@@ -101,17 +100,14 @@ module _ (n k : ℕ) (o : Options) (s : TracedState) (h : List Entry) (run : IsF
     then-is x own = truss-then n k o s h run reached awake bytes opens front back e is x own
 
     own-later : (x : Exchange) → (own : exchange_of k e ≡ Some x) → (t : TrussState)
-        → (let it = answered x own in
-        Leaves k o (HasOld t) (fed_functions (truss front) it.answer.reply) it.answer.state)
-        → StillLeft t (fed_functions (truss front) x.reply) → ComesTo (front ++ e ∷ [])
-    own-later x own t w still =
+        → (let it = answered x own in Leaves k o t (fed_functions (truss front) it.answer.reply) it.answer.state)
+        → ComesTo (front ++ e ∷ [])
+    own-later x own t w =
         let it = answered x own in
         leaves t
-        (subst (λ (u : TrussState). Leaves k o (HasOld t) u (now (front ++ e ∷ []))) (sym (then-is (Some x) own))
-        (subst (λ (u : TracedState). Leaves k o (HasOld t) (fed_functions (truss front) x.reply) u)
-        (it.later ∙ later-state)
-        (subst (λ (y : Reply). Leaves k o (HasOld t) (fed_functions (truss front) y) it.answer.state) it.replied w)))
-        (subst (StillLeft t) (sym (then-is (Some x) own)) still)
+        (subst (λ (u : TrussState). Leaves k o t u (now (front ++ e ∷ []))) (sym (then-is (Some x) own))
+        (subst (λ (u : TracedState). Leaves k o t (fed_functions (truss front) x.reply) u) (it.later ∙ later-state)
+        (subst (λ (y : Reply). Leaves k o t (fed_functions (truss front) y) it.answer.state) it.replied w)))
 
     -- it was not interrupted before
     module _ (calm : Calm front) where
@@ -134,18 +130,13 @@ module _ (n k : ℕ) (o : Options) (s : TracedState) (h : List Entry) (run : IsF
           let it = answered x own in
           let st = stands-after n k o s h run reached awake bytes opens front (e ∷ back) is calm in
           let waits = entry-calm n k (now front) e x legal own in
-          let known = st.known in
+          let g = goes n k o s h run reached awake bytes opens front back e is calm in
           own-later x own (truss front)
-          (first-leaves n k o (truss front) (now front)
-          (goes n k o s h run reached awake bytes opens front back e is calm) st.copies x.call it.answer it.is
-          (own-over n k o s h run reached awake bytes opens front back e is x own) run.has
+          (begins-to-leave (truss front) st.known x.call it.answer.reply (ap has_functions g.options ∙ run.has)
           (next-is n k o s h run reached awake bytes opens front back e is x own) (waits.waits broken)
-          (ap answer_of (it.replied ∙ broken)))
-          (still-begins (truss front) known x.call x.reply
-          (let g = goes n k o s h run reached awake bytes opens front back e is calm in
-          ap has_functions g.options ∙ run.has)
-          (next-is n k o s h run reached awake bytes opens front back e is x own) (waits.waits broken)
-          (ap answer_of broken))
+          (ap answer_of (it.replied ∙ broken)) k o it.answer.state g.options
+          (all-now n k o (truss front) (now front) g st.copies x.call it.answer it.is
+          (own-over n k o s h run reached awake bytes opens front back e is x own) (waits.waits broken)))
 
       calm-next : ComesTo (front ++ e ∷ [])
       calm-next = by (exchange_of k e) refl
@@ -162,9 +153,8 @@ module _ (n k : ℕ) (o : Options) (s : TracedState) (h : List Entry) (run : IsF
           by (Some x) own = replied x own (is-interrupt x.reply)
 
     -- it leaves its processes
-    left-next : (t : TrussState) → Leaves k o (HasOld t) (truss front) (now front) → StillLeft t (truss front)
-        → ComesTo (front ++ e ∷ [])
-    left-next t w still = by (exchange_of k e) refl
+    left-next : (t : TrussState) → Leaves k o t (truss front) (now front) → ComesTo (front ++ e ∷ [])
+    left-next t w = by (exchange_of k e) refl
       where
         lawful : IsLawful (now front)
         lawful = lawful-now n k o s h run reached awake bytes opens front back e is
@@ -172,22 +162,19 @@ module _ (n k : ℕ) (o : Options) (s : TracedState) (h : List Entry) (run : IsF
         by : (x : Option Exchange) → exchange_of k e ≡ x → ComesTo (front ++ e ∷ [])
         by None own =
             leaves t
-            (subst (λ (u : TrussState). Leaves k o (HasOld t) u (now (front ++ e ∷ []))) (sym (then-is None own))
-            (subst (λ (u : TracedState). Leaves k o (HasOld t) (truss front) u) later-state
-            (foreign-leaves n k o (now front) lawful e legal own (truss front) w)))
-            (subst (StillLeft t) (sym (then-is None own)) still)
+            (subst (λ (u : TrussState). Leaves k o t u (now (front ++ e ∷ []))) (sym (then-is None own))
+            (subst (λ (u : TracedState). Leaves k o t (truss front) u) later-state
+            (foreign-leaves n k o (now front) lawful e legal own t (truss front) w)))
         by (Some x) own =
             let it = answered x own in
             own-later x own t
-            (call-leaves n k o (HasOld t) (now front) lawful x.call it.answer it.is
+            (call-leaves n k o t (now front) lawful x.call it.answer it.is
             (own-over n k o s h run reached awake bytes opens front back e is x own) (truss front) w run.has
             run.follows_none (next-is n k o s h run reached awake bytes opens front back e is x own))
-            (still-fed t (truss front) x.reply (ap has_functions w.options ∙ run.has)
-            (ap (λ (p : Options). p.follow) w.options ∙ run.follows_none) still)
 
     entry-comes : ComesTo front → ComesTo (front ++ e ∷ [])
     entry-comes (is_calm calm) = calm-next calm
-    entry-comes (leaves t w still) = left-next t w still
+    entry-comes (leaves t w) = left-next t w
 
   -- ---- all of them
 
@@ -208,7 +195,7 @@ module _ (n k : ℕ) (o : Options) (s : TracedState) (h : List Entry) (run : IsF
     where
       by : ComesTo front → Calm front
       by (is_calm calm) = calm
-      by (leaves t w still) = absurd (false≢true (sym off ∙ w.on))
+      by (leaves t w) = absurd (false≢true (sym off ∙ (let l = w.left in l.on)))
 
   -- ---- what is granted, and what is read
 
@@ -229,8 +216,8 @@ module _ (n k : ℕ) (o : Options) (s : TracedState) (h : List Entry) (run : IsF
       by : ComesTo front → IsEmpty (marks_at (truss front) place).planted
       by (is_calm calm) =
           finds-none n k o s h run reached awake bytes opens front back place id turned is calm within makes
-      by (leaves t w still) =
-          leaving-finds-none k o (truss front) (now front)
+      by (leaves t w) =
+          leaving-finds-none k o t (truss front) (now front)
           (lawful-now n k o s h run reached awake bytes opens front back e is) w place within id
           (record { system = its.0; turned = turned }) its.1 makes
 
@@ -241,7 +228,7 @@ module _ (n k : ℕ) (o : Options) (s : TracedState) (h : List Entry) (run : IsF
     where
       by : ComesTo front → Calm front
       by (is_calm calm) = calm
-      by (leaves t w still) = absurd (subst (IsLeavingStage (length (truss front).traced)) reads w.stage)
+      by (leaves t w) = absurd (left-reads-none (truss front) place (let l = w.left in l.at) reads)
 
   -- a process of which truss was told a status lives
   pub status-lives : (front back : List Entry) (e : Entry) (x : Exchange) (place : ℕ) → h ≡ front ++ e ∷ back
@@ -269,15 +256,16 @@ module _ (n k : ℕ) (o : Options) (s : TracedState) (h : List Entry) (run : IsF
           let kept = g.kept in
           absurd
           (subst (AtStage (IsSo (Unit {0}) k (truss front).options (now front)) (truss front).traced) reads kept.stage)
-      by (leaves t w still) =
+      by (leaves t w) =
           let it = answered front back e is x own in
-          let old = still.unlooked 0 within (λ looks. absurd (false≢true (ap is_looked (sym reads) ∙ looks))) in
+          let here = w.left in
+          let old = here.unlooked 0 within (λ looks. absurd (false≢true (ap is_looked (sym reads) ∙ looks))) in
           let known = old.known in
           let has : has_functions (truss front).options ≡ true = ap has_functions w.options ∙ run.has in
           look-finds-none k o (HasOld t) (now front)
           (later-reached n s front reached (bytes-front front (e ∷ back) (subst HasBytes is bytes))
           (front-legal n s front (e ∷ back) (subst (IsLegal n s) is run.legal))) (traced_at (truss front) 0)
-          (w.each 0 within) known.number known.is x.call it.answer
+          (here.each 0 within) known.number known.is x.call it.answer
           (same_Some x.call _
           (sym (next-is n k o s h run reached awake bytes opens front back e is x own)
           ∙ next-staged (truss front).options has (truss front) ReadingLwps refl idle reads)) it.is

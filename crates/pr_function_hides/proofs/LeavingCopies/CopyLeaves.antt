@@ -1,4 +1,5 @@
-use Rattle.std.proofs.Common.{◌≡◌, ◌<◌, ℕ, suc, true, None, List, [], ◌∷◌, length, sym, ◌∙◌, arith, Some}
+use Rattle.std.proofs.Common.{◌≡◌, ◌≢◌, ◌<◌, ℕ, Bool, true, false, None, Some, length, sym, subst, ap, ◌∙◌}
+use Rattle.std.proofs.lemmas.Bool.{false≢true}
 use Rattle.pr_line.specs.declared.options.Options.{Options}
 use Rattle.pr_model.proofs.TurnLemmas.{turn-taken}
 use Rattle.pr_model.specs.Lawful.{IsLawful}
@@ -6,65 +7,78 @@ use Rattle.pr_model.specs.Legal.{IsLegalEntry, after}
 use Rattle.pr_model.specs.LwpTurns.{LwpTurn, turn_of}
 use Rattle.pr_model.specs.State.{TracedProcess, TracedState, live_process}
 use Rattle.pr_model.specs.declared.events.Entry.{Entry}
-use Rattle.pr_report_laws.proofs.Invariant.StandLemmas.{Each}
+use Rattle.pr_report_laws.proofs.Invariant.StandLemmas.{IsThere}
 use Rattle.pr_truss.specs.Asides.{marks_at}
-use Rattle.pr_truss.specs.Marks.{first_function}
 use Rattle.pr_truss.specs.Trusses.{TrussState, traced_at}
-use Rattle.pr_truss.specs.declared.asides.Aside.{Aside}
-use Rattle.pr_truss.specs.declared.asides.Aside.TheVariants.{Nothing, Patching, AwaitingStop, Asking, AwaitingAgain}
 use Rattle.pr_truss.specs.declared.processes.Traced.{Traced}
-use Rattle.pr_truss.specs.declared.stages.AfterClosing.TheVariants.{GoOn}
 use Rattle.pr_truss.specs.declared.stages.Stage.{Stage}
-use Rattle.pr_truss.specs.declared.stages.Stage.TheVariants.{ReadingText, Closing, Unfollowing, ReadingLwps, Finished}
-use Rattle.pr_truss_laws.proofs.Files.HeldLemmas.{at_place}
+use Rattle.pr_truss.specs.declared.stages.Stage.TheVariants.{ReadingStatus}
 use Rattle.pr_truss_laws.specs.Exchanges.{exchange_of}
 use Rattle.pr_function_laws.proofs.Stepping.BreakpointLemmas.{IsForeign, foreign-entry}
-use Rattle.pr_function_laws.proofs.Marks.KeptPlaces.{Apart}
-use Rattle.pr_function_hides.proofs.LeavingCopies.CopyLeft.{IsLeaving, LeavesSo, alone-left, held-on, left-on, turn-finds-none, turn-leaves}
+use Rattle.pr_function_hides.proofs.LeavingCopies.CopyLeft.{AreFewer, IsLeaving, LeavesSo, alone-left, held-on, left-on}
+use Rattle.pr_function_hides.proofs.LeavingCopies.CopyLeft.{less-leaving, same-fewer, turn-finds-none, turn-leaves}
+use Rattle.pr_function_hides.proofs.Replies.FilesWalk.{SameFiles}
+use Rattle.pr_function_hides.proofs.Replies.LeavingStages.{IsLeft, asks, awaits, closes_files, halts, has_ended, lifts_all}
+use Rattle.pr_function_hides.proofs.Replies.LeavingStages.{looks, reads_text, waits_again}
+use Rattle.pr_function_hides.proofs.Replies.LeavingWalk.{Left}
 use Rattle.pr_function_hides.proofs.StoppedCopies.CopyPasses.{Passed, alone, passed, turned}
 use Rattle.pr_function_hides.specs.Copying.{IsEmpty, makes_copy}
 
--- Truss that leaves its processes: where it may have come, what is so of each process that it has still to leave, and
--- that what others do leaves that.
+-- Truss that leaves its processes: what is so of each process that it has still to leave, and that what others do
+-- leaves that.
 
--- ---- where it has come
+-- ---- what is so of each
 
--- What it does next it does for one of so many processes, or it has finished.
-abbrev pub IsLeavingStage : ℕ → Stage → Type 0
-IsLeavingStage n Unfollowing = 0 < n
-IsLeavingStage n ReadingLwps = 0 < n
-IsLeavingStage n (ReadingText q l from len) = q < n
-IsLeavingStage n (Closing q GoOn) = q < n
-IsLeavingStage n Finished = Unit {0}
-IsLeavingStage n _ = ⊥
+-- also of another record with the same files and marks
+pub leaving-alike : (k : ℕ) (o : Options) (May : ℕ → Type 0) (s : TracedState) (u v : Traced) → SameFiles u v
+    → v.attached ≡ u.attached → v.marks ≡ u.marks → IsLeaving k o May s u → IsLeaving k o May s v
+leaving-alike k o May s u v same attached marks =
+    less-leaving k o May s u v
+    (record { files = same; marks = subst (AreFewer u.marks) (sym marks) (same-fewer u.marks) })
 
--- before that it waits for a stop, asks for one again, or lifts breakpoints; it plants none
-abbrev pub IsLeavingAside : ℕ → Aside → Type 0
-IsLeavingAside n Nothing = Unit {0}
-IsLeavingAside n (Patching q plants lifts clear) = (q < n) × (first_function plants ≡ None)
-IsLeavingAside n (AwaitingStop until) = 0 < n
-IsLeavingAside n Asking = 0 < n
-IsLeavingAside n (AwaitingAgain until) = 0 < n
-IsLeavingAside n _ = ⊥
+-- a process of this id had stops that stood before truss came
+abbrev pub HasOld : TrussState → ℕ → Type 0
+HasOld t pid =
+    (q : ℕ) × ((q < length t.traced) × (((traced_at t q).pid ≡ pid) × (0 < (traced_at t q).old)))
 
-pub record Leaves (k : ℕ) (o : Options) (May : ℕ → Type 0) (t : TrussState) (s : TracedState) : Type 0 where
+-- and of each that it has still to look at what it had of it when it was interrupted, where it stood so: the process
+-- has its old stops still, and truss knows its file of the lwps
+pub record IsStill (t : TrussState) (v : Traced) : Type 0 where
+  pub old : HasOld t v.pid → v.old ≢ 0
+  pub known : IsThere v.lstatus
+
+pub as-still : (t : TrussState) (u v : Traced) → SameFiles u v → v.attached ≡ u.attached → v.old ≡ u.old
+    → v.seen ≡ u.seen → IsStill t u
+    → IsStill t v
+as-still t u v same attached old seen it = record {
+  old = λ has none. it.old (subst (HasOld t) same.pid has) (sym old ∙ none);
+  known = let x = it.known in record { number = x.number; is = same.lstatus ∙ x.is };
+}
+
+-- truss that was interrupted where it stood as the first one
+pub record Leaves (k : ℕ) (o : Options) (t0 t : TrussState) (s : TracedState) : Type 0 where
   pub options : t.options ≡ o
-  pub on : t.leaving ≡ true
-  pub stage : IsLeavingStage (length t.traced) t.stage
-  pub beside : IsLeavingAside (length t.traced) t.aside
-  pub each : Each (IsLeaving k o May s) t.traced
-  pub apart : Apart t.traced
+  pub left : Left (IsLeaving k o (HasOld t0) s) (leaving-alike k o (HasOld t0) s) (IsStill t0) (as-still t0) t
 
--- other records of the same processes
-pub apart-alike : (ts us : List Traced) → length us ≡ length ts
-    → ((i : ℕ) → (at_place us i).pid ≡ (at_place ts i).pid) → Apart ts → Apart us
-apart-alike [] [] many same a = tt
-apart-alike [] (u ∷ us) many same a = absurd (omega (arith, many))
-apart-alike (t ∷ ts) [] many same a = absurd (omega (arith, many))
-apart-alike (t ∷ ts) (u ∷ us) many same a = (
-  (λ j inside other. a.0 j (omega (arith, inside, many)) (sym (same (suc j)) ∙ other ∙ same 0)),
-  apart-alike ts us (omega (arith, many)) (λ i. same (suc i)) a.1,
-)
+-- it reads no status
+reads_status : Stage → Bool
+reads_status (ReadingStatus q) = true
+reads_status stage = false
+
+pub left-reads-none : (t : TrussState) (place : ℕ) → IsLeft t → t.stage ≡ ReadingStatus place → ⊥
+unfolding reads_status
+left-reads-none t place w reads = false≢true (sym (none w) ∙ ap reads_status reads)
+  where
+    none : IsLeft t → reads_status t.stage ≡ false
+    none (halts at idle within) = ap reads_status at
+    none (awaits until at beside within) = ap reads_status at
+    none (asks at beside within) = ap reads_status at
+    none (waits_again until at beside within) = ap reads_status at
+    none (looks at idle within) = ap reads_status at
+    none (reads_text l from len at idle within) = ap reads_status at
+    none (lifts_all clear at beside within) = ap reads_status at
+    none (closes_files at idle within) = ap reads_status at
+    none (has_ended at idle) = ap reads_status at
 
 -- ---- an entry of others
 
@@ -89,24 +103,28 @@ module _ (n k : ℕ) (o : Options) (s : TracedState) (lawful : IsLawful s) (e : 
       by q p live (turned own turn is at) so =
           turn-leaves o v.marks s.system v.pid p own turn lawful.system live is q at so
 
-  pub foreign-leaves : {May : ℕ → Type 0} (t : TrussState) → Leaves k o May t s → Leaves k o May t (after s e)
-  foreign-leaves t w = record {
-    options = w.options;
-    on = w.on;
-    stage = w.stage;
-    beside = w.beside;
-    each = λ q within. leaving-one (traced_at t q) (w.each q within);
-    apart = w.apart;
-  }
+  pub foreign-leaves : (t0 t : TrussState) → Leaves k o t0 t s → Leaves k o t0 t (after s e)
+  foreign-leaves t0 t w =
+      let l = w.left in
+      record {
+        options = w.options;
+        left = record {
+          on = l.on;
+          at = l.at;
+          bare = l.bare;
+          each = λ q within. leaving-one (traced_at t q) (l.each q within);
+          apart = l.apart;
+          unlooked = l.unlooked;
+        };
+      }
 
 -- ---- a call that copies or replaces the memory
 
-pub leaving-finds-none : {May : ℕ → Type 0} (k : ℕ) (o : Options) (t : TrussState) (s : TracedState) → IsLawful s
-    → Leaves k o May t s
-    → (place : ℕ) → place < length t.traced → (id : ℕ) (turn : LwpTurn)
+pub leaving-finds-none : (k : ℕ) (o : Options) (t0 t : TrussState) (s : TracedState) → IsLawful s
+    → Leaves k o t0 t s → (place : ℕ) → place < length t.traced → (id : ℕ) (turn : LwpTurn)
     → turn_of s.system (traced_at t place).pid id ≡ Some turn → makes_copy turn.turned.did ≡ true
     → IsEmpty (marks_at t place).planted
-leaving-finds-none k o t s lawful w place within id turn is makes =
+leaving-finds-none k o t0 t s lawful w place within id turn is makes =
     let it = turn-taken s.system (traced_at t place).pid id turn is in
     turn-finds-none o (marks_at t place) s.system (traced_at t place).pid it.process id turn lawful.system it.live is
-    makes (let h = w.each place within in h.stands it.process it.live)
+    makes (let l = w.left in let h = l.each place within in h.stands it.process it.live)

@@ -1,6 +1,5 @@
-use Rattle.std.proofs.Common.{◌≡◌, ◌≢◌, ◌<◌, ℕ, true, false, cond, Option, Some, None, List, [], length, refl, sym}
+use Rattle.std.proofs.Common.{◌≡◌, ◌≢◌, ◌<◌, ℕ, true, false, Option, Some, None, List, [], length, refl, sym}
 use Rattle.std.proofs.Common.{subst, ap, ◌∙◌}
-use Rattle.std.proofs.lemmas.List.{length-set}
 use Rattle.std.proofs.lemmas.Option.{none-some, same_Some}
 use Rattle.pr_line.specs.declared.options.Options.{Options}
 use Rattle.pr_model.specs.Calls.{Answer, answer_to}
@@ -18,15 +17,15 @@ use Rattle.pr_model.specs.declared.handles.Held.{Held}
 use Rattle.pr_num.specs.Limits.{instruction_size}
 use Rattle.pr_num.specs.Messages.{spelling}
 use Rattle.pr_num.specs.declared.messages.Message.TheVariants as message
-use Rattle.pr_report_laws.proofs.Invariant.StandLemmas.{Each, EachBut, each-join, each-remove, each-set}
-use Rattle.pr_truss.specs.Closings.{after_closing, closed_or_removed, with_closed, with_going_on}
-use Rattle.pr_truss.specs.Feeding.{with_reply}
+use Rattle.pr_report_laws.proofs.Invariant.StandLemmas.{Each, EachBut, each-but, each-join}
+use Rattle.pr_truss.specs.Asides.{marks_at}
 use Rattle.pr_truss.specs.FunctionCalls.{call_beside, function_call_of, next_function_call_of, patch_call}
-use Rattle.pr_truss.specs.FunctionFeeding.{fed_functions, with_aside_answered, with_function_reply}
-use Rattle.pr_truss.specs.Marks.{address_of, code_of, first_function, has_functions}
-use Rattle.pr_truss.specs.NextCalls.{call_of, next_call_of}
+use Rattle.pr_truss.specs.FunctionFeeding.{fed_functions}
+use Rattle.pr_truss.specs.Marks.{address_of, code_of, first_function, has_functions, no_functions}
+use Rattle.pr_truss.specs.declared.marks.Marks.{Marks}
+use Rattle.pr_truss.specs.NextCalls.{call_of}
 use Rattle.pr_truss.specs.Processes.{last_handle, without_last}
-use Rattle.pr_truss.specs.Trusses.{TrussState, traced_at, without_traced}
+use Rattle.pr_truss.specs.Trusses.{TrussState, traced_at}
 use Rattle.pr_truss.specs.declared.asides.Aside.{Aside}
 use Rattle.pr_truss.specs.declared.asides.Aside.TheVariants.{Nothing, Patching, AwaitingStop, Asking, AwaitingAgain}
 use Rattle.pr_truss.specs.declared.processes.Traced.{Traced}
@@ -36,28 +35,39 @@ use Rattle.pr_truss.specs.declared.stages.Stage.{Stage}
 use Rattle.pr_truss.specs.declared.stages.Stage.TheVariants.{Closing, Finished, ReadingLwps, ReadingText, Unfollowing}
 use Rattle.pr_truss_laws.proofs.Files.OpensLemmas.{held_by}
 use Rattle.pr_truss_laws.proofs.Replies.ReplySteps.{lost-same}
-use Rattle.pr_function_laws.proofs.Marks.KeptPlaces.{Apart, apart-remove, apart-set}
 use Rattle.pr_function_laws.proofs.OpenedProcesses.OpenedLemmas.{Holds, LeftFiles, elsewhere-goes, last-own, left-holds}
 use Rattle.pr_function_laws.specs.Stretches.{acts_by}
 use Rattle.pr_function_hides.proofs.Files.CallFacts.{keeps-there}
 use Rattle.pr_function_hides.proofs.Copying.CopyActs.{elsewhere-alone, read-closed}
 use Rattle.pr_function_hides.proofs.Copying.CopyClosing.{last-read}
 use Rattle.pr_function_hides.proofs.LeavingCopies.CopyHalts.{BeginLeaving, cfault-leaves, sent-left, stop-leaves, write-leaves, wstop-leaves}
-use Rattle.pr_function_hides.proofs.LeavingCopies.CopyLeaves.{IsLeavingAside, IsLeavingStage, Leaves, apart-alike}
-use Rattle.pr_function_hides.proofs.LeavingCopies.CopyLeavingReplies.{LeavesOn, aside-on, comes-here, fed-is, going-left, stage-on}
-use Rattle.pr_function_hides.proofs.LeavingCopies.CopyLeft.{IsLeaving, LeavesSo, alone-left, held-on, left-on, less-leaving}
+use Rattle.pr_function_hides.proofs.LeavingCopies.CopyLeaves.{HasOld, IsStill, Leaves, as-still, leaving-alike}
+use Rattle.pr_function_hides.proofs.LeavingCopies.CopyLeft.{AreFewer, IsLeaving, LeavesSo, alone-left, fewer, held-on}
+use Rattle.pr_function_hides.proofs.LeavingCopies.CopyLeft.{left-on, less-leaving, none_left, same-fewer}
+use Rattle.pr_function_hides.proofs.Replies.FilesWalk.{SameFiles, apart-of}
+use Rattle.pr_function_hides.proofs.Replies.FunctionSets.{has-none, has-without}
+use Rattle.pr_function_hides.proofs.Replies.LeavingStages.{IsLeft, asks, awaits, closes_files, halts, has_ended}
+use Rattle.pr_function_hides.proofs.Replies.LeavingStages.{lifted_after, lifts_all, looks, reads_text, waits_again}
+use Rattle.pr_function_hides.proofs.Replies.LeavingStages.{with_fewer, with_no_marks}
+use Rattle.pr_function_hides.proofs.Replies.LeavingWalk.{After, Rest, fed-left}
+use Rattle.pr_function_hides.proofs.Replies.TreatedEvents.{first-of-none}
+use Rattle.pr_function_laws.proofs.NextCalls.PatchCalls.{next-beside, next-staged}
+use Rattle.pr_truss_laws.proofs.Replies.FunctionOptionLemmas.{fed_functions-options}
 use Rattle.pr_function_hides.proofs.Copying.CopyOwn.{acts-apart}
 use Rattle.pr_function_hides.proofs.Replies.PlantedReplies.{lost-marks}
 
 -- Each call of truss that leaves its processes, and its reply, leaves them as they are to stand: it asks a process to
 -- stop, waits for that, reads, lifts breakpoints, clears a fault, or closes a file.
 
-module _ (n k : ℕ) (o : Options) (May : ℕ → Type 0) (s : TracedState) (lawful : IsLawful s) (c : Call) (a : Answer)
+module _ (n k : ℕ) (o : Options) (t0 : TrussState) (s : TracedState) (lawful : IsLawful s) (c : Call) (a : Answer)
     (given : answer_to s k c ≡ Some a)
     (over : (pid : ℕ) → pid < s.system.made → live_process s.system pid ≡ None
     → live_process a.state.system pid ≡ None) where
   abbrev r : Reply
   r = let b : Answer = a in b.reply
+
+  abbrev May : ℕ → Type 0
+  May = HasOld t0
 
   abbrev Was : Traced → Type 0
   Was v = IsLeaving k o May s v
@@ -118,27 +128,36 @@ module _ (n k : ℕ) (o : Options) (May : ℕ → Type 0) (s : TracedState) (law
           let read = last-read k o s v u v.memory v.lstatus v.status w.files left in
           read-closed n k s lawful c a given over (last_handle v) read.0 read.1.0 read.1.1 is
 
+  -- with fewer breakpoints
+  less-now : (v u : Traced) → SameFiles v u → AreFewer v.marks u.marks → Now v → Now u
+  less-now v u same less =
+      less-leaving k o May (let b : Answer = a in b.state) v u (record { files = same; marks = less })
+
   -- ---- all of them
 
-  module _ (t : TrussState) (w : Leaves k o May t s) (has : has_functions o ≡ true) (off : o.follow ≡ false)
+  module _ (t : TrussState) (w : Leaves k o t0 t s) (has : has_functions o ≡ true) (off : o.follow ≡ false)
       (next : next_function_call_of t ≡ Some c) where
+    all-were : Each Was t.traced
+    all-were = let l = w.left in l.each
+
     all-quiet : acts_by c ≡ None → Each Now t.traced
-    all-quiet none q within = quiet none (traced_at t q) (w.each q within)
+    all-quiet none q within = quiet none (traced_at t q) (all-were q within)
 
-    others : (q : ℕ) → q < length t.traced → (m : ℕ) (f : File) (mode : Mode) → acts_by c ≡ Some m
-        → handle_of s.opens k m ≡ Some (held_by k (traced_at t q).pid 0 f mode) → EachBut Now t.traced q
-    others q within m f mode acts there place inside other =
-        away (traced_at t place) (acts-apart k s c t.traced w.apart q within m f mode acts there place inside other)
-        (w.each place inside)
+    others : 0 < length t.traced → (m : ℕ) (f : File) (mode : Mode) → acts_by c ≡ Some m
+        → handle_of s.opens k m ≡ Some (held_by k (traced_at t 0).pid 0 f mode) → EachBut Now t.traced 0
+    others within m f mode acts there place inside other =
+        away (traced_at t place)
+        (acts-apart k s c t.traced (let l = w.left in apart-of t.traced l.apart) 0 within m f mode acts there place
+        inside other) (all-were place inside)
 
-    all-sent : (q : ℕ) → q < length t.traced → (bytes : List ℕ) → c ≡ call.Ctl (traced_at t q).control bytes
+    all-sent : 0 < length t.traced → (bytes : List ℕ) → c ≡ call.Ctl (traced_at t 0).control bytes
         → BeginLeaving bytes → Each Now t.traced
-    all-sent q within bytes is begins =
-        let h = w.each q within in
+    all-sent within bytes is begins =
+        let h = all-were 0 within in
         let f = h.files in
-        each-join Now t.traced q
-        (others q within (traced_at t q).control file.Ctl WriteExcl (ap acts_by is) f.its)
-        (sent (traced_at t q) bytes is begins h)
+        each-join Now t.traced 0
+        (others within (traced_at t 0).control file.Ctl WriteExcl (ap acts_by is) f.its)
+        (sent (traced_at t 0) bytes is begins h)
 
     follow : t.options.follow ≡ false
     follow = ap (λ (x : Options). x.follow) w.options ∙ off
@@ -146,116 +165,79 @@ module _ (n k : ℕ) (o : Options) (May : ℕ → Type 0) (s : TracedState) (law
     has-now : has_functions t.options ≡ true
     has-now = ap has_functions w.options ∙ has
 
-    abbrev Done : TrussState → Type 0
-    Done u = Leaves k o May u (let b : Answer = a in b.state)
+    -- ---- a row a place
 
-    goes-to : (z u : TrussState) → z.options ≡ o → Each Now z.traced → Apart z.traced → LeavesOn z u → Done u
-    goes-to z u options each apart l = record {
-      options = l.options ∙ options;
-      on = l.on;
-      stage = l.stage;
-      beside = l.beside;
-      each = λ q within.
-          less-leaving k o May a.state (traced_at z q) (traced_at u q) (l.less q)
-          (each q (subst (λ n. q < n) l.many within));
-      apart = apart-alike z.traced u.traced l.many (λ i. let x = l.less i in let f = x.files in f.pid) apart;
-    }
+    staged : (stage : Stage) → t.stage ≡ stage → t.aside ≡ Nothing → function_call_of t stage ≡ Some c
+    staged stage at idle = sym (next-staged t.options has-now t stage refl idle at) ∙ next
 
-    -- ---- a file is closed
+    beside : (aside : Aside) → t.aside ≡ aside → call_beside t t.stage aside ≡ Some c
+    beside aside is = sym (next-beside t.options has-now t refl ∙ ap (call_beside t t.stage) is) ∙ next
 
-    module _ (q : ℕ) (within : q < length t.traced) (idle : t.aside ≡ Nothing)
-        (is : c ≡ call.Close (last_handle (traced_at t q))) where
-      abbrev v : Traced
-      v = traced_at t q
+    -- what a lift or the clearing of the fault sends
+    lift-sent : 0 < length t.traced → (lift : Option ℕ)
+        → patch_call t.options (traced_at t 0).control None lift ≡ c → Each Now t.traced
+    lift-sent within (Some i) is =
+        all-sent within _ (sym is) (write-leaves (address_of t.options i) instruction_size (code_of t.options i))
+    lift-sent within None is = all-sent within (spelling message.Cfault []) (sym is) cfault-leaves
 
-      here : Was v
-      here = w.each q within
+    fewer-planted : (m : Marks) (lift : Option ℕ)
+        → AreFewer m (record m { planted = lifted_after m.planted lift })
+    fewer-planted m None = same-fewer m
+    fewer-planted m (Some i) =
+        fewer (λ function has. (let it = has-without m.planted i function has in it.has)) refl refl
 
-      close-others : EachBut Now t.traced q
-      close-others =
-          let h = here in
-          let last = last-own n k o s lawful c a given over v h.files in
-          others q within (last_handle v) last.its_file last.its_mode (ap acts_by is) last.there
+    rest-made : 0 < length t.traced → c ≡ call.Close (last_handle (traced_at t 0)) → (x : Option Traced)
+        → without_last (traced_at t 0) ≡ x
+        → Rest Now (leaving-alike k o May (let b : Answer = a in b.state)) (IsStill t0) (as-still t0) x
+    rest-made within is None left = tt
+    rest-made within is (Some u) left = lost (traced_at t 0) u left is (all-were 0 within)
 
-      close-done : (x : Option Traced) → without_last v ≡ x → Done (closed_or_removed t q GoOn x)
-      unfolding after_closing
-      close-done None left =
-          let z : TrussState = without_traced t q in
-          goes-to z (with_going_on z) w.options (each-remove Now t.traced q within close-others)
-          (apart-remove t.traced q within w.apart) (going-left z z (comes-here z w.on idle))
-      close-done (Some u) left = record {
-        options = w.options;
-        on = w.on;
-        stage = subst (λ n. IsLeavingStage n t.stage) (sym (length-set t.traced q u)) w.stage;
-        beside = subst (λ n. IsLeavingAside n t.aside) (sym (length-set t.traced q u)) w.beside;
-        each = each-set Now t.traced q u within close-others (lost v u left is here);
-        apart = apart-set t.traced q u within (let same = lost-same v u left in same.pid) w.apart;
-      }
-
-    -- ---- the call of a stage
-
-    staged-done : t.aside ≡ Nothing → (stage : Stage) → t.stage ≡ stage → IsLeavingStage (length t.traced) stage
-        → ((q : ℕ) → stage ≡ Closing q GoOn → ⊥) → Each Now t.traced → Done (fed_functions t r)
-    unfolding with_aside_answered
-    staged-done idle stage at there other each =
-        goes-to t (fed_functions t r) w.options each w.apart
-        (subst (LeavesOn t)
-        (sym (fed-is t r has-now ∙ ap (with_aside_answered t r) idle ∙ ap (with_function_reply t r) at))
-        (stage-on t r follow w.on idle stage at there other))
-
-    stage-done : t.aside ≡ Nothing → (stage : Stage) → t.stage ≡ stage → IsLeavingStage (length t.traced) stage
-        → function_call_of t stage ≡ Some c → Done (fed_functions t r)
-    unfolding function_call_of call_of with_aside_answered with_function_reply with_reply with_closed
-    stage-done idle Unfollowing at there is =
-        staged-done idle Unfollowing at there (λ q e. cc)
-        (all-sent 0 there (spelling message.Stop []) (sym (same_Some _ c is)) stop-leaves)
-    stage-done idle ReadingLwps at there is =
-        staged-done idle ReadingLwps at there (λ q e. cc) (all-quiet (ap acts_by (sym (same_Some _ c is))))
-    stage-done idle (ReadingText q l from len) at there is =
-        staged-done idle (ReadingText q l from len) at there (λ i e. cc)
-        (all-quiet (ap acts_by (sym (same_Some _ c is))))
-    stage-done idle (Closing q GoOn) at there is =
-        subst Done
-        (sym (fed-is t r has-now ∙ ap (with_aside_answered t r) idle ∙ ap (with_function_reply t r) at))
-        (close-done q there idle (sym (same_Some _ c is)) (without_last (traced_at t q)) refl)
-    stage-done idle Finished at there is = absurd (none-some c is)
-    stage-done idle _ at there is = absurd there
-
-    -- ---- what comes before it
-
-    busy-done : (aside : Aside) → t.aside ≡ aside → (aside ≡ Nothing → ⊥)
-        → IsLeavingAside (length t.traced) aside → Each Now t.traced → Done (fed_functions t r)
-    busy-done aside beside busy there each =
-        goes-to t (fed_functions t r) w.options each w.apart
-        (subst (LeavesOn t) (sym (fed-is t r has-now ∙ ap (with_aside_answered t r) beside))
-        (aside-on t r follow w.on aside busy w.stage there))
-
-    aside-done : (aside : Aside) → t.aside ≡ aside → IsLeavingAside (length t.traced) aside
-        → call_beside t t.stage aside ≡ Some c → Done (fed_functions t r)
-    unfolding call_beside
-    aside-done Nothing beside there is = stage-done beside t.stage refl w.stage is
-    aside-done (Patching q plants lifts clear) beside there is =
-        busy-done (Patching q plants lifts clear) beside (λ e. cc) there
-        (by (first_function lifts)
-        (ap (λ x. patch_call t.options (traced_at t q).control x (first_function lifts)) (sym there.1)
-        ∙ same_Some _ c is))
+    made-so : (l : IsLeft t)
+        → After Now (leaving-alike k o May (let b : Answer = a in b.state)) (IsStill t0) (as-still t0) t r l
+    unfolding call_beside function_call_of call_of
+    made-so (halts at idle within) =
+        all-sent within (spelling message.Stop []) (sym (same_Some _ c (staged Unfollowing at idle))) stop-leaves
+    made-so (awaits until at is within) =
+        all-quiet (ap acts_by (sym (same_Some _ c (beside (AwaitingStop until) is))))
+    made-so (asks at is within) =
+        all-sent within (spelling message.Wstop []) (sym (same_Some _ c (beside Asking is))) wstop-leaves
+    made-so (waits_again until at is within) =
+        all-quiet (ap acts_by (sym (same_Some _ c (beside (AwaitingAgain until) is))))
+    made-so (looks at idle within) =
+        let v : Traced = traced_at t 0 in
+        let now = all-quiet (ap acts_by (sym (same_Some _ c (staged ReadingLwps at idle)))) in
+        (now, λ tells. less-now v (with_no_marks v) same (none_left has-none) (now 0 within))
       where
-        by : (lift : Option ℕ) → patch_call t.options (traced_at t q).control None lift ≡ c → Each Now t.traced
-        by (Some i) sent_is =
-            all-sent q there.0 _ (sym sent_is)
-            (write-leaves (address_of t.options i) instruction_size (code_of t.options i))
-        by None sent_is = all-sent q there.0 (spelling message.Cfault []) (sym sent_is) cfault-leaves
-    aside-done (AwaitingStop until) beside there is =
-        busy-done (AwaitingStop until) beside (λ e. cc) there (all-quiet (ap acts_by (sym (same_Some _ c is))))
-    aside-done Asking beside there is =
-        busy-done Asking beside (λ e. cc) there
-        (all-sent 0 there (spelling message.Wstop []) (sym (same_Some _ c is)) wstop-leaves)
-    aside-done (AwaitingAgain until) beside there is =
-        busy-done (AwaitingAgain until) beside (λ e. cc) there (all-quiet (ap acts_by (sym (same_Some _ c is))))
-    aside-done _ beside there is = absurd there
+        same : SameFiles (traced_at t 0) (with_no_marks (traced_at t 0))
+        same = record { pid = refl; control = refl; status = refl; lstatus = refl; memory = refl }
+    made-so (reads_text l from len at idle within) =
+        all-quiet (ap acts_by (sym (same_Some _ c (staged (ReadingText 0 l from len) at idle))))
+    made-so (lifts_all clear at is within) =
+        let lift = first_function (marks_at t 0).planted in
+        let now =
+        lift-sent within lift
+        (ap (λ plant. patch_call t.options (traced_at t 0).control plant lift) (sym first-of-none)
+        ∙ same_Some _ c (beside (Patching 0 no_functions (marks_at t 0).planted clear) is)) in (
+          each-but Now t.traced 0 now,
+          less-now (traced_at t 0) (with_fewer (traced_at t 0)) same (fewer-planted (marks_at t 0) lift) (now 0 within),
+        )
+      where
+        same : SameFiles (traced_at t 0) (with_fewer (traced_at t 0))
+        same = record { pid = refl; control = refl; status = refl; lstatus = refl; memory = refl }
+    made-so (closes_files at idle within) =
+        let is = sym (same_Some _ c (staged (Closing 0 GoOn) at idle)) in
+        let h = all-were 0 within in
+        let last = last-own n k o s lawful c a given over (traced_at t 0) h.files in (
+          others within (last_handle (traced_at t 0)) last.its_file last.its_mode (ap acts_by is) last.there,
+          rest-made within is (without_last (traced_at t 0)) refl,
+        )
+    made-so (has_ended at idle) = absurd (none-some c (staged Finished at idle))
 
-    pub call-leaves : Done (fed_functions t r)
-    unfolding next_function_call_of
+    pub call-leaves : Leaves k o t0 (fed_functions t r) (let b : Answer = a in b.state)
     call-leaves =
-        aside-done t.aside refl w.beside
-        (sym (ap (λ b. cond b (call_beside t t.stage t.aside) (next_call_of t)) has-now) ∙ next)
+        let l = w.left in
+        record {
+          options = fed_functions-options t r ∙ w.options;
+          left = fed-left Now (leaving-alike k o May (let b : Answer = a in b.state)) (IsStill t0) (as-still t0) t r
+              l.on follow has-now l.apart l.unlooked l.at (made-so l.at);
+        }

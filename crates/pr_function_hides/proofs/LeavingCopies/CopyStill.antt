@@ -1,79 +1,30 @@
-use Rattle.std.proofs.Common.{◌≡◌, ◌≢◌, ◌⊎◌, ◌<◌, ℕ, true, false, Option, None, Some, length, refl, sym, subst, ap, ◌∙◌}
+use Rattle.std.proofs.Common.{◌≡◌, ◌≢◌, ◌⊎◌, ◌<◌, ℕ, Bool, true, Some, length, refl, sym, subst, ap, ◌∙◌}
 use Rattle.std.proofs.Common.{arith, inl, inr}
 use Rattle.std.proofs.lemmas.Bool.{cases_eq, false≢true}
-use Rattle.pr_function_hides.proofs.LeavingCopies.CopyBegins.{HasOld}
-use Rattle.pr_function_laws.proofs.LeavingProcesses.LeavingWaits.{WaitsAt, awaits_opening, polls, waits-at}
 use Rattle.pr_function_hides.proofs.Copying.CopyEnds.{aside-within, stage-within}
-use Rattle.pr_function_hides.proofs.Replies.FilesWalk.{SameFiles}
-use Rattle.pr_function_hides.proofs.Replies.LeavingStages.{IsLeft, asks, awaits, closes_files, halts, has_ended, lifts_all}
-use Rattle.pr_function_hides.proofs.Replies.LeavingStages.{looks, reads_text, waits_again}
-use Rattle.pr_function_hides.proofs.Replies.LeavingWalk.{After, Left, Rest, begins-left, fed-left}
+use Rattle.pr_function_hides.proofs.LeavingCopies.CopyLeaves.{HasOld, IsStill, Leaves, as-still, leaving-alike}
+use Rattle.pr_function_hides.proofs.LeavingCopies.CopyLeft.{IsLeaving}
+use Rattle.pr_function_hides.proofs.Replies.LeavingWalk.{begins-left}
+use Rattle.pr_function_laws.proofs.LeavingProcesses.LeavingWaits.{WaitsAt, awaits_opening, polls, waits-at}
 use Rattle.pr_function_laws.proofs.Marks.KeptPlaces.{AtStage, Kept, apart-at}
 use Rattle.pr_function_laws.proofs.Pending.KnownFiles.{Knows, KnowsAll}
 use Rattle.pr_function_laws.specs.Soon.{may_wait}
+use Rattle.pr_line.specs.declared.options.Options.{Options}
+use Rattle.pr_model.specs.State.{TracedState}
 use Rattle.pr_model.specs.declared.calls.Call.{Call}
 use Rattle.pr_model.specs.declared.calls.Call.TheVariants as call
 use Rattle.pr_model.specs.declared.calls.Reply.{Reply}
 use Rattle.pr_report_laws.proofs.Files.KeepLemmas.{can_wait}
-use Rattle.pr_report_laws.proofs.Invariant.StandLemmas.{IsThere}
+use Rattle.pr_report_laws.proofs.Invariant.StandLemmas.{Each}
 use Rattle.pr_truss.specs.FunctionCalls.{next_function_call_of}
 use Rattle.pr_truss.specs.FunctionFeeding.{fed_functions}
 use Rattle.pr_truss.specs.Marks.{has_functions}
-use Rattle.pr_truss.specs.Processes.{without_last}
 use Rattle.pr_truss.specs.Replies.{answer_of}
 use Rattle.pr_truss.specs.Trusses.{TrussState, traced_at}
-use Rattle.pr_truss.specs.declared.processes.Traced.{Traced}
 use Rattle.pr_truss.specs.declared.replies.Answer.TheVariants.{Interrupted}
+use Rattle.pr_truss_laws.proofs.Replies.FunctionOptionLemmas.{fed_functions-options}
 
--- What truss, once it was interrupted, has of the processes that it has still to look at: what it had of them then.
-
-abbrev pub Any : Traced → Type 0
-Any v = Unit {0}
-
-pub any-alike : (u v : Traced) → SameFiles u v → v.attached ≡ u.attached → v.marks ≡ u.marks → Any u → Any v
-any-alike u v same attached marks any = tt
-
--- where truss stood so when it was interrupted: the process has its old stops still, and truss knows its file of the
--- lwps
-pub record IsStill (t : TrussState) (v : Traced) : Type 0 where
-  pub old : HasOld t v.pid → v.old ≢ 0
-  pub known : IsThere v.lstatus
-
-pub as-still : (t : TrussState) (u v : Traced) → SameFiles u v → v.attached ≡ u.attached → v.old ≡ u.old
-    → v.seen ≡ u.seen → IsStill t u
-    → IsStill t v
-as-still t u v same attached old seen it = record {
-  old = λ has none. it.old (subst (HasOld t) same.pid has) (sym old ∙ none);
-  known = let x = it.known in record { number = x.number; is = same.lstatus ∙ x.is };
-}
-
-abbrev pub StillLeft : TrussState → TrussState → Type 0
-StillLeft t u = Left Any any-alike (IsStill t) (as-still t) u
-
--- ---- a reply while it leaves
-
-any-rest : (t : TrussState) (x : Option Traced) → Rest Any any-alike (IsStill t) (as-still t) x
-any-rest t None = tt
-any-rest t (Some v) = tt
-
-any-after : (t u : TrussState) (r : Reply) (w : IsLeft u) → After Any any-alike (IsStill t) (as-still t) u r w
-any-after t u r (halts at idle within) = λ q inside. tt
-any-after t u r (awaits until at beside within) = λ q inside. tt
-any-after t u r (asks at beside within) = λ q inside. tt
-any-after t u r (waits_again until at beside within) = λ q inside. tt
-any-after t u r (looks at idle within) = ((λ q inside. tt), λ tells. tt)
-any-after t u r (reads_text l from len at idle within) = λ q inside. tt
-any-after t u r (lifts_all clear at beside within) = ((λ q inside other. tt), tt)
-any-after t u r (closes_files at idle within) =
-    ((λ q inside other. tt), any-rest t (without_last (traced_at u 0)))
-any-after t u r (has_ended at idle) = λ q inside. tt
-
-pub still-fed : (t u : TrussState) (r : Reply) → has_functions u.options ≡ true → u.options.follow ≡ false
-    → StillLeft t u → StillLeft t (fed_functions u r)
-still-fed t u r has follow w =
-    fed-left Any any-alike (IsStill t) (as-still t) u r w.on follow has w.apart w.unlooked w.at (any-after t u r w.at)
-
--- ---- the first interrupt
+-- What truss has of each process with the first interrupt: what is so of all of them then, and their old stops.
 
 pub may-can : (c : Call) → may_wait c ≡ true → can_wait c ≡ true
 may-can (call.CtlWait handle until bytes) waits = refl
@@ -104,13 +55,20 @@ module _ (t : TrussState) (known : Kept Knows t) (c : Call) (r : Reply) (has : h
             let some = has.1.1.1 in absurd (omega (arith, some, none, ap (λ i. (traced_at t i).old) same))
         by (inr other) = apart has.0 q has.1.0 within other has.1.1.0
 
-    pub still-begins : StillLeft t (fed_functions t r)
-    still-begins =
+    still : WaitsAt t → (q : ℕ) → q < length t.traced → (seen : Bool)
+        → IsStill t (record (traced_at t q) { seen = seen })
+    still at q within seen =
+        record { old = has-old q within; known = let w = all-known at q within in w.lstatus }
+
+    pub begins-to-leave : (k : ℕ) (o : Options) (s : TracedState) → t.options ≡ o
+        → (WaitsAt t → Each (IsLeaving k o (HasOld t) s) t.traced) → Leaves k o t (fed_functions t r) s
+    begins-to-leave k o s options all =
         let at = waits-at t.options has t refl Knows c waits known.stage known.beside next in
-        begins-left Any any-alike (IsStill t) (as-still t) t r known.follow has apart (λ q within. tt)
-        (λ q within.
-        record { old = has-old q within; known = let w = all-known at.1 q within in w.lstatus })
-        (λ q step opens within.
-        record { old = has-old q within; known = let w = all-known at.1 q within in w.lstatus }) interrupted c
-        (may-can c waits) (stage-within Knows t.traced t.stage known.stage)
-        (aside-within Knows t.traced t.aside known.beside) next
+        record {
+          options = fed_functions-options t r ∙ options;
+          left = begins-left (IsLeaving k o (HasOld t) s) (leaving-alike k o (HasOld t) s) (IsStill t) (as-still t) t r
+              known.follow has apart (all at.1) (λ q within. still at.1 q within (traced_at t q).seen)
+              (λ q step opens within. still at.1 q within true) interrupted c (may-can c waits)
+              (stage-within Knows t.traced t.stage known.stage)
+              (aside-within Knows t.traced t.aside known.beside) next;
+        }

@@ -34,8 +34,7 @@ use Rattle.pr_function_laws.proofs.Listing.LeavingEvents as begins
 use Rattle.pr_function_laws.proofs.Listing.LeavingEvents.{awaits-watched}
 use Rattle.pr_function_laws.proofs.LeavingProcesses.LeftProcesses.{IsLeaving, its-apart, next-left-unlooked}
 use Rattle.pr_function_laws.proofs.LeavingProcesses.LeavingKept.{behind-it}
-use Rattle.pr_function_laws.proofs.LeavingProcesses.LeavingStages.{IsLeft, asks, awaits, closes_files, halts, has_ended}
-use Rattle.pr_function_laws.proofs.LeavingProcesses.LeavingStages.{lifts_all, looks, reads_text, waits_again}
+use Rattle.pr_function_laws.proofs.LeavingProcesses.LeavingStages.{IsLeft}
 use Rattle.pr_function_laws.proofs.LeavingProcesses.LeavingSteps.{BeginsToLeave, LeavesOn, Shares, WaitsAt, Went, awaits_opening, ended as closed_all}
 use Rattle.pr_function_laws.proofs.LeavingProcesses.LeavingSteps.{halted, has_read, looked, loses, patched, polls}
 use Rattle.pr_function_laws.proofs.Stepping.BreakpointLemmas.{own-entry}
@@ -56,7 +55,7 @@ use Rattle.pr_function_hides.proofs.Listed.CallStates as calls
 use Rattle.pr_function_hides.proofs.Listed.CallStates.{IsUnder, call_of_step, elsewhere-call, idle, lacking-at-last, lost, same-listed, trapped, turn-unread}
 use Rattle.pr_function_hides.proofs.Listed.CallsLeaving.{exchange-listed}
 use Rattle.pr_function_hides.proofs.Listed.LeavingTurns.{Bare, foreign-listed}
-use Rattle.pr_function_hides.proofs.Replies.LeavingWalk.{After, Rest, fed-left}
+use Rattle.pr_function_hides.proofs.Replies.LeavingWalk.{after-all, fed-left}
 use Rattle.pr_function_hides.proofs.Listed.ListedWalk as calm_calls
 use Rattle.pr_function_hides.proofs.StepsUnderWay.OpeningMarks.{opening-unstepped}
 use Rattle.pr_function_hides.proofs.StepsUnderWay.TrapTurns.{BreakpointsHold, step-call, turn_entry}
@@ -119,29 +118,14 @@ module _ (n k : ℕ) (o : Options) (s : TracedState) (h : List Entry) (run : IsF
     files : HasFiles k (ordinary (T f)) (S f)
     files = files-at (Unit {0}) n k o s h run (λ r. reached) (λ r. bytes) f (e ∷ later) is
 
-    none-after : (x : Exchange) → Each (NoStep pid) (T f).traced → (w : IsLeft (T f))
-        → After (NoStep pid) (λ u v same on marks none own.
-        ap (λ (m : Marks). m.stepped) marks ∙ none (let y : SameFiles u v = same in sym y.pid ∙ own))
-        (λ u. Unit {0}) (λ u v same on old seen r. tt) (T f) x.reply w
-    none-after x all (halts at idle_aside within) = all
-    none-after x all (awaits until at at_aside within) = all
-    none-after x all (asks at at_aside within) = all
-    none-after x all (waits_again until at at_aside within) = all
-    none-after x all (looks at idle_aside within) = (all, λ tells own. refl)
-    none-after x all (reads_text l from len at idle_aside within) = all
-    none-after x all (lifts_all clears at at_aside within) = ((λ i inside other. all i inside), all 0 within)
-    none-after x all (closes_files at idle_aside within) =
-        ((λ i inside other. all i inside), by (without_last (traced_at (T f) 0)) refl)
-      where
-        by : (u : Option Traced) → without_last (traced_at (T f) 0) ≡ u
-            → Rest (NoStep pid) (λ u v same on marks none own.
-            ap (λ (m : Marks). m.stepped) marks ∙ none (let y : SameFiles u v = same in sym y.pid ∙ own))
-            (λ u. Unit {0}) (λ u v same on old seen r. tt) u
-        by None same = tt
-        by (Some u) same =
-            let w = less-marks (traced_at (T f) 0) u same in
-            λ own. ap (λ (m : Marks). m.stepped) w.1 ∙ all 0 within (sym w.0 ∙ own)
-    none-after x all (has_ended at idle_aside) = all
+    step-alike : (u v : Traced) → SameFiles u v → v.attached ≡ u.attached → v.marks ≡ u.marks → NoStep pid u
+        → NoStep pid v
+    step-alike u v same on marks bare own = ap (λ (m : Marks). m.stepped) marks ∙ bare (sym same.pid ∙ own)
+
+    step-lost : (v u : Traced) → without_last v ≡ Some u → NoStep pid v → NoStep pid u
+    step-lost v u left bare own =
+        let w = less-marks v u left in
+        ap (λ (m : Marks). m.stepped) w.1 ∙ bare (sym w.0 ∙ own)
 
     bare-next : Bare pid (T f) → Bare pid (T (f ++ e ∷ []))
     bare-next bare = subst (Bare pid) (sym truss-is) (by (exchange_of k e) refl)
@@ -151,15 +135,14 @@ module _ (n k : ℕ) (o : Options) (s : TracedState) (h : List Entry) (run : IsF
             let follow = follow-there (Unit {0}) n k o s h run (λ r. reached) (λ r. bytes) f e later is in
             let has = has-there (Unit {0}) n k o s h run (λ r. reached) (λ r. bytes) f e later is in
             let l =
-            fed-left (NoStep pid) (λ u v same on marks none own.
-            ap (λ (m : Marks). m.stepped) marks ∙ none (let y : SameFiles u v = same in sym y.pid ∙ own))
-            (λ u. Unit {0}) (λ u v same on old seen r. tt) (T f) x.reply g.on follow has
-            (λ i j one two other. its-apart k (T f) (S f) files i j one two other) (λ q within still. tt) g.at
-            (none-after x all g.at) in
+            fed-left (NoStep pid) step-alike (λ u. Unit {0}) (λ u v same on old seen r. tt) (T f) x.reply g.on follow
+            has (λ i j one two other. its-apart k (T f) (S f) files i j one two other) (λ q within still. tt) g.at
+            (after-all (NoStep pid) step-alike (λ u. Unit {0}) (λ u v same on old seen r. tt) (T f) x.reply
+            (λ v bare. bare) (λ v bare own. refl) step-lost all g.at) in
             inl l.each
         by-own x own (inr all) = inr (went (let l = leaves in l.went))
           where
-            leaves : LeavesOn (T f) x.reply (fed_functions (T f) x.reply)
+            leaves : LeavesOn (T f) x.reply g.at (fed_functions (T f) x.reply)
             leaves =
                 behind-it (Unit {0}) n k o (T f) (S f) g files e
                 (entry-legal (Unit {0}) n k o s h run (λ r. reached) (λ r. bytes) f e later is)
@@ -175,14 +158,14 @@ module _ (n k : ℕ) (o : Options) (s : TracedState) (h : List Entry) (run : IsF
             shared shares i within own_i =
                 shares.attached i ∙ all i (subst (λ m. i < m) shares.many within) (sym (shares.pids i) ∙ own_i)
 
-            went : Went (T f) x.reply (fed_functions (T f) x.reply)
+            went : {w : IsLeft (T f)} → Went (T f) x.reply (fed_functions (T f) x.reply) w
                 → Each (λ (u : Traced). u.pid ≡ pid → u.attached ≡ true) (fed_functions (T f) x.reply).traced
             went (halted step at some same to) =
                 subst (Each (λ (u : Traced). u.pid ≡ pid → u.attached ≡ true)) (sym same) all
-            went (looked at some shares looked_so) = shared shares
-            went (has_read l from len at some shares looked_so) = shared shares
-            went (patched clears at some shares looked_so) = shared shares
-            went (loses u at some is_lost shares looked_so) = shared shares
+            went (looked at some look r _) = shared r.shares
+            went (has_read l from len at some r _) = shared r.shares
+            went (patched clears at some r _) = shared r.shares
+            went (loses u at some is_lost r _) = shared r.shares
             went (closed_all at some last same to) =
                 subst (Each (λ (u : Traced). u.pid ≡ pid → u.attached ≡ true)) (sym same)
                 (each-remove (λ (u : Traced). u.pid ≡ pid → u.attached ≡ true) (T f).traced 0 some

@@ -1,9 +1,9 @@
-use Rattle.std.proofs.Common.{◌≡◌, ℕ, true, false, Option, Some, None, length, refl, sym, subst, ◌∙◌, inl}
+use Rattle.std.proofs.Common.{◌≡◌, ℕ, true, false, Some, length, sym, subst, ◌∙◌, inl}
 use Rattle.pr_function_hides.proofs.Replies.BareStages.{IsBare, Told}
 use Rattle.pr_function_hides.proofs.Replies.FilesWalk.{AreApart, SameFiles}
 use Rattle.pr_function_hides.proofs.Replies.FunctionSets.{has-none}
 use Rattle.pr_function_hides.proofs.Replies.LeavingBegins as Begins
-use Rattle.pr_function_hides.proofs.Replies.LeavingStages.{IsLeft, closes_files, has_ended, lifts_all, looks, with_fewer}
+use Rattle.pr_function_hides.proofs.Replies.LeavingStages.{IsLeft, closes_files, has_ended, with_fewer}
 use Rattle.pr_function_hides.proofs.Replies.LeavingTruss as Leaving
 use Rattle.pr_function_hides.proofs.Replies.OwnFiles.{IsBeside, IsWithin}
 use Rattle.pr_function_hides.proofs.Replies.PlantedReplies.{lost-marks}
@@ -12,13 +12,13 @@ use Rattle.pr_function_hides.specs.Copying.{IsEmpty}
 use Rattle.pr_model.specs.declared.calls.Call.{Call}
 use Rattle.pr_model.specs.declared.calls.Reply.{Reply}
 use Rattle.pr_report_laws.proofs.Files.KeepLemmas.{can_wait}
-use Rattle.pr_report_laws.proofs.Invariant.StandLemmas.{Each, each-but}
+use Rattle.pr_report_laws.proofs.Invariant.StandLemmas.{Each}
 use Rattle.pr_truss.specs.FunctionCalls.{next_function_call_of}
 use Rattle.pr_truss.specs.FunctionFeeding.{fed_functions}
 use Rattle.pr_truss.specs.Marks.{first_function, has_functions}
 use Rattle.pr_truss.specs.Processes.{without_last}
 use Rattle.pr_truss.specs.Replies.{answer_of}
-use Rattle.pr_truss.specs.Trusses.{TrussState, traced_at}
+use Rattle.pr_truss.specs.Trusses.{TrussState}
 use Rattle.pr_truss.specs.declared.marks.Marks.{Marks}
 use Rattle.pr_truss.specs.declared.processes.Traced.{Traced}
 use Rattle.pr_truss.specs.declared.replies.Answer.TheVariants.{Interrupted}
@@ -62,23 +62,10 @@ each-none t w = w.each
 fewer-so : (v : Traced) → HasNoneUnattached v → HasNoneUnattached (with_fewer v)
 fewer-so v so not = lifted-none v.marks.planted (first_function v.marks.planted) (so not)
 
-rest-so : (v : Traced) (x : Option Traced) → without_last v ≡ x → HasNoneUnattached v
-    → Leaving.Rest HasNoneUnattached none-alike NoneOld as-old Anyone any-bare x
-rest-so v None is so = tt
-rest-so v (Some u) is so = λ not.
+lost-so : (v u : Traced) → without_last v ≡ Some u → HasNoneUnattached v → HasNoneUnattached u
+lost-so v u is so not =
     let same = lost-same v u is in
     subst (λ (m : Marks). IsEmpty m.planted) (sym (lost-marks v u is)) (so (sym same.attached ∙ not))
-
-after-so : (t : TrussState) (r : Reply) → Each HasNoneUnattached t.traced → (w : IsLeft t)
-    → Leaving.After HasNoneUnattached none-alike NoneOld as-old Anyone any-bare t r w
-after-so t r all (looks at idle within) = (all, λ tells not. has-none)
-after-so t r all (lifts_all clear at beside within) =
-    (each-but HasNoneUnattached t.traced 0 all, fewer-so (traced_at t 0) (all 0 within))
-after-so t r all (closes_files at idle within) = (
-  each-but HasNoneUnattached t.traced 0 all,
-  rest-so (traced_at t 0) (without_last (traced_at t 0)) refl (all 0 within),
-)
-after-so t r all _ = all
 
 any-told : (t : TrussState) (r : Reply) (w : IsLeft t) → Told Anyone t r w
 any-told t r (closes_files at idle within) = tt
@@ -89,7 +76,9 @@ pub none-fed : (t : TrussState) (r : Reply) → t.options.follow ≡ false → h
     → LeavesNone t → LeavesNone (fed_functions t r)
 none-fed t r follow has w =
     Leaving.fed-left HasNoneUnattached none-alike NoneOld as-old Anyone any-bare t r w.on follow has w.apart
-    (λ q within still. tt) w.at (after-so t r w.each w.at) (any-told t r w.at) w.bare
+    (λ q within still. tt) w.at
+    (Leaving.after-all HasNoneUnattached none-alike NoneOld as-old Anyone any-bare t r fewer-so (λ v so not. has-none)
+    lost-so w.each w.at) (any-told t r w.at) w.bare
 
 -- with the first interrupt
 pub none-begun : (t : TrussState) (r : Reply) → t.options.follow ≡ false → has_functions t.options ≡ true

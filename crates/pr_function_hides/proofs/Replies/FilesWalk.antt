@@ -48,7 +48,7 @@ remarked u m old = record { pid = refl; control = refl; status = refl; lstatus =
 abbrev pub AreApart : List Traced → Type 0
 AreApart ts = (i j : ℕ) → i < length ts → j < length ts → i ≢ j → (at_place ts i).pid ≢ (at_place ts j).pid
 
-apart-of : (ts : List Traced) → AreApart ts → Apart ts
+pub apart-of : (ts : List Traced) → AreApart ts → Apart ts
 apart-of [] a = tt
 apart-of (u ∷ us) a = (
   λ j inside. a (suc j) zero (omega (arith, inside)) (omega arith) (λ is. omega (arith, is)),

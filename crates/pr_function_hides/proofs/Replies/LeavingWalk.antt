@@ -1,8 +1,10 @@
 use Rattle.std.proofs.Common.{◌≡◌, ◌<◌, ℕ, true, false, Option, Some, length, inl}
+use Rattle.pr_truss.specs.Processes.{without_last}
 use Rattle.pr_function_hides.proofs.Replies.BareStages.{BareIf, IsBare, Told}
 use Rattle.pr_function_hides.proofs.Replies.FilesWalk.{AreApart, SameFiles}
 use Rattle.pr_function_hides.proofs.Replies.LeavingBegins as Begins
-use Rattle.pr_function_hides.proofs.Replies.LeavingStages.{IsLeft, IsUnlooked, closes_files, has_ended}
+use Rattle.pr_function_hides.proofs.Replies.LeavingStages.{IsLeft, IsUnlooked, closes_files, has_ended, with_fewer}
+use Rattle.pr_function_hides.proofs.Replies.LeavingStages.{with_no_marks}
 use Rattle.pr_function_hides.proofs.Replies.LeavingTruss as Leaving
 use Rattle.pr_function_hides.proofs.Replies.OwnFiles.{IsBeside, IsWithin}
 use Rattle.pr_model.specs.declared.calls.Call.{Call}
@@ -42,6 +44,12 @@ module _ (S : Traced → Type 0)
 
   abbrev pub After : (t : TrussState) → Reply → IsLeft t → Type 0
   After t r at = Leaving.After S alike R as_old Any none-asked t r at
+
+  -- it is so whatever is lifted, closed or replaced
+  pub after-all : (t : TrussState) (r : Reply) → ((v : Traced) → S v → S (with_fewer v))
+      → ((v : Traced) → S v → S (with_no_marks v)) → ((v u : Traced) → without_last v ≡ Some u → S v → S u)
+      → Each S t.traced → (at : IsLeft t) → After t r at
+  after-all = Leaving.after-all S alike R as_old Any none-asked
 
   told : (t : TrussState) (r : Reply) (at : IsLeft t) → Told Any t r at
   told t r (closes_files at idle within) = tt

@@ -35,14 +35,14 @@ use Rattle.pr_truss_laws.proofs.Soon.LookLemmas.{SameFiles}
 use Rattle.pr_truss_laws.specs.Exchanges.{Exchange, exchange_of, exchanges}
 use Rattle.pr_function_laws.proofs.LeavingProcesses.LeavingCourse.{Course, course-at, files-at, follow-there, goes-there, goes_on, has-there, is-broken, leaves, truss-next}
 use Rattle.pr_function_laws.proofs.LeavingProcesses.LeftProcesses.{IsLeaving, its-apart}
-use Rattle.pr_function_laws.proofs.LeavingProcesses.LeavingStages.{IsLeft, asks, awaits, closes_files, halts, has_ended, lifted_after, lifts_all, looks, reads_text, waits_again}
+use Rattle.pr_function_laws.proofs.LeavingProcesses.LeavingStages.{lifted_after}
 use Rattle.pr_function_laws.proofs.Listing.LeavingEvents as begins
 use Rattle.pr_function_laws.proofs.OpenedProcesses.OpenedCalls.{IsSo}
 use Rattle.pr_function_laws.proofs.Pending.FrontLemmas.{calm-answer}
 use Rattle.pr_function_laws.specs.Opened.{IsFunctionRun, WasNotInterrupted, functions_at}
 use Rattle.pr_function_laws.specs.Runs.{functions_after, functions_on}
 use Rattle.pr_function_hides.proofs.Copying.CopyEnds.{aside-within, stage-within}
-use Rattle.pr_function_hides.proofs.Replies.LeavingWalk.{After, Rest, fed-left}
+use Rattle.pr_function_hides.proofs.Replies.LeavingWalk.{after-all, fed-left}
 use Rattle.pr_function_hides.proofs.Replies.OwnFiles.{IsBeside, IsWithin}
 use Rattle.pr_function_hides.proofs.Replies.PlantedReplies.{AfterAside, AfterStage, LeftSo, fed-so, first-so-truss, lost-marks, planted_after}
 use Rattle.pr_function_hides.proofs.Replies.PlantedWalk.{marks_then}
@@ -112,30 +112,13 @@ Any u = Unit {0}
 any-old : (u v : Traced) → SameFiles u v → v.attached ≡ u.attached → v.old ≡ u.old → v.seen ≡ u.seen → Any u → Any v
 any-old u v same on old seen any = tt
 
-rest-long : (u : Option Traced) (v : Traced) → without_last v ≡ u → Long v → Rest Long long-alike Any any-old u
-rest-long None v is long = tt
-rest-long (Some u) v is long = ap (λ (m : Marks). length m.planted) (lost-marks v u is) ∙ long
+lost-long : (v u : Traced) → without_last v ≡ Some u → Long v → Long u
+lost-long v u is long = ap (λ (m : Marks). length m.planted) (lost-marks v u is) ∙ long
 
 fewer-long : (set : List Bool) (first : Option ℕ) → length set ≡ function_limit
     → length (lifted_after set first) ≡ function_limit
 fewer-long set None long = long
 fewer-long set (Some i) long = length-set set i false ∙ long
-
-left-after : (t : TrussState) (r : Reply) → Each Long t.traced → (w : IsLeft t)
-    → After Long long-alike Any any-old t r w
-left-after t r all (halts at idle within) = all
-left-after t r all (awaits until at at_aside within) = all
-left-after t r all (asks at at_aside within) = all
-left-after t r all (waits_again until at at_aside within) = all
-left-after t r all (looks at idle within) = (all, λ tells. refl)
-left-after t r all (reads_text l from len at idle within) = all
-left-after t r all (lifts_all clears at at_aside within) = (
-  (λ i inside other. all i inside),
-  fewer-long (marks_at t 0).planted (first_function (marks_at t 0).planted) (all 0 within),
-)
-left-after t r all (closes_files at idle within) =
-    ((λ i inside other. all i inside), rest-long (without_last (traced_at t 0)) (traced_at t 0) refl (all 0 within))
-left-after t r all (has_ended at idle) = all
 
 -- ---- along a history
 
@@ -187,7 +170,9 @@ module _ (n k : ℕ) (o : Options) (s : TracedState) (h : List Entry) (run : IsF
         (follow-there (Unit {0}) n k o s h run (λ r. reached) (λ r. bytes) f e later is) has
         (λ i j one two other.
         its-apart k t (S f) (files-at (Unit {0}) n k o s h run (λ r. reached) (λ r. bytes) f (e ∷ later) is) i j one two
-        other) (λ q within still. tt) g.at (left-after t x.reply was g.at) in
+        other) (λ q within still. tt) g.at
+        (after-all Long long-alike Any any-old t x.reply
+        (λ v. fewer-long v.marks.planted (first_function v.marks.planted)) (λ v long. refl) lost-long was g.at) in
         l.each
 
     own-long : (x : Exchange) → exchange_of k e ≡ Some x → Each Long (fed_functions t x.reply).traced

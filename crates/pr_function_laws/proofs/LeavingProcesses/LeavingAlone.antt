@@ -132,7 +132,7 @@ module _ (n k : ℕ) (o : Options) (t : TrussState) (s : TracedState) (g : IsLea
   left_now : IsLeaving (Unit {0}) k o v (after s e)
   left_now = own-leaving (Unit {0}) n k o t s g files e legal bytes x own next has follow
 
-  went : LeavesOn t x.reply v
+  went : LeavesOn t x.reply g.at v
   went = behind-it (Unit {0}) n k o t s g files e legal bytes x own next has follow
 
   made : pid < s.system.made
@@ -171,7 +171,7 @@ module _ (n k : ℕ) (o : Options) (t : TrussState) (s : TracedState) (g : IsLea
   shared w q within is =
       w.attached q ∙ attached q (subst (λ m. q < m) w.many within) (sym (w.pids q) ∙ is)
 
-  by-went : Went t x.reply v → Goes pid id (after s e).system × AreAttached pid v
+  by-went : {w : IsLeft t} → Went t x.reply v w → Goes pid id (after s e).system × AreAttached pid v
   by-went (halted step at some same to) = (
     elim (cases_eq (traced_at t 0).pid pid) [
       | inl is ↦
@@ -192,27 +192,27 @@ module _ (n k : ℕ) (o : Options) (t : TrussState) (s : TracedState) (g : IsLea
     where
       same_place : (q : ℕ) → traced_at v q ≡ traced_at t q
       same_place q = ap (λ (ts : List Traced). at_place ts q) same
-  by-went (looked at some shares looked_so) =
-      (same-goes (look-same (Unit {0}) n k o t s g files e legal bytes x own next has follow at), shared shares)
-  by-went (has_read l from len at some shares looked_so) = (
+  by-went (looked at some look f _) =
+      (same-goes (look-same (Unit {0}) n k o t s g files e legal bytes x own next has follow at), shared f.shares)
+  by-went (has_read l from len at some f _) = (
     same-goes (text-same (Unit {0}) n k o t s g files e legal bytes x own next has follow l from len at),
-    shared shares,
+    shared f.shares,
   )
-  by-went (loses u at some is shares looked_so) = (
+  by-went (loses u at some is f _) = (
     same-goes (lose-same (Unit {0}) n k o t s g files e legal bytes x own next has follow u at some is),
-    shared shares,
+    shared f.shares,
   )
-  by-went (patched clear at some shares looked_so) = (
+  by-went (patched clear at some f _) = (
     elim (cases_eq (traced_at t 0).pid pid) [
       | inl is ↦
-          directed-goes (subst (λ m. 0 < m) (sym shares.many) some) (shares.pids 0 ∙ is)
-          (shares.attached 0 ∙ attached 0 some is)
-          (λ stage_is. false≢true (sym (ap is_looked stage_is) ∙ looked_so))
+          let shares = f.shares in
+          directed-goes f.within (shares.pids 0 ∙ is) (shares.attached 0 ∙ attached 0 some is)
+          (λ stage_is. false≢true (sym (ap is_looked stage_is) ∙ f.looked_at))
       | inr differs ↦ apart-goes differs
           (control-acts (Unit {0}) n k o t s g files e legal bytes x own next has follow some
           (patch-acts (Unit {0}) n k o t s g files e legal bytes x own next has follow clear at))
     ],
-    shared shares,
+    shared f.shares,
   )
   by-went (ended at some none same to) =
       let w = went in

@@ -46,9 +46,9 @@ use Rattle.pr_function_laws.proofs.Stepping.BreakpointLemmas.{IsOwnEntry}
 use Rattle.pr_function_laws.proofs.LeavingProcesses.LeavingFacts.{Moved, StoodNext, alone, moved-sets, moved-stood, read-closes}
 use Rattle.pr_function_laws.proofs.LeavingProcesses.LeavingFacts.{cleared-frozen, stays, step-stood}
 use Rattle.pr_function_laws.proofs.LeavingProcesses.LeavingLaws.{halt_aside, halt_stage}
-use Rattle.pr_function_laws.proofs.LeavingProcesses.LeavingStages.{IsUnlooked, is_looked}
+use Rattle.pr_function_laws.proofs.LeavingProcesses.LeavingStages.{IsLeft, IsUnlooked, is_looked}
 use Rattle.pr_function_laws.proofs.LeavingProcesses.LeavingSteps.{IsAt, IsAtNext, IsAtStep, LeavesOn, NextLeft, Shares, Went}
-use Rattle.pr_function_laws.proofs.LeavingProcesses.LeavingSteps.{ended, halted, has_read, leaves-on, looked, loses, patched}
+use Rattle.pr_function_laws.proofs.LeavingProcesses.LeavingSteps.{ended, halted, has_read, leaves-on, looked, loses, patched, step-unlooked as unlooked-step}
 use Rattle.pr_function_laws.proofs.OpenedProcesses.OpenedCalls.{write-mild}
 use Rattle.pr_function_laws.proofs.OpenedProcesses.OpenedLemmas.{BeginWithPlain, by-process, cfault-plain, control-made}
 use Rattle.pr_function_laws.proofs.OpenedProcesses.OpenedLemmas.{control-sole, plain-process}
@@ -155,7 +155,7 @@ module _ (Reached : Type 0) (n k : ℕ) (o : Options) (t : TrussState) (s : Trac
     reached-later r = subst IsReached (sym own.later) (now-reached r)
 
     -- where truss has looked at the first process
-    module _ (l : LeavesOn t x.reply v) (shares : Shares t v) (looked_so : is_looked v.stage ≡ true)
+    module _ (l : LeavesOn t x.reply g.at v) (shares : Shares t v) (looked_so : is_looked v.stage ≡ true)
         (unlooked_t : (q : ℕ) → q ≢ 0 → IsUnlooked t.stage q)
         (others : (q : ℕ) → q < length t.traced → q ≢ 0 → (p' : TracedProcess) → Now q p' → Was Moved q p')
         (first_sets : (p' : TracedProcess) → Now 0 p' → Was IsAsSet 0 p')
@@ -213,7 +213,7 @@ module _ (Reached : Type 0) (n k : ℕ) (o : Options) (t : TrussState) (s : Trac
     pub already : (q : ℕ) → q ≢ 0 → IsUnlooked t.stage q
     already q other is = other
 
-    same-leaving : LeavesOn t x.reply v → Shares t v → is_looked v.stage ≡ true
+    same-leaving : LeavesOn t x.reply g.at v → Shares t v → is_looked v.stage ≡ true
         → ((q : ℕ) → q ≢ 0 → IsUnlooked t.stage q) → a.state.system ≡ s.system
         → (0 < length t.traced → (traced_at t 0).attached ≡ true → (p : TracedProcess)
         → live_process s.system (pid_at 0) ≡ Some p → IsFrozen p) → Later v
@@ -239,13 +239,10 @@ module _ (Reached : Type 0) (n k : ℕ) (o : Options) (t : TrussState) (s : Trac
     step-acts (WaitsAgain until) is some = none-acts (ap acts_by is)
 
     pub step-unlooked : (step : HaltStep) → IsAtStep t step → (q : ℕ) → IsUnlooked t.stage q
-    step-unlooked Directs at = not-yet Unfollowing at.0 refl
-    step-unlooked (Waits until) at = not-yet ReadingLwps at.0 refl
-    step-unlooked AsksAgain at = not-yet ReadingLwps at.0 refl
-    step-unlooked (WaitsAgain until) at = not-yet ReadingLwps at.0 refl
+    step-unlooked step at q is = absurd (false≢true (sym (unlooked-step t step at) ∙ is))
 
     module _ (step : HaltStep) (at : IsAtStep t step) (some : 0 < length t.traced) (same : v.traced ≡ t.traced)
-        (to : IsAtNext v (halt_next step x.reply (answer_of x.reply))) (l : LeavesOn t x.reply v) where
+        (to : IsAtNext v (halt_next step x.reply (answer_of x.reply))) (l : LeavesOn t x.reply g.at v) where
       is : x.call ≡ halt_call (traced_at t 0) step
       is = step-call step at
 
@@ -346,7 +343,7 @@ module _ (Reached : Type 0) (n k : ℕ) (o : Options) (t : TrussState) (s : Trac
             agent = λ none. leaves.agent ∙ none;
           }) p' later
 
-      sent-leaving : LeavesOn t x.reply v → Shares t v → is_looked v.stage ≡ true
+      sent-leaving : LeavesOn t x.reply g.at v → Shares t v → is_looked v.stage ≡ true
           → (0 < length t.traced → (traced_at t 0).attached ≡ true → (p : TracedProcess)
           → live_process s.system (pid_at 0) ≡ Some p → IsFrozen p) → Later v
       sent-leaving l shares looked_so frozen =
@@ -355,7 +352,7 @@ module _ (Reached : Type 0) (n k : ℕ) (o : Options) (t : TrussState) (s : Trac
           let w = sent-was p' later in still w.0 p' w.1.0 later (frozen some_t attached w.0 w.1.0))
 
     patch-leaving : (clear : Bool) → IsAt t (Closing 0 GoOn) (Patching 0 no_functions (marks_at t 0).planted clear)
-        → 0 < length t.traced → LeavesOn t x.reply v → Shares t v → is_looked v.stage ≡ true → Later v
+        → 0 < length t.traced → LeavesOn t x.reply g.at v → Shares t v → is_looked v.stage ≡ true → Later v
     unfolding call_beside
     patch-leaving clear at some l shares looked_so =
         by (first_function (marks_at t 0).planted)
@@ -384,7 +381,7 @@ module _ (Reached : Type 0) (n k : ℕ) (o : Options) (t : TrussState) (s : Trac
 
     -- the last file of the first process is closed, and the next one is left
     module _ (at : IsAt t (Closing 0 GoOn) Nothing) (some : 0 < length t.traced)
-        (same : v.traced ≡ remove t.traced 0) (to : NextLeft v) (l : LeavesOn t x.reply v) where
+        (same : v.traced ≡ remove t.traced 0) (to : NextLeft v) (l : LeavesOn t x.reply g.at v) where
       close-is : x.call ≡ call.Close (last_handle (traced_at t 0))
       unfolding function_call_of call_of
       close-is = same_Some _ _ (staged (Closing 0 GoOn) at.0 at.1)
@@ -466,24 +463,24 @@ module _ (Reached : Type 0) (n k : ℕ) (o : Options) (t : TrussState) (s : Trac
         by None (Some i) = refl
         by None None = refl
 
-    any-leaving : LeavesOn t x.reply v → Later v
+    any-leaving : LeavesOn t x.reply g.at v → Later v
     any-leaving l = by l.went
       where
-        by : Went t x.reply v → Later v
+        by : {w : IsLeft t} → Went t x.reply v w → Later v
         by (halted step at some same to) = halted-leaving step at some same to l
-        by (looked at some shares looked_so) =
-            same-leaving l shares looked_so (λ q other. not-yet ReadingLwps at.0 refl q) (look-same at)
+        by (looked at some look f _) =
+            same-leaving l f.shares f.looked_at (λ q other. not-yet ReadingLwps at.0 refl q) (look-same at)
             (still-at ReadingLwps Nothing at (λ p h. h))
-        by (has_read l_read from len at some shares looked_so) =
-            same-leaving l shares looked_so already (text-same l_read from len at)
+        by (has_read l_read from len at some f _) =
+            same-leaving l f.shares f.looked_at already (text-same l_read from len at)
             (still-at (ReadingText 0 l_read from len) Nothing at (λ p h. h))
-        by (patched clear at some shares looked_so) = patch-leaving clear at some l shares looked_so
-        by (loses u at some is shares looked_so) =
-            same-leaving l shares looked_so already (lose-same u at some is)
+        by (patched clear at some f _) = patch-leaving clear at some l f.shares f.looked_at
+        by (loses u at some is f _) =
+            same-leaving l f.shares f.looked_at already (lose-same u at some is)
             (still-at (Closing 0 GoOn) Nothing at (λ p h. h))
         by (ended at some none same to) = ended-leaving at some same to l
 
-    pub behind-it : LeavesOn t x.reply v
+    pub behind-it : LeavesOn t x.reply g.at v
     behind-it = leaves-on t x.reply g.on follow has g.at x.call next
 
     pub own-leaving : IsLeaving Reached k o v (after s e)

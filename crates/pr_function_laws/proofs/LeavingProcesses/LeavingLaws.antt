@@ -65,6 +65,78 @@ halt_answered (Waits until) u r a = with_wait_answered (with_aside u Nothing) a
 halt_answered AsksAgain u r a = with_asking_answered (with_aside u Nothing) r a
 halt_answered (WaitsAgain until) u r a = with_wait_answered (with_aside u Nothing) a
 
+-- where truss comes to then
+abbrev pub next_stage : HaltNext → Stage
+next_stage (GoesTo step) = halt_stage step
+next_stage Looks = ReadingLwps
+next_stage Ends = Closing 0 GoOn
+
+abbrev pub next_aside : HaltNext → Aside
+next_aside (GoesTo step) = halt_aside step
+next_aside _ = Nothing
+
+abbrev pub gone_to : TrussState → HaltNext → TrussState
+gone_to u next = record u { stage = next_stage next; aside = next_aside next }
+
+moved : (u : TrussState) (stage : Stage) → u.aside ≡ Nothing
+    → with_stage u stage ≡ record u { stage = stage; aside = Nothing }
+moved u stage idle = ap (λ aside. record u { stage = stage; aside = aside }) idle
+
+stayed : (u : TrussState) (aside : Aside) → u.stage ≡ ReadingLwps
+    → with_aside u aside ≡ record u { stage = ReadingLwps; aside = aside }
+stayed u aside at = ap (λ stage. record u { stage = stage; aside = aside }) at
+
+-- a row a step and an answer
+halted-is : (step : HaltStep) (u : TrussState) (r : Reply) (a : Answer) → u.stage ≡ halt_stage step
+    → u.aside ≡ halt_aside step → halt_answered step u r a ≡ gone_to u (halt_next step r a)
+unfolding with_halt_answered with_wait_answered with_asking_answered
+halted-is Directs u r Accepted at idle = refl
+halted-is Directs u r Interrupted at idle = refl
+halted-is Directs u r (Refused errno) at idle = moved u ReadingLwps idle
+halted-is Directs u r Gone at idle = moved u (Closing 0 GoOn) idle
+halted-is (Waits until) u r Accepted at beside = stayed u Nothing at
+halted-is (Waits until) u r Interrupted at beside = stayed u Asking at
+halted-is (Waits until) u r (Refused errno) at beside = stayed u Nothing at
+halted-is (Waits until) u r Gone at beside = refl
+halted-is AsksAgain u r Accepted at beside = stayed u (AwaitingAgain (until_in r)) at
+halted-is AsksAgain u r Interrupted at beside = stayed u Asking at
+halted-is AsksAgain u r (Refused errno) at beside = stayed u Nothing at
+halted-is AsksAgain u r Gone at beside = refl
+halted-is (WaitsAgain until) u r Accepted at beside = stayed u Nothing at
+halted-is (WaitsAgain until) u r Interrupted at beside = stayed u Asking at
+halted-is (WaitsAgain until) u r (Refused errno) at beside = stayed u Nothing at
+halted-is (WaitsAgain until) u r Gone at beside = refl
+
+pub halted-fed : (o : Options) → has_functions o ≡ true → (step : HaltStep) (u : TrussState) (r : Reply)
+    → u.options ≡ o → u.stage ≡ halt_stage step → u.aside ≡ halt_aside step
+    → fed_functions u r ≡ gone_to u (halt_next step r (answer_of r))
+unfolding with_aside_answered with_function_reply
+halted-fed o has step u r options at beside = fed step at beside ∙ halted-is step u r (answer_of r) at beside
+  where
+    fed : (step : HaltStep) → u.stage ≡ halt_stage step → u.aside ≡ halt_aside step
+        → fed_functions u r ≡ halt_answered step u r (answer_of r)
+    fed Directs at idle = fed-staged o has u r Unfollowing options idle at
+    fed (Waits until) at beside = fed-beside o has u r options ∙ ap (with_aside_answered u r) beside
+    fed AsksAgain at beside = fed-beside o has u r options ∙ ap (with_aside_answered u r) beside
+    fed (WaitsAgain until) at beside = fed-beside o has u r options ∙ ap (with_aside_answered u r) beside
+
+-- ---- the next process
+
+pub going-is : (u : TrussState) → u.leaving ≡ true → with_going_on u ≡ with_next_left u
+unfolding with_going_on
+going-is u on = ap (λ b. cond b (with_next_left u) (polls_or_finished u (slice_get u.traced 0))) on
+
+pub left-same : (u : TrussState) → ((with_next_left u).traced ≡ u.traced) × ((with_next_left u).leaving ≡ u.leaving)
+unfolding with_next_left
+left-same u = by (slice_get u.traced 0)
+  where
+    by : (t : Option Traced)
+        → ((left_or_finished u t).traced ≡ u.traced) × ((left_or_finished u t).leaving ≡ u.leaving)
+    by None = (refl, refl)
+    by (Some t) = (refl, refl)
+
+-- ---- the calls by which it leaves one
+
 module _ (o : Options) (has : has_functions o ≡ true) (off : o.follow ≡ false) where
   -- truss leaves these processes, at this stage of the first one
   record On (ts : List Traced) (now : Stage) (aside : Aside) (u : TrussState) : Type 0 where
@@ -81,72 +153,17 @@ module _ (o : Options) (has : has_functions o ≡ true) (off : o.follow ≡ fals
     With = On (t ∷ rest)
 
     abbrev WithNext : HaltNext → TrussState → Type 0
-    WithNext (GoesTo step) = With (halt_stage step) (halt_aside step)
-    WithNext Looks = With ReadingLwps Nothing
-    WithNext Ends = With (Closing 0 GoOn) Nothing
+    WithNext next = With (next_stage next) (next_aside next)
 
-    moved : (old now : Stage) (a b : Aside) (u : TrussState) → With old a u
-        → With now b (with_aside (with_stage u now) b)
-    moved old now a b u w = record {
+    goes-to : {old : Stage} {a : Aside} (next : HaltNext) (u : TrussState) → With old a u
+        → WithNext next (gone_to u next)
+    goes-to next u w = record {
       options = w.options;
       leaves = w.leaves;
       stage = refl;
       beside = refl;
       traced = w.traced;
     }
-
-    beside-now : (now : Stage) (a b : Aside) (u : TrussState) → With now a u → With now b (with_aside u b)
-    beside-now now a b u w = record {
-      options = w.options;
-      leaves = w.leaves;
-      stage = w.stage;
-      beside = refl;
-      traced = w.traced;
-    }
-
-    at-stage : (old now : Stage) (a : Aside) (u : TrussState) → With old a u → With now a (with_stage u now)
-    at-stage old now a u w = record {
-      options = w.options;
-      leaves = w.leaves;
-      stage = refl;
-      beside = w.beside;
-      traced = w.traced;
-    }
-
-    -- a row a step and an answer
-    answered : (step : HaltStep) (u : TrussState) (r : Reply) (a : Answer)
-        → With (halt_stage step) (halt_aside step) u → WithNext (halt_next step r a) (halt_answered step u r a)
-    unfolding with_halt_answered with_wait_answered with_asking_answered
-    answered Directs u r Accepted w = moved Unfollowing ReadingLwps Nothing (AwaitingStop (until_in r)) u w
-    answered Directs u r Interrupted w = moved Unfollowing ReadingLwps Nothing Asking u w
-    answered Directs u r (Refused errno) w = at-stage Unfollowing ReadingLwps Nothing u w
-    answered Directs u r Gone w = at-stage Unfollowing (Closing 0 GoOn) Nothing u w
-    answered (Waits until) u r Accepted w = beside-now ReadingLwps (AwaitingStop until) Nothing u w
-    answered (Waits until) u r Interrupted w = beside-now ReadingLwps (AwaitingStop until) Asking u w
-    answered (Waits until) u r (Refused errno) w = beside-now ReadingLwps (AwaitingStop until) Nothing u w
-    answered (Waits until) u r Gone w =
-        at-stage ReadingLwps (Closing 0 GoOn) Nothing (with_aside u Nothing)
-        (beside-now ReadingLwps (AwaitingStop until) Nothing u w)
-    answered AsksAgain u r Accepted w = beside-now ReadingLwps Asking (AwaitingAgain (until_in r)) u w
-    answered AsksAgain u r Interrupted w = beside-now ReadingLwps Asking Asking u w
-    answered AsksAgain u r (Refused errno) w = beside-now ReadingLwps Asking Nothing u w
-    answered AsksAgain u r Gone w =
-        at-stage ReadingLwps (Closing 0 GoOn) Nothing (with_aside u Nothing)
-        (beside-now ReadingLwps Asking Nothing u w)
-    answered (WaitsAgain until) u r Accepted w = beside-now ReadingLwps (AwaitingAgain until) Nothing u w
-    answered (WaitsAgain until) u r Interrupted w = beside-now ReadingLwps (AwaitingAgain until) Asking u w
-    answered (WaitsAgain until) u r (Refused errno) w = beside-now ReadingLwps (AwaitingAgain until) Nothing u w
-    answered (WaitsAgain until) u r Gone w =
-        at-stage ReadingLwps (Closing 0 GoOn) Nothing (with_aside u Nothing)
-        (beside-now ReadingLwps (AwaitingAgain until) Nothing u w)
-
-    fed-answered : (step : HaltStep) (u : TrussState) (r : Reply) → With (halt_stage step) (halt_aside step) u
-        → fed_functions u r ≡ halt_answered step u r (answer_of r)
-    unfolding with_aside_answered with_function_reply
-    fed-answered Directs u r w = fed-staged o has u r Unfollowing w.options w.beside w.stage
-    fed-answered (Waits until) u r w = fed-beside o has u r w.options ∙ ap (with_aside_answered u r) w.beside
-    fed-answered AsksAgain u r w = fed-beside o has u r w.options ∙ ap (with_aside_answered u r) w.beside
-    fed-answered (WaitsAgain until) u r w = fed-beside o has u r w.options ∙ ap (with_aside_answered u r) w.beside
 
     called : (step : HaltStep) (u : TrussState) → With (halt_stage step) (halt_aside step) u
         → next_function_call_of u ≡ Some (halt_call t step)
@@ -185,8 +202,9 @@ module _ (o : Options) (has : has_functions o ≡ true) (off : o.follow ≡ fals
     halts-on (x ∷ xs) (GoesTo step) u w made calm = (
       same_Some x.call (halt_call t step) (sym made.0 ∙ called step u w),
       halts-on xs (halt_next step x.reply (answer_of x.reply)) (fed_functions u x.reply)
-          (subst (WithNext (halt_next step x.reply (answer_of x.reply))) (sym (fed-answered step u x.reply w))
-          (answered step u x.reply (answer_of x.reply) w)) made.1 (All-tail IsCalm x xs calm),
+          (subst (WithNext (halt_next step x.reply (answer_of x.reply)))
+          (sym (halted-fed o has step u x.reply w.options w.stage w.beside))
+          (goes-to (halt_next step x.reply (answer_of x.reply)) u w)) made.1 (All-tail IsCalm x xs calm),
     )
     halts-on xs Looks u w made calm =
         looks-last o has off rest t Then ends u xs w.options w.leaves w.stage w.beside w.traced made calm
@@ -200,10 +218,6 @@ module _ (o : Options) (has : has_functions o ≡ true) (off : o.follow ≡ fals
     leave-one false u xs w made calm = closes-on u xs w made calm
 
   -- ---- one process after another
-
-  going-leaves : (u : TrussState) → u.leaving ≡ true → with_going_on u ≡ with_next_left u
-  unfolding with_going_on
-  going-leaves u on = ap (λ b. cond b (with_next_left u) (polls_or_finished u (slice_get u.traced 0))) on
 
   finished-none : (u : TrussState) (c : Call) → u.options ≡ o → u.aside ≡ Nothing
       → next_function_call_of (with_stage u Finished) ≡ Some c → ⊥
@@ -225,20 +239,12 @@ module _ (o : Options) (has : has_functions o ≡ true) (off : o.follow ≡ fals
       leave-one t ts (LeavesAll o ts)
       (λ v ys shut made_v calm_v.
       leave-all ts v ys shut.options shut.leaving shut.idle shut.traced
-      (subst (λ (y : TrussState). MakesFunctionCalls y ys) (going-leaves v shut.leaving) made_v) calm_v)
+      (subst (λ (y : TrussState). MakesFunctionCalls y ys) (going-is v shut.leaving) made_v) calm_v)
       t.attached (with_stage u stage) xs
       (record { options = options; leaves = leaves; stage = refl; beside = free; traced = traced })
       (subst (λ (vs : List Traced). MakesFunctionCalls (left_or_finished u (slice_get vs 0)) xs) traced made) calm
 
 -- ---- the interrupt
-
-left-traced : (u : TrussState) → (with_next_left u).traced ≡ u.traced
-unfolding with_next_left
-left-traced u = by (slice_get u.traced 0)
-  where
-    by : (first : Option Traced) → (left_or_finished u first).traced ≡ u.traced
-    by None = refl
-    by (Some t) = refl
 
 -- a wait was interrupted: truss begins to leave, as this one does
 record Begins (t : TrussState) (r : Reply) : Type 0 where
@@ -319,7 +325,7 @@ module _ (n k : ℕ) (o : Options) (s : TracedState) (h : List Entry) (run : IsF
         let g = here in
         let b = begins in
         let traced : (functions_at k o (before ++ e ∷ [])).traced ≡ b.from.traced =
-        ap (λ (v : TrussState). v.traced) (then-is ∙ b.is) ∙ left-traced b.from in
+        ap (λ (v : TrussState). v.traced) (then-is ∙ b.is) ∙ (left-same b.from).0 in
         subst (λ ts. LeavesAll o ts (exchanges k later)) (sym traced)
         (leave-all o run.has run.follows_none b.from.traced b.from (exchanges k later) (b.options ∙ g.options) b.leaves
         b.free refl (subst (λ (v : TrussState). MakesFunctionCalls v (exchanges k later)) b.is made.1)

@@ -124,6 +124,16 @@ alike-join u v w a b = record {
   options = b.options ∙ a.options;
 }
 
+-- one process becomes another record of it
+pub set-field : {A : Type 0} (u : TrussState) (q : ℕ) (t : Traced) (f : Traced → A) → q < length u.traced
+    → f t ≡ f (traced_at u q) → (i : ℕ) → f (at_place (slice_set u.traced q t) i) ≡ f (traced_at u i)
+set-field u q t f within same i = elim (cases_eq i q) [
+  | inl is ↦
+      ap f (ap (at_place (slice_set u.traced q t)) is ∙ set-at u.traced q t within)
+      ∙ same ∙ ap (λ n. f (at_place u.traced n)) (sym is)
+  | inr apart ↦ ap f (get_or-set_other u.traced q i t nobody apart)
+]
+
 -- the first process becomes another with the same files and marks
 pub alike-set : (u : TrussState) (t : Traced) → 0 < length u.traced → SameFiles (traced_at u 0) t
     → t.marks ≡ marks_at u 0 → t.attached ≡ (traced_at u 0).attached → Alike u (with_traced u 0 t)
@@ -135,18 +145,8 @@ alike-set u t within same marks attached = record {
         (subst (SameFiles (traced_at u 0)) (sym (set-at u.traced 0 t within)) same)
     | inr apart ↦ same-at _ _ (get_or-set_other u.traced 0 i t nobody apart)
   ];
-  marks = λ i. elim (cases_eq i 0) [
-    | inl is ↦
-        ap (λ (x : Traced). x.marks) (ap (at_place (slice_set u.traced 0 t)) is ∙ set-at u.traced 0 t within)
-        ∙ marks ∙ ap (λ n. (at_place u.traced n).marks) (sym is)
-    | inr apart ↦ ap (λ (x : Traced). x.marks) (get_or-set_other u.traced 0 i t nobody apart)
-  ];
-  attached = λ i. elim (cases_eq i 0) [
-    | inl is ↦
-        ap (λ (x : Traced). x.attached) (ap (at_place (slice_set u.traced 0 t)) is ∙ set-at u.traced 0 t within)
-        ∙ attached ∙ ap (λ n. (at_place u.traced n).attached) (sym is)
-    | inr apart ↦ ap (λ (x : Traced). x.attached) (get_or-set_other u.traced 0 i t nobody apart)
-  ];
+  marks = set-field u 0 t (λ (x : Traced). x.marks) within marks;
+  attached = set-field u 0 t (λ (x : Traced). x.attached) within attached;
   olds = λ i apart. ap (λ (x : Traced). x.old) (get_or-set_other u.traced 0 i t nobody apart);
   seens = λ i apart. ap (λ (x : Traced). x.seen) (get_or-set_other u.traced 0 i t nobody apart);
   leaving = refl;

@@ -126,9 +126,9 @@ looked-first v p looked_so frozen = by v.stage v.aside looked_so
 -- a process that is directed next, or only closed
 pub begin-first : (v : TrussState) → NextLeft v → 0 < length v.traced → (traced_at v 0).attached ≡ true
     → (p : TracedProcess) → StoodFirst v.stage v.aside p
-begin-first v (begins at) some attached p = first-at v Unfollowing Nothing p at tt
-begin-first v (shuts off) some attached p = absurd (false≢true (sym off ∙ attached))
-begin-first v (none_left none) some attached p = absurd (omega (arith, some, none))
+begin-first v (begins at within on) some attached p = first-at v Unfollowing Nothing p at tt
+begin-first v (shuts at within off) some attached p = absurd (false≢true (sym off ∙ attached))
+begin-first v (none_left at none) some attached p = absurd (omega (arith, some, none))
 
 -- where it lives truss has not looked at it
 pub next-unlooked : (v : TrussState) (next : HaltNext) (p : TracedProcess) → IsAtNext v next → StoodNext next p
@@ -142,11 +142,11 @@ next-unlooked v Ends p at h = absurd h
 
 pub next-left-unlooked : (v : TrussState) → NextLeft v → (i : ℕ) → i < length v.traced
     → (traced_at v i).attached ≡ true → IsUnlooked v.stage i
-next-left-unlooked v (begins at) i within attached looked_so =
+next-left-unlooked v (begins at some on) i within attached looked_so =
     absurd (false≢true (sym (ap is_looked at.0) ∙ looked_so))
-next-left-unlooked v (shuts off) i within attached looked_so = λ zero_i.
+next-left-unlooked v (shuts at some off) i within attached looked_so = λ zero_i.
     false≢true (sym off ∙ ap (λ j. (traced_at v j).attached) (sym zero_i) ∙ attached)
-next-left-unlooked v (none_left none) i within attached looked_so = absurd (omega (arith, within, none))
+next-left-unlooked v (none_left at none) i within attached looked_so = absurd (omega (arith, within, none))
 
 -- ---- its handles
 

@@ -33,7 +33,7 @@ use Rattle.pr_truss_laws.specs.Exchanges.{Exchange}
 use Rattle.pr_function_laws.proofs.Stepping.BreakpointLemmas.{IsOwnEntry}
 use Rattle.pr_function_laws.proofs.LeavingProcesses.LeavingFacts.{Moved, StoodNext}
 use Rattle.pr_function_laws.proofs.LeavingProcesses.LeavingFacts.{step-lives}
-use Rattle.pr_function_laws.proofs.LeavingProcesses.LeavingStages.{IsUnlooked, is_looked}
+use Rattle.pr_function_laws.proofs.LeavingProcesses.LeavingStages.{IsLeft, IsUnlooked, is_looked}
 use Rattle.pr_function_laws.proofs.LeavingProcesses.LeavingSteps.{IsAt, IsAtNext, IsAtStep, LeavesOn, NextLeft, Shares, Went}
 use Rattle.pr_function_laws.proofs.LeavingProcesses.LeavingSteps.{ended, halted, has_read, looked, loses, patched}
 use Rattle.pr_function_laws.proofs.OpenedProcesses.OpenedLemmas.{control-made}
@@ -102,7 +102,7 @@ module _ (Reached : Type 0) (n k : ℕ) (o : Options) (t : TrussState) (s : Trac
     step-unlooked = kept-of.step-unlooked Reached n k o t s g files e legal bytes x own next has follow
 
     module _ (step : HaltStep) (at : IsAtStep t step) (some : 0 < length t.traced) (same : v.traced ≡ t.traced)
-        (to : IsAtNext v (halt_next step x.reply (answer_of x.reply))) (l : LeavesOn t x.reply v) where
+        (to : IsAtNext v (halt_next step x.reply (answer_of x.reply))) (l : LeavesOn t x.reply g.at v) where
       abbrev here-is : (q : ℕ) → traced_at v q ≡ traced_at t q
       here-is = kept-of.here-is Reached n k o t s g files e legal bytes x own next has follow step at some same to l
 
@@ -119,7 +119,7 @@ module _ (Reached : Type 0) (n k : ℕ) (o : Options) (t : TrussState) (s : Trac
       moved-was = kept-of.moved-was Reached n k o t s g files e legal bytes x own next has follow step at some same to l
 
     module _ (at : IsAt t (Closing 0 GoOn) Nothing) (some : 0 < length t.traced)
-        (same : v.traced ≡ remove t.traced 0) (to : NextLeft v) (l : LeavesOn t x.reply v) where
+        (same : v.traced ≡ remove t.traced 0) (to : NextLeft v) (l : LeavesOn t x.reply g.at v) where
       abbrev close-acts : (m : ℕ) (held : Held) → acts_by x.call ≡ Some m → handle_of s.opens k m ≡ Some held
           → held.pid ≡ pid_at 0
       close-acts = kept-of.close-acts Reached n k o t s g files e legal bytes x own next has follow at some same to l
@@ -148,7 +148,7 @@ module _ (Reached : Type 0) (n k : ℕ) (o : Options) (t : TrussState) (s : Trac
         → acts_by x.call ≡ Some (traced_at t 0).control
     patch-acts = kept-of.patch-acts Reached n k o t s g files e legal bytes x own next has follow
 
-    abbrev behind-it : LeavesOn t x.reply v
+    abbrev behind-it : LeavesOn t x.reply g.at v
     behind-it = kept-of.behind-it Reached n k o t s g files e legal bytes x own next has follow
 
     -- ---- a process that truss has not looked at
@@ -181,7 +181,7 @@ module _ (Reached : Type 0) (n k : ℕ) (o : Options) (t : TrussState) (s : Trac
     pub behind : (i : ℕ) → i < length v.traced → (traced_at v i).attached ≡ true → IsUnlooked v.stage i → Behind i
     behind i within attached unlooked = by (let l = behind-it in l.went)
       where
-        by : Went t x.reply v → Behind i
+        by : {w : IsLeft t} → Went t x.reply v w → Behind i
         by (halted step at some same to) =
             let here = here-is step at some same to behind-it i in
             let on_t = ap (λ (u : Traced). u.attached) (sym here) ∙ attached in
@@ -195,18 +195,19 @@ module _ (Reached : Type 0) (n k : ℕ) (o : Options) (t : TrussState) (s : Trac
               marks = ap (λ (u : Traced). u.marks) here;
               was = moved-was step at some same to behind-it i (within-t step at some same to behind-it i within) on_t;
             }
-        by (looked at some shares looked_so) =
-            behind-shared shares i within attached (unlooked looked_so) (not-yet ReadingLwps at.0 refl i)
+        by (looked at some look f _) =
+            behind-shared f.shares i within attached (unlooked f.looked_at) (not-yet ReadingLwps at.0 refl i)
             (same-was (look-same at) i)
-        by (has_read l_read from len at some shares looked_so) =
-            behind-shared shares i within attached (unlooked looked_so) (already i (unlooked looked_so))
+        by (has_read l_read from len at some f _) =
+            behind-shared f.shares i within attached (unlooked f.looked_at) (already i (unlooked f.looked_at))
             (same-was (text-same l_read from len at) i)
-        by (patched clear at some shares looked_so) =
-            behind-shared shares i within attached (unlooked looked_so) (already i (unlooked looked_so))
+        by (patched clear at some f _) =
+            let shares = f.shares in
+            behind-shared shares i within attached (unlooked f.looked_at) (already i (unlooked f.looked_at))
             (others-was (control-acts some (patch-acts clear at)) some i (subst (λ m. i < m) shares.many within)
-            (unlooked looked_so))
-        by (loses u at some is shares looked_so) =
-            behind-shared shares i within attached (unlooked looked_so) (already i (unlooked looked_so))
+            (unlooked f.looked_at))
+        by (loses u at some is f _) =
+            behind-shared f.shares i within attached (unlooked f.looked_at) (already i (unlooked f.looked_at))
             (same-was (lose-same u at some is) i)
         by (ended at some none same to) =
             let here = there-is at some same to behind-it i in
@@ -248,7 +249,7 @@ module _ (Reached : Type 0) (n k : ℕ) (o : Options) (t : TrussState) (s : Trac
         → live_process a.state.system (traced_at t q).pid ≡ Some p' → Ahead q
     ahead q within attached unlooked not_read p' later = by (let l = behind-it in l.went)
       where
-        by : Went t x.reply v → Ahead q
+        by : {w : IsLeft t} → Went t x.reply v w → Ahead q
         by (halted step at some same to) =
             let here = here-is step at some same to behind-it q in
             record {
@@ -270,13 +271,11 @@ module _ (Reached : Type 0) (n k : ℕ) (o : Options) (t : TrussState) (s : Trac
               old = ap (λ (u : Traced). u.old) here;
               marks = ap (λ (u : Traced). u.marks) here;
             }
-        by (looked at some shares looked_so) = ahead-shared shares q within attached (not_read at)
-        by (has_read l_read from len at some shares looked_so) =
-            ahead-shared shares q within attached (unlooked (ap is_looked at.0))
-        by (patched clear at some shares looked_so) =
-            ahead-shared shares q within attached (unlooked (ap is_looked at.0))
-        by (loses u at some is shares looked_so) =
-            ahead-shared shares q within attached (unlooked (ap is_looked at.0))
+        by (looked at some look f _) = ahead-shared f.shares q within attached (not_read at)
+        by (has_read l_read from len at some f _) =
+            ahead-shared f.shares q within attached (unlooked (ap is_looked at.0))
+        by (patched clear at some f _) = ahead-shared f.shares q within attached (unlooked (ap is_looked at.0))
+        by (loses u at some is f _) = ahead-shared f.shares q within attached (unlooked (ap is_looked at.0))
         by (ended at some none same to) = from q within attached (unlooked (ap is_looked at.0))
           where
             from : (q : ℕ) → q < length t.traced → (traced_at t q).attached ≡ true → q ≢ 0 → Ahead q
@@ -329,7 +328,7 @@ module _ (Reached : Type 0) (n k : ℕ) (o : Options) (t : TrussState) (s : Trac
         → live_process s.system (traced_at t q).pid ≡ Some p → Fate q
     fate q within unlooked p live = by (let l = behind-it in l.went)
       where
-        by : Went t x.reply v → Fate q
+        by : {w : IsLeft t} → Went t x.reply v w → Fate q
         by (halted step at some same to) = elim (cases_eq q 0) [
           | inl zero_q ↦
               let w =
@@ -339,10 +338,10 @@ module _ (Reached : Type 0) (n k : ℕ) (o : Options) (t : TrussState) (s : Trac
               subst Fate (sym zero_q) (lives_on w.0 w.1)
           | inr other ↦ others-fate (step-acts step (step-call step at) some) some q within other p live
         ]
-        by (looked at some shares looked_so) = same-fate (look-same at) q p live
-        by (has_read l_read from len at some shares looked_so) = same-fate (text-same l_read from len at) q p live
-        by (patched clear at some shares looked_so) =
+        by (looked at some look f _) = same-fate (look-same at) q p live
+        by (has_read l_read from len at some f _) = same-fate (text-same l_read from len at) q p live
+        by (patched clear at some f _) =
             others-fate (control-acts some (patch-acts clear at)) some q within (unlooked (ap is_looked at.0)) p live
-        by (loses u at some is shares looked_so) = same-fate (lose-same u at some is) q p live
+        by (loses u at some is f _) = same-fate (lose-same u at some is) q p live
         by (ended at some none same to) =
             others-fate (close-acts at some same to behind-it) some q within (unlooked (ap is_looked at.0)) p live

@@ -229,7 +229,7 @@ module _ (n k : ℕ) (o : Options) (s : TracedState) (h : List Entry) (run : IsF
                 other
                 (sym (shares.pids i) ∙ subst (λ (u : TrussState). (traced_at u i).pid ≡ pid) v-is its_next ∙ sym its)
 
-            by : Went t x.reply v → ⊥
+            by : {w : IsLeft t} → Went t x.reply v w → ⊥
             by (halted Directs at_step some_t same to) =
                 let both : ReadingLwps ≡ Unfollowing = sym at.0 ∙ at_step.0 in cc
             by (halted (Waits until) at_step some_t same to) =
@@ -238,12 +238,12 @@ module _ (n k : ℕ) (o : Options) (s : TracedState) (h : List Entry) (run : IsF
                 let both : Nothing ≡ Asking = sym at.1 ∙ at_step.1 in cc
             by (halted (WaitsAgain until) at_step some_t same to) =
                 let both : Nothing ≡ AwaitingAgain until = sym at.1 ∙ at_step.1 in cc
-            by (looked at_look some_t shares looked_so) = apart shares looked_so
-            by (has_read l from len at_text some_t shares looked_so) =
+            by (looked at_look some_t look first _) = apart first.shares first.looked_at
+            by (has_read l from len at_text some_t first _) =
                 let both : ReadingLwps ≡ ReadingText 0 l from len = sym at.0 ∙ at_text.0 in cc
-            by (patched clears at_patch some_t shares looked_so) =
+            by (patched clears at_patch some_t first _) =
                 let both : ReadingLwps ≡ Closing 0 GoOn = sym at.0 ∙ at_patch.0 in cc
-            by (loses u at_close some_t is_lost shares looked_so) =
+            by (loses u at_close some_t is_lost first _) =
                 let both : ReadingLwps ≡ Closing 0 GoOn = sym at.0 ∙ at_close.0 in cc
             by (ended at_close some_t none same to) =
                 let both : ReadingLwps ≡ Closing 0 GoOn = sym at.0 ∙ at_close.0 in cc
