@@ -1,12 +1,10 @@
 ghost use Rattle.std.specs.Prelude.{ℕ, List};
 ghost use Rattle.pr_function_hides.specs.LiftedCopies.{CopiesFindNone, OpensOutOfCopies};
 ghost use Rattle.pr_function_hides.specs.SleptCopies.{NoneSleepsInCopy};
-ghost use Rattle.pr_function_laws.specs.Opened.{IsFunctionRun};
+ghost use Rattle.pr_function_laws.specs.ReachedRuns.{IsReachedFunctionRun};
 ghost use Rattle.pr_line.specs.declared.options.Options.{Options};
 ghost use Rattle.pr_model.specs.State.{TracedState};
 ghost use Rattle.pr_model.specs.declared.events.Entry.{Entry};
-ghost use Rattle.pr_reached.specs.ByteHistories.{HasBytes};
-ghost use Rattle.pr_reached.specs.Reached.{IsReached};
 
 /// In each legal history of truss with functions, from a state that the machine reaches, with no lwp asleep in a fork,
 /// a vfork or an exec, in which controllers write bytes, and in which no lwp of a process is at a fork, a vfork or an
@@ -17,6 +15,6 @@ ghost use Rattle.pr_reached.specs.Reached.{IsReached};
 /// of the stops from before truss came.
 #[tactic(auto, using(crate::proofs::LeavingCopies::CopyHistory::copies_lifted))]
 pub fn a_copy_finds_no_breakpoint()
-    ensures { (n k : ℕ) (o : Options) (s : TracedState) (h : List Entry) → IsFunctionRun n k o s h → IsReached s
-        → NoneSleepsInCopy s.system → HasBytes h → OpensOutOfCopies k o s h → CopiesFindNone k o s h }
+    ensures { (n k : ℕ) (o : Options) (s : TracedState) (h : List Entry) → IsReachedFunctionRun n k o s h
+        → NoneSleepsInCopy s.system → OpensOutOfCopies k o s h → CopiesFindNone k o s h }
 {}

@@ -2,9 +2,7 @@ ghost use Rattle.std.specs.Prelude.{ℕ, List};
 ghost use Rattle.pr_line.specs.declared.options.Options.{Options};
 ghost use Rattle.pr_model.specs.State.{TracedState};
 ghost use Rattle.pr_model.specs.declared.events.Entry.{Entry};
-ghost use Rattle.pr_reached.specs.ByteHistories.{HasBytes};
-ghost use Rattle.pr_reached.specs.Reached.{IsReached};
-ghost use Rattle.pr_function_laws.specs.Opened.{IsFunctionRun};
+ghost use Rattle.pr_function_laws.specs.ReachedRuns.{IsReachedFunctionRun};
 ghost use Rattle.pr_function_laws.specs.ToldTurns.{AreSteppable};
 ghost use Rattle.pr_function_hides.specs.FunctionHiders.{ArePatchable};
 ghost use Rattle.pr_function_hides.specs.ListedCalls.{FetchesBreakpoints, ListsItsTurns};
@@ -22,10 +20,8 @@ ghost use Rattle.pr_function_hides.specs.PlantedBreakpoints.{LeavesPlanted};
 /// the second where they begin besides with instructions that are no breakpoint, where an instruction stands, and those
 /// at one address with the same.
 pub fn in_each_history_calls_are_those_turns()
-    ensures fetched { (n k : ℕ) (o : Options) (s : TracedState) (h : List Entry) → IsFunctionRun n k o s h
-        → IsReached s → HasBytes h → AreSteppable o → FetchesBreakpoints k o s h → (pid : ℕ)
-        → ListsItsTurns k o s h pid }
-    ensures spared { (n k : ℕ) (o : Options) (s : TracedState) (h : List Entry) → IsFunctionRun n k o s h
-        → IsReached s → HasBytes h → AreSteppable o → ArePatchable o → LeavesPlanted k o s h → (pid : ℕ)
-        → ListsItsTurns k o s h pid }
+    ensures fetched { (n k : ℕ) (o : Options) (s : TracedState) (h : List Entry) → IsReachedFunctionRun n k o s h
+        → AreSteppable o → FetchesBreakpoints k o s h → (pid : ℕ) → ListsItsTurns k o s h pid }
+    ensures spared { (n k : ℕ) (o : Options) (s : TracedState) (h : List Entry) → IsReachedFunctionRun n k o s h
+        → AreSteppable o → ArePatchable o → LeavesPlanted k o s h → (pid : ℕ) → ListsItsTurns k o s h pid }
 {}

@@ -5,10 +5,9 @@ ghost use Rattle.pr_hidden.specs.Tidiness.{IsSparing};
 ghost use Rattle.pr_line.specs.declared.options.Options.{Options};
 ghost use Rattle.pr_model.specs.State.{TracedState};
 ghost use Rattle.pr_model.specs.declared.events.Entry.{Entry};
-ghost use Rattle.pr_reached.specs.ByteHistories.{HasBytes};
-ghost use Rattle.pr_reached.specs.Reached.{IsReached};
 ghost use Rattle.pr_truss.specs.Trusses.{first_truss};
 ghost use Rattle.pr_world.specs.ControllerStates.{ControllerState, FnTruss};
+ghost use Rattle.pr_function_laws.specs.ReachedRuns.{IsReachedFunctionRun};
 ghost use Rattle.pr_function_laws.specs.Opened.{IsFunctionRun};
 ghost use Rattle.pr_function_hides.specs.FunctionHiders.{ArePatchable};
 ghost use Rattle.pr_function_hides.specs.ListedCalls.{FetchesBreakpoints};
@@ -25,8 +24,8 @@ ghost use Rattle.pr_function_hides.specs.RunsOfTrusses.{IsRunOfTrusses};
 /// breakpoint, and those at one address with the same one.
 #[tactic(auto, using(crate::proofs::PlantedFetches::FetchesLaw::fetches_breakpoints))]
 pub fn what_is_fetched_at_a_planted_function_is_a_breakpoint()
-    ensures { (n k : ℕ) (o : Options) (s : TracedState) (h : List Entry) → IsFunctionRun n k o s h
-        → IsReached s → HasBytes h → ArePatchable o → LeavesPlanted k o s h → FetchesBreakpoints k o s h }
+    ensures { (n k : ℕ) (o : Options) (s : TracedState) (h : List Entry) → IsReachedFunctionRun n k o s h
+        → ArePatchable o → LeavesPlanted k o s h → FetchesBreakpoints k o s h }
 {}
 
 /// In a run of trusses that are undisturbed, programs that leave the breakpoints alone which stand leave alone each

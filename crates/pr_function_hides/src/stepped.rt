@@ -2,9 +2,7 @@ ghost use Rattle.std.specs.Prelude.{ℕ, All, List};
 ghost use Rattle.pr_line.specs.declared.options.Options.{Options};
 ghost use Rattle.pr_model.specs.State.{TracedState};
 ghost use Rattle.pr_model.specs.declared.events.Entry.{Entry};
-ghost use Rattle.pr_reached.specs.ByteHistories.{HasBytes};
-ghost use Rattle.pr_reached.specs.Reached.{IsReached};
-ghost use Rattle.pr_function_laws.specs.Opened.{IsFunctionRun};
+ghost use Rattle.pr_function_laws.specs.ReachedRuns.{IsReachedFunctionRun};
 ghost use Rattle.pr_function_laws.specs.PlantedByCalls.{IsNoBreakpoint};
 ghost use Rattle.pr_function_laws.specs.ToldTurns.{AreSteppable};
 ghost use Rattle.pr_function_hides.specs.SteppedByCalls.{StepsWhatItLifted};
@@ -16,8 +14,8 @@ ghost use Rattle.pr_function_hides.specs.ToldCalls.{TellsItsCallsByCalls};
 /// right before it ran the process with PRCFAULT and PRSTEP, and where it has written nothing since.
 #[tactic(auto, using(crate::proofs::LiftedSteps::LiftedLaw::lifted_steps))]
 pub fn what_truss_steps_it_has_lifted()
-    ensures { (n k : ℕ) (o : Options) (s : TracedState) (h : List Entry) → IsFunctionRun n k o s h → IsReached s
-        → HasBytes h → AreSteppable o → StepsWhatItLifted k o s h }
+    ensures { (n k : ℕ) (o : Options) (s : TracedState) (h : List Entry) → IsReachedFunctionRun n k o s h
+        → AreSteppable o → StepsWhatItLifted k o s h }
 {}
 
 /// Which turns are calls of functions is told by calls and replies, too. In each legal history of truss with functions,
@@ -28,6 +26,6 @@ pub fn what_truss_steps_it_has_lifted()
 /// that the memory is another, or that a child has it too, such a turn need not be one.
 #[tactic(auto, using(crate::proofs::LiftedSteps::ToldCalls::told_calls))]
 pub fn its_calls_tell_which_turns_are_calls()
-    ensures { (n k : ℕ) (o : Options) (s : TracedState) (h : List Entry) → IsFunctionRun n k o s h → IsReached s
-        → HasBytes h → AreSteppable o → All IsNoBreakpoint o.functions → TellsItsCallsByCalls k o s h }
+    ensures { (n k : ℕ) (o : Options) (s : TracedState) (h : List Entry) → IsReachedFunctionRun n k o s h
+        → AreSteppable o → All IsNoBreakpoint o.functions → TellsItsCallsByCalls k o s h }
 {}

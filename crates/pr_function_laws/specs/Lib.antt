@@ -22,6 +22,7 @@ pub mod Ordinary
 pub mod OrdinaryRuns
 pub mod Planted
 pub mod PlantedByCalls
+pub mod ReachedRuns
 pub mod Refusals
 pub mod Returns
 pub mod Runs

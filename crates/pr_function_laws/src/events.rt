@@ -2,11 +2,9 @@ ghost use Rattle.std.specs.Prelude.{ℕ, List};
 ghost use Rattle.pr_line.specs.declared.options.Options.{Options};
 ghost use Rattle.pr_model.specs.State.{TracedState};
 ghost use Rattle.pr_model.specs.declared.events.Entry.{Entry};
-ghost use Rattle.pr_reached.specs.ByteHistories.{HasBytes};
-ghost use Rattle.pr_reached.specs.Reached.{IsReached};
 ghost use Rattle.pr_function_laws.specs.EventsRead.{EventsAreRead};
 ghost use Rattle.pr_function_laws.specs.OneEvent.{HasOneEventEach};
-ghost use Rattle.pr_function_laws.specs.Opened.{IsFunctionRun};
+ghost use Rattle.pr_function_laws.specs.ReachedRuns.{IsReachedFunctionRun};
 
 /// In each legal history of truss with functions, from a state that the machine reaches, in which controllers write
 /// bytes: from the end of the opening of a process, until truss is interrupted or closes its files, at most one lwp of
@@ -16,8 +14,8 @@ ghost use Rattle.pr_function_laws.specs.Opened.{IsFunctionRun};
 /// time; and from then on, until truss closes its control file, nothing of it moves.
 #[tactic(auto, using(crate::proofs::LeavingProcesses::LeavingHolds::held_open))]
 pub fn at_most_one_event_is_unread()
-    ensures { (n k : ℕ) (o : Options) (s : TracedState) (h : List Entry) → IsFunctionRun n k o s h → IsReached s
-        → HasBytes h → HasOneEventEach k o s h }
+    ensures { (n k : ℕ) (o : Options) (s : TracedState) (h : List Entry) → IsReachedFunctionRun n k o s h
+        → HasOneEventEach k o s h }
 {}
 
 /// In each legal history of a truss with `-u`, from a state that the machine reaches: an event of a process that truss
@@ -25,6 +23,6 @@ pub fn at_most_one_event_is_unread()
 /// then, once no stop of it is left that stood before truss came, and as long as truss is not interrupted.
 #[tactic(auto, using(crate::proofs::Pending::EventReads::event_reads))]
 pub fn each_event_is_told_by_the_next_read()
-    ensures { (n k : ℕ) (o : Options) (s : TracedState) (h : List Entry) → IsFunctionRun n k o s h → IsReached s
-        → HasBytes h → EventsAreRead k o s h }
+    ensures { (n k : ℕ) (o : Options) (s : TracedState) (h : List Entry) → IsReachedFunctionRun n k o s h
+        → EventsAreRead k o s h }
 {}

@@ -2,9 +2,8 @@ ghost use Rattle.std.specs.Prelude.{ℕ, List};
 ghost use Rattle.pr_line.specs.declared.options.Options.{Options};
 ghost use Rattle.pr_model.specs.State.{TracedState};
 ghost use Rattle.pr_model.specs.declared.events.Entry.{Entry};
-ghost use Rattle.pr_reached.specs.ByteHistories.{HasBytes};
-ghost use Rattle.pr_reached.specs.Reached.{IsReached};
 ghost use Rattle.pr_function_laws.specs.Holds.{KeepsItsHolds, OpensQuietly, WatchesWhatItHolds};
+ghost use Rattle.pr_function_laws.specs.ReachedRuns.{IsReachedFunctionRun};
 ghost use Rattle.pr_function_laws.specs.Opened.{IsFunctionRun};
 
 /// The watch of a process, which is a part of truss's own state, is told by calls and replies. In each legal history of
@@ -32,6 +31,6 @@ pub fn it_gets_hold_of_a_process_once_and_closes_nothing_meanwhile()
 /// wait on no event of the process comes until truss has hold of it.
 #[tactic(auto, using(crate::proofs::Holding::HoldQuiet::quiet_openings))]
 pub fn from_the_wait_of_an_opening_no_event_comes()
-    ensures { (n k : ℕ) (o : Options) (s : TracedState) (h : List Entry) → IsFunctionRun n k o s h → IsReached s
-        → HasBytes h → OpensQuietly k o s h }
+    ensures { (n k : ℕ) (o : Options) (s : TracedState) (h : List Entry) → IsReachedFunctionRun n k o s h
+        → OpensQuietly k o s h }
 {}

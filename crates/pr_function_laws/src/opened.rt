@@ -2,9 +2,8 @@ ghost use Rattle.std.specs.Prelude.{ℕ, List};
 ghost use Rattle.pr_line.specs.declared.options.Options.{Options};
 ghost use Rattle.pr_model.specs.State.{TracedState};
 ghost use Rattle.pr_model.specs.declared.events.Entry.{Entry};
-ghost use Rattle.pr_reached.specs.ByteHistories.{HasBytes};
-ghost use Rattle.pr_reached.specs.Reached.{IsReached};
 ghost use Rattle.pr_function_laws.specs.LeftAlone.{IsLeftAlone};
+ghost use Rattle.pr_function_laws.specs.ReachedRuns.{IsReachedFunctionRun};
 ghost use Rattle.pr_function_laws.specs.Opened.{HoldsWhatItOpened, IsFunctionRun, LiftsForOneAlone};
 
 /// From the end of the opening of a process, until truss closes its files, truss has its own files of that process and
@@ -24,8 +23,8 @@ pub fn what_truss_opened_it_traces_alone()
 /// first instruction is what can be fetched there.
 #[tactic(auto, using(crate::proofs::OpenedProcesses::OpenedLaws::opens))]
 pub fn each_breakpoint_is_lifted_for_one_lwp_alone()
-    ensures { (n k : ℕ) (o : Options) (s : TracedState) (h : List Entry) → IsFunctionRun n k o s h → IsReached s
-        → HasBytes h → LiftsForOneAlone k o s h }
+    ensures { (n k : ℕ) (o : Options) (s : TracedState) (h : List Entry) → IsReachedFunctionRun n k o s h
+        → LiftsForOneAlone k o s h }
 {}
 
 /// In each such history: where truss is interrupted before it reads the status of that process again, it is in a poll,
@@ -33,6 +32,6 @@ pub fn each_breakpoint_is_lifted_for_one_lwp_alone()
 /// file of the process.
 #[tactic(auto, using(crate::proofs::LeavingProcesses::LeavingAlone::left_alone))]
 pub fn an_interrupt_leaves_one_lwp_alone()
-    ensures { (n k : ℕ) (o : Options) (s : TracedState) (h : List Entry) → IsFunctionRun n k o s h → IsReached s
-        → HasBytes h → IsLeftAlone k o s h }
+    ensures { (n k : ℕ) (o : Options) (s : TracedState) (h : List Entry) → IsReachedFunctionRun n k o s h
+        → IsLeftAlone k o s h }
 {}

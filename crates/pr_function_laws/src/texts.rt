@@ -2,11 +2,10 @@ ghost use Rattle.std.specs.Prelude.{ℕ, List};
 ghost use Rattle.pr_line.specs.declared.options.Options.{Options};
 ghost use Rattle.pr_model.specs.State.{TracedState};
 ghost use Rattle.pr_model.specs.declared.events.Entry.{Entry};
-ghost use Rattle.pr_reached.specs.ByteHistories.{HasBytes};
-ghost use Rattle.pr_reached.specs.Reached.{IsReached};
 ghost use Rattle.pr_function_laws.specs.LineEvents.{AreOfTheirEventsIn};
 ghost use Rattle.pr_function_laws.specs.LineMoments.{MemoriesStand};
 ghost use Rattle.pr_function_laws.specs.LineTexts.{HaveTheirTextsIn, ReadsAtOnceOf, ReadsForItsLinesOf};
+ghost use Rattle.pr_function_laws.specs.ReachedRuns.{IsReachedFunctionRun};
 ghost use Rattle.pr_function_laws.specs.Opened.{IsFunctionRun, functions_at};
 ghost use Rattle.pr_function_laws.specs.Ordinary.{ordinary_among};
 ghost use Rattle.pr_function_laws.specs.ToldTurns.{AreSteppable};
@@ -36,8 +35,8 @@ pub fn it_reads_memory_for_its_lines_alone()
 /// is said where its functions begin with an instruction that it can step.
 #[tactic(auto, using(crate::proofs::LineMemory::TextsAtOnce::at_once))]
 pub fn it_reads_memory_right_behind_its_event()
-    ensures { (n k : ℕ) (o : Options) (s : TracedState) (h : List Entry) → IsFunctionRun n k o s h → IsReached s
-        → HasBytes h → AreSteppable o → ReadsAtOnceOf k o s h }
+    ensures { (n k : ℕ) (o : Options) (s : TracedState) (h : List Entry) → IsReachedFunctionRun n k o s h
+        → AreSteppable o → ReadsAtOnceOf k o s h }
 {}
 
 /// In each legal history of truss with functions, from a state that the machine reaches, in which controllers write
@@ -48,8 +47,8 @@ pub fn it_reads_memory_right_behind_its_event()
 /// truss is interrupted.
 #[tactic(auto, using(crate::proofs::LineMemory::LineMoments::moments))]
 pub fn the_memory_of_a_line_is_that_of_its_moment()
-    ensures { (n k : ℕ) (o : Options) (s : TracedState) (h : List Entry) → IsFunctionRun n k o s h → IsReached s
-        → HasBytes h → MemoriesStand k o s h }
+    ensures { (n k : ℕ) (o : Options) (s : TracedState) (h : List Entry) → IsReachedFunctionRun n k o s h
+        → MemoriesStand k o s h }
 {}
 
 /// In each legal history of truss with functions, from a state that the machine reaches, in which controllers write
@@ -60,7 +59,6 @@ pub fn the_memory_of_a_line_is_that_of_its_moment()
 /// step.
 #[tactic(auto, using(crate::proofs::LineMemory::LineEvents::of_their_events))]
 pub fn the_memory_of_a_line_is_that_of_its_event()
-    ensures { (n k : ℕ) (o : Options) (s : TracedState) (h : List Entry) (pid : ℕ) → IsFunctionRun n k o s h
-        → IsReached s → HasBytes h → AreSteppable o
-        → AreOfTheirEventsIn k o pid s h (ordinary_among (functions_at k o h).reports) }
+    ensures { (n k : ℕ) (o : Options) (s : TracedState) (h : List Entry) (pid : ℕ) → IsReachedFunctionRun n k o s h
+        → AreSteppable o → AreOfTheirEventsIn k o pid s h (ordinary_among (functions_at k o h).reports) }
 {}

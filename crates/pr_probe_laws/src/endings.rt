@@ -1,5 +1,4 @@
 ghost use Rattle.std.specs.Prelude.{◌≡◌, ℕ, List, None, Some, slice_get, true};
-ghost use Rattle.pr_lawful.specs.Starts.{IsStart};
 ghost use Rattle.pr_model.specs.FirstState.{first_state};
 ghost use Rattle.pr_model.specs.Lawful.{IsLawful};
 ghost use Rattle.pr_model.specs.State.{TracedState};
@@ -11,11 +10,9 @@ ghost use Rattle.pr_probe.specs.ProbeText.{printed};
 ghost use Rattle.pr_probe.specs.Probes.{ProbeState, first_probe, has_ended};
 ghost use Rattle.pr_probe_laws.specs.Reasons.{TellsWhy};
 ghost use Rattle.pr_probe_laws.specs.TakesBack.{TakesBack};
-ghost use Rattle.pr_reached.specs.ByteHistories.{HasBytes};
-ghost use Rattle.pr_reached.specs.InRange.{IsStartInRange};
 ghost use Rattle.pr_world.specs.ControllerStates as cores;
 ghost use Rattle.pr_world.specs.ControllerStates.{ControllerState};
-ghost use Rattle.pr_reached.specs.HistoriesInRange.{StaysInRange};
+ghost use Rattle.pr_reached.specs.HistoriesInRange.{FirstStaysInRange, StaysInRange};
 ghost use Rattle.pr_tool_laws.specs.Leaving.{LeavesItsProcess};
 ghost use Rattle.pr_tool_laws.specs.Runs.{IsRunOf};
 ghost use Rattle.pr_world.specs.Protocol.{controllers_at};
@@ -32,7 +29,7 @@ pub fn apfiles_runs_its_process_again()
         → LeavesItsProcess k pid s h }
     ensures first { (programs : List Program) (files : List StoredFile) (spawns : List ℕ)
         (controllers : List ControllerState) (n k pid : ℕ) (h : List Entry) (p : ProbeState)
-        → IsStart programs files spawns → IsStartInRange programs files → HasBytes h
+        → FirstStaysInRange programs files spawns h
         → IsRunOf n k (cores.Probe (first_probe pid)) controllers (first_state programs files spawns) h
         → slice_get (controllers_at controllers h) k ≡ Some (cores.Probe p) → has_ended p ≡ true → p.refusal ≡ None
         → LeavesItsProcess k pid (first_state programs files spawns) h }
@@ -48,7 +45,7 @@ pub fn apfiles_takes_back_its_request()
         → TakesBack k pid s h }
     ensures first { (programs : List Program) (files : List StoredFile) (spawns : List ℕ)
         (controllers : List ControllerState) (n k pid : ℕ) (h : List Entry) (p : ProbeState)
-        → IsStart programs files spawns → IsStartInRange programs files → HasBytes h
+        → FirstStaysInRange programs files spawns h
         → IsRunOf n k (cores.Probe (first_probe pid)) controllers (first_state programs files spawns) h
         → slice_get (controllers_at controllers h) k ≡ Some (cores.Probe p) → has_ended p ≡ true
         → TakesBack k pid (first_state programs files spawns) h }

@@ -1,5 +1,4 @@
 ghost use Rattle.std.specs.Prelude.{◌≡◌, ℕ, List, None, Some, slice_get, true};
-ghost use Rattle.pr_lawful.specs.Starts.{IsStart};
 ghost use Rattle.pr_model.specs.FirstState.{first_state};
 ghost use Rattle.pr_model.specs.State.{TracedState};
 ghost use Rattle.pr_model.specs.declared.events.Entry.{Entry};
@@ -9,7 +8,7 @@ ghost use Rattle.pr_probe.specs.ProbeText.{printed};
 ghost use Rattle.pr_probe.specs.Probes.{ProbeState, first_probe, has_ended};
 ghost use Rattle.pr_probe_laws.specs.ShownDescriptors.{ShowsOneState};
 ghost use Rattle.pr_reached.specs.ByteHistories.{HasBytes};
-ghost use Rattle.pr_reached.specs.InRange.{IsStartInRange};
+ghost use Rattle.pr_reached.specs.HistoriesInRange.{FirstStaysInRange};
 ghost use Rattle.pr_reached.specs.Reached.{IsReached};
 ghost use Rattle.pr_world.specs.ControllerStates as cores;
 ghost use Rattle.pr_world.specs.ControllerStates.{ControllerState};
@@ -29,7 +28,7 @@ pub fn apfiles_shows_one_state()
         → ShowsOneState k pid s h (printed p) }
     ensures first { (programs : List Program) (files : List StoredFile) (spawns : List ℕ)
         (controllers : List ControllerState) (n k : ℕ) (pid : ℕ) (h : List Entry) (p : ProbeState)
-        → IsStart programs files spawns → IsStartInRange programs files → HasBytes h
+        → FirstStaysInRange programs files spawns h
         → IsRunOf n k (cores.Probe (first_probe pid)) controllers (first_state programs files spawns) h
         → slice_get (controllers_at controllers h) k ≡ Some (cores.Probe p) → has_ended p ≡ true → p.refusal ≡ None
         → ShowsOneState k pid (first_state programs files spawns) h (printed p) }

@@ -1,5 +1,4 @@
 ghost use Rattle.std.specs.Prelude.{◌≡◌, ℕ, List, None, Some, slice_get, true};
-ghost use Rattle.pr_lawful.specs.Starts.{IsStart};
 ghost use Rattle.pr_model.specs.FirstState.{first_state};
 ghost use Rattle.pr_model.specs.State.{TracedState};
 ghost use Rattle.pr_model.specs.declared.events.Entry.{Entry};
@@ -7,12 +6,10 @@ ghost use Rattle.pr_num.specs.Programs.{Program};
 ghost use Rattle.pr_num.specs.declared.files.StoredFile.{StoredFile};
 ghost use Rattle.pr_probe.specs.Probes.{ProbeState, first_probe, has_ended};
 ghost use Rattle.pr_probe_laws.specs.SetsBack.{SetsBack};
-ghost use Rattle.pr_reached.specs.ByteHistories.{HasBytes};
-ghost use Rattle.pr_reached.specs.InRange.{IsStartInRange};
 ghost use Rattle.pr_world.specs.ControllerStates as cores;
 ghost use Rattle.pr_world.specs.ControllerStates.{ControllerState};
 ghost use Rattle.pr_world.specs.Protocol.{controllers_at};
-ghost use Rattle.pr_reached.specs.HistoriesInRange.{StaysInRange};
+ghost use Rattle.pr_reached.specs.HistoriesInRange.{FirstStaysInRange, StaysInRange};
 ghost use Rattle.pr_tool_laws.specs.Runs.{IsRunOf};
 
 /// In a legal history where these controllers make their own calls, from a lawful state in range or from a first state,
@@ -27,7 +24,7 @@ pub fn apfiles_sets_the_traced_sets_back()
         → SetsBack k pid s h }
     ensures first { (programs : List Program) (files : List StoredFile) (spawns : List ℕ)
         (controllers : List ControllerState) (n k : ℕ) (pid : ℕ) (h : List Entry) (p : ProbeState)
-        → IsStart programs files spawns → IsStartInRange programs files → HasBytes h
+        → FirstStaysInRange programs files spawns h
         → IsRunOf n k (cores.Probe (first_probe pid)) controllers (first_state programs files spawns) h
         → slice_get (controllers_at controllers h) k ≡ Some (cores.Probe p) → has_ended p ≡ true → p.refusal ≡ None
         → SetsBack k pid (first_state programs files spawns) h }

@@ -1,3 +1,5 @@
--- What is so of reached states together, and that the processes in them have few mappings.
+-- What is so of reached states together, that a history from a first state in range stays in range, and that the
+-- processes in reached states have few mappings.
+pub mod FirstRanges
 pub mod MappedLemmas
 pub mod ReachedLemmas

@@ -1,14 +1,12 @@
 ghost use Rattle.std.specs.Prelude.{ℕ, List};
 ghost use Rattle.pr_num.specs.Programs.{Program};
 ghost use Rattle.pr_num.specs.declared.files.StoredFile.{StoredFile};
-ghost use Rattle.pr_lawful.specs.Starts.{IsStart};
 ghost use Rattle.pr_model.specs.FirstState.{first_state};
 ghost use Rattle.pr_model.specs.Legal.{IsLegal, state_after};
 ghost use Rattle.pr_model.specs.State.{TracedState, TracedSystem};
 ghost use Rattle.pr_model.specs.declared.events.Entry.{Entry};
-ghost use Rattle.pr_reached.specs.ByteHistories.{HasBytes};
-ghost use Rattle.pr_reached.specs.HistoriesInRange.{StaysInRange};
-ghost use Rattle.pr_reached.specs.InRange.{IsInRange, IsStartInRange};
+ghost use Rattle.pr_reached.specs.HistoriesInRange.{FirstStaysInRange, StaysInRange};
+ghost use Rattle.pr_reached.specs.InRange.{IsInRange};
 ghost use Rattle.pr_reached.specs.Mapped.{HaveAddressSpaces, HaveFewMappings};
 
 /// Each mapping of a process has a page at least, and no process has more than 256 of them, in each state that a legal
@@ -17,8 +15,7 @@ pub fn processes_have_few_mappings()
     ensures later { (n : ℕ) (s : TracedState) (h : List Entry) → StaysInRange s h → IsLegal n s h
         → HaveFewMappings (state_after s h).system }
     ensures first { (n : ℕ) (programs : List Program) (files : List StoredFile) (spawns : List ℕ) (h : List Entry)
-        → IsStart programs files spawns → IsStartInRange programs files → HasBytes h
-        → IsLegal n (first_state programs files spawns) h
+        → FirstStaysInRange programs files spawns h → IsLegal n (first_state programs files spawns) h
         → HaveFewMappings (state_after (first_state programs files spawns) h).system }
 {}
 
@@ -30,7 +27,6 @@ pub fn processes_have_address_spaces()
     ensures later { (n : ℕ) (s : TracedState) (h : List Entry) → StaysInRange s h → IsLegal n s h
         → HaveAddressSpaces (state_after s h).system }
     ensures first { (n : ℕ) (programs : List Program) (files : List StoredFile) (spawns : List ℕ) (h : List Entry)
-        → IsStart programs files spawns → IsStartInRange programs files → HasBytes h
-        → IsLegal n (first_state programs files spawns) h
+        → FirstStaysInRange programs files spawns h → IsLegal n (first_state programs files spawns) h
         → HaveAddressSpaces (state_after (first_state programs files spawns) h).system }
 {}

@@ -2,7 +2,6 @@ ghost use Rattle.std.specs.Prelude.{◌≡◌, ◌<◌, ℕ, List, Some};
 ghost use Rattle.pr_num.specs.Limits.{clock_limit};
 ghost use Rattle.pr_num.specs.Programs.{Program};
 ghost use Rattle.pr_num.specs.declared.files.StoredFile.{StoredFile};
-ghost use Rattle.pr_lawful.specs.Starts.{IsStart};
 ghost use Rattle.pr_model.specs.Calls.{Answer, answer_to};
 ghost use Rattle.pr_model.specs.FirstState.{first_state};
 ghost use Rattle.pr_model.specs.Lawful.{IsLawfulSystem};
@@ -11,8 +10,8 @@ ghost use Rattle.pr_model.specs.LwpTurns.{LwpTurn, turn_of};
 ghost use Rattle.pr_model.specs.State.{TracedState, TracedSystem};
 ghost use Rattle.pr_model.specs.declared.calls.Call.{Call};
 ghost use Rattle.pr_model.specs.declared.events.Entry.{Entry};
-ghost use Rattle.pr_reached.specs.ByteHistories.{HasBytes, IsOfBytes};
-ghost use Rattle.pr_reached.specs.HistoriesInRange.{StaysInRange};
+ghost use Rattle.pr_reached.specs.ByteHistories.{IsOfBytes};
+ghost use Rattle.pr_reached.specs.HistoriesInRange.{FirstStaysInRange, StaysInRange};
 ghost use Rattle.pr_reached.specs.InRange.{IsInRange, IsStartInRange};
 
 /// The first state is in range, where its programs and its files are.
@@ -45,7 +44,6 @@ pub fn reached_states_are_in_range()
     ensures later { (n : ℕ) (s : TracedState) (h : List Entry) → StaysInRange s h → IsLegal n s h
         → IsInRange (state_after s h).system }
     ensures first { (n : ℕ) (programs : List Program) (files : List StoredFile) (spawns : List ℕ) (h : List Entry)
-        → IsStart programs files spawns → IsStartInRange programs files → HasBytes h
-        → IsLegal n (first_state programs files spawns) h
+        → FirstStaysInRange programs files spawns h → IsLegal n (first_state programs files spawns) h
         → IsInRange (state_after (first_state programs files spawns) h).system }
 {}

@@ -23,6 +23,7 @@ pub mod Newborn
 pub mod OwnFiles
 pub mod OwnOpens
 pub mod Positions
+pub mod ReachedRuns
 pub mod Reads
 pub mod Releases
 pub mod Reported

@@ -2,12 +2,11 @@ ghost use Rattle.std.specs.Prelude.{◌≡◌, ◌++◌, ◌∷◌, ℕ, true, f
 ghost use Rattle.pr_line.specs.declared.options.Options.{Options};
 ghost use Rattle.pr_model.specs.State.{TracedState};
 ghost use Rattle.pr_model.specs.declared.events.Entry.{Entry};
-ghost use Rattle.pr_reached.specs.ByteHistories.{HasBytes};
-ghost use Rattle.pr_reached.specs.Reached.{IsReached};
 ghost use Rattle.pr_report_laws.specs.Grips.{GetsHold};
 ghost use Rattle.pr_report_laws.specs.WatchedGrips.{HasGrips};
 ghost use Rattle.pr_report_laws.specs.Watching.{watches};
 ghost use Rattle.pr_truss_laws.specs.Exchanges.{truss_at};
+ghost use Rattle.pr_report_laws.specs.ReachedRuns.{IsReachedTrussRun};
 ghost use Rattle.pr_truss_laws.specs.Runs.{IsTrussRun};
 
 /// In a legal history of a lawful state, in which a truss with nothing open makes its calls, it gets hold of a process
@@ -32,6 +31,6 @@ pub fn truss_gets_hold_of_a_process_once()
 /// which is from its beginning.
 #[tactic(auto, using(crate::proofs::Watching::GripLaws::grips))]
 pub fn the_grip_of_a_process_is_the_watch_of_it()
-    ensures { (n k : ℕ) (o : Options) (pid : ℕ) (s : TracedState) (h : List Entry) → IsReached s → IsTrussRun n k o s h
-        → HasBytes h → HasGrips k o pid s h }
+    ensures { (n k : ℕ) (o : Options) (pid : ℕ) (s : TracedState) (h : List Entry) → IsReachedTrussRun n k o s h
+        → HasGrips k o pid s h }
 {}

@@ -3,8 +3,6 @@ ghost use Rattle.pr_line.specs.declared.options.Options.{Options};
 ghost use Rattle.pr_model.specs.Events.{Logged};
 ghost use Rattle.pr_model.specs.State.{TracedState};
 ghost use Rattle.pr_model.specs.declared.events.Entry.{Entry};
-ghost use Rattle.pr_reached.specs.ByteHistories.{HasBytes};
-ghost use Rattle.pr_reached.specs.Reached.{IsReached};
 ghost use Rattle.pr_report_laws.specs.AsChildren.{IsNeverOpenedAsChild};
 ghost use Rattle.pr_report_laws.specs.Attachments.{IsLetGo};
 ghost use Rattle.pr_report_laws.specs.HeldEvents.{ReadsHeld, ShowsHeld};
@@ -17,6 +15,7 @@ ghost use Rattle.pr_report_laws.specs.Watching.{events_watched, watches};
 ghost use Rattle.pr_truss.specs.NextCalls.{next_call_of};
 ghost use Rattle.pr_truss.specs.Trusses.{first_truss};
 ghost use Rattle.pr_truss_laws.specs.Exchanges.{truss_at};
+ghost use Rattle.pr_report_laws.specs.ReachedRuns.{IsReachedTrussRun};
 ghost use Rattle.pr_truss_laws.specs.Runs.{IsTrussRun};
 
 /// The watch of a process, which is a part of truss's own state, is told by calls and replies. In a legal history of a
@@ -43,14 +42,14 @@ pub fn truss_watches_a_process_while_it_has_hold_of_it()
 /// it descends from, and of one that truss never opened as the child of a fork.
 #[tactic(auto, using(crate::proofs::Holding::HeldLaws::held))]
 pub fn truss_shows_what_came_while_it_had_hold_of_a_process()
-    ensures shows { (n k : ℕ) (o : Options) (pid : ℕ) (s : TracedState) (h : List Entry) → IsReached s
-        → IsTrussRun n k o s h → HasBytes h → IsLeftToTruss k o pid s h ⊎ IsNeverOpenedAsChild k o pid s h
+    ensures shows { (n k : ℕ) (o : Options) (pid : ℕ) (s : TracedState) (h : List Entry)
+        → IsReachedTrussRun n k o s h → IsLeftToTruss k o pid s h ⊎ IsNeverOpenedAsChild k o pid s h
         → ShowsHeld k o pid s h }
-    ensures reads { (n k : ℕ) (o : Options) (pid : ℕ) (s : TracedState) (h : List Entry) → IsReached s
-        → IsTrussRun n k o s h → HasBytes h → IsLeftToTruss k o pid s h ⊎ IsNeverOpenedAsChild k o pid s h
+    ensures reads { (n k : ℕ) (o : Options) (pid : ℕ) (s : TracedState) (h : List Entry)
+        → IsReachedTrussRun n k o s h → IsLeftToTruss k o pid s h ⊎ IsNeverOpenedAsChild k o pid s h
         → ReadsHeld k o pid s h }
-    ensures moments { (n k : ℕ) (o : Options) (pid : ℕ) (s : TracedState) (h : List Entry) → IsReached s
-        → IsTrussRun n k o s h → HasBytes h → IsLeftToTruss k o pid s h ⊎ IsNeverOpenedAsChild k o pid s h
+    ensures moments { (n k : ℕ) (o : Options) (pid : ℕ) (s : TracedState) (h : List Entry)
+        → IsReachedTrussRun n k o s h → IsLeftToTruss k o pid s h ⊎ IsNeverOpenedAsChild k o pid s h
         → StandAtTheirEvents k o pid s h (truss_at k o h).reports }
 {}
 
@@ -58,16 +57,16 @@ pub fn truss_shows_what_came_while_it_had_hold_of_a_process()
 /// hold of it, so that what is selected of it from the wait on is what is selected of it in the hold.
 #[tactic(auto, using(crate::proofs::Holding::HeldLaws::held))]
 pub fn truss_has_one_grip_of_a_process()
-    ensures { (n k : ℕ) (o : Options) (pid : ℕ) (s : TracedState) (h : List Entry) → IsReached s → IsTrussRun n k o s h
-        → HasBytes h → HasOneGrip k o pid s h }
+    ensures { (n k : ℕ) (o : Options) (pid : ℕ) (s : TracedState) (h : List Entry) → IsReachedTrussRun n k o s h
+        → HasOneGrip k o pid s h }
 {}
 
 /// Where children are followed and truss has finished, it has cared for the child of each fork and vfork that came
 /// while it had hold of the parent, as `no_child_is_left` says.
 #[tactic(auto, using(crate::proofs::Holding::HeldLaws::held))]
 pub fn no_child_is_left_of_a_process_that_truss_had_hold_of()
-    ensures { (n k : ℕ) (o : Options) (s : TracedState) (h : List Entry) → o.follow ≡ true → IsReached s
-        → IsTrussRun n k o s h → HasBytes h → next_call_of (truss_at k o h) ≡ None → CaresForChildren k o s h }
+    ensures { (n k : ℕ) (o : Options) (s : TracedState) (h : List Entry) → o.follow ≡ true
+        → IsReachedTrussRun n k o s h → next_call_of (truss_at k o h) ≡ None → CaresForChildren k o s h }
 {}
 
 /// Where truss lets a process go, of which it has hold, the process has ended; or truss was interrupted before, and has

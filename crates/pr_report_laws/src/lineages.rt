@@ -4,8 +4,6 @@ ghost use Rattle.pr_line.specs.declared.options.Options.{Options};
 ghost use Rattle.pr_model.specs.Events.{events_from};
 ghost use Rattle.pr_model.specs.State.{TracedState};
 ghost use Rattle.pr_model.specs.declared.events.Entry.{Entry};
-ghost use Rattle.pr_reached.specs.ByteHistories.{HasBytes};
-ghost use Rattle.pr_reached.specs.Reached.{IsReached};
 ghost use Rattle.pr_report_laws.specs.AtBirth.{IsFollowedAtBirth};
 ghost use Rattle.pr_report_laws.specs.Attachments.{HasFollowed};
 ghost use Rattle.pr_report_laws.specs.Births.{LeavesForks, NamesNoChild};
@@ -19,23 +17,23 @@ ghost use Rattle.pr_report_laws.specs.Shown.{selected};
 ghost use Rattle.pr_report_laws.specs.Watching.{events_watched, watches};
 ghost use Rattle.pr_truss.specs.Trusses.{first_truss};
 ghost use Rattle.pr_truss_laws.specs.Exchanges.{truss_at};
-ghost use Rattle.pr_truss_laws.specs.Runs.{IsTrussRun};
+ghost use Rattle.pr_report_laws.specs.ReachedRuns.{IsReachedTrussRun};
 
 /// Of a process that stands as at its birth where truss gets hold of it as the child of a fork, truss has shown exactly
 /// the selected events that came while truss watched it, as `truss_shows_the_selected_events` says: whoever had this
 /// process before, and whatever becomes of other children.
 #[tactic(auto, using(crate::proofs::UnopenedChildren::Births::reports))]
 pub fn truss_shows_the_selected_events_of_what_it_follows_at_its_birth()
-    ensures { (n k : ℕ) (o : Options) (pid : ℕ) (s : TracedState) (h : List Entry) → IsReached s → IsTrussRun n k o s h
-        → HasBytes h → IsFollowedAtBirth k o pid s h → IsReported k o pid s h }
+    ensures { (n k : ℕ) (o : Options) (pid : ℕ) (s : TracedState) (h : List Entry) → IsReachedTrussRun n k o s h
+        → IsFollowedAtBirth k o pid s h → IsReported k o pid s h }
 {}
 
 /// And the memory in the line of an event of the process is the one right after the event, as
 /// `the_text_of_an_event_is_that_of_its_moment` says.
 #[tactic(auto, using(crate::proofs::Memory::EventMemory::moments))]
 pub fn the_text_of_an_event_is_that_of_its_moment_where_truss_follows_at_the_birth()
-    ensures { (n k : ℕ) (o : Options) (pid : ℕ) (s : TracedState) (h : List Entry) → IsReached s → IsTrussRun n k o s h
-        → HasBytes h → IsFollowedAtBirth k o pid s h → AreOfTheirEvents k o pid s h (truss_at k o h).reports }
+    ensures { (n k : ℕ) (o : Options) (pid : ℕ) (s : TracedState) (h : List Entry) → IsReachedTrussRun n k o s h
+        → IsFollowedAtBirth k o pid s h → AreOfTheirEvents k o pid s h (truss_at k o h).reports }
 {}
 
 /// A process that is left to truss, as each is that it descends from by the children that truss opened, stands so where
@@ -45,16 +43,16 @@ pub fn the_text_of_an_event_is_that_of_its_moment_where_truss_follows_at_the_bir
 /// told, but which it did not open as children.
 #[tactic(auto, using(crate::proofs::UnopenedChildren::Births::reports))]
 pub fn what_is_left_to_truss_is_followed_at_its_birth()
-    ensures { (n k : ℕ) (o : Options) (pid : ℕ) (s : TracedState) (h : List Entry) → IsReached s → IsTrussRun n k o s h
-        → HasBytes h → IsLeftToTruss k o pid s h → IsFollowedAtBirth k o pid s h }
+    ensures { (n k : ℕ) (o : Options) (pid : ℕ) (s : TracedState) (h : List Entry) → IsReachedTrussRun n k o s h
+        → IsLeftToTruss k o pid s h → IsFollowedAtBirth k o pid s h }
 {}
 
 /// So each followed child is shown by itself: of a process that is left to truss, as each is that it descends from,
 /// truss has shown exactly the selected events that came while truss watched it.
 #[tactic(auto, using(crate::proofs::UnopenedChildren::Births::reports))]
 pub fn truss_shows_the_selected_events_of_what_is_left_to_it()
-    ensures { (n k : ℕ) (o : Options) (pid : ℕ) (s : TracedState) (h : List Entry) → IsReached s → IsTrussRun n k o s h
-        → HasBytes h → IsLeftToTruss k o pid s h → IsReported k o pid s h }
+    ensures { (n k : ℕ) (o : Options) (pid : ℕ) (s : TracedState) (h : List Entry) → IsReachedTrussRun n k o s h
+        → IsLeftToTruss k o pid s h → IsReported k o pid s h }
 {}
 
 /// And what truss has read of it are just the events that came while truss watched it and that truss traces, as
@@ -62,18 +60,18 @@ pub fn truss_shows_the_selected_events_of_what_is_left_to_it()
 /// where truss gets hold of it.
 #[tactic(auto, using(crate::proofs::Reading::ReadLaws::readings))]
 pub fn truss_reads_the_traced_events_of_what_is_left_to_it()
-    ensures left { (n k : ℕ) (o : Options) (pid : ℕ) (s : TracedState) (h : List Entry) → IsReached s
-        → IsTrussRun n k o s h → HasBytes h → IsLeftToTruss k o pid s h → HasRead k o pid s h }
-    ensures at_birth { (n k : ℕ) (o : Options) (pid : ℕ) (s : TracedState) (h : List Entry) → IsReached s
-        → IsTrussRun n k o s h → HasBytes h → IsFollowedAtBirth k o pid s h → HasRead k o pid s h }
+    ensures left { (n k : ℕ) (o : Options) (pid : ℕ) (s : TracedState) (h : List Entry)
+        → IsReachedTrussRun n k o s h → IsLeftToTruss k o pid s h → HasRead k o pid s h }
+    ensures at_birth { (n k : ℕ) (o : Options) (pid : ℕ) (s : TracedState) (h : List Entry)
+        → IsReachedTrussRun n k o s h → IsFollowedAtBirth k o pid s h → HasRead k o pid s h }
 {}
 
 /// And the selected events that come in the grip of it are those that come in the whole history while truss watches it,
 /// as `the_grip_of_a_process_is_the_watch_of_it` says.
 #[tactic(auto, using(crate::proofs::Watching::GripLaws::grips))]
 pub fn the_grip_of_a_child_that_is_left_to_truss_is_the_watch_of_it()
-    ensures { (n k : ℕ) (o : Options) (pid : ℕ) (s : TracedState) (grip later : List Entry) → IsReached s
-        → IsTrussRun n k o s (grip ++ later) → HasBytes (grip ++ later) → (g : IsGripOfChild k pid s grip later)
+    ensures { (n k : ℕ) (o : Options) (pid : ℕ) (s : TracedState) (grip later : List Entry)
+        → IsReachedTrussRun n k o s (grip ++ later) → (g : IsGripOfChild k pid s grip later)
         → IsLeftToTruss k o pid s (g.before ++ g.running ∷ [])
         → selected o pid (events_from s grip)
         ≡ selected o pid (events_watched k pid (first_truss o) s (grip ++ later)) }
@@ -83,8 +81,8 @@ pub fn the_grip_of_a_child_that_is_left_to_truss_is_the_watch_of_it()
 /// `the_text_of_an_event_is_that_of_its_moment` says.
 #[tactic(auto, using(crate::proofs::Memory::EventMemory::moments))]
 pub fn the_text_of_an_event_is_that_of_its_moment_where_it_is_left_to_truss()
-    ensures { (n k : ℕ) (o : Options) (pid : ℕ) (s : TracedState) (h : List Entry) → IsReached s → IsTrussRun n k o s h
-        → HasBytes h → IsLeftToTruss k o pid s h → AreOfTheirEvents k o pid s h (truss_at k o h).reports }
+    ensures { (n k : ℕ) (o : Options) (pid : ℕ) (s : TracedState) (h : List Entry) → IsReachedTrussRun n k o s h
+        → IsLeftToTruss k o pid s h → AreOfTheirEvents k o pid s h (truss_at k o h).reports }
 {}
 
 /// And on this condition nothing is lost between the fork that made a followed child and the watch of the child. Where
@@ -93,20 +91,20 @@ pub fn the_text_of_an_event_is_that_of_its_moment_where_it_is_left_to_truss()
 /// options select was logged before truss watches it.
 #[tactic(auto, using(crate::proofs::NewbornChildren::NewbornLaws::newborns))]
 pub fn a_child_that_is_left_to_truss_does_nothing_before_it_is_watched()
-    ensures forked { (n k : ℕ) (o : Options) (pid : ℕ) (s : TracedState) (before : List Entry) (e : Entry) → IsReached s
-        → IsTrussRun n k o s (before ++ e ∷ []) → HasBytes (before ++ e ∷ [])
+    ensures forked { (n k : ℕ) (o : Options) (pid : ℕ) (s : TracedState) (before : List Entry) (e : Entry)
+        → IsReachedTrussRun n k o s (before ++ e ∷ [])
         → IsLeftToTruss k o pid s (before ++ e ∷ []) → watches (truss_at k o before) pid ≡ false
         → HasFollowed k pid (before ++ e ∷ []) → WasForked pid (before ++ e ∷ []) }
     ensures not_started { (n k by : ℕ) (o : Options) (pid : ℕ) (s : TracedState) (before : List Entry) (e : Entry)
-        → IsReached s → IsTrussRun n k o s (before ++ e ∷ []) → HasBytes (before ++ e ∷ [])
+        → IsReachedTrussRun n k o s (before ++ e ∷ [])
         → IsLeftToTruss k o pid s (before ++ e ∷ []) → watches (truss_at k o before) pid ≡ false
         → HasFollowed k pid (before ++ e ∷ []) → WasSpawned by pid (before ++ e ∷ []) → ⊥ }
-    ensures still { (n k : ℕ) (o : Options) (pid : ℕ) (s : TracedState) (before : List Entry) (e : Entry) → IsReached s
-        → IsTrussRun n k o s (before ++ e ∷ []) → HasBytes (before ++ e ∷ [])
+    ensures still { (n k : ℕ) (o : Options) (pid : ℕ) (s : TracedState) (before : List Entry) (e : Entry)
+        → IsReachedTrussRun n k o s (before ++ e ∷ [])
         → IsLeftToTruss k o pid s (before ++ e ∷ []) → watches (truss_at k o before) pid ≡ false
         → HasFollowed k pid (before ++ e ∷ []) → All (IsNoTurnOf pid) (before ++ e ∷ []) }
-    ensures silent { (n k : ℕ) (o : Options) (pid : ℕ) (s : TracedState) (before : List Entry) (e : Entry) → IsReached s
-        → IsTrussRun n k o s (before ++ e ∷ []) → HasBytes (before ++ e ∷ [])
+    ensures silent { (n k : ℕ) (o : Options) (pid : ℕ) (s : TracedState) (before : List Entry) (e : Entry)
+        → IsReachedTrussRun n k o s (before ++ e ∷ [])
         → IsLeftToTruss k o pid s (before ++ e ∷ []) → watches (truss_at k o before) pid ≡ false
         → HasFollowed k pid (before ++ e ∷ []) → selected o pid (events_from s (before ++ e ∷ [])) ≡ [] }
 {}

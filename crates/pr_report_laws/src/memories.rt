@@ -2,11 +2,10 @@ ghost use Rattle.std.specs.Prelude.{ℕ, List};
 ghost use Rattle.pr_line.specs.declared.options.Options.{Options};
 ghost use Rattle.pr_model.specs.State.{TracedState};
 ghost use Rattle.pr_model.specs.declared.events.Entry.{Entry};
-ghost use Rattle.pr_reached.specs.ByteHistories.{HasBytes};
-ghost use Rattle.pr_reached.specs.Reached.{IsReached};
 ghost use Rattle.pr_report_laws.specs.Births.{IsNeverFollowed, LeavesForks, NamesNoChild};
 ghost use Rattle.pr_report_laws.specs.Memories.{AreOfTheirEvents, HaveTheirTexts};
 ghost use Rattle.pr_truss_laws.specs.Exchanges.{truss_at};
+ghost use Rattle.pr_report_laws.specs.ReachedRuns.{IsReachedTrussRun};
 ghost use Rattle.pr_truss_laws.specs.Runs.{IsTrussRun};
 
 /// The memory in a line is that of one state. In a legal history of a lawful state, in which a truss with nothing open
@@ -26,10 +25,10 @@ pub fn the_text_of_an_event_is_what_stood_in_memory()
 /// controllers and other processes do does not matter.
 #[tactic(auto, using(crate::proofs::Memory::EventMemory::moments))]
 pub fn the_text_of_an_event_is_that_of_its_moment()
-    ensures forks_left { (n k : ℕ) (o : Options) (pid : ℕ) (s : TracedState) (h : List Entry) → IsReached s
-        → IsTrussRun n k o s h → HasBytes h → NamesNoChild o h → LeavesForks k o h
+    ensures forks_left { (n k : ℕ) (o : Options) (pid : ℕ) (s : TracedState) (h : List Entry)
+        → IsReachedTrussRun n k o s h → NamesNoChild o h → LeavesForks k o h
         → AreOfTheirEvents k o pid s h (truss_at k o h).reports }
-    ensures never_followed { (n k : ℕ) (o : Options) (pid : ℕ) (s : TracedState) (h : List Entry) → IsReached s
-        → IsTrussRun n k o s h → HasBytes h → IsNeverFollowed k o pid h
+    ensures never_followed { (n k : ℕ) (o : Options) (pid : ℕ) (s : TracedState) (h : List Entry)
+        → IsReachedTrussRun n k o s h → IsNeverFollowed k o pid h
         → AreOfTheirEvents k o pid s h (truss_at k o h).reports }
 {}

@@ -6,15 +6,13 @@ ghost use Rattle.pr_model.specs.Lawful.{IsLawful};
 ghost use Rattle.pr_model.specs.Legal.{IsLegal};
 ghost use Rattle.pr_model.specs.State.{TracedState};
 ghost use Rattle.pr_model.specs.declared.events.Entry.{Entry};
-ghost use Rattle.pr_reached.specs.ByteHistories.{HasBytes};
-ghost use Rattle.pr_reached.specs.Reached.{IsReached};
 ghost use Rattle.pr_report_laws.specs.Births.{LeavesForks, NamesNoChild};
 ghost use Rattle.pr_report_laws.specs.Attachments.{HasFollowed};
 ghost use Rattle.pr_report_laws.specs.Newborn.{IsNoTurnOf, WasForked, WasSpawned};
 ghost use Rattle.pr_report_laws.specs.Shown.{selected};
 ghost use Rattle.pr_report_laws.specs.Watching.{watches};
 ghost use Rattle.pr_truss_laws.specs.Exchanges.{truss_at};
-ghost use Rattle.pr_truss_laws.specs.Runs.{IsTrussRun};
+ghost use Rattle.pr_report_laws.specs.ReachedRuns.{IsReachedTrussRun};
 
 /// No process is made twice. In a legal history of a lawful state at most one entry makes the process of a pid: a turn
 /// that makes it by fork, or a call by which a controller makes it of a program.
@@ -33,21 +31,21 @@ pub fn no_process_is_made_twice()
 /// no event of it that the options select was logged before truss watches it.
 #[tactic(auto, using(crate::proofs::NewbornChildren::NewbornLaws::newborns))]
 pub fn a_followed_child_does_nothing_before_it_is_watched()
-    ensures forked { (n k : ℕ) (o : Options) (pid : ℕ) (s : TracedState) (before : List Entry) (e : Entry) → IsReached s
-        → IsTrussRun n k o s (before ++ e ∷ []) → HasBytes (before ++ e ∷ []) → NamesNoChild o (before ++ e ∷ [])
+    ensures forked { (n k : ℕ) (o : Options) (pid : ℕ) (s : TracedState) (before : List Entry) (e : Entry)
+        → IsReachedTrussRun n k o s (before ++ e ∷ []) → NamesNoChild o (before ++ e ∷ [])
         → LeavesForks k o (before ++ e ∷ []) → watches (truss_at k o before) pid ≡ false
         → HasFollowed k pid (before ++ e ∷ []) → WasForked pid (before ++ e ∷ []) }
     ensures not_started { (n k by : ℕ) (o : Options) (pid : ℕ) (s : TracedState) (before : List Entry) (e : Entry)
-        → IsReached s → IsTrussRun n k o s (before ++ e ∷ []) → HasBytes (before ++ e ∷ [])
+        → IsReachedTrussRun n k o s (before ++ e ∷ [])
         → NamesNoChild o (before ++ e ∷ []) → LeavesForks k o (before ++ e ∷ [])
         → watches (truss_at k o before) pid ≡ false → HasFollowed k pid (before ++ e ∷ [])
         → WasSpawned by pid (before ++ e ∷ []) → ⊥ }
-    ensures still { (n k : ℕ) (o : Options) (pid : ℕ) (s : TracedState) (before : List Entry) (e : Entry) → IsReached s
-        → IsTrussRun n k o s (before ++ e ∷ []) → HasBytes (before ++ e ∷ []) → NamesNoChild o (before ++ e ∷ [])
+    ensures still { (n k : ℕ) (o : Options) (pid : ℕ) (s : TracedState) (before : List Entry) (e : Entry)
+        → IsReachedTrussRun n k o s (before ++ e ∷ []) → NamesNoChild o (before ++ e ∷ [])
         → LeavesForks k o (before ++ e ∷ []) → watches (truss_at k o before) pid ≡ false
         → HasFollowed k pid (before ++ e ∷ []) → All (IsNoTurnOf pid) (before ++ e ∷ []) }
-    ensures silent { (n k : ℕ) (o : Options) (pid : ℕ) (s : TracedState) (before : List Entry) (e : Entry) → IsReached s
-        → IsTrussRun n k o s (before ++ e ∷ []) → HasBytes (before ++ e ∷ []) → NamesNoChild o (before ++ e ∷ [])
+    ensures silent { (n k : ℕ) (o : Options) (pid : ℕ) (s : TracedState) (before : List Entry) (e : Entry)
+        → IsReachedTrussRun n k o s (before ++ e ∷ []) → NamesNoChild o (before ++ e ∷ [])
         → LeavesForks k o (before ++ e ∷ []) → watches (truss_at k o before) pid ≡ false
         → HasFollowed k pid (before ++ e ∷ []) → selected o pid (events_from s (before ++ e ∷ [])) ≡ [] }
 {}

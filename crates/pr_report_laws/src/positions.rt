@@ -2,12 +2,10 @@ ghost use Rattle.std.specs.Prelude.{◌⊎◌, ℕ, List};
 ghost use Rattle.pr_line.specs.declared.options.Options.{Options};
 ghost use Rattle.pr_model.specs.State.{TracedState};
 ghost use Rattle.pr_model.specs.declared.events.Entry.{Entry};
-ghost use Rattle.pr_reached.specs.ByteHistories.{HasBytes};
-ghost use Rattle.pr_reached.specs.Reached.{IsReached};
 ghost use Rattle.pr_report_laws.specs.AsChildren.{IsNeverOpenedAsChild};
 ghost use Rattle.pr_report_laws.specs.Lineages.{IsLeftToTruss};
 ghost use Rattle.pr_report_laws.specs.Positions.{StandsWithTruss};
-ghost use Rattle.pr_truss_laws.specs.Runs.{IsTrussRun};
+ghost use Rattle.pr_report_laws.specs.ReachedRuns.{IsReachedTrussRun};
 
 /// Why truss shows each event once, and none twice: the invariant of a process of which it has hold. The process is
 /// traced as the options ask, and stands in one of four ways. No lwp of it stands on an event; or stops are left that
@@ -18,6 +16,6 @@ ghost use Rattle.pr_truss_laws.specs.Runs.{IsTrussRun};
 /// descends from, and of one that truss never opened as the child of a fork.
 #[tactic(auto, using(crate::proofs::Holding::PositionLaws::positions))]
 pub fn a_process_stands_in_one_of_four_ways_with_truss()
-    ensures { (n k : ℕ) (o : Options) (pid : ℕ) (s : TracedState) (h : List Entry) → IsReached s → IsTrussRun n k o s h
-        → HasBytes h → IsLeftToTruss k o pid s h ⊎ IsNeverOpenedAsChild k o pid s h → StandsWithTruss k o pid s h }
+    ensures { (n k : ℕ) (o : Options) (pid : ℕ) (s : TracedState) (h : List Entry) → IsReachedTrussRun n k o s h
+        → IsLeftToTruss k o pid s h ⊎ IsNeverOpenedAsChild k o pid s h → StandsWithTruss k o pid s h }
 {}

@@ -2,11 +2,9 @@ ghost use Rattle.std.specs.Prelude.{ℕ, List};
 ghost use Rattle.pr_line.specs.declared.options.Options.{Options};
 ghost use Rattle.pr_model.specs.State.{TracedState};
 ghost use Rattle.pr_model.specs.declared.events.Entry.{Entry};
-ghost use Rattle.pr_reached.specs.ByteHistories.{HasBytes};
-ghost use Rattle.pr_reached.specs.Reached.{IsReached};
 ghost use Rattle.pr_report_laws.specs.Births.{IsNeverFollowed, LeavesForks, NamesNoChild};
 ghost use Rattle.pr_report_laws.specs.Reads.{HasRead};
-ghost use Rattle.pr_truss_laws.specs.Runs.{IsTrussRun};
+ghost use Rattle.pr_report_laws.specs.ReachedRuns.{IsReachedTrussRun};
 
 /// What truss has read of each process: the events at which it found an lwp of the process, each by a read of its own,
 /// in order. They are just the events that came while truss watched the process and that truss traces; the last one of
@@ -16,13 +14,13 @@ ghost use Rattle.pr_truss_laws.specs.Runs.{IsTrussRun};
 /// The conditions are those of `truss_shows_the_selected_events`.
 #[tactic(auto, using(crate::proofs::Reading::ReadLaws::readings))]
 pub fn truss_reads_the_traced_events()
-    ensures { (n k : ℕ) (o : Options) (pid : ℕ) (s : TracedState) (h : List Entry) → IsReached s → IsTrussRun n k o s h
-        → HasBytes h → NamesNoChild o h → LeavesForks k o h → HasRead k o pid s h }
+    ensures { (n k : ℕ) (o : Options) (pid : ℕ) (s : TracedState) (h : List Entry) → IsReachedTrussRun n k o s h
+        → NamesNoChild o h → LeavesForks k o h → HasRead k o pid s h }
 {}
 
 /// The same of a process of which truss never got hold as the child of a fork.
 #[tactic(auto, using(crate::proofs::Reading::ReadLaws::readings))]
 pub fn truss_reads_the_traced_events_of_what_it_never_followed()
-    ensures { (n k : ℕ) (o : Options) (pid : ℕ) (s : TracedState) (h : List Entry) → IsReached s → IsTrussRun n k o s h
-        → HasBytes h → IsNeverFollowed k o pid h → HasRead k o pid s h }
+    ensures { (n k : ℕ) (o : Options) (pid : ℕ) (s : TracedState) (h : List Entry) → IsReachedTrussRun n k o s h
+        → IsNeverFollowed k o pid h → HasRead k o pid s h }
 {}

@@ -2,7 +2,6 @@ pub mod AnswerLemmas
 pub mod OwnFiles
 pub mod ProgramLemmas
 pub mod Pstack
-pub mod RangeLemmas
 pub mod ReadsOnlyLemmas
 pub mod Records
 pub mod RunningAgain

@@ -1,13 +1,10 @@
 ghost use Rattle.std.specs.Prelude.{◌≡◌, ℕ, IsSome, List, None, Some, false, slice_get, true};
-ghost use Rattle.pr_lawful.specs.Starts.{IsStart};
 ghost use Rattle.pr_model.specs.FirstState.{first_state};
 ghost use Rattle.pr_model.specs.State.{TracedState};
 ghost use Rattle.pr_model.specs.declared.events.Entry.{Entry};
 ghost use Rattle.pr_model.specs.declared.tools.ToolKind.TheVariants.{Pstack};
 ghost use Rattle.pr_num.specs.Programs.{Program};
 ghost use Rattle.pr_num.specs.declared.files.StoredFile.{StoredFile};
-ghost use Rattle.pr_reached.specs.ByteHistories.{HasBytes};
-ghost use Rattle.pr_reached.specs.InRange.{IsStartInRange};
 ghost use Rattle.pr_tool_laws.specs.Leaving.{LeavesItsProcess};
 ghost use Rattle.pr_tool_laws.specs.Requests.{asks_still};
 ghost use Rattle.pr_tool_laws.specs.Stacks.{ShowsOneStack};
@@ -16,7 +13,7 @@ ghost use Rattle.pr_truss_laws.specs.Exchanges.{exchanges};
 ghost use Rattle.pr_world.specs.ControllerStates.{ControllerState};
 ghost use Rattle.pr_world.specs.ControllerStates as cores;
 ghost use Rattle.pr_world.specs.Protocol.{controllers_at};
-ghost use Rattle.pr_reached.specs.HistoriesInRange.{StaysInRange};
+ghost use Rattle.pr_reached.specs.HistoriesInRange.{FirstStaysInRange, StaysInRange};
 ghost use Rattle.pr_tool_laws.specs.Runs.{IsRunOf};
 
 /// In a legal history where these controllers make their own calls, from a lawful state in range or from a first state,
@@ -32,7 +29,7 @@ pub fn pstack_shows_one_state()
         → ShowsOneStack k pid programs s h (printed t programs) }
     ensures first { (programs : List Program) (files : List StoredFile) (spawns : List ℕ)
         (controllers : List ControllerState) (n k : ℕ) (pid : ℕ) (h : List Entry) (t : ToolState)
-        (labels : List Program) → IsStart programs files spawns → IsStartInRange programs files → HasBytes h
+        (labels : List Program) → FirstStaysInRange programs files spawns h
         → IsRunOf n k (cores.Tool (first_tool Pstack pid)) controllers (first_state programs files spawns) h
         → slice_get (controllers_at controllers h) k ≡ Some (cores.Tool t) → has_ended t ≡ true → t.refusal ≡ None
         → ShowsOneStack k pid labels (first_state programs files spawns) h (printed t labels) }
@@ -49,7 +46,7 @@ pub fn pstack_runs_its_process_again()
         → LeavesItsProcess k pid s h }
     ensures first { (programs : List Program) (files : List StoredFile) (spawns : List ℕ)
         (controllers : List ControllerState) (n k pid : ℕ) (h : List Entry) (t : ToolState)
-        → IsStart programs files spawns → IsStartInRange programs files → HasBytes h
+        → FirstStaysInRange programs files spawns h
         → IsRunOf n k (cores.Tool (first_tool Pstack pid)) controllers (first_state programs files spawns) h
         → slice_get (controllers_at controllers h) k ≡ Some (cores.Tool t) → has_ended t ≡ true → t.refusal ≡ None
         → LeavesItsProcess k pid (first_state programs files spawns) h }

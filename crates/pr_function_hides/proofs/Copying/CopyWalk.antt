@@ -20,7 +20,6 @@ use Rattle.pr_model.specs.declared.events.Turned.{Turned}
 use Rattle.pr_num.specs.declared.errnos.Errno.TheVariants.{Intr}
 use Rattle.pr_rec.specs.declared.lwps.LwpStatus.{LwpStatus}
 use Rattle.pr_reached.specs.ByteHistories.{HasBytes}
-use Rattle.pr_reached.specs.Reached.{IsReached}
 use Rattle.pr_report_laws.proofs.Files.WatchHistories.{cons-exchanges, exchanges-both, no-exchanges}
 use Rattle.pr_report_laws.proofs.Invariant.StandLemmas.{Each}
 use Rattle.pr_tool_laws.proofs.Records.WholeLemmas.{front-legal}
@@ -45,7 +44,8 @@ use Rattle.pr_function_laws.proofs.CallTurns.CalledLaws.{functions-both}
 use Rattle.pr_function_laws.proofs.Marks.KeptPlaces.{Kept}
 use Rattle.pr_function_laws.proofs.OpenedProcesses.OpenedCalls.{control-fresh}
 use Rattle.pr_function_laws.proofs.OpenedProcesses.OpenedLaws.{Goes, before-goes, bytes-front, calls-rest}
-use Rattle.pr_function_laws.specs.Opened.{IsFunctionRun, WasNotInterrupted, functions_at}
+use Rattle.pr_function_laws.specs.ReachedRuns.{IsReachedFunctionRun}
+use Rattle.pr_function_laws.specs.Opened.{WasNotInterrupted, functions_at}
 use Rattle.pr_function_laws.specs.Runs.{MakesFunctionCalls, functions_after}
 use Rattle.pr_function_hides.proofs.Files.CallFacts.{legal-here}
 use Rattle.pr_function_hides.proofs.Copying.CopyCalls.{call-copies}
@@ -65,9 +65,8 @@ use Rattle.pr_function_hides.specs.SleptCopies.{NoneSleepsInCopy}
 -- Along each history of truss with functions the forks, vforks and execs of its processes stand as they are to with
 -- what is planted there: so one that is granted finds no breakpoint.
 
-module _ (n k : ℕ) (o : Options) (s : TracedState) (h : List Entry) (run : IsFunctionRun n k o s h)
-    (reached : IsReached s) (awake : NoneSleepsInCopy s.system) (bytes : HasBytes h)
-    (opens : OpensOutOfCopies k o s h) where
+module _ (n k : ℕ) (o : Options) (s : TracedState) (h : List Entry) (run : IsReachedFunctionRun n k o s h)
+    (awake : NoneSleepsInCopy s.system) (opens : OpensOutOfCopies k o s h) where
   abbrev truss : List Entry → TrussState
   truss front = functions_at k o front
 
@@ -112,9 +111,9 @@ module _ (n k : ℕ) (o : Options) (s : TracedState) (h : List Entry) (run : IsF
   at-first : StandsAfter []
   at-first = record {
     known = subst (λ xs. Kept Knows (functions_after (first_truss o) xs)) (sym (no-exchanges k))
-        (known-first o run.follows_none);
+        (known-first o run.of.follows_none);
     young = subst (λ xs. Kept Young (functions_after (first_truss o) xs)) (sym (no-exchanges k))
-        (young-first o run.follows_none);
+        (young-first o run.of.follows_none);
     copies = subst (λ xs. CopiesSo (functions_after (first_truss o) xs) s.system) (sym (no-exchanges k))
         (first-copies s.system);
   }
@@ -123,13 +122,13 @@ module _ (n k : ℕ) (o : Options) (s : TracedState) (h : List Entry) (run : IsF
 
   module _ (front back : List Entry) (e : Entry) (is : h ≡ front ++ e ∷ back) where
     legal-all : IsLegal n s (front ++ e ∷ back)
-    legal-all = subst (IsLegal n s) is run.legal
+    legal-all = subst (IsLegal n s) is run.of.legal
 
     pub legal-now : IsLegalEntry n (now front) e
     legal-now = legal-here n s front e back legal-all
 
     pub lawful-now : IsLawful (now front)
-    lawful-now = history-state n s front run.lawful (front-legal n s front (e ∷ back) legal-all)
+    lawful-now = history-state n s front run.of.lawful (front-legal n s front (e ∷ back) legal-all)
 
     awake-now : NoneSleepsInCopy (now front).system
     awake-now = history-awake n s front awake (front-legal n s front (e ∷ back) legal-all)
@@ -139,7 +138,7 @@ module _ (n k : ℕ) (o : Options) (s : TracedState) (h : List Entry) (run : IsF
         let makes : MakesFunctionCalls (truss front) (exchanges k (e ∷ back)) =
         calls-rest (first_truss o) (exchanges k front) (exchanges k (e ∷ back))
         (subst (MakesFunctionCalls (first_truss o))
-        (ap (exchanges k) is ∙ exchanges-both k front (e ∷ back)) run.makes) in
+        (ap (exchanges k) is ∙ exchanges-both k front (e ∷ back)) run.of.makes) in
         let both : MakesFunctionCalls (truss front) (x ∷ exchanges k back) =
         subst (λ y. MakesFunctionCalls (truss front) (cons_option y (exchanges k back))) own
         (subst (MakesFunctionCalls (truss front)) (cons-exchanges k e back) makes) in both.0
@@ -175,11 +174,11 @@ module _ (n k : ℕ) (o : Options) (s : TracedState) (h : List Entry) (run : IsF
     module _ (calm : Calm front) where
       pub goes : Goes (Unit {0}) k o (truss front) (now front)
       goes =
-          before-goes n k o s h run front (e ∷ back) is calm (Unit {0}) (λ r. reached)
-          (λ r. bytes-front front (e ∷ back) (subst HasBytes is bytes))
+          before-goes n k o s h run.of front (e ∷ back) is calm (Unit {0}) (λ r. run.reached)
+          (λ r. bytes-front front (e ∷ back) (subst HasBytes is run.bytes))
 
       pub has-now : has_functions (truss front).options ≡ true
-      has-now = let g = goes in ap has_functions g.options ∙ run.has
+      has-now = let g = goes in ap has_functions g.options ∙ run.of.has
 
       quiet-reply : (x : Exchange) → (own : exchange_of k e ≡ Some x) → WasNotInterrupted x
           → (let it = own-answer x own in answer_of it.answer.reply ≢ Interrupted)

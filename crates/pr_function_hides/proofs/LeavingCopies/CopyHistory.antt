@@ -20,7 +20,6 @@ use Rattle.pr_num.specs.declared.errnos.Errno.TheVariants.{Intr}
 use Rattle.pr_rec.specs.declared.lwps.LwpStatus.{LwpStatus}
 use Rattle.pr_reached.proofs.Together.ReachedLemmas.{later-reached}
 use Rattle.pr_reached.specs.ByteHistories.{HasBytes}
-use Rattle.pr_reached.specs.Reached.{IsReached}
 use Rattle.pr_report_laws.proofs.Files.WatchHistories.{no-exchanges}
 use Rattle.pr_truss.specs.Asides.{marks_at}
 use Rattle.pr_tool_laws.proofs.Records.WholeLemmas.{front-legal}
@@ -43,7 +42,8 @@ use Rattle.pr_function_laws.proofs.OpenedProcesses.OpenedCalls.{IsSo}
 use Rattle.pr_function_laws.proofs.OpenedProcesses.OpenedLaws.{bytes-front}
 use Rattle.pr_function_laws.proofs.OrdinaryTruss.OrdinaryFiles.{entry-calm}
 use Rattle.pr_function_laws.proofs.NextCalls.PatchCalls.{next-staged}
-use Rattle.pr_function_laws.specs.Opened.{IsFunctionRun, WasNotInterrupted, functions_at}
+use Rattle.pr_function_laws.specs.ReachedRuns.{IsReachedFunctionRun}
+use Rattle.pr_function_laws.specs.Opened.{WasNotInterrupted, functions_at}
 use Rattle.pr_function_laws.specs.Runs.{functions_after}
 use Rattle.pr_function_hides.proofs.LeavingCopies.CopyBegins.{all-now}
 use Rattle.pr_function_hides.proofs.LeavingCopies.CopyLeaves.{HasOld, Leaves, foreign-leaves, leaving-finds-none, left-reads-none}
@@ -65,9 +65,8 @@ is-interrupt (reply.Fail Intr) = inl refl
 is-interrupt (reply.Fail _) = inr (λ e. cc)
 is-interrupt _ = inr (λ e. cc)
 
-module _ (n k : ℕ) (o : Options) (s : TracedState) (h : List Entry) (run : IsFunctionRun n k o s h)
-    (reached : IsReached s) (awake : NoneSleepsInCopy s.system) (bytes : HasBytes h)
-    (opens : OpensOutOfCopies k o s h) where
+module _ (n k : ℕ) (o : Options) (s : TracedState) (h : List Entry) (run : IsReachedFunctionRun n k o s h)
+    (awake : NoneSleepsInCopy s.system) (opens : OpensOutOfCopies k o s h) where
   abbrev truss : List Entry → TrussState
   truss front = functions_at k o front
 
@@ -86,10 +85,10 @@ module _ (n k : ℕ) (o : Options) (s : TracedState) (h : List Entry) (run : IsF
 
   module _ (front back : List Entry) (e : Entry) (is : h ≡ front ++ e ∷ back) where
     legal : IsLegalEntry n (now front) e
-    legal = legal-now n k o s h run reached awake bytes opens front back e is
+    legal = legal-now n k o s h run awake opens front back e is
 
     abbrev answered : (x : Exchange) → exchange_of k e ≡ Some x → IsOwnEntry k (now front) e x
-    answered x own = own-answer n k o s h run reached awake bytes opens front back e is x own
+    answered x own = own-answer n k o s h run awake opens front back e is x own
 
     -- the state and truss with this entry
     later-state : after (now front) e ≡ now (front ++ e ∷ [])
@@ -97,7 +96,7 @@ module _ (n k : ℕ) (o : Options) (s : TracedState) (h : List Entry) (run : IsF
 
     then-is : (x : Option Exchange) → exchange_of k e ≡ x
         → truss (front ++ e ∷ []) ≡ functions_after (truss front) (cons_option x [])
-    then-is x own = truss-then n k o s h run reached awake bytes opens front back e is x own
+    then-is x own = truss-then n k o s h run awake opens front back e is x own
 
     own-later : (x : Exchange) → (own : exchange_of k e ≡ Some x) → (t : TrussState)
         → (let it = answered x own in Leaves k o t (fed_functions (truss front) it.answer.reply) it.answer.state)
@@ -115,7 +114,7 @@ module _ (n k : ℕ) (o : Options) (s : TracedState) (h : List Entry) (run : IsF
           → ((y : Exchange) → x ≡ Some y → WasNotInterrupted y) → Calm (front ++ e ∷ [])
       then-calm x own was =
           subst (All WasNotInterrupted)
-          (sym (exchanges-then n k o s h run reached awake bytes opens front back e is x own))
+          (sym (exchanges-then n k o s h run awake opens front back e is x own))
           (All-append WasNotInterrupted (exchanges k front) (cons_option x []) calm (by x was))
         where
           by : (x : Option Exchange) → ((y : Exchange) → x ≡ Some y → WasNotInterrupted y)
@@ -128,15 +127,15 @@ module _ (n k : ℕ) (o : Options) (s : TracedState) (h : List Entry) (run : IsF
       unfolding answer_of
       begins x own broken =
           let it = answered x own in
-          let st = stands-after n k o s h run reached awake bytes opens front (e ∷ back) is calm in
+          let st = stands-after n k o s h run awake opens front (e ∷ back) is calm in
           let waits = entry-calm n k (now front) e x legal own in
-          let g = goes n k o s h run reached awake bytes opens front back e is calm in
+          let g = goes n k o s h run awake opens front back e is calm in
           own-later x own (truss front)
-          (begins-to-leave (truss front) st.known x.call it.answer.reply (ap has_functions g.options ∙ run.has)
-          (next-is n k o s h run reached awake bytes opens front back e is x own) (waits.waits broken)
+          (begins-to-leave (truss front) st.known x.call it.answer.reply (ap has_functions g.options ∙ run.of.has)
+          (next-is n k o s h run awake opens front back e is x own) (waits.waits broken)
           (ap answer_of (it.replied ∙ broken)) k o it.answer.state g.options
           (all-now n k o (truss front) (now front) g st.copies x.call it.answer it.is
-          (own-over n k o s h run reached awake bytes opens front back e is x own) (waits.waits broken)))
+          (own-over n k o s h run awake opens front back e is x own) (waits.waits broken)))
 
       calm-next : ComesTo (front ++ e ∷ [])
       calm-next = by (exchange_of k e) refl
@@ -157,7 +156,7 @@ module _ (n k : ℕ) (o : Options) (s : TracedState) (h : List Entry) (run : IsF
     left-next t w = by (exchange_of k e) refl
       where
         lawful : IsLawful (now front)
-        lawful = lawful-now n k o s h run reached awake bytes opens front back e is
+        lawful = lawful-now n k o s h run awake opens front back e is
 
         by : (x : Option Exchange) → exchange_of k e ≡ x → ComesTo (front ++ e ∷ [])
         by None own =
@@ -169,8 +168,8 @@ module _ (n k : ℕ) (o : Options) (s : TracedState) (h : List Entry) (run : IsF
             let it = answered x own in
             own-later x own t
             (call-leaves n k o t (now front) lawful x.call it.answer it.is
-            (own-over n k o s h run reached awake bytes opens front back e is x own) (truss front) w run.has
-            run.follows_none (next-is n k o s h run reached awake bytes opens front back e is x own))
+            (own-over n k o s h run awake opens front back e is x own) (truss front) w run.of.has
+            run.of.follows_none (next-is n k o s h run awake opens front back e is x own))
 
     entry-comes : ComesTo front → ComesTo (front ++ e ∷ [])
     entry-comes (is_calm calm) = calm-next calm
@@ -215,10 +214,10 @@ module _ (n k : ℕ) (o : Options) (s : TracedState) (h : List Entry) (run : IsF
 
       by : ComesTo front → IsEmpty (marks_at (truss front) place).planted
       by (is_calm calm) =
-          finds-none n k o s h run reached awake bytes opens front back place id turned is calm within makes
+          finds-none n k o s h run awake opens front back place id turned is calm within makes
       by (leaves t w) =
           leaving-finds-none k o t (truss front) (now front)
-          (lawful-now n k o s h run reached awake bytes opens front back e is) w place within id
+          (lawful-now n k o s h run awake opens front back e is) w place within id
           (record { system = its.0; turned = turned }) its.1 makes
 
   -- truss that leaves reads no status
@@ -236,7 +235,7 @@ module _ (n k : ℕ) (o : Options) (s : TracedState) (h : List Entry) (run : IsF
       → (truss front).aside ≡ Nothing → answer_of x.reply ≡ Accepted
       → (p : TracedProcess) × (live_process (now front).system (traced_at (truss front) place).pid ≡ Some p)
   status-lives front back e x place is own within reads idle accepted =
-      told-lives n k o s h run reached awake bytes opens front back e x place is
+      told-lives n k o s h run awake opens front back e x place is
       (reads-calm front (e ∷ back) place is reads) own within reads idle accepted
 
   -- the look at the lwps of a process, by which truss leaves it
@@ -252,7 +251,7 @@ module _ (n k : ℕ) (o : Options) (s : TracedState) (h : List Entry) (run : IsF
     where
       by : ComesTo front → IsEmpty (marks_at (truss front) 0).planted
       by (is_calm calm) =
-          let g = goes n k o s h run reached awake bytes opens front back e is calm in
+          let g = goes n k o s h run awake opens front back e is calm in
           let kept = g.kept in
           absurd
           (subst (AtStage (IsSo (Unit {0}) k (truss front).options (now front)) (truss front).traced) reads kept.stage)
@@ -261,13 +260,13 @@ module _ (n k : ℕ) (o : Options) (s : TracedState) (h : List Entry) (run : IsF
           let here = w.left in
           let old = here.unlooked 0 within (λ looks. absurd (false≢true (ap is_looked (sym reads) ∙ looks))) in
           let known = old.known in
-          let has : has_functions (truss front).options ≡ true = ap has_functions w.options ∙ run.has in
+          let has : has_functions (truss front).options ≡ true = ap has_functions w.options ∙ run.of.has in
           look-finds-none k o (HasOld t) (now front)
-          (later-reached n s front reached (bytes-front front (e ∷ back) (subst HasBytes is bytes))
+          (later-reached n s front run.reached (bytes-front front (e ∷ back) (subst HasBytes is run.bytes))
           (front-legal n s front (e ∷ back) (subst (IsLegal n s) is run.legal))) (traced_at (truss front) 0)
           (here.each 0 within) known.number known.is x.call it.answer
           (same_Some x.call _
-          (sym (next-is n k o s h run reached awake bytes opens front back e is x own)
+          (sym (next-is n k o s h run awake opens front back e is x own)
           ∙ next-staged (truss front).options has (truss front) ReadingLwps refl idle reads)) it.is
           (ap answer_of it.replied ∙ accepted) l
           (ap (λ (y : Reply). slice_get (event_stops (bytes_in y)) 0) it.replied ∙ told) event fresh replaced old.old
@@ -276,7 +275,7 @@ module _ (n k : ℕ) (o : Options) (s : TracedState) (h : List Entry) (run : IsF
   finds-so = record {
     copies = λ front back place id turned is within makes. granted front back place id turned is within makes;
     replaced = λ front back e x place l event is own within reads idle accepted told fresh replaced.
-        reads-lifted n k o s h run reached awake bytes opens front back e x place l event is
+        reads-lifted n k o s h run awake opens front back e x place l event is
         (reads-calm front (e ∷ back) place is reads) own within reads idle accepted told fresh replaced;
     last = λ front back e x l event is own within reads idle accepted told fresh replaced.
         looked front back e x l event is own within reads idle accepted told fresh replaced;

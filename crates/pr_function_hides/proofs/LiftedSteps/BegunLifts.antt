@@ -18,8 +18,6 @@ use Rattle.pr_model.specs.declared.calls.Mode.TheVariants.{WriteExcl}
 use Rattle.pr_model.specs.declared.calls.Reply.TheVariants as reply
 use Rattle.pr_model.specs.declared.events.Entry.{Entry}
 use Rattle.pr_num.specs.declared.errnos.Errno.TheVariants.{Noent}
-use Rattle.pr_reached.specs.ByteHistories.{HasBytes}
-use Rattle.pr_reached.specs.Reached.{IsReached}
 use Rattle.pr_report_laws.proofs.Files.WatchHistories.{cons-exchanges, exchanges-both}
 use Rattle.pr_report_laws.proofs.SeenChildren.Splits.{state_after-both}
 use Rattle.pr_report_laws.proofs.Watching.ExchangeEntries.{HasEntryOf, entry-of}
@@ -57,7 +55,8 @@ use Rattle.pr_function_laws.proofs.Stepping.AwayLemmas.{Own}
 use Rattle.pr_function_laws.proofs.Stepping.BreakpointLemmas.{IsOwnEntry, own-entry}
 use Rattle.pr_function_laws.specs.Coming.{Anything, Come, ComeWhileItLives, close_calls, functions_in}
 use Rattle.pr_function_laws.specs.Lifted.{GoesElsewhere, HasControl, HoldsFiles, IsAtStopAtBreakpoint}
-use Rattle.pr_function_laws.specs.Opened.{IsFunctionRun, WasNotInterrupted, functions_at}
+use Rattle.pr_function_laws.specs.ReachedRuns.{IsReachedFunctionRun}
+use Rattle.pr_function_laws.specs.Opened.{WasNotInterrupted, functions_at}
 use Rattle.pr_function_laws.specs.Runs.{MakesFunctionCalls, functions_after}
 use Rattle.pr_function_laws.specs.ToldTurns.{AreSteppable}
 use Rattle.pr_function_laws.specs.Treated.{TreatsItsEvents, event_calls, lwp_calls, stop_calls}
@@ -89,8 +88,8 @@ no-reads-front number (x ∷ xs) ys quiet = (quiet.0, no-reads-front number xs y
 
 -- ---- the step
 
-module _ (n k : ℕ) (o : Options) (s : TracedState) (h : List Entry) (run : IsFunctionRun n k o s h)
-    (reached : IsReached s) (bytes : HasBytes h) (able : AreSteppable o) (front later : List Entry)
+module _ (n k : ℕ) (o : Options) (s : TracedState) (h : List Entry) (run : IsReachedFunctionRun n k o s h)
+    (able : AreSteppable o) (front later : List Entry)
     (is : h ≡ front ++ later) (calm : All WasNotInterrupted (exchanges k front)) (pid : ℕ) (status : Option ℕ)
     (step : Stepped) (b : WasBegun k o front pid status step) where
   abbrev T : List Entry → TrussState
@@ -119,16 +118,16 @@ module _ (n k : ℕ) (o : Options) (s : TracedState) (h : List Entry) (run : IsF
   met = let m = b.meets in met_at t0 b.place m.l m.function
 
   pub number : ℕ
-  number = ns n k o s h run reached bytes able front later is calm pid status step b
+  number = ns n k o s h run able front later is calm pid status step b
 
   pub number-is : (traced_at t0 b.place).status ≡ Some number
   unfolding number
-  number-is = ns-is n k o s h run reached bytes able front later is calm pid status step b
+  number-is = ns-is n k o s h run able front later is calm pid status step b
 
   pub stop : IsAtStopAtBreakpoint n k t0 b.place number (traced_at t0 b.place).pid (let m = b.meets in m.l.id)
       (state_after s b.before) b.e b.between
   unfolding number
-  stop = stopped n k o s h run reached bytes able front later is calm pid status step b
+  stop = stopped n k o s h run able front later is calm pid status step b
 
   pub parted : h ≡ b.before ++ b.e ∷ (b.between ++ later)
   parted = is ∙ ap (λ es. es ++ later) b.is ∙ append_assoc b.before (b.e ∷ b.between) later
@@ -174,7 +173,8 @@ module _ (n k : ℕ) (o : Options) (s : TracedState) (h : List Entry) (run : IsF
   makes-then : MakesFunctionCalls t0 (b.x ∷ exchanges k (b.between ++ later))
   makes-then =
       subst (MakesFunctionCalls t0) rest-is
-      (makes-at (Unit {0}) n k o s h run (λ r. reached) (λ r. bytes) b.before (b.e ∷ (b.between ++ later)) parted)
+      (makes-at (Unit {0}) n k o s h run.of (λ r. run.reached) (λ r. run.bytes) b.before (b.e ∷ (b.between ++ later))
+      parted)
 
   pub makes-since : MakesFunctionCalls begun since
   makes-since =
@@ -192,10 +192,11 @@ module _ (n k : ℕ) (o : Options) (s : TracedState) (h : List Entry) (run : IsF
 
   treats : TreatsItsEvents o (exchanges k h)
   treats =
-      treats-its-events o (exchanges k h) run.has run.follows_none run.makes (calm-exchanges h n k s run.legal)
+      treats-its-events o (exchanges k h) run.of.has run.of.follows_none run.of.makes
+      (calm-exchanges h n k s run.of.legal)
 
   few : function < function_limit
-  few = its-few n k o s h run reached bytes able front later is calm pid status step b
+  few = its-few n k o s h run able front later is calm pid status step b
 
   -- the functions that are planted again first
   abbrev again : List ℕ
@@ -209,7 +210,7 @@ module _ (n k : ℕ) (o : Options) (s : TracedState) (h : List Entry) (run : IsF
       ∙ ap (stop_calls o u0 m.l) m.fresh
       ∙ ap (event_calls o u0 m.event)
       (ap (λ (p : Options). function_event p (marks_at t0 b.place) m.l.id m.event)
-      (sym (options-then n k o s h run reached bytes able front later is calm pid status step b))
+      (sym (options-then n k o s h run able front later is calm pid status step b))
       ∙ m.at_breakpoint)
       ∙ ap
       (λ fs. map (plant_call o control) again
@@ -303,10 +304,10 @@ module _ (n k : ℕ) (o : Options) (s : TracedState) (h : List Entry) (run : IsF
     legal1 : IsLegal n (S front1) (e1 ∷ es2)
     legal1 =
         legal-front n (S front1) (e1 ∷ es2) later
-        (legal-rest n s front1 ((e1 ∷ es2) ++ later) (subst (IsLegal n s) whole-is run.legal))
+        (legal-rest n s front1 ((e1 ∷ es2) ++ later) (subst (IsLegal n s) whole-is run.of.legal))
 
     lawful1 : IsLawful (S front1)
-    lawful1 = lawful-here n k o s h run front1 (e1 ∷ (es2 ++ later)) whole-is calm1
+    lawful1 = lawful-here n k o s h run.of front1 (e1 ∷ (es2 ++ later)) whole-is calm1
 
     over-now : live_process (S front1).system pid0 ≡ None
     unfolding answer_of
@@ -339,7 +340,7 @@ module _ (n k : ℕ) (o : Options) (s : TracedState) (h : List Entry) (run : IsF
             (legal-front n then (b.e ∷ es) ((e1 ∷ es2) ++ later)
             (legal-rest n s b.before ((b.e ∷ es) ++ ((e1 ∷ es2) ++ later))
             (subst (IsLegal n s)
-            (whole-is ∙ append_assoc b.before (b.e ∷ es) (e1 ∷ (es2 ++ later))) run.legal))))
+            (whole-is ∙ append_assoc b.before (b.e ∷ es) (e1 ∷ (es2 ++ later))) run.of.legal))))
 
   -- ---- where it has come to
 

@@ -11,8 +11,6 @@ use Rattle.pr_model.specs.declared.events.Act.TheVariants.{Turn}
 use Rattle.pr_model.specs.declared.events.Actor.TheVariants.{Lwp}
 use Rattle.pr_model.specs.declared.events.Entry.{Entry}
 use Rattle.pr_model.specs.declared.events.Turned.{Turned}
-use Rattle.pr_reached.specs.ByteHistories.{HasBytes}
-use Rattle.pr_reached.specs.Reached.{IsReached}
 use Rattle.pr_truss.specs.Trusses.{traced_at}
 use Rattle.pr_truss_laws.proofs.Machine.StillLemmas.{frozen-turns}
 use Rattle.pr_truss_laws.specs.Exchanges.{exchanges}
@@ -20,7 +18,8 @@ use Rattle.pr_function_laws.proofs.OpenedProcesses.OpenedLaws.{still-there}
 use Rattle.pr_function_laws.proofs.Pending.FrontLemmas as fronts
 use Rattle.pr_function_laws.specs.FunctionTurns.{is_process}
 use Rattle.pr_function_laws.specs.OneEvent.{is_looked_at}
-use Rattle.pr_function_laws.specs.Opened.{IsFunctionRun, WasNotInterrupted, functions_at}
+use Rattle.pr_function_laws.specs.ReachedRuns.{IsReachedFunctionRun}
+use Rattle.pr_function_laws.specs.Opened.{WasNotInterrupted, functions_at}
 use Rattle.pr_function_laws.specs.ToldTurns.{AreSteppable}
 use Rattle.pr_function_hides.specs.SteppedByCalls.{StepsWhatItLifted}
 use Rattle.pr_function_hides.proofs.LiftedSteps.LiftedNow.{lifted-now}
@@ -31,8 +30,8 @@ use Rattle.pr_function_hides.proofs.LiftedSteps.SteppedLast.{stepped-now}
 -- At each turn of a process, until truss is interrupted, what truss has as stepped there is what it lifted for that: a
 -- process at which truss looks, or which it runs next, stands still, and has no turn.
 
-module _ (n k : ℕ) (o : Options) (s : TracedState) (h : List Entry) (run : IsFunctionRun n k o s h)
-    (reached : IsReached s) (bytes : HasBytes h) (front later : List Entry) (pid id : ℕ) (t : Turned)
+module _ (n k : ℕ) (o : Options) (s : TracedState) (h : List Entry) (run : IsReachedFunctionRun n k o s h)
+    (front later : List Entry) (pid id : ℕ) (t : Turned)
     (is : h ≡ front ++ record { actor = Lwp pid id; act = Turn t } ∷ later)
     (calm : All WasNotInterrupted (exchanges k front)) where
   abbrev e : Entry
@@ -44,7 +43,7 @@ module _ (n k : ℕ) (o : Options) (s : TracedState) (h : List Entry) (run : IsF
   pub took : (turn : LwpTurn) × (turn_of now.system pid id ≡ Some turn)
   unfolding IsLegalEntry
   took =
-      let legal : IsLegalEntry n now e = fronts.legal n k o s h run front e later is calm in
+      let legal : IsLegalEntry n now e = fronts.legal n k o s h run.of front e later is calm in
       (record { system = legal.0; turned = t }, legal.1)
 
   pub lives : (p : TracedProcess) × (live_process now.system pid ≡ Some p)
@@ -59,7 +58,7 @@ module _ (n k : ℕ) (o : Options) (s : TracedState) (h : List Entry) (run : IsF
       let p = lives in
       none-some turn.0
       (sym (frozen-turns now.system pid p.0 p.1
-      (still-there n k o s h run reached bytes front (e ∷ later) is calm q p.0 (ap (live_process now.system) its ∙ p.1)
+      (still-there n k o s h run front (e ∷ later) is calm q p.0 (ap (live_process now.system) its ∙ p.1)
       looked) id)
       ∙ turn.1)
 
@@ -70,19 +69,19 @@ module _ (n k : ℕ) (o : Options) (s : TracedState) (h : List Entry) (run : IsF
     | inr away ↦ away
   ]
 
-pub steps-what-it-lifted : (n k : ℕ) (o : Options) (s : TracedState) (h : List Entry) → IsFunctionRun n k o s h
-    → IsReached s → HasBytes h → AreSteppable o → StepsWhatItLifted k o s h
-steps-what-it-lifted n k o s h run reached bytes able = record {
+pub steps-what-it-lifted : (n k : ℕ) (o : Options) (s : TracedState) (h : List Entry) → IsReachedFunctionRun n k o s h
+    → AreSteppable o → StepsWhatItLifted k o s h
+steps-what-it-lifted n k o s h run able = record {
   lifted = λ front later pid id place control t step xs is calm at w way.
-      let p = lives n k o s h run reached bytes front later pid id t is calm in
-      lifted-now n k o s h run reached bytes able (has-its-controls n k o s h run) front
+      let p = lives n k o s h run front later pid id t is calm in
+      lifted-now n k o s h run able (has-its-controls n k o s h run.of) front
       (record { actor = Lwp pid id; act = Turn t } ∷ later) is calm pid place control xs at w p.0 p.1
-      (moves-at n k o s h run reached bytes front later pid id t is calm place at) step way;
+      (moves-at n k o s h run front later pid id t is calm place at) step way;
   stepped = λ front later pid id place control function t xs is calm at w named z.
-      let p = lives n k o s h run reached bytes front later pid id t is calm in
-      stepped-now n k o s h run reached bytes able (has-its-controls n k o s h run) front
+      let p = lives n k o s h run front later pid id t is calm in
+      stepped-now n k o s h run able (has-its-controls n k o s h run.of) front
       (record { actor = Lwp pid id; act = Turn t } ∷ later) is calm pid place control xs at w p.0 p.1 function z named
-      (moves n k o s h run reached bytes front later pid id t is calm);
+      (moves n k o s h run front later pid id t is calm);
 }
 
 pub ruleset lifted_steps = (steps-what-it-lifted)

@@ -9,8 +9,6 @@ use Rattle.pr_model.specs.Legal.{state_after}
 use Rattle.pr_model.specs.State.{TracedProcess, TracedState, live_process}
 use Rattle.pr_model.specs.declared.events.Entry.{Entry}
 use Rattle.pr_num.specs.declared.messages.Message.TheVariants as message
-use Rattle.pr_reached.specs.ByteHistories.{HasBytes}
-use Rattle.pr_reached.specs.Reached.{IsReached}
 use Rattle.pr_truss.specs.Asides.{marks_at}
 use Rattle.pr_truss.specs.FunctionCalls.{lift_call}
 use Rattle.pr_truss.specs.FunctionFeeding.{fed_functions}
@@ -24,7 +22,8 @@ use Rattle.pr_function_laws.proofs.CallTurns.OwnSteps.{begun-there}
 use Rattle.pr_function_laws.proofs.Marks.LiftLemmas.{met_at, step_flags}
 use Rattle.pr_function_laws.specs.FunctionTurns.{is_process}
 use Rattle.pr_function_laws.specs.OneEvent.{is_looked_at}
-use Rattle.pr_function_laws.specs.Opened.{IsFunctionRun, WasNotInterrupted, functions_at, is_opened}
+use Rattle.pr_function_laws.specs.ReachedRuns.{IsReachedFunctionRun}
+use Rattle.pr_function_laws.specs.Opened.{WasNotInterrupted, functions_at, is_opened}
 use Rattle.pr_function_laws.specs.PlantedByCalls.{IsSinceOpened, LeavesCodeAlone}
 use Rattle.pr_function_hides.specs.SteppedByCalls.{IsLiftedForStep}
 use Rattle.pr_function_laws.specs.Stretches.{acts_by}
@@ -38,8 +37,8 @@ use Rattle.pr_function_hides.proofs.StepsUnderWay.UnderWay.{apart-here, its-few,
 -- Where truss neither looks at a process nor runs it next, the breakpoint of the step that is under way there was
 -- lifted for it: so its calls say, from the open of the control file on. This is so until truss is interrupted.
 
-module _ (n k : ℕ) (o : Options) (s : TracedState) (h : List Entry) (run : IsFunctionRun n k o s h)
-    (reached : IsReached s) (bytes : HasBytes h) (able : AreSteppable o) (controls : HasItsControls k o h)
+module _ (n k : ℕ) (o : Options) (s : TracedState) (h : List Entry) (run : IsReachedFunctionRun n k o s h)
+    (able : AreSteppable o) (controls : HasItsControls k o h)
     (front later : List Entry) (is : h ≡ front ++ later) (calm : All WasNotInterrupted (exchanges k front))
     (pid place control : ℕ) (xs : List Exchange)
     (at : position (is_process pid) (functions_at k o front).traced ≡ Some place)
@@ -61,7 +60,7 @@ module _ (n k : ℕ) (o : Options) (s : TracedState) (h : List Entry) (run : IsF
     | inl so ↦ so
     | inr not ↦ absurd
         (none-some step
-        (sym (closed-unstepped n k o s h run reached bytes front later is calm place p
+        (sym (closed-unstepped n k o s h run front later is calm place p
         (let x = here in x.within) live-there not) ∙ under_way))
   ]
 
@@ -73,7 +72,7 @@ module _ (n k : ℕ) (o : Options) (s : TracedState) (h : List Entry) (run : IsF
   b =
       let x = here in
       subst (λ i. WasBegun k o front i (traced_at t place).status step) x.its
-      (begun-there n k o s h run reached bytes able front later is place step under p live-there)
+      (begun-there n k o s h run able front later is place step under p live-there)
 
   abbrev t0 : TrussState
   t0 = let x = b in functions_at k o x.before
@@ -89,7 +88,7 @@ module _ (n k : ℕ) (o : Options) (s : TracedState) (h : List Entry) (run : IsF
 
   abbrev number0 : ℕ
   number0 =
-      number n k o s h run reached bytes able front later is calm pid (traced_at t place).status step b
+      number n k o s h run able front later is calm pid (traced_at t place).status step b
 
   abbrev place0 : ℕ
   place0 = let x = b in x.place
@@ -103,17 +102,17 @@ module _ (n k : ℕ) (o : Options) (s : TracedState) (h : List Entry) (run : IsF
   module _ (r : Ran) where
     parts : (let x = b in OpensBefore (exchanges k x.before) since0 w.earlier w.since x.x w.first)
     parts =
-        split n k o s h run reached bytes able controls front later is calm pid control xs w
+        split n k o s h run able controls front later is calm pid control xs w
         (traced_at t place).status step b r.none
 
     its-control : control ≡ c0
     its-control =
-        control-is n k o s h run reached bytes able controls front later is calm pid control xs w
+        control-is n k o s h run able controls front later is calm pid control xs w
         (traced_at t place).status step b r.none
 
     function-is : f0 ≡ step.function
     function-is =
-        its-function n k o s h run reached bytes able front later is calm pid (traced_at t place).status step b
+        its-function n k o s h run able front later is calm pid (traced_at t place).status step b
 
     ran-lifted : IsLiftedForStep o control step.function xs
     ran-lifted =
@@ -143,19 +142,19 @@ module _ (n k : ℕ) (o : Options) (s : TracedState) (h : List Entry) (run : IsF
   pub few-now : step.function < function_limit
   few-now =
       subst (λ i. i < function_limit)
-      (its-function n k o s h run reached bytes able front later is calm pid (traced_at t place).status step b)
-      (its-few n k o s h run reached bytes able front later is calm pid (traced_at t place).status step b)
+      (its-function n k o s h run able front later is calm pid (traced_at t place).status step b)
+      (its-few n k o s h run able front later is calm pid (traced_at t place).status step b)
 
   pub lifted-now : IsLiftedForStep o control step.function xs
   lifted-now =
-      by (how-far n k o s h run reached bytes able front later is calm pid (traced_at t place).status step b p live)
+      by (how-far n k o s h run able front later is calm pid (traced_at t place).status step b p live)
     where
-      by : HowFar n k o s h run reached bytes able front later is calm pid (traced_at t place).status step b
+      by : HowFar n k o s h run able front later is calm pid (traced_at t place).status step b
           → IsLiftedForStep o control step.function xs
       by (has_run r) = ran-lifted r
       by (looks_yet stage its within none opens) =
           let at_it : position (is_process pid) t.traced ≡ Some place0 =
-          place-of pid t.traced place0 (apart-here n k o s h run front later is calm) within its in
+          place-of pid t.traced place0 (apart-here n k o s h run.of front later is calm) within its in
           absurd (false≢true
           (sym away
           ∙ ap (λ st. is_looked_at st place) stage ∙ eq-eqb place0 place (same_Some place0 place (sym at_it ∙ at))))

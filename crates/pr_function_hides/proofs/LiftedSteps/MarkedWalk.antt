@@ -37,15 +37,14 @@ use Rattle.pr_function_laws.proofs.NextCalls.PatchCalls.{next-staged}
 use Rattle.pr_function_laws.proofs.OpenedProcesses.OpenedCalls.{IsSo}
 use Rattle.pr_function_laws.proofs.OpenedProcesses.OpenedLaws.{Goes}
 use Rattle.pr_function_laws.proofs.Pending.FrontLemmas.{calm-answer}
-use Rattle.pr_function_laws.specs.Opened.{IsFunctionRun, WasNotInterrupted, functions_at}
+use Rattle.pr_function_laws.specs.ReachedRuns.{IsReachedFunctionRun}
+use Rattle.pr_function_laws.specs.Opened.{WasNotInterrupted, functions_at}
 use Rattle.pr_function_laws.specs.Soon.{IsCalm}
 use Rattle.pr_function_laws.specs.Runs.{MakesFunctionCalls, functions_after, functions_on}
 use Rattle.pr_function_hides.proofs.Copying.CopyEnds.{aside-within, stage-within}
 use Rattle.pr_function_hides.proofs.Replies.OwnFiles.{IsBeside, IsWithin}
 use Rattle.pr_function_hides.proofs.Replies.PlantedReplies.{AfterAside, AfterStage, LeftSo, So, fed-so, first-so-truss}
 use Rattle.pr_function_hides.proofs.Replies.PlantedWalk.{marks_then}
-use Rattle.pr_reached.specs.ByteHistories.{HasBytes}
-use Rattle.pr_reached.specs.Reached.{IsReached}
 
 -- What is so of the marks of each process by its id, and stays so with each event that truss reads, and where it
 -- plants, lifts and runs, is so along a history until truss is interrupted.
@@ -61,8 +60,8 @@ module _ (Q : ℕ → Marks → Type 0) where
   pub record OpensSo (x : Exchange) : Type 0 where
     pub so : (pid : ℕ) → x.call ≡ open_control pid → IsGranted x → Q pid no_marks
 
-module _ (n k : ℕ) (o : Options) (s : TracedState) (h : List Entry) (run : IsFunctionRun n k o s h)
-    (reached : IsReached s) (bytes : HasBytes h) (Q : ℕ → Marks → Type 0) (kept : IsKept Q) where
+module _ (n k : ℕ) (o : Options) (s : TracedState) (h : List Entry) (run : IsReachedFunctionRun n k o s h)
+    (Q : ℕ → Marks → Type 0) (kept : IsKept Q) where
   abbrev T : List Entry → TrussState
   T es = functions_at k o es
 
@@ -79,22 +78,22 @@ module _ (n k : ℕ) (o : Options) (s : TracedState) (h : List Entry) (run : IsF
     r = x.reply
 
     goes : Goes (Unit {0}) k o t (state_after s f)
-    goes = goes-there (Unit {0}) n k o s h run (λ r. reached) (λ r. bytes) f e later is calm
+    goes = goes-there (Unit {0}) n k o s h run.of (λ r. run.reached) (λ r. run.bytes) f e later is calm
 
     has : has_functions t.options ≡ true
-    has = has-there (Unit {0}) n k o s h run (λ r. reached) (λ r. bytes) f e later is
+    has = has-there (Unit {0}) n k o s h run.of (λ r. run.reached) (λ r. run.bytes) f e later is
 
     sent : next_function_call_of t ≡ Some x.call
-    sent = makes-there (Unit {0}) n k o s h run (λ r. reached) (λ r. bytes) f e later is x own
+    sent = makes-there (Unit {0}) n k o s h run.of (λ r. run.reached) (λ r. run.bytes) f e later is x own
 
     -- where it reads a status the process has no run flags
     plain : (q : ℕ) → t.stage ≡ ReadingStatus q → (marks_at t q).flags ≡ 0
     plain q at =
         let g = goes in
         let w = g.kept in
-        no-flags-at-read o run.has run.follows_none (exchanges k f) (exchanges k (e ∷ later)) q
-        (subst (MakesFunctionCalls (first_truss o)) both run.makes)
-        (subst (All IsCalm) both (calm-exchanges h n k s run.legal)) w.off at
+        no-flags-at-read o run.of.has run.of.follows_none (exchanges k f) (exchanges k (e ∷ later)) q
+        (subst (MakesFunctionCalls (first_truss o)) both run.of.makes)
+        (subst (All IsCalm) both (calm-exchanges h n k s run.of.legal)) w.off at
       where
         both : exchanges k h ≡ exchanges k f ++ exchanges k (e ∷ later)
         both = ap (exchanges k) is ∙ exchanges-both k f (e ∷ later)
@@ -148,7 +147,7 @@ module _ (n k : ℕ) (o : Options) (s : TracedState) (h : List Entry) (run : IsF
       → All (OpensSo Q) (exchanges k (e ∷ [])) → AllSo f → AllSo (f ++ e ∷ [])
   entry-so f e later is calm quiet opens all =
       subst (λ (t : TrussState). Each (So Q) t.traced)
-      (sym (truss-next (Unit {0}) n k o s h run (λ r. reached) (λ r. bytes) f e later is))
+      (sym (truss-next (Unit {0}) n k o s h run.of (λ r. run.reached) (λ r. run.bytes) f e later is))
       (by (exchange_of k e) refl)
     where
       here : (P : Exchange → Type 0) → All P (exchanges k (e ∷ [])) → (x : Exchange) → exchange_of k e ≡ Some x → P x

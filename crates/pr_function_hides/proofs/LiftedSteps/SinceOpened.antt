@@ -6,8 +6,6 @@ use Rattle.std.specs.List.{All}
 use Rattle.pr_line.specs.declared.options.Options.{Options}
 use Rattle.pr_model.specs.State.{TracedState}
 use Rattle.pr_model.specs.declared.events.Entry.{Entry}
-use Rattle.pr_reached.specs.ByteHistories.{HasBytes}
-use Rattle.pr_reached.specs.Reached.{IsReached}
 use Rattle.pr_report_laws.proofs.Watching.HistoryParts.{all-front, all-rest}
 use Rattle.pr_truss.specs.NextCalls.{open_control, read_record}
 use Rattle.pr_truss.specs.Trusses.{TrussState, nobody, traced_at}
@@ -16,7 +14,8 @@ use Rattle.pr_truss_laws.proofs.Files.HeldLemmas.{at_place}
 use Rattle.pr_truss_laws.specs.Exchanges.{Exchange, exchanges}
 use Rattle.pr_function_laws.proofs.CallTurns.BegunSteps.{WasBegun}
 use Rattle.pr_function_laws.specs.FunctionTurns.{is_process}
-use Rattle.pr_function_laws.specs.Opened.{IsFunctionRun, WasNotInterrupted, functions_at}
+use Rattle.pr_function_laws.specs.ReachedRuns.{IsReachedFunctionRun}
+use Rattle.pr_function_laws.specs.Opened.{WasNotInterrupted, functions_at}
 use Rattle.pr_function_laws.specs.PlantedByCalls.{IsSinceOpened, OpensNot}
 use Rattle.pr_function_laws.specs.ToldTurns.{AreSteppable}
 use Rattle.pr_function_hides.proofs.LiftedSteps.BegunLifts.{begun-calm, exchanges-are, parted, reads-call}
@@ -84,8 +83,8 @@ HasItsControls k o h =
     → IsSinceOpened k pid front control xs
     → control ≡ (traced_at (functions_at k o front) place).control
 
-module _ (n k : ℕ) (o : Options) (s : TracedState) (h : List Entry) (run : IsFunctionRun n k o s h)
-    (reached : IsReached s) (bytes : HasBytes h) (able : AreSteppable o) (controls : HasItsControls k o h)
+module _ (n k : ℕ) (o : Options) (s : TracedState) (h : List Entry) (run : IsReachedFunctionRun n k o s h)
+    (able : AreSteppable o) (controls : HasItsControls k o h)
     (front later : List Entry) (is : h ≡ front ++ later) (calm : All WasNotInterrupted (exchanges k front))
     (pid control : ℕ) (xs : List Exchange) (w : IsSinceOpened k pid front control xs) (status : Option ℕ)
     (step : Stepped) (b : WasBegun k o front pid status step) (none : All OpensNone (exchanges k b.between)) where
@@ -93,26 +92,26 @@ module _ (n k : ℕ) (o : Options) (s : TracedState) (h : List Entry) (run : IsF
   t0 = functions_at k o b.before
 
   whole : h ≡ b.before ++ b.e ∷ (b.between ++ later)
-  whole = parted n k o s h run reached bytes able front later is calm pid status step b
+  whole = parted n k o s h run able front later is calm pid status step b
 
   calm0 : All WasNotInterrupted (exchanges k b.before)
-  calm0 = begun-calm n k o s h run reached bytes able front later is calm pid status step b
+  calm0 = begun-calm n k o s h run able front later is calm pid status step b
 
   at0 : position (is_process pid) t0.traced ≡ Some b.place
   at0 =
       let m = b.meets in
       place-of pid t0.traced b.place
-      (apart-here n k o s h run b.before (b.e ∷ (b.between ++ later)) whole calm0) m.within b.its_pid
+      (apart-here n k o s h run.of b.before (b.e ∷ (b.between ++ later)) whole calm0) m.within b.its_pid
 
   -- the open comes before the read at the breakpoint
   pub split : OpensBefore (exchanges k b.before) (exchanges k b.between) w.earlier w.since b.x w.first
   split =
       opens-before (exchanges k b.before) (exchanges k b.between) w.earlier w.since b.x w.first pid
-      (sym (exchanges-are n k o s h run reached bytes able front later is calm pid status step b)
+      (sym (exchanges-are n k o s h run able front later is calm pid status step b)
       ∙ w.is ∙ ap (λ (ys : List Exchange). w.earlier ++ ys) w.begins)
       (All-cons OpensNone b.x (exchanges k b.between)
       (read-opens b.x (traced_at t0 b.place).status
-      (reads-call n k o s h run reached bytes able front later is calm pid status step b)) none) w.opens
+      (reads-call n k o s h run able front later is calm pid status step b)) none) w.opens
 
   pub control-is : control ≡ (traced_at (functions_at k o b.before) b.place).control
   control-is =

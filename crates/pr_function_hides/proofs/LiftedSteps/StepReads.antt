@@ -23,7 +23,6 @@ use Rattle.pr_model.specs.declared.stops.Point.{Point}
 use Rattle.pr_reached.proofs.RecordsInRange.EntryRanges.{records-range}
 use Rattle.pr_reached.proofs.Together.ReachedLemmas.{later-reached}
 use Rattle.pr_reached.specs.ByteHistories.{HasBytes}
-use Rattle.pr_reached.specs.Reached.{IsReached}
 use Rattle.pr_rec.specs.declared.lwps.LwpStatus.{LwpStatus}
 use Rattle.pr_report_laws.proofs.Files.WatchHistories.{exchanges-push}
 use Rattle.pr_report_laws.proofs.Machine.RecordLaws.{status-read}
@@ -58,7 +57,8 @@ use Rattle.pr_function_laws.proofs.Pending.FrontLemmas as fronts
 use Rattle.pr_function_laws.proofs.Stepping.BreakpointLemmas.{IsOwnEntry, own-entry}
 use Rattle.pr_function_laws.specs.CalledTurns.{ReadsTwice}
 use Rattle.pr_function_laws.specs.Lifted.{HasStatus, IsAtStopAtBreakpoint, ReadsOnlyLast}
-use Rattle.pr_function_laws.specs.Opened.{IsFunctionRun, WasNotInterrupted, functions_at}
+use Rattle.pr_function_laws.specs.ReachedRuns.{IsReachedFunctionRun}
+use Rattle.pr_function_laws.specs.Opened.{WasNotInterrupted, functions_at}
 use Rattle.pr_function_laws.specs.Returns.{EndsStep, ReadsStepEnd}
 use Rattle.pr_function_laws.specs.ToldTurns.{AreSteppable}
 use Rattle.pr_function_laws.specs.Turns.{IsNoTurnOf, TellsOfLwp, TurnsOnce}
@@ -69,8 +69,8 @@ use Rattle.pr_function_hides.proofs.StepsUnderWay.UnderWay.{its-few, its-functio
 -- Where truss reads the status of a process in which a step is under way, it is told of an event by which the step
 -- ends.
 
-module _ (n k : ℕ) (o : Options) (s : TracedState) (h : List Entry) (run : IsFunctionRun n k o s h)
-    (reached : IsReached s) (bytes : HasBytes h) (able : AreSteppable o) (front : List Entry) (e : Entry)
+module _ (n k : ℕ) (o : Options) (s : TracedState) (h : List Entry) (run : IsReachedFunctionRun n k o s h)
+    (able : AreSteppable o) (front : List Entry) (e : Entry)
     (later : List Entry) (is : h ≡ front ++ e ∷ later) (calm : All WasNotInterrupted (exchanges k front)) (pid : ℕ)
     (status : Option ℕ) (step : Stepped) (b : WasBegun k o front pid status step) (y : Exchange)
     (own : exchange_of k e ≡ Some y)
@@ -92,19 +92,19 @@ module _ (n k : ℕ) (o : Options) (s : TracedState) (h : List Entry) (run : IsF
   id = let m = b.meets in m.l.id
 
   abbrev number0 : ℕ
-  number0 = number n k o s h run reached bytes able front (e ∷ later) is calm pid status step b
+  number0 = number n k o s h run able front (e ∷ later) is calm pid status step b
 
   number0-is : (traced_at t0 b.place).status ≡ Some number0
-  number0-is = number-is n k o s h run reached bytes able front (e ∷ later) is calm pid status step b
+  number0-is = number-is n k o s h run able front (e ∷ later) is calm pid status step b
 
   abbrev Stop0 : Type 0
   Stop0 = IsAtStopAtBreakpoint n k t0 b.place number0 pid0 id then b.e b.between
 
   stop0 : Stop0
-  stop0 = stop n k o s h run reached bytes able front (e ∷ later) is calm pid status step b
+  stop0 = stop n k o s h run able front (e ∷ later) is calm pid status step b
 
   whole : h ≡ b.before ++ b.e ∷ (b.between ++ e ∷ later)
-  whole = parted n k o s h run reached bytes able front (e ∷ later) is calm pid status step b
+  whole = parted n k o s h run able front (e ∷ later) is calm pid status step b
 
   reads-last : (m : ℕ) → (traced_at t0 b.place).status ≡ Some m → ReadsOnlyLast m (exchanges k (b.between ++ e ∷ []))
   reads-last m there =
@@ -123,9 +123,9 @@ module _ (n k : ℕ) (o : Options) (s : TracedState) (h : List Entry) (run : IsF
   twice : ReadsTwice k o s h b.before b.e b.between e later b.place id
   twice = record {
     is = whole;
-    calm = begun-calm n k o s h run reached bytes able front (e ∷ later) is calm pid status step b;
+    calm = begun-calm n k o s h run able front (e ∷ later) is calm pid status step b;
     breakpoint =
-        breaks n k o s h run reached bytes able front e later is calm pid status step b (b.between ++ e ∷ [])
+        breaks n k o s h run able front e later is calm pid status step b (b.between ++ e ∷ [])
         reads-last;
     y = y;
     own = own;
@@ -137,7 +137,7 @@ module _ (n k : ℕ) (o : Options) (s : TracedState) (h : List Entry) (run : IsF
   -- ---- the turn
 
   one-turn : TurnsOnce pid0 id b.between
-  one-turn = once-there n k o s h run reached bytes b.before b.between later b.e e b.place id twice
+  one-turn = once-there n k o s h run b.before b.between later b.e e b.place id twice
 
   -- The lwp stands on what it met.
   pub record Met : Type 0 where
@@ -177,10 +177,10 @@ module _ (n k : ℕ) (o : Options) (s : TracedState) (h : List Entry) (run : IsF
   -- ---- what it is told
 
   goes : Goes ⊥ k o (functions_at k o front) now
-  goes = fronts.here n k o s h run front e later is calm
+  goes = fronts.here n k o s h run.of front e later is calm
 
   legal : IsLegalEntry n now e
-  legal = fronts.legal n k o s h run front e later is calm
+  legal = fronts.legal n k o s h run.of front e later is calm
 
   live-now : live_process now.system pid0 ≡ Some p
   live-now = ap (live_process now.system) b.its_pid ∙ live
@@ -191,8 +191,8 @@ module _ (n k : ℕ) (o : Options) (s : TracedState) (h : List Entry) (run : IsF
       let g = goes in
       let m = met in
       let reached_it =
-      later-reached n s front reached (bytes-front front (e ∷ later) (subst HasBytes is bytes))
-      (legal-front n s front (e ∷ later) (subst (IsLegal n s) is run.legal)) in
+      later-reached n s front run.reached (bytes-front front (e ∷ later) (subst HasBytes is run.bytes))
+      (legal-front n s front (e ∷ later) (subst (IsLegal n s) is run.of.legal)) in
       let records = records-range now.system g.lawful.system reached_it.in_range in
       let ranged = (records.processes pid0 p (found-live now.system pid0 p live-now).0).status in
       let call : IsOwnEntry k now e y = own-entry n k now e y legal own in
@@ -203,11 +203,11 @@ module _ (n k : ℕ) (o : Options) (s : TracedState) (h : List Entry) (run : IsF
 
   tells : TellsOfLwp y.reply id
   unfolding twice
-  tells = tells-there n k o s h run reached bytes b.before b.between later b.e e b.place id twice
+  tells = tells-there n k o s h run b.before b.between later b.e e b.place id twice
 
   -- truss reads the status at this place
   pub place : ℕ
-  place = let x = step-there n k o s h run reached bytes b.before b.between later b.e e b.place id twice in x.at
+  place = let x = step-there n k o s h run b.before b.between later b.e e b.place id twice in x.at
 
   abbrev t : TrussState
   t = functions_at k o front
@@ -223,7 +223,7 @@ module _ (n k : ℕ) (o : Options) (s : TracedState) (h : List Entry) (run : IsF
   pub there : IsThere
   unfolding twice place
   there =
-      let x = step-there n k o s h run reached bytes b.before b.between later b.e e b.place id twice in
+      let x = step-there n k o s h run b.before b.between later b.e e b.place id twice in
       record {
         stage = ap (λ es. (functions_at k o es).stage) b.is ∙ x.reads;
         idle = ap (λ es. (functions_at k o es).aside) b.is ∙ x.idle;
@@ -233,12 +233,12 @@ module _ (n k : ℕ) (o : Options) (s : TracedState) (h : List Entry) (run : IsF
         under_way = ap (λ es. (marks_at (functions_at k o es) x.at).stepped) b.is ∙ x.under_way
             ∙ ap
             (λ l. Some (step_of l (let w =
-            breaks n k o s h run reached bytes able front e later is calm pid status step b (b.between ++ e ∷ [])
+            breaks n k o s h run able front e later is calm pid status step b (b.between ++ e ∷ [])
             reads-last in let m = w.meets in m.function)))
-            (breaks-lwp n k o s h run reached bytes able front e later is calm pid status step b (b.between ++ e ∷ [])
+            (breaks-lwp n k o s h run able front e later is calm pid status step b (b.between ++ e ∷ [])
             reads-last)
             ∙ ap (λ f. Some (step_of (let m = b.meets in m.l) f))
-            (breaks-function n k o s h run reached bytes able front e later is calm pid status step b
+            (breaks-function n k o s h run able front e later is calm pid status step b
             (b.between ++ e ∷ []) reads-last)
             ∙ ap (λ (x : Stepped). Some x) (sym b.its_step);
       }
@@ -270,8 +270,8 @@ module _ (n k : ℕ) (o : Options) (s : TracedState) (h : List Entry) (run : IsF
         within = at.0;
         under_way = x.under_way;
         function = subst (λ i. i < function_limit)
-            (its-function n k o s h run reached bytes able front (e ∷ later) is calm pid status step b)
-            (its-few n k o s h run reached bytes able front (e ∷ later) is calm pid status step b);
+            (its-function n k o s h run able front (e ∷ later) is calm pid status step b)
+            (its-few n k o s h run able front (e ∷ later) is calm pid status step b);
         accepted = was-read y.reply w.l w.told;
         l = w.l;
         told = w.told;
@@ -280,7 +280,7 @@ module _ (n k : ℕ) (o : Options) (s : TracedState) (h : List Entry) (run : IsF
             ∙ ap (λ c. cond c None (event_of w.l)) x.unseen ∙ w.stands;
         ends = subst (λ i. EndsStep (function_event t.options (marks_at t place) i w.event)) (sym w.its)
             (met-ends t.options (marks_at t place) id step x.under_way
-            (sym (its-lwp n k o s h run reached bytes able front (e ∷ later) is calm pid status step b)) p shown.lwp
+            (sym (its-lwp n k o s h run able front (e ∷ later) is calm pid status step b)) p shown.lwp
             m.point m.kind (m.stands shown.lwp there_it) w.event
             (ap event_of (sym (shown.is ∙ ap (λ i. lwpstatus_of p i shown.lwp) w.its)) ∙ w.stands));
       }

@@ -7,8 +7,6 @@ use Rattle.pr_model.specs.Legal.{state_after}
 use Rattle.pr_model.specs.State.{TracedProcess, TracedState, live_process}
 use Rattle.pr_model.specs.declared.events.Entry.{Entry}
 use Rattle.pr_num.specs.declared.messages.Message.TheVariants as message
-use Rattle.pr_reached.specs.ByteHistories.{HasBytes}
-use Rattle.pr_reached.specs.Reached.{IsReached}
 use Rattle.pr_report_laws.proofs.Files.WatchHistories.{cons-exchanges, exchanges-both}
 use Rattle.pr_report_laws.proofs.Watching.ExchangeEntries.{HasEntryOf, entry-of}
 use Rattle.pr_report_laws.proofs.Watching.HistoryParts.{all-front, all-rest}
@@ -37,7 +35,8 @@ use Rattle.pr_function_laws.specs.Coming.{Anything, Come}
 use Rattle.pr_function_laws.specs.FunctionTurns.{is_process}
 use Rattle.pr_function_laws.specs.Lifted.{IsNoRead}
 use Rattle.pr_function_laws.specs.OneEvent.{is_looked_at}
-use Rattle.pr_function_laws.specs.Opened.{IsFunctionRun, WasNotInterrupted, functions_at}
+use Rattle.pr_function_laws.specs.ReachedRuns.{IsReachedFunctionRun}
+use Rattle.pr_function_laws.specs.Opened.{WasNotInterrupted, functions_at}
 use Rattle.pr_function_laws.specs.Returns.{ReadsStepEnd}
 use Rattle.pr_function_laws.specs.Runs.{functions_after}
 use Rattle.pr_function_laws.specs.ToldTurns.{AreSteppable, HasStep}
@@ -93,8 +92,8 @@ first-read number (y ∷ ys) calm =
       reads = f.reads;
     })
 
-module _ (n k : ℕ) (o : Options) (s : TracedState) (h : List Entry) (run : IsFunctionRun n k o s h)
-    (reached : IsReached s) (bytes : HasBytes h) (able : AreSteppable o) (controls : HasItsControls k o h)
+module _ (n k : ℕ) (o : Options) (s : TracedState) (h : List Entry) (run : IsReachedFunctionRun n k o s h)
+    (able : AreSteppable o) (controls : HasItsControls k o h)
     (front later : List Entry) (is : h ≡ front ++ later) (calm : All WasNotInterrupted (exchanges k front))
     (pid place control : ℕ) (xs : List Exchange)
     (at : position (is_process pid) (functions_at k o front).traced ≡ Some place)
@@ -108,48 +107,48 @@ module _ (n k : ℕ) (o : Options) (s : TracedState) (h : List Entry) (run : IsF
 
   abbrev fr : List Entry
   fr =
-      ran.fr n k o s h run reached bytes able controls front later is calm pid place control xs at w p live function z
+      ran.fr n k o s h run able controls front later is calm pid place control xs at w p live function z
 
   abbrev er : Entry
   er =
-      ran.er n k o s h run reached bytes able controls front later is calm pid place control xs at w p live function z
+      ran.er n k o s h run able controls front later is calm pid place control xs at w p live function z
 
   abbrev fv : List Entry
   fv =
-      ran.fv n k o s h run reached bytes able controls front later is calm pid place control xs at w p live function z
+      ran.fv n k o s h run able controls front later is calm pid place control xs at w p live function z
 
   abbrev step : Stepped
   step =
-      ran.step n k o s h run reached bytes able controls front later is calm pid place control xs at w p live function z
+      ran.step n k o s h run able controls front later is calm pid place control xs at w p live function z
 
   abbrev status : Option ℕ
   status =
-      ran.status n k o s h run reached bytes able controls front later is calm pid place control xs at w p live function
+      ran.status n k o s h run able controls front later is calm pid place control xs at w p live function
       z
 
   abbrev b : WasBegun k o fr pid status step
   b =
-      ran.begun n k o s h run reached bytes able controls front later is calm pid place control xs at w p live function
+      ran.begun n k o s h run able controls front later is calm pid place control xs at w p live function
       z
 
   pub whole : h ≡ fr ++ er ∷ (fv ++ later)
   whole =
-      ran.whole n k o s h run reached bytes able controls front later is calm pid place control xs at w p live function
+      ran.whole n k o s h run able controls front later is calm pid place control xs at w p live function
       z
 
   front-is : front ≡ fr ++ er ∷ fv
   front-is =
-      ran.front-is n k o s h run reached bytes able controls front later is calm pid place control xs at w p live
+      ran.front-is n k o s h run able controls front later is calm pid place control xs at w p live
       function z
 
   since-are : exchanges k (er ∷ fv) ≡ z.run ∷ z.after
   since-are =
-      ran.since-are n k o s h run reached bytes able controls front later is calm pid place control xs at w p live
+      ran.since-are n k o s h run able controls front later is calm pid place control xs at w p live
       function z
 
   pub calm-run : All WasNotInterrupted (exchanges k fr)
   calm-run =
-      ran.calm-run n k o s h run reached bytes able controls front later is calm pid place control xs at w p live
+      ran.calm-run n k o s h run able controls front later is calm pid place control xs at w p live
       function
       z
 
@@ -158,18 +157,18 @@ module _ (n k : ℕ) (o : Options) (s : TracedState) (h : List Entry) (run : IsF
 
   abbrev number0 : ℕ
   number0 =
-      lifts.number n k o s h run reached bytes able fr (er ∷ (fv ++ later)) whole calm-run pid status step b
+      lifts.number n k o s h run able fr (er ∷ (fv ++ later)) whole calm-run pid status step b
 
   number0-is : (traced_at t0 b.place).status ≡ Some number0
   number0-is =
-      lifts.number-is n k o s h run reached bytes able fr (er ∷ (fv ++ later)) whole calm-run pid status step b
+      lifts.number-is n k o s h run able fr (er ∷ (fv ++ later)) whole calm-run pid status step b
 
   over : step.function ≡ function
-  over = over-it n k o s h run reached bytes able controls front later is calm pid place control xs at w p live function
+  over = over-it n k o s h run able controls front later is calm pid place control xs at w p live function
       z named
 
   rest-is : exchanges k fv ≡ z.after
-  rest-is = ran.rest-is n k o s h run reached bytes able controls front later is calm pid place control xs at w p live
+  rest-is = ran.rest-is n k o s h run able controls front later is calm pid place control xs at w p live
       function z
 
   calm-since : All WasNotInterrupted (z.run ∷ z.after)
@@ -199,17 +198,18 @@ module _ (n k : ℕ) (o : Options) (s : TracedState) (h : List Entry) (run : IsF
       let is_end : h ≡ end ++ later = is ∙ ap (λ es. es ++ later) front-is in
       let calm_end = subst (λ es. All WasNotInterrupted (exchanges k es)) front-is calm in
       let b_end =
-      ran.going n k o s h run reached bytes able controls front later is calm pid place control xs at w p live function
+      ran.going n k o s h run able controls front later is calm pid place control xs at w p live function
       z (er ∷ fv)
       (λ m there. subst (AreNoReads m) (sym since-are) (of-number z.after quiet m there)) in
       let u =
-      marks-say n k o s h run reached bytes able end later is_end calm_end pid status step b_end p
+      marks-say n k o s h run able end later is_end calm_end pid status step b_end p
       (ap (λ es. live_process (state_after s es).system pid) (sym front-is) ∙ live) in
       let under : HasStep k o end u.place step = u.under in
       let same : place ≡ u.place =
       same_Some place u.place
       (sym at ∙ ap (λ es. position (is_process pid) (T es).traced) front-is
-      ∙ place-of pid (T end).traced u.place (apart-here n k o s h run end later is_end calm_end) under.within u.own) in
+      ∙ place-of pid (T end).traced u.place (apart-here n k o s h run.of end later is_end calm_end) under.within u.own)
+      in
       record {
         step = step;
         under_way = ap (λ i. (marks_at (T front) i).stepped) same
@@ -258,7 +258,7 @@ module _ (n k : ℕ) (o : Options) (s : TracedState) (h : List Entry) (run : IsF
         let y = entry in
         cons-exchanges k er f1
         ∙ ap (λ x. cons_option x (exchanges k f1))
-        (ran.own-run n k o s h run reached bytes able controls front later is calm pid place control xs at w p live
+        (ran.own-run n k o s h run able controls front later is calm pid place control xs at w p live
         function z)
         ∙ ap (λ (ys : List Exchange). z.run ∷ ys) y.earlier
 
@@ -270,7 +270,7 @@ module _ (n k : ℕ) (o : Options) (s : TracedState) (h : List Entry) (run : IsF
 
     abbrev b2 : WasBegun k o fs pid status step
     b2 =
-        ran.going n k o s h run reached bytes able controls front later is calm pid place control xs at w p live
+        ran.going n k o s h run able controls front later is calm pid place control xs at w p live
         function z (er ∷ f1)
         (λ m there. subst (AreNoReads m) (sym since-then) (of-number f.before f.quiet m there))
 
@@ -280,37 +280,40 @@ module _ (n k : ℕ) (o : Options) (s : TracedState) (h : List Entry) (run : IsF
 
     live-then : (y : TracedProcess) × (live_process (state_after s fs).system pid ≡ Some y)
     live-then =
-        ran.live-since n k o s h run reached bytes able controls front later is calm pid place control xs at w p live
+        ran.live-since n k o s h run able controls front later is calm pid place control xs at w p live
         function z (er ∷ f1) (ey ∷ f2) (ap (λ (vs : List Entry). er ∷ vs) fv-is)
 
     abbrev place2 : ℕ
     place2 =
-        reading.place n k o s h run reached bytes able fs ey (f2 ++ later) whole-then calm-then pid status step b2 f.y
+        reading.place n k o s h run able fs ey (f2 ++ later) whole-then calm-then pid status step b2 f.y
         own
         reads-it live-then.0 live-then.1
 
-    there : reading.IsThere n k o s h run reached bytes able fs ey (f2 ++ later) whole-then calm-then pid status step b2
+    there : reading.IsThere n k o s h run able fs ey (f2 ++ later) whole-then calm-then pid status step b2
         f.y own reads-it live-then.0 live-then.1
     there =
-        reading.there n k o s h run reached bytes able fs ey (f2 ++ later) whole-then calm-then pid status step b2 f.y
+        reading.there n k o s h run able fs ey (f2 ++ later) whole-then calm-then pid status step b2 f.y
         own
         reads-it live-then.0 live-then.1
 
     ends : ReadsStepEnd (T fs) f.y place2 step
     ends =
-        reading.reads-end n k o s h run reached bytes able fs ey (f2 ++ later) whole-then calm-then pid status step b2
+        reading.reads-end n k o s h run able fs ey (f2 ++ later) whole-then calm-then pid status step b2
         f.y
         own reads-it live-then.0 live-then.1
 
     goes : Goes (Unit {0}) k o (T fs) (state_after s fs)
-    goes = goes-there (Unit {0}) n k o s h run (λ r. reached) (λ r. bytes) fs ey (f2 ++ later) whole-then calm-then
+    goes =
+        goes-there (Unit {0}) n k o s h run.of (λ r. run.reached) (λ r. run.bytes) fs ey (f2 ++ later) whole-then
+        calm-then
 
     -- the next call plants the breakpoint
     again : Come (plant_call o (traced_at (T fs) place2).control step.function ∷ []) Anything
         (exchanges k (f2 ++ later))
     again =
         let all : TreatsItsEvents o (exchanges k h) =
-        treats-its-events o (exchanges k h) run.has run.follows_none run.makes (calm-exchanges h n k s run.legal) in
+        treats-its-events o (exchanges k h) run.of.has run.of.follows_none run.of.makes
+        (calm-exchanges h n k s run.of.legal) in
         all.again (exchanges k fs) (exchanges k (f2 ++ later)) f.y place2 step
         (ap (exchanges k) whole-then ∙ exchanges-both k fs (ey ∷ (f2 ++ later))
         ∙ ap (λ (ys : List Exchange). exchanges k fs ++ ys)
@@ -319,13 +322,13 @@ module _ (n k : ℕ) (o : Options) (s : TracedState) (h : List Entry) (run : IsF
 
     -- of this process
     since : IsSinceOpened k pid fs control
-        (w.first ∷ ((let x = ran.opens n k o s h run reached bytes able controls front later is calm pid place control
+        (w.first ∷ ((let x = ran.opens n k o s h run able controls front later is calm pid place control
         xs at w p live function z in x.mid) ++ z.run ∷ f.before))
     since =
         let x : OpensFirst z.before z.after w.since z.x z.run w.first =
-        ran.opens n k o s h run reached bytes able controls front later is calm pid place control xs at w p live
+        ran.opens n k o s h run able controls front later is calm pid place control xs at w p live
         function z in
-        let r = ran.entry n k o s h run reached bytes able controls front later is calm pid place control xs at w p live
+        let r = ran.entry n k o s h run able controls front later is calm pid place control xs at w p live
         function z in
         record {
           earlier = w.earlier;
@@ -352,7 +355,7 @@ module _ (n k : ℕ) (o : Options) (s : TracedState) (h : List Entry) (run : IsF
         let y = ends in
         controls fs (ey ∷ (f2 ++ later)) pid place2 control _ whole-then calm-then
         (place-of pid (T fs).traced place2
-        (apart-here n k o s h run fs (ey ∷ (f2 ++ later)) whole-then calm-then) y.within x.its) since
+        (apart-here n k o s h run.of fs (ey ∷ (f2 ++ later)) whole-then calm-then) y.within x.its) since
 
     planted : (v : Exchange) (vs : List Exchange) → f.after ≡ v ∷ vs → ⊥
     planted v vs more =
@@ -380,8 +383,8 @@ module _ (n k : ℕ) (o : Options) (s : TracedState) (h : List Entry) (run : IsF
         let fe : FunctionEvent = function_event t.options (marks_at t place2) y.l.id y.event in
         let fed_is : fed_functions t (let e = f.y in e.reply) ≡ with_function_event t place2 y.l fe =
         event-fed t (let e = f.y in e.reply) place2
-        (has-there (Unit {0}) n k o s h run (λ r. reached) (λ r. bytes) fs ey (f2 ++ later) whole-then) y.stays y.idle
-        y.reads y.accepted y.l y.told y.event y.fresh in
+        (has-there (Unit {0}) n k o s h run.of (λ r. run.reached) (λ r. run.bytes) fs ey (f2 ++ later) whole-then)
+        y.stays y.idle y.reads y.accepted y.l y.told y.event y.fresh in
         let front_now : T front ≡ with_function_event t place2 y.l fe =
         ap (functions_after (first_truss o))
         (ap (exchanges k) front-then ∙ exchanges-both k fs (ey ∷ f2)

@@ -11,8 +11,6 @@ use Rattle.pr_model.specs.declared.calls.Call.{Call}
 use Rattle.pr_model.specs.declared.calls.Call.TheVariants as call
 use Rattle.pr_model.specs.declared.events.Entry.{Entry}
 use Rattle.pr_model.specs.declared.handles.Held.{Held}
-use Rattle.pr_reached.specs.ByteHistories.{HasBytes}
-use Rattle.pr_reached.specs.Reached.{IsReached}
 use Rattle.pr_report_laws.proofs.Files.WatchHistories.{cons-exchanges, exchanges-both}
 use Rattle.pr_report_laws.proofs.SeenChildren.Splits.{state_after-both}
 use Rattle.pr_report_laws.proofs.Watching.ExchangeEntries.{HasEntryOf, entry-of}
@@ -31,7 +29,8 @@ use Rattle.pr_function_laws.proofs.OpenedProcesses.OpenedLaws.{Goes}
 use Rattle.pr_function_laws.proofs.OpenedProcesses.OpenedLemmas.{control-made}
 use Rattle.pr_function_laws.specs.FunctionTurns.{is_process}
 use Rattle.pr_function_laws.specs.Lifted.{HasControl}
-use Rattle.pr_function_laws.specs.Opened.{IsFunctionRun, WasNotInterrupted, functions_at, is_opened}
+use Rattle.pr_function_laws.specs.ReachedRuns.{IsReachedFunctionRun}
+use Rattle.pr_function_laws.specs.Opened.{WasNotInterrupted, functions_at, is_opened}
 use Rattle.pr_function_laws.specs.PlantedByCalls.{IsSinceOpened, OpensNot}
 use Rattle.pr_function_hides.specs.SteppedByCalls.{IsLiftedForStep}
 use Rattle.pr_function_laws.specs.ToldTurns.{AreSteppable, HasStep}
@@ -65,8 +64,8 @@ opens-first (y ∷ before) after since x run f is other =
       since_is = rest ∙ sym (append_assoc before (x ∷ []) (run ∷ after));
     }
 
-module _ (n k : ℕ) (o : Options) (s : TracedState) (h : List Entry) (run : IsFunctionRun n k o s h)
-    (reached : IsReached s) (bytes : HasBytes h) (able : AreSteppable o) (controls : HasItsControls k o h)
+module _ (n k : ℕ) (o : Options) (s : TracedState) (h : List Entry) (run : IsReachedFunctionRun n k o s h)
+    (able : AreSteppable o) (controls : HasItsControls k o h)
     (front later : List Entry) (is : h ≡ front ++ later) (calm : All WasNotInterrupted (exchanges k front))
     (pid place control : ℕ) (xs : List Exchange)
     (at : position (is_process pid) (functions_at k o front).traced ≡ Some place)
@@ -134,16 +133,16 @@ module _ (n k : ℕ) (o : Options) (s : TracedState) (h : List Entry) (run : IsF
   -- ---- truss before it
 
   goes : Goes (Unit {0}) k o (T fr) (S fr)
-  goes = goes-there (Unit {0}) n k o s h run (λ r. reached) (λ r. bytes) fr er (fv ++ later) whole calm-run
+  goes = goes-there (Unit {0}) n k o s h run.of (λ r. run.reached) (λ r. run.bytes) fr er (fv ++ later) whole calm-run
 
   pub runs-there : RunsStep (T fr) control
   runs-there =
       let g = goes in
       let y = g.kept in
-      runs-step (T fr) control (has-there (Unit {0}) n k o s h run (λ r. reached) (λ r. bytes) fr er (fv ++ later)
-      whole)
-      (makes-there (Unit {0}) n k o s h run (λ r. reached) (λ r. bytes) fr er (fv ++ later) whole z.run own-run
-      ∙ ap (λ (d : Call). Some d) z.runs)
+      runs-step (T fr) control
+      (has-there (Unit {0}) n k o s h run.of (λ r. run.reached) (λ r. run.bytes) fr er (fv ++ later) whole)
+      (makes-there (Unit {0}) n k o s h run.of (λ r. run.reached) (λ r. run.bytes) fr er (fv ++ later) whole z.run
+      own-run ∙ ap (λ (d : Call). Some d) z.runs)
       (stage-within (IsSo (Unit {0}) k (T fr).options (S fr)) (T fr).traced (T fr).stage y.stage)
       (aside-within (IsSo (Unit {0}) k (T fr).options (S fr)) (T fr).traced (T fr).aside y.beside)
 
@@ -154,7 +153,7 @@ module _ (n k : ℕ) (o : Options) (s : TracedState) (h : List Entry) (run : IsF
   under-run =
       let y = runs-there in
       let all =
-      from-first n k o s h run reached bytes IsFlagged flagged-kept (λ own. inr (inl refl)) fr (er ∷ (fv ++ later))
+      from-first n k o s h run IsFlagged flagged-kept (λ own. inr (inl refl)) fr (er ∷ (fv ++ later))
       whole
       calm-run in
       flagged-step (marks_at (T fr) y.place) (traced_at (T fr) y.place).pid (all y.place y.within) y.flags
@@ -204,13 +203,13 @@ module _ (n k : ℕ) (o : Options) (s : TracedState) (h : List Entry) (run : IsF
       not-there none =
           let x = at-place-of (T front) pid place at in
           let all =
-          walk n k o s h run reached bytes (IsNotOf pid) (other-kept pid) (er ∷ fv) fr later whole calm-run calm-since
+          walk n k o s h run (IsNotOf pid) (other-kept pid) (er ∷ fv) fr later whole calm-run calm-since
           none-since
           (λ i within same.
           none-some i
           (sym none
-          ∙ place-of pid (T fr).traced i (apart-here n k o s h run fr (er ∷ (fv ++ later)) whole calm-run) within same))
-          in
+          ∙ place-of pid (T fr).traced i (apart-here n k o s h run.of fr (er ∷ (fv ++ later)) whole calm-run)
+          within same)) in
           subst (λ es. (i : ℕ) → i < length (T es).traced → (traced_at (T es) i).pid ≢ pid) (sym front-is) all place
           x.within x.its
 
@@ -226,8 +225,8 @@ module _ (n k : ℕ) (o : Options) (s : TracedState) (h : List Entry) (run : IsF
       let x = at-place-of (T fr) pid i.0 i.1 in
       let c = controls fr (er ∷ (fv ++ later)) pid i.0 control (z.before ++ z.x ∷ []) whole calm-run i.1 since-run in
       let one =
-      control-there n k o s h run fr (er ∷ (fv ++ later)) whole calm-run y.place y.within in
-      let two = control-there n k o s h run fr (er ∷ (fv ++ later)) whole calm-run i.0 x.within in
+      control-there n k o s h run.of fr (er ∷ (fv ++ later)) whole calm-run y.place y.within in
+      let two = control-there n k o s h run.of fr (er ∷ (fv ++ later)) whole calm-run i.0 x.within in
       ap (λ (held : Held). held.pid)
       (same_Some _ _
       (sym one ∙ ap (handle_of (S fr).opens k) (y.control ∙ c) ∙ two))
@@ -236,7 +235,7 @@ module _ (n k : ℕ) (o : Options) (s : TracedState) (h : List Entry) (run : IsF
   -- ---- it lives then
 
   legal-since : (es more : List Entry) → h ≡ es ++ more → IsLegal n (S es) more
-  legal-since es more parts = legal-rest n s es more (subst (IsLegal n s) parts run.legal)
+  legal-since es more parts = legal-rest n s es more (subst (IsLegal n s) parts run.of.legal)
 
   -- wherever truss had come to since, as it lives at the end
   lives : (es more : List Entry) → front ≡ es ++ more → pid < (S es).system.made
@@ -248,7 +247,7 @@ module _ (n k : ℕ) (o : Options) (s : TracedState) (h : List Entry) (run : IsF
 
       lawful : IsLawful (S es)
       lawful =
-          lawful-here n k o s h run es (more ++ later) whole_es
+          lawful-here n k o s h run.of es (more ++ later) whole_es
           (all-front WasNotInterrupted (exchanges k es) (exchanges k more)
           (subst (All WasNotInterrupted) (ap (exchanges k) parts ∙ exchanges-both k es more) calm))
 
@@ -269,10 +268,10 @@ module _ (n k : ℕ) (o : Options) (s : TracedState) (h : List Entry) (run : IsF
       let y = runs-there in
       subst (λ i. HasControl k i control (S fr)) its
       (subst (λ c. HasControl k (traced_at (T fr) y.place).pid c (S fr)) y.control
-      (control-there n k o s h run fr (er ∷ (fv ++ later)) whole calm-run y.place y.within))
+      (control-there n k o s h run.of fr (er ∷ (fv ++ later)) whole calm-run y.place y.within))
 
   lawful-run : IsLawful (S fr)
-  lawful-run = lawful-here n k o s h run fr (er ∷ (fv ++ later)) whole calm-run
+  lawful-run = lawful-here n k o s h run.of fr (er ∷ (fv ++ later)) whole calm-run
 
   made-run : pid < (S fr).system.made
   made-run = control-made k pid control (S fr) lawful-run control-run
@@ -309,7 +308,7 @@ module _ (n k : ℕ) (o : Options) (s : TracedState) (h : List Entry) (run : IsF
   pub begun : WasBegun k o fr pid status step
   begun =
       subst (λ i. WasBegun k o fr i status step) its
-      (begun-there n k o s h run reached bytes able fr (er ∷ (fv ++ later)) whole q step under live-run.0
+      (begun-there n k o s h run able fr (er ∷ (fv ++ later)) whole q step under live-run.0
       (ap (live_process (S fr).system) its ∙ live-run.1))
 
   -- and goes on as long as truss does not read the process

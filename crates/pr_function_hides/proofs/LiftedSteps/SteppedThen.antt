@@ -7,8 +7,6 @@ use Rattle.pr_model.specs.Legal.{state_after}
 use Rattle.pr_model.specs.State.{TracedProcess, TracedState, live_process}
 use Rattle.pr_model.specs.declared.events.Entry.{Entry}
 use Rattle.pr_num.specs.declared.messages.Message.TheVariants as message
-use Rattle.pr_reached.specs.ByteHistories.{HasBytes}
-use Rattle.pr_reached.specs.Reached.{IsReached}
 use Rattle.pr_report_laws.proofs.Files.WatchHistories.{cons-exchanges, exchanges-both, no-exchanges}
 use Rattle.pr_report_laws.proofs.Watching.HistoryParts.{all-front, all-rest}
 use Rattle.pr_truss.specs.FunctionCalls.{lift_call}
@@ -22,7 +20,8 @@ use Rattle.pr_function_laws.proofs.CallTurns.BegunSteps.{WasBegun, each-found}
 use Rattle.pr_function_laws.proofs.CallTurns.TurnWalks.{AreNoReads}
 use Rattle.pr_function_laws.proofs.Marks.LiftLemmas.{step_flags}
 use Rattle.pr_function_laws.specs.FunctionTurns.{is_process}
-use Rattle.pr_function_laws.specs.Opened.{IsFunctionRun, WasNotInterrupted, functions_at}
+use Rattle.pr_function_laws.specs.ReachedRuns.{IsReachedFunctionRun}
+use Rattle.pr_function_laws.specs.Opened.{WasNotInterrupted, functions_at}
 use Rattle.pr_function_laws.specs.Steppable.{IsSteppable}
 use Rattle.pr_function_laws.specs.Stretches.{acts_by}
 use Rattle.pr_function_laws.specs.ToldTurns.{AreSteppable}
@@ -39,8 +38,8 @@ use Rattle.pr_function_hides.proofs.StepsUnderWay.UnderWay.{found, its-function,
 
 -- The step that truss began before it ran a process is the one over the function that it had lifted.
 
-module _ (n k : ℕ) (o : Options) (s : TracedState) (h : List Entry) (run : IsFunctionRun n k o s h)
-    (reached : IsReached s) (bytes : HasBytes h) (able : AreSteppable o) (controls : HasItsControls k o h)
+module _ (n k : ℕ) (o : Options) (s : TracedState) (h : List Entry) (run : IsReachedFunctionRun n k o s h)
+    (able : AreSteppable o) (controls : HasItsControls k o h)
     (front later : List Entry) (is : h ≡ front ++ later) (calm : All WasNotInterrupted (exchanges k front))
     (pid place control : ℕ) (xs : List Exchange)
     (at : position (is_process pid) (functions_at k o front).traced ≡ Some place)
@@ -49,48 +48,48 @@ module _ (n k : ℕ) (o : Options) (s : TracedState) (h : List Entry) (run : IsF
     (z : IsLiftedForStep o control function xs) (named : IsFirstNamed o function) where
   abbrev fr : List Entry
   fr =
-      ran.fr n k o s h run reached bytes able controls front later is calm pid place control xs at w p live function z
+      ran.fr n k o s h run able controls front later is calm pid place control xs at w p live function z
 
   abbrev er : Entry
   er =
-      ran.er n k o s h run reached bytes able controls front later is calm pid place control xs at w p live function z
+      ran.er n k o s h run able controls front later is calm pid place control xs at w p live function z
 
   abbrev fv : List Entry
   fv =
-      ran.fv n k o s h run reached bytes able controls front later is calm pid place control xs at w p live function z
+      ran.fv n k o s h run able controls front later is calm pid place control xs at w p live function z
 
   abbrev step : Stepped
   step =
-      ran.step n k o s h run reached bytes able controls front later is calm pid place control xs at w p live function z
+      ran.step n k o s h run able controls front later is calm pid place control xs at w p live function z
 
   abbrev status : Option ℕ
   status =
-      ran.status n k o s h run reached bytes able controls front later is calm pid place control xs at w p live function
+      ran.status n k o s h run able controls front later is calm pid place control xs at w p live function
       z
 
   abbrev b : WasBegun k o fr pid status step
   b =
-      ran.begun n k o s h run reached bytes able controls front later is calm pid place control xs at w p live function
+      ran.begun n k o s h run able controls front later is calm pid place control xs at w p live function
       z
 
   whole : h ≡ fr ++ er ∷ (fv ++ later)
   whole =
-      ran.whole n k o s h run reached bytes able controls front later is calm pid place control xs at w p live function
+      ran.whole n k o s h run able controls front later is calm pid place control xs at w p live function
       z
 
   front-is : front ≡ fr ++ er ∷ fv
   front-is =
-      ran.front-is n k o s h run reached bytes able controls front later is calm pid place control xs at w p live
+      ran.front-is n k o s h run able controls front later is calm pid place control xs at w p live
       function z
 
   since-are : exchanges k (er ∷ fv) ≡ z.run ∷ z.after
   since-are =
-      ran.since-are n k o s h run reached bytes able controls front later is calm pid place control xs at w p live
+      ran.since-are n k o s h run able controls front later is calm pid place control xs at w p live
       function z
 
   calm-run : All WasNotInterrupted (exchanges k fr)
   calm-run =
-      ran.calm-run n k o s h run reached bytes able controls front later is calm pid place control xs at w p live
+      ran.calm-run n k o s h run able controls front later is calm pid place control xs at w p live
       function
       z
 
@@ -106,7 +105,7 @@ module _ (n k : ℕ) (o : Options) (s : TracedState) (h : List Entry) (run : IsF
   run-is =
       cons-exchanges k er []
       ∙ ap (λ x. cons_option x (exchanges k []))
-      (ran.own-run n k o s h run reached bytes able controls front later is calm pid place control xs at w p live
+      (ran.own-run n k o s h run able controls front later is calm pid place control xs at w p live
       function z)
       ∙ ap (λ (ys : List Exchange). z.run ∷ ys) (no-exchanges k)
 
@@ -137,20 +136,20 @@ module _ (n k : ℕ) (o : Options) (s : TracedState) (h : List Entry) (run : IsF
 
   abbrev b1 : WasBegun k o (fr ++ er ∷ []) pid status step
   b1 =
-      ran.going n k o s h run reached bytes able controls front later is calm pid place control xs at w p live function
+      ran.going n k o s h run able controls front later is calm pid place control xs at w p live function
       z
       (er ∷ []) (λ m there. run-quiet m)
 
   p1 : (y : TracedProcess) × (live_process (state_after s (fr ++ er ∷ [])).system pid ≡ Some y)
-  p1 = ran.live-since n k o s h run reached bytes able controls front later is calm pid place control xs at w p live
+  p1 = ran.live-since n k o s h run able controls front later is calm pid place control xs at w p live
       function z (er ∷ []) fv refl
 
   abbrev Far : Type 0
-  Far = HowFar n k o s h run reached bytes able (fr ++ er ∷ []) (fv ++ later) next-is calm-next pid status step b1
+  Far = HowFar n k o s h run able (fr ++ er ∷ []) (fv ++ later) next-is calm-next pid status step b1
 
   far : Far
   far =
-      how-far n k o s h run reached bytes able (fr ++ er ∷ []) (fv ++ later) next-is calm-next pid status step b1 p1.0
+      how-far n k o s h run able (fr ++ er ∷ []) (fv ++ later) next-is calm-next pid status step b1 p1.0
       p1.1
 
   between-is : exchanges k b1.between ≡ exchanges k b.between ++ z.run ∷ []
@@ -166,9 +165,9 @@ module _ (n k : ℕ) (o : Options) (s : TracedState) (h : List Entry) (run : IsF
   -- its control file
   its-control : control ≡ (traced_at (functions_at k o b.before) b.place).control
   its-control =
-      control-is n k o s h run reached bytes able controls fr (er ∷ (fv ++ later)) whole calm-run pid control
+      control-is n k o s h run able controls fr (er ∷ (fv ++ later)) whole calm-run pid control
       (z.before ++ z.x ∷ [])
-      (ran.since-run n k o s h run reached bytes able controls front later is calm pid place control xs at w p live
+      (ran.since-run n k o s h run able controls front later is calm pid place control xs at w p live
       function z)
       status step b (none-opened far)
 
@@ -178,7 +177,7 @@ module _ (n k : ℕ) (o : Options) (s : TracedState) (h : List Entry) (run : IsF
   -- the lift before the run is that of the step
   lift-is : exchanges k fr ≡ (w.earlier ++ z.before) ++ z.x ∷ []
   lift-is =
-      let y = ran.entry n k o s h run reached bytes able controls front later is calm pid place control xs at w p live
+      let y = ran.entry n k o s h run able controls front later is calm pid place control xs at w p live
       function z in
       y.earlier ∙ sym (append_assoc w.earlier z.before (z.x ∷ []))
 
@@ -201,7 +200,7 @@ module _ (n k : ℕ) (o : Options) (s : TracedState) (h : List Entry) (run : IsF
           ∙ ap (λ (y : Exchange). y.call)
           (last-same (w.earlier ++ z.before) (exchanges k b.before ++ b.x ∷ r.before) z.x r.x
           (sym lift-is
-          ∙ lifts.exchanges-are n k o s h run reached bytes able fr (er ∷ (fv ++ later)) whole calm-run pid status step
+          ∙ lifts.exchanges-are n k o s h run able fr (er ∷ (fv ++ later)) whole calm-run pid status step
           b
           ∙ ap (λ (ys : List Exchange). exchanges k b.before ++ b.x ∷ ys) parts
           ∙ sym (append_assoc (exchanges k b.before) (b.x ∷ r.before) (r.x ∷ []))))
@@ -210,9 +209,9 @@ module _ (n k : ℕ) (o : Options) (s : TracedState) (h : List Entry) (run : IsF
   pub over-it : step.function ≡ function
   over-it =
       let g =
-      found n k o s h run reached bytes able fr (er ∷ (fv ++ later)) whole calm-run pid status step b in
+      found n k o s h run able fr (er ∷ (fv ++ later)) whole calm-run pid status step b in
       let opts =
-      options-then n k o s h run reached bytes able fr (er ∷ (fv ++ later)) whole calm-run pid status step b in
+      options-then n k o s h run able fr (er ∷ (fv ++ later)) whole calm-run pid status step b in
       let g_named : slice_get o.functions f0 ≡ Some g.f =
       ap (λ (y : Options). slice_get y.functions f0) (sym opts) ∙ g.named in
       let same_at : (let x = named in x.f.at) ≡ g.f.at =
@@ -224,4 +223,4 @@ module _ (n k : ℕ) (o : Options) (s : TracedState) (h : List Entry) (run : IsF
       (sym named.first
       ∙ ap (λ a. position (begins_at a) o.functions) same_at
       ∙ ap (λ (y : Options). position (begins_at g.f.at) y.functions) (sym opts) ∙ g.first)
-      ∙ its-function n k o s h run reached bytes able fr (er ∷ (fv ++ later)) whole calm-run pid status step b)
+      ∙ its-function n k o s h run able fr (er ∷ (fv ++ later)) whole calm-run pid status step b)

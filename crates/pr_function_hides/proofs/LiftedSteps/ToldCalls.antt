@@ -11,8 +11,6 @@ use Rattle.pr_model.specs.declared.events.Act.TheVariants.{Turn}
 use Rattle.pr_model.specs.declared.events.Actor.TheVariants.{Lwp}
 use Rattle.pr_model.specs.declared.events.Entry.{Entry}
 use Rattle.pr_model.specs.declared.events.Turned.{Turned}
-use Rattle.pr_reached.specs.ByteHistories.{HasBytes}
-use Rattle.pr_reached.specs.Reached.{IsReached}
 use Rattle.pr_truss.specs.Asides.{marks_at}
 use Rattle.pr_truss.specs.FunctionEvents.{begins_at, function_at, if_standing}
 use Rattle.pr_truss.specs.Marks.{has_function, standing, with_function, with_step}
@@ -25,7 +23,8 @@ use Rattle.pr_function_laws.proofs.Marks.MetLemmas.{found-function}
 use Rattle.pr_function_laws.proofs.NextCalls.TreatedLaws.{options-at}
 use Rattle.pr_function_laws.proofs.PlantedCalls.PlantedHolds.{marks-planted}
 use Rattle.pr_function_laws.specs.FunctionTurns.{call_at, call_of_turn, is_in_program, is_process}
-use Rattle.pr_function_laws.specs.Opened.{IsFunctionRun, WasNotInterrupted, functions_at}
+use Rattle.pr_function_laws.specs.ReachedRuns.{IsReachedFunctionRun}
+use Rattle.pr_function_laws.specs.Opened.{WasNotInterrupted, functions_at}
 use Rattle.pr_function_laws.specs.PlantedByCalls.{IsFirstNamed, IsNoBreakpoint, IsSinceOpened, MarksWhatItPlanted, WasPlanted, WasToldReplaced}
 use Rattle.pr_function_laws.specs.ToldTurns.{AreSteppable}
 use Rattle.pr_function_laws.specs.Turns.{EndsInTrap, first_arguments}
@@ -48,8 +47,8 @@ same-report is = cc
 none-not : {x : Report} → (let xs : List Report = [] in xs) ≡ x ∷ [] → ⊥
 none-not is = cc
 
-module _ (n k : ℕ) (o : Options) (s : TracedState) (h : List Entry) (run : IsFunctionRun n k o s h)
-    (reached : IsReached s) (bytes : HasBytes h) (able : AreSteppable o) (others : All IsNoBreakpoint o.functions)
+module _ (n k : ℕ) (o : Options) (s : TracedState) (h : List Entry) (run : IsReachedFunctionRun n k o s h)
+    (able : AreSteppable o) (others : All IsNoBreakpoint o.functions)
     (front later : List Entry) (pid id place control : ℕ) (turned : Turned) (xs : List Exchange)
     (is : h ≡ front ++ record { actor = Lwp pid id; act = Turn turned } ∷ later)
     (calm : All WasNotInterrupted (exchanges k front))
@@ -71,15 +70,15 @@ module _ (n k : ℕ) (o : Options) (s : TracedState) (h : List Entry) (run : IsF
   here = at-place-of t pid place at
 
   marks : MarksWhatItPlanted k o s h
-  marks = marks-planted n k o s h run able others
+  marks = marks-planted n k o s h run.of able others
 
   steps : StepsWhatItLifted k o s h
-  steps = steps-what-it-lifted n k o s h run reached bytes able
+  steps = steps-what-it-lifted n k o s h run able
 
   its-turn : TakesTurn now.system pid id
-      (let x = took n k o s h run reached bytes front later pid id turned is calm in x.0)
+      (let x = took n k o s h run front later pid id turned is calm in x.0)
   its-turn =
-      let x = took n k o s h run reached bytes front later pid id turned is calm in
+      let x = took n k o s h run front later pid id turned is calm in
       turn-taken now.system pid id x.0 x.1
 
   abbrev p : TracedProcess
@@ -149,10 +148,10 @@ module _ (n k : ℕ) (o : Options) (s : TracedState) (h : List Entry) (run : IsF
       (has-own planted (let z : Stepped = y.step in z.function)
       (omega (
         arith,
-        few-now n k o s h run reached bytes able (has-its-controls n k o s h run) front (e ∷ later) is calm pid place
-            control xs at since p live (moves-at n k o s h run reached bytes front later pid id turned is calm place at)
+        few-now n k o s h run able (has-its-controls n k o s h run.of) front (e ∷ later) is calm pid place
+            control xs at since p live (moves-at n k o s h run front later pid id turned is calm place at)
             y.step y.under_way,
-        planted-long n k o s h run reached bytes front (e ∷ later) is place (let x = here in x.within),
+        planted-long n k o s h run front (e ∷ later) is place (let x = here in x.within),
       )))
 
   -- ---- the call
@@ -228,14 +227,14 @@ module _ (n k : ℕ) (o : Options) (s : TracedState) (h : List Entry) (run : IsF
             z.in_program z.function z.at stands
             ∙ ap (λ (r : Report). r ∷ []) (sym z.is)
 
-pub tells-its-calls : (n k : ℕ) (o : Options) (s : TracedState) (h : List Entry) → IsFunctionRun n k o s h
-    → IsReached s → HasBytes h → AreSteppable o → All IsNoBreakpoint o.functions → TellsItsCallsByCalls k o s h
-tells-its-calls n k o s h run reached bytes able others = record {
+pub tells-its-calls : (n k : ℕ) (o : Options) (s : TracedState) (h : List Entry) → IsReachedFunctionRun n k o s h
+    → AreSteppable o → All IsNoBreakpoint o.functions → TellsItsCallsByCalls k o s h
+tells-its-calls n k o s h run able others = record {
   tells = λ front later pid id place control t xs report is calm at since call.
-      tells-so n k o s h run reached bytes able others front later pid id place control t xs is calm at since report
+      tells-so n k o s h run able others front later pid id place control t xs is calm at since report
       call;
   told = λ front later pid id place control t xs report is calm at since z.
-      told-so n k o s h run reached bytes able others front later pid id place control t xs is calm at since report z;
+      told-so n k o s h run able others front later pid id place control t xs is calm at since report z;
 }
 
 pub ruleset told_calls = (tells-its-calls)

@@ -26,8 +26,7 @@ use Rattle.pr_model.specs.declared.events.Entry.{Entry}
 use Rattle.pr_num.specs.ById.{IsRising}
 use Rattle.pr_num.specs.Limits.{read_limit}
 use Rattle.pr_num.specs.declared.faults.Flt.TheVariants.{Trace}
-use Rattle.pr_reached.specs.ByteHistories.{HasBytes, IsEntryOfBytes}
-use Rattle.pr_reached.specs.Reached.{IsReached}
+use Rattle.pr_reached.specs.ByteHistories.{IsEntryOfBytes}
 use Rattle.pr_rec.specs.declared.lwps.LwpStatus.{LwpStatus}
 use Rattle.pr_report_laws.proofs.Files.FileLaws.{HasFiles}
 use Rattle.pr_report_laws.proofs.Files.FileUses.{standing as standing-at}
@@ -81,7 +80,8 @@ use Rattle.pr_function_laws.specs.Calls.{call_beside, call_of_event, call_of_fre
 use Rattle.pr_function_laws.specs.FunctionTurns.{call_of_turn, calls_of, function_turns}
 use Rattle.pr_function_laws.specs.Lifted.{HasControl}
 use Rattle.pr_function_laws.specs.OneEvent.{HasOneEventAtMost, met, unmet}
-use Rattle.pr_function_laws.specs.Opened.{IsFunctionRun, functions_at}
+use Rattle.pr_function_laws.specs.ReachedRuns.{IsReachedFunctionRun}
+use Rattle.pr_function_laws.specs.Opened.{functions_at}
 use Rattle.pr_function_laws.specs.Ordinary.{ordinary, unmarked}
 use Rattle.pr_function_laws.specs.Runs.{functions_on}
 use Rattle.pr_function_hides.proofs.StepsUnderWay.CallLists.{one-shown, shown-fed}
@@ -172,8 +172,8 @@ lwp-tells t place p step lwp on under_way new unseen =
     ∙ ap (call_of_event (traced_at t place).pid)
     (trap-tells (marks_at t place).stepped step step.lwp refl under_way)
 
-module _ (n k : ℕ) (o : Options) (s : TracedState) (h : List Entry) (run : IsFunctionRun n k o s h)
-    (reached : IsReached s) (bytes : HasBytes h) (pid : ℕ) where
+module _ (n k : ℕ) (o : Options) (s : TracedState) (h : List Entry) (run : IsReachedFunctionRun n k o s h)
+    (pid : ℕ) where
   abbrev T : List Entry → TrussState
   T front = functions_at k o front
 
@@ -193,7 +193,7 @@ module _ (n k : ℕ) (o : Options) (s : TracedState) (h : List Entry) (run : IsF
     now = S f
 
     legal : IsLegalEntry n now e
-    legal = entry-legal (Unit {0}) n k o s h run (λ r. reached) (λ r. bytes) f e later is
+    legal = entry-legal (Unit {0}) n k o s h run.of (λ r. run.reached) (λ r. run.bytes) f e later is
 
     lawful : IsLawful now
     lawful = g.lawful
@@ -202,32 +202,33 @@ module _ (n k : ℕ) (o : Options) (s : TracedState) (h : List Entry) (run : IsF
     later-lawful = history-state n now (e ∷ []) lawful (legal, tt)
 
     files : HasFiles k (ordinary t) now
-    files = files-at (Unit {0}) n k o s h run (λ r. reached) (λ r. bytes) f (e ∷ later) is
+    files = files-at (Unit {0}) n k o s h run.of (λ r. run.reached) (λ r. run.bytes) f (e ∷ later) is
 
     state-is : S next ≡ after now e
-    state-is = state-next (Unit {0}) n k o s h run (λ r. reached) (λ r. bytes) f e later is
+    state-is = state-next (Unit {0}) n k o s h run.of (λ r. run.reached) (λ r. run.bytes) f e later is
 
     it : IsOwnEntry k now e x
     it = own-entry n k now e x legal own
 
     sent : next_function_call_of t ≡ Some x.call
-    sent = makes-there (Unit {0}) n k o s h run (λ r. reached) (λ r. bytes) f e later is x own
+    sent = makes-there (Unit {0}) n k o s h run.of (λ r. run.reached) (λ r. run.bytes) f e later is x own
 
     has : has_functions t.options ≡ true
-    has = has-there (Unit {0}) n k o s h run (λ r. reached) (λ r. bytes) f e later is
+    has = has-there (Unit {0}) n k o s h run.of (λ r. run.reached) (λ r. run.bytes) f e later is
 
     follow : t.options.follow ≡ false
-    follow = follow-there (Unit {0}) n k o s h run (λ r. reached) (λ r. bytes) f e later is
+    follow = follow-there (Unit {0}) n k o s h run.of (λ r. run.reached) (λ r. run.bytes) f e later is
 
     bytes-here : Unit {0} → IsEntryOfBytes e
-    bytes-here = entry-bytes (Unit {0}) n k o s h run (λ r. reached) (λ r. bytes) f e later is
+    bytes-here = entry-bytes (Unit {0}) n k o s h run.of (λ r. run.reached) (λ r. run.bytes) f e later is
 
     abbrev v : TrussState
     v = fed_functions t x.reply
 
     v-is : T next ≡ v
     v-is =
-        truss-next (Unit {0}) n k o s h run (λ r. reached) (λ r. bytes) f e later is ∙ ap (functions_on t) own
+        truss-next (Unit {0}) n k o s h run.of (λ r. run.reached) (λ r. run.bytes) f e later is
+        ∙ ap (functions_on t) own
 
     exchange-empty : call_of_turn t now pid e.actor e.act ≡ []
     exchange-empty = elsewhere-call t now pid e.actor e.act (λ i. own-in k pid i e.actor e.act x own)
@@ -310,8 +311,8 @@ module _ (n k : ℕ) (o : Options) (s : TracedState) (h : List Entry) (run : IsF
 
     module _ (not_it : LooksAtIt → ⊥) where
       quiet-read : states.ReadsIts k o s pid f e → ⊥
-      quiet-read (inl r) = not_it (looks-of.status-look n k o s h run reached bytes pid f e later is g x own r)
-      quiet-read (inr r) = not_it (looks-of.lwps-look n k o s h run reached bytes pid f e later is g x own r)
+      quiet-read (inl r) = not_it (looks-of.status-look n k o s h run pid f e later is g x own r)
+      quiet-read (inr r) = not_it (looks-of.lwps-look n k o s h run pid f e later is g x own r)
 
       module _ (i : ℕ) (step : Stepped) (u_next : IsUnder (T next) pid i step) where
         u : IsUnder v pid i step
@@ -396,8 +397,8 @@ module _ (n k : ℕ) (o : Options) (s : TracedState) (h : List Entry) (run : IsF
                 → Stands k o s pid next (call_of_step pid step ∷ [])
             by (lives_on q later_live) = lives-next q later_live
             by (is_killed z gone left status) =
-                gone-next k o s pid n h run f e later is lawful legal (call_of_step pid step) since (made place step w)
-                quiet-read p live
+                gone-next k o s pid n h run.of f e later is lawful legal (call_of_step pid step) since
+                (made place step w) quiet-read p live
                 (answered-later (λ (y : TracedState). live_process y.system pid)
                 ∙ subst (λ j. live_process it.answer.state.system j ≡ None) w.its gone) z
                 (answered-later (λ (y : TracedState). process_of y.system pid)
@@ -411,7 +412,7 @@ module _ (n k : ℕ) (o : Options) (s : TracedState) (h : List Entry) (run : IsF
           by (idle ready) = idle-on ready
           by (trapped place step w new p live a since) = trap-on place step w new p live a since
           by (lost report w made_it gone was_killed) =
-              lost-next k o s pid n h run f e later is lawful legal report w made_it gone was_killed
+              lost-next k o s pid n h run.of f e later is lawful legal report w made_it gone was_killed
 
     -- ---- where it does
 
@@ -438,7 +439,7 @@ module _ (n k : ℕ) (o : Options) (s : TracedState) (h : List Entry) (run : IsF
       read-idle : Stands k o s pid next []
       read-idle =
           idle (λ i step u_next q live_q.
-          absurd (last-looks.no-more n k o s h run reached bytes pid f e later is g x own at its i u_next.within
+          absurd (last-looks.no-more n k o s h run pid f e later is g x own at its i u_next.within
           u_next.its
           u_next.unlooked))
 
@@ -468,7 +469,7 @@ module _ (n k : ℕ) (o : Options) (s : TracedState) (h : List Entry) (run : IsF
           let file =
           files.lstatus 0 lwps.number (many k t now files 0 some)
           (ap (λ (y : Traced). y.lstatus) (at-ordinary t 0) ∙ lwps.is) in
-          states.over-gives k o s pid n h run f e later is lawful legal Lstatus refl gone
+          states.over-gives k o s pid n h run.of f e later is lawful legal Lstatus refl gone
           (record {
             handle = lwps.number;
             from = 0;
@@ -485,7 +486,7 @@ module _ (n k : ℕ) (o : Options) (s : TracedState) (h : List Entry) (run : IsF
 
       module _ (p : TracedProcess) (live : live_process now.system pid ≡ Some p) where
         stops-are : stops ≡ filter is_on_event (lstatus_of p)
-        stops-are = last-looks.stops-are n k o s h run reached bytes pid f e later is g x own at its p live
+        stops-are = last-looks.stops-are n k o s h run pid f e later is g x own at its p live
 
         under-it : (step : Stepped) → (marks_at t 0).stepped ≡ Some step → IsUnder t pid 0 step
         under-it step way = record {
@@ -603,7 +604,7 @@ module _ (n k : ℕ) (o : Options) (s : TracedState) (h : List Entry) (run : IsF
       gone-look gone (trapped place step w new p live a since) are = absurd (none-some p (sym gone ∙ live))
       gone-look gone (lost report w made_it over was_killed) are =
           quiet-told (gone-told gone) are
-          (lost-next k o s pid n h run f e later is lawful legal report w made_it over was_killed)
+          (lost-next k o s pid n h run.of f e later is lawful legal report w made_it over was_killed)
 
       look-next : {lacking : List Report} → Stands k o s pid f lacking → Are lacking → Listed k o s pid next
       look-next stands are = by (live_process now.system pid) refl

@@ -9,8 +9,6 @@ use Rattle.pr_model.specs.State.{TracedState}
 use Rattle.pr_model.specs.declared.calls.Reply.TheVariants as reply
 use Rattle.pr_model.specs.declared.events.Entry.{Entry}
 use Rattle.pr_num.specs.declared.errnos.Errno.TheVariants.{Intr}
-use Rattle.pr_reached.specs.ByteHistories.{HasBytes}
-use Rattle.pr_reached.specs.Reached.{IsReached}
 use Rattle.pr_report_laws.proofs.Files.FileLaws.{HasFiles, only-position}
 use Rattle.pr_report_laws.proofs.Files.WatchHistories.{no-exchanges}
 use Rattle.pr_report_laws.proofs.Invariant.StandLemmas.{Each, each-remove}
@@ -40,12 +38,12 @@ use Rattle.pr_function_laws.proofs.LeavingProcesses.LeavingSteps.{halted, has_re
 use Rattle.pr_function_laws.proofs.Stepping.BreakpointLemmas.{own-entry}
 use Rattle.pr_function_laws.proofs.Listing.ListedSteps as steps
 use Rattle.pr_function_laws.proofs.OpenedProcesses.OpenedCalls.{IsSo}
-use Rattle.pr_function_laws.proofs.OpenedProcesses.OpenedLaws.{bytes-front}
 use Rattle.pr_function_laws.proofs.OrdinaryTruss.OrdinaryReplies.{at-ordinary}
 use Rattle.pr_function_laws.proofs.CallTurns.TurnWalks.{own-in}
 use Rattle.pr_function_laws.specs.Calls.{call_beside, call_read, call_told}
 use Rattle.pr_function_laws.specs.FunctionTurns.{calls_of}
-use Rattle.pr_function_laws.specs.Opened.{IsFunctionRun, WasNotInterrupted, functions_at, is_opened}
+use Rattle.pr_function_laws.specs.ReachedRuns.{IsReachedFunctionRun}
+use Rattle.pr_function_laws.specs.Opened.{WasNotInterrupted, functions_at, is_opened}
 use Rattle.pr_function_laws.specs.Ordinary.{ordinary}
 use Rattle.pr_function_laws.specs.Runs.{functions_on}
 use Rattle.pr_function_laws.specs.ToldTurns.{AreSteppable, HasStep}
@@ -96,9 +94,8 @@ less-marks t u is = by t.pid t.control t.status t.lstatus t.memory t.attached t.
 abbrev NoStep : ℕ → Traced → Type 0
 NoStep pid u = u.pid ≡ pid → u.marks.stepped ≡ None
 
-module _ (n k : ℕ) (o : Options) (s : TracedState) (h : List Entry) (run : IsFunctionRun n k o s h)
-    (reached : IsReached s) (bytes : HasBytes h) (able : AreSteppable o) (facts : BreakpointsHold k o s h)
-    (pid : ℕ) where
+module _ (n k : ℕ) (o : Options) (s : TracedState) (h : List Entry) (run : IsReachedFunctionRun n k o s h)
+    (able : AreSteppable o) (facts : BreakpointsHold k o s h) (pid : ℕ) where
   abbrev T : List Entry → TrussState
   T front = functions_at k o front
 
@@ -113,10 +110,10 @@ module _ (n k : ℕ) (o : Options) (s : TracedState) (h : List Entry) (run : IsF
   module _ (f : List Entry) (e : Entry) (later : List Entry) (is : h ≡ f ++ e ∷ later)
       (g : IsLeaving (Unit {0}) k o (functions_at k o f) (state_after s f)) where
     truss-is : T (f ++ e ∷ []) ≡ functions_on (T f) (exchange_of k e)
-    truss-is = truss-next (Unit {0}) n k o s h run (λ r. reached) (λ r. bytes) f e later is
+    truss-is = truss-next (Unit {0}) n k o s h run.of (λ r. run.reached) (λ r. run.bytes) f e later is
 
     files : HasFiles k (ordinary (T f)) (S f)
-    files = files-at (Unit {0}) n k o s h run (λ r. reached) (λ r. bytes) f (e ∷ later) is
+    files = files-at (Unit {0}) n k o s h run.of (λ r. run.reached) (λ r. run.bytes) f (e ∷ later) is
 
     step-alike : (u v : Traced) → SameFiles u v → v.attached ≡ u.attached → v.marks ≡ u.marks → NoStep pid u
         → NoStep pid v
@@ -132,8 +129,8 @@ module _ (n k : ℕ) (o : Options) (s : TracedState) (h : List Entry) (run : IsF
       where
         by-own : (x : Exchange) → exchange_of k e ≡ Some x → Bare pid (T f) → Bare pid (fed_functions (T f) x.reply)
         by-own x own (inl all) =
-            let follow = follow-there (Unit {0}) n k o s h run (λ r. reached) (λ r. bytes) f e later is in
-            let has = has-there (Unit {0}) n k o s h run (λ r. reached) (λ r. bytes) f e later is in
+            let follow = follow-there (Unit {0}) n k o s h run.of (λ r. run.reached) (λ r. run.bytes) f e later is in
+            let has = has-there (Unit {0}) n k o s h run.of (λ r. run.reached) (λ r. run.bytes) f e later is in
             let l =
             fed-left (NoStep pid) step-alike (λ u. Unit {0}) (λ u v same on old seen r. tt) (T f) x.reply g.on follow
             has (λ i j one two other. its-apart k (T f) (S f) files i j one two other) (λ q within still. tt) g.at
@@ -145,13 +142,13 @@ module _ (n k : ℕ) (o : Options) (s : TracedState) (h : List Entry) (run : IsF
             leaves : LeavesOn (T f) x.reply g.at (fed_functions (T f) x.reply)
             leaves =
                 behind-it (Unit {0}) n k o (T f) (S f) g files e
-                (entry-legal (Unit {0}) n k o s h run (λ r. reached) (λ r. bytes) f e later is)
-                (entry-bytes (Unit {0}) n k o s h run (λ r. reached) (λ r. bytes) f e later is) x
+                (entry-legal (Unit {0}) n k o s h run.of (λ r. run.reached) (λ r. run.bytes) f e later is)
+                (entry-bytes (Unit {0}) n k o s h run.of (λ r. run.reached) (λ r. run.bytes) f e later is) x
                 (own-entry n k (S f) e x
-                (entry-legal (Unit {0}) n k o s h run (λ r. reached) (λ r. bytes) f e later is) own)
-                (makes-there (Unit {0}) n k o s h run (λ r. reached) (λ r. bytes) f e later is x own)
-                (has-there (Unit {0}) n k o s h run (λ r. reached) (λ r. bytes) f e later is)
-                (follow-there (Unit {0}) n k o s h run (λ r. reached) (λ r. bytes) f e later is)
+                (entry-legal (Unit {0}) n k o s h run.of (λ r. run.reached) (λ r. run.bytes) f e later is) own)
+                (makes-there (Unit {0}) n k o s h run.of (λ r. run.reached) (λ r. run.bytes) f e later is x own)
+                (has-there (Unit {0}) n k o s h run.of (λ r. run.reached) (λ r. run.bytes) f e later is)
+                (follow-there (Unit {0}) n k o s h run.of (λ r. run.reached) (λ r. run.bytes) f e later is)
 
             shared : Shares (T f) (fed_functions (T f) x.reply)
                 → Each (λ (u : Traced). u.pid ≡ pid → u.attached ≡ true) (fed_functions (T f) x.reply).traced
@@ -179,8 +176,8 @@ module _ (n k : ℕ) (o : Options) (s : TracedState) (h : List Entry) (run : IsF
     listed-next bare so = by (exchange_of k e) refl
       where
         by : (x : Option Exchange) → exchange_of k e ≡ x → Listed (f ++ e ∷ [])
-        by None foreign = foreign-listed n k o s h run reached bytes facts pid f e later is g bare foreign so
-        by (Some x) own = exchange-listed n k o s h run reached bytes pid f e later is g x own so
+        by None foreign = foreign-listed n k o s h run facts pid f e later is g bare foreign so
+        by (Some x) own = exchange-listed n k o s h run pid f e later is g x own so
 
   -- ---- the first interrupt
 
@@ -203,20 +200,17 @@ module _ (n k : ℕ) (o : Options) (s : TracedState) (h : List Entry) (run : IsF
     abbrev v : TrussState
     v = fed_functions t x.reply
 
-    run-front : IsFunctionRun n k o s f
-    run-front = begins.run-front n k o s h run reached bytes pid f e later is calm x own broken
-
-    front-bytes : HasBytes f
-    front-bytes = bytes-front f (e ∷ later) (subst HasBytes is bytes)
+    run-front : IsReachedFunctionRun n k o s f
+    run-front = begins.run-front n k o s h run pid f e later is calm x own broken
 
     front-facts : BreakpointsHold k o s f
     front-facts = facts-front f (e ∷ later) is
 
     b : BeginsToLeave t v
-    b = begins.b n k o s h run reached bytes pid f e later is calm x own broken
+    b = begins.b n k o s h run pid f e later is calm x own broken
 
     v-is : T next ≡ v
-    v-is = begins.v-is n k o s h run reached bytes pid f e later is calm x own broken
+    v-is = begins.v-is n k o s h run pid f e later is calm x own broken
 
     -- it polls, or opens a process
     stands-still : (q : ℕ) → (functions_at k o f).stage ≢ Running q
@@ -235,14 +229,14 @@ module _ (n k : ℕ) (o : Options) (s : TracedState) (h : List Entry) (run : IsF
         let begun = b in
         let shares = begun.shares in
         let there =
-        begins.open-there n k o s h run reached bytes pid f e later is calm x own broken begun.waits i
+        begins.open-there n k o s h run pid f e later is calm x own broken begun.waits i
         (sym (shares.attached i) ∙ u.attached) in (
           record {
             calm = calm;
             within = subst (λ m. i < m) shares.many u.within;
             opened = there.0;
             under_way = ap (λ (m : Marks). m.stepped)
-                (sym (begins.marks-same n k o s h run reached bytes pid f e later is calm x own broken i))
+                (sym (begins.marks-same n k o s h run pid f e later is calm x own broken i))
                 ∙ u.under_way;
           },
           sym (shares.pids i) ∙ u.its,
@@ -250,10 +244,10 @@ module _ (n k : ℕ) (o : Options) (s : TracedState) (h : List Entry) (run : IsF
 
     opened-attached : (i : ℕ) → i < length t.traced → is_opened t.stage i ≡ true → (traced_at t i).attached ≡ true
     opened-attached i within opened =
-        let g = begins.goes n k o s h run reached bytes pid f e later is calm x own broken in
+        let g = begins.goes n k o s h run pid f e later is calm x own broken in
         let a =
         steps.opened-attached n k o s f (e ∷ later) pid
-        (begins.run-here n k o s h run reached bytes pid f e later is calm x own broken)
+        (begins.run-here n k o s h run pid f e later is calm x own broken)
         (IsSo (Unit {0}) k t.options (S f)) g.kept i within opened in
         ap (λ (y : Traced). y.attached) (sym (at-ordinary t i)) ∙ a.attached
 
@@ -272,26 +266,26 @@ module _ (n k : ℕ) (o : Options) (s : TracedState) (h : List Entry) (run : IsF
           attached = on_v;
           unlooked = next-left-unlooked v begun.next i inside on_v;
           under_way = ap (λ (m : Marks). m.stepped)
-              (begins.marks-same n k o s h run reached bytes pid f e later is calm x own broken i)
+              (begins.marks-same n k o s h run pid f e later is calm x own broken i)
               ∙ under.under_way;
         })
 
     old-next : (i : ℕ) → (traced_at t i).old ≡ 0 → (traced_at (T next) i).old ≡ 0
     old-next i new =
         ap (λ (y : TrussState). (traced_at y i).old) v-is
-        ∙ begins.old-same n k o s h run reached bytes pid f e later is calm x own broken i ∙ new
+        ∙ begins.old-same n k o s h run pid f e later is calm x own broken i ∙ new
 
     abbrev WasUnread : Type 0
-    WasUnread = Unread n k o s f run-front reached front-bytes able front-facts calm pid f
+    WasUnread = Unread n k o s f run-front able front-facts calm pid f
 
-    was-listed : calm_calls.Listed n k o s f run-front reached front-bytes able front-facts calm pid f
-    was-listed = calm_calls.listed n k o s f run-front reached front-bytes able front-facts calm pid
+    was-listed : calm_calls.Listed n k o s f run-front able front-facts calm pid f
+    was-listed = calm_calls.listed n k o s f run-front able front-facts calm pid
 
     whole-front : f ≡ f ++ []
     whole-front = sym (append-nil f)
 
     since-turn : (a : WasUnread)
-        → calm_calls.Unanswered n k o s f run-front reached front-bytes able front-facts calm pid a.front
+        → calm_calls.Unanswered n k o s f run-front able front-facts calm pid a.front
         (turn_entry pid a.id a.turned) a.mid → calls.Since k o s pid f (call_of_step pid a.step)
     since-turn a unanswered =
         let under = a.under in
@@ -301,36 +295,36 @@ module _ (n k : ℕ) (o : Options) (s : TracedState) (h : List Entry) (run : IsF
           mid = a.mid;
           is = a.is;
           call =
-              step-call n k o s f run-front reached front-bytes able front-facts a.front (a.mid ++ []) pid a.id a.turned
-              (parted n k o s f run-front reached front-bytes able front-facts calm pid f [] whole-front a) under.calm
-              a.place a.step a.under a.own a.trapped;
+              step-call n k o s f run-front able front-facts a.front (a.mid ++ []) pid a.id a.turned
+              (parted n k o s f run-front able front-facts calm pid f [] whole-front a) under.calm a.place a.step
+              a.under a.own a.trapped;
           unanswered = record { each = λ between rest d parts reads. unanswered.each between rest d parts reads };
         }
 
     begun-stands : {lacking : List Report}
-        → calm_calls.Stands n k o s f run-front reached front-bytes able front-facts calm pid f lacking
+        → calm_calls.Stands n k o s f run-front able front-facts calm pid f lacking
         → calls.Stands k o s pid next lacking
     unfolding calls.since-on
     begun-stands (calm_calls.clear never) =
         idle (λ i step u q live.
         let w = was-step i step u in
         let r =
-        ready-there n k o s f run-front reached front-bytes able front-facts calm pid i step w.0 w.1 q
-        (begins.was-live n k o s h run reached bytes pid f e later is calm x own broken q live) stands-still
+        ready-there n k o s f run-front able front-facts calm pid i step w.0 w.1 q
+        (begins.was-live n k o s h run pid f e later is calm x own broken q live) stands-still
         never in
         (old-next i r.0, r.1))
     begun-stands (calm_calls.pending a made p live unanswered) =
         let u =
-        still-under n k o s f run-front reached front-bytes able front-facts calm pid f [] whole-front a p live in
+        still-under n k o s f run-front able front-facts calm pid f [] whole-front a p live in
         trapped u.place a.step (now-step u.place a.step u.under u.own) (old-next u.place u.new) p
-        (begins.lives-next n k o s h run reached bytes pid f e later is calm x own broken p live)
-        (trap-still n k o s f run-front reached front-bytes able front-facts calm pid f [] whole-front a p live)
+        (begins.lives-next n k o s h run pid f e later is calm x own broken p live)
+        (trap-still n k o s f run-front able front-facts calm pid f [] whole-front a p live)
         (calls.since-on k o s pid f e (call_of_step pid a.step) (since-turn a unanswered)
-        (begins.quiet n k o s h run reached bytes pid f e later is calm x own broken))
+        (begins.quiet n k o s h run pid f e later is calm x own broken))
     begun-stands (calm_calls.lost report w) =
-        let g = begins.goes n k o s h run reached bytes pid f e later is calm x own broken in
-        calls.lost-next k o s pid n h run f e later is g.lawful
-        (begins.legal n k o s h run reached bytes pid f e later is calm x own broken) report
+        let g = begins.goes n k o s h run pid f e later is calm x own broken in
+        calls.lost-next k o s pid n h run.of f e later is g.lawful
+        (begins.legal n k o s h run pid f e later is calm x own broken) report
         (record {
           front = w.front;
           turn = w.turn;
@@ -361,7 +355,7 @@ module _ (n k : ℕ) (o : Options) (s : TracedState) (h : List Entry) (run : IsF
     unfolding calls_of
     shown-same =
         ap (λ (y : TrussState). calls_of pid y.reports) v-is
-        ∙ shown-fed pid t x.reply (begins.has n k o s h run reached bytes pid f e later is calm x own broken)
+        ∙ shown-fed pid t x.reply (begins.has n k o s h run pid f e later is calm x own broken)
         ∙ ap (λ cs. calls_of pid t.reports ++ calls_of pid cs) untold ∙ append-nil (calls_of pid t.reports)
 
     begun-listed : Listed next
@@ -386,9 +380,9 @@ module _ (n k : ℕ) (o : Options) (s : TracedState) (h : List Entry) (run : IsF
             let shares = begun.shares in
             inl (λ i within own_i.
             ap (λ (m : Marks). m.stepped)
-            (begins.marks-same n k o s h run reached bytes pid f e later is calm x own broken i)
-            ∙ opening-unstepped n k o s f run-front calm f [] whole-front q (opening.AwaitStop until) here i
-            (subst (λ m. i < m) shares.many within))
+            (begins.marks-same n k o s h run pid f e later is calm x own broken i)
+            ∙ opening-unstepped n k o s f (let w = run-front in w.of) calm f [] whole-front q (opening.AwaitStop until)
+            here i (subst (λ m. i < m) shares.many within))
 
   -- ---- all entries
 
@@ -408,22 +402,22 @@ module _ (n k : ℕ) (o : Options) (s : TracedState) (h : List Entry) (run : IsF
       by-broken : (x : Exchange) → exchange_of k e ≡ Some x → (x.reply ≡ reply.Fail Intr) ⊎ WasNotInterrupted x
           → Along (f ++ e ∷ [])
       by-broken x own (inr quiet_x) =
-          calm_yet (calm-next (Unit {0}) n k o s h run (λ r. reached) (λ r. bytes) f e later is calm
+          calm_yet (calm-next (Unit {0}) n k o s h run.of (λ r. run.reached) (λ r. run.bytes) f e later is calm
           (λ y same. subst WasNotInterrupted (same_Some x y (sym own ∙ same)) quiet_x))
       by-broken x own (inl broken) =
           left_now (
-            begins-next (Unit {0}) n k o s h run (λ r. reached) (λ r. bytes) f e later is calm x own broken,
+            begins-next (Unit {0}) n k o s h run.of (λ r. run.reached) (λ r. run.bytes) f e later is calm x own broken,
             (begun-listed f e later is calm x own broken, begun-bare f e later is calm x own broken),
           )
 
       by : (x : Option Exchange) → exchange_of k e ≡ x → Along (f ++ e ∷ [])
       by None none_own =
-          calm_yet (calm-next (Unit {0}) n k o s h run (λ r. reached) (λ r. bytes) f e later is calm
+          calm_yet (calm-next (Unit {0}) n k o s h run.of (λ r. run.reached) (λ r. run.bytes) f e later is calm
           (λ y same. absurd (none-some y (sym none_own ∙ same))))
       by (Some x) own = by-broken x own (is-broken x)
   entry-along f e later is (left_now w) =
       left_now (
-        leaving-next (Unit {0}) n k o s h run (λ r. reached) (λ r. bytes) f e later is w.0,
+        leaving-next (Unit {0}) n k o s h run.of (λ r. run.reached) (λ r. run.bytes) f e later is w.0,
         (listed-next f e later is w.0 w.1.1 w.1.0, bare-next f e later is w.0 w.1.1),
       )
 
@@ -444,7 +438,7 @@ module _ (n k : ℕ) (o : Options) (s : TracedState) (h : List Entry) (run : IsF
       (calm_yet (subst (All WasNotInterrupted) (sym (no-exchanges k)) (All-nil WasNotInterrupted))))
     where
       files-end : HasFiles k (ordinary (T h)) (S h)
-      files-end = files-at (Unit {0}) n k o s h run (λ r. reached) (λ r. bytes) h [] whole
+      files-end = files-at (Unit {0}) n k o s h run.of (λ r. run.reached) (λ r. run.bytes) h [] whole
 
       by-stands : IsLeaving (Unit {0}) k o (T h) (S h) → {lacking : List Report} → calls.Stands k o s pid h lacking
           → MayLack k o s h pid lacking
@@ -472,7 +466,7 @@ module _ (n k : ℕ) (o : Options) (s : TracedState) (h : List Entry) (run : IsF
           ended report (turn-unread k o s pid h report w) over killed
 
       by : Along h → ListsItsTurns k o s h pid
-      by (calm_yet calm) = calm_calls.lists-turns n k o s h run reached bytes able facts calm pid
+      by (calm_yet calm) = calm_calls.lists-turns n k o s h run able facts calm pid
       by (left_now w) =
           let so = w.1.0 in
           let few : MayLack k o s h pid so.lacking = by-stands w.0 so.stands in
@@ -480,5 +474,5 @@ module _ (n k : ℕ) (o : Options) (s : TracedState) (h : List Entry) (run : IsF
             lacking = so.lacking;
             are = so.are;
             few = few;
-            at_last = λ finished some. lacking-at-last k o s pid n h run finished few some;
+            at_last = λ finished some. lacking-at-last k o s pid n h run.of finished few some;
           }

@@ -25,9 +25,7 @@ use Rattle.pr_model.specs.declared.events.Turned.{Turned}
 use Rattle.pr_model.specs.declared.stops.Point.{Point}
 use Rattle.pr_num.specs.ById.{IsRising}
 use Rattle.pr_num.specs.declared.faults.Flt.TheVariants.{Trace}
-use Rattle.pr_reached.specs.ByteHistories.{HasBytes}
 use Rattle.pr_reached.specs.Fits.{IsFitSystem}
-use Rattle.pr_reached.specs.Reached.{IsReached}
 use Rattle.pr_report_laws.proofs.Files.FileLaws.{HasFiles, only-position}
 use Rattle.pr_report_laws.proofs.Invariant.StandLemmas.{Each}
 use Rattle.pr_report_laws.proofs.Machine.StayingLwps.{keeps-meeting, live-by, row-leaves, settled-to}
@@ -62,7 +60,8 @@ use Rattle.pr_function_laws.proofs.CallTurns.TurnWalks as walks
 use Rattle.pr_function_laws.proofs.CallTurns.TurnWalks.{Passes, others-pass}
 use Rattle.pr_function_laws.specs.FunctionTurns.{call_of_turn, calls_of, function_turns, is_process, is_trap}
 use Rattle.pr_function_laws.specs.Lifted.{HasControl}
-use Rattle.pr_function_laws.specs.Opened.{IsFunctionRun, functions_at}
+use Rattle.pr_function_laws.specs.ReachedRuns.{IsReachedFunctionRun}
+use Rattle.pr_function_laws.specs.Opened.{functions_at}
 use Rattle.pr_function_laws.specs.Ordinary.{ordinary}
 use Rattle.pr_function_laws.specs.Runs.{functions_on}
 use Rattle.pr_function_laws.specs.Turns.{EndsInTrap}
@@ -87,8 +86,8 @@ turned-same a b x y is = let both : act.Turn x ≡ act.Turn y = ap (λ (z : Entr
 stopped-no-trap : (d : Did) → d ≡ Stopped → d ≡ Faulted Trace → ⊥
 stopped-no-trap d is trap = let both : Stopped ≡ Faulted Trace = sym is ∙ trap in cc
 
-module _ (n k : ℕ) (o : Options) (s : TracedState) (h : List Entry) (run : IsFunctionRun n k o s h)
-    (reached : IsReached s) (bytes : HasBytes h) (facts : BreakpointsHold k o s h) (pid : ℕ) where
+module _ (n k : ℕ) (o : Options) (s : TracedState) (h : List Entry) (run : IsReachedFunctionRun n k o s h)
+    (facts : BreakpointsHold k o s h) (pid : ℕ) where
   abbrev T : List Entry → TrussState
   T front = functions_at k o front
 
@@ -111,7 +110,7 @@ module _ (n k : ℕ) (o : Options) (s : TracedState) (h : List Entry) (run : IsF
     Under place step = IsUnder t pid place step
 
     legal : IsLegalEntry n now e
-    legal = entry-legal (Unit {0}) n k o s h run (λ r. reached) (λ r. bytes) f e later is
+    legal = entry-legal (Unit {0}) n k o s h run.of (λ r. run.reached) (λ r. run.bytes) f e later is
 
     lawful : IsLawful now
     lawful = g.lawful
@@ -120,14 +119,15 @@ module _ (n k : ℕ) (o : Options) (s : TracedState) (h : List Entry) (run : IsF
     later-lawful = history-state n now (e ∷ []) lawful (legal, tt)
 
     files : HasFiles k (ordinary t) now
-    files = files-at (Unit {0}) n k o s h run (λ r. reached) (λ r. bytes) f (e ∷ later) is
+    files = files-at (Unit {0}) n k o s h run.of (λ r. run.reached) (λ r. run.bytes) f (e ∷ later) is
 
     state-is : S next ≡ after now e
-    state-is = state-next (Unit {0}) n k o s h run (λ r. reached) (λ r. bytes) f e later is
+    state-is = state-next (Unit {0}) n k o s h run.of (λ r. run.reached) (λ r. run.bytes) f e later is
 
     same-truss : T next ≡ t
     same-truss =
-        truss-next (Unit {0}) n k o s h run (λ r. reached) (λ r. bytes) f e later is ∙ ap (functions_on t) foreign
+        truss-next (Unit {0}) n k o s h run.of (λ r. run.reached) (λ r. run.bytes) f e later is
+        ∙ ap (functions_on t) foreign
 
     fe : IsForeign k now e
     fe = foreign-entry n k now e legal foreign
@@ -136,7 +136,7 @@ module _ (n k : ℕ) (o : Options) (s : TracedState) (h : List Entry) (run : IsF
     shown-same = ap (λ (u : TrussState). calls_of pid u.reports) same-truss
 
     quiet : states.ReadsIts k o s pid f e → ⊥
-    quiet = states.others-quiet k o s pid n h run f e later is lawful legal foreign
+    quiet = states.others-quiet k o s pid n h run.of f e later is lawful legal foreign
 
     live-next : (q : TracedProcess) → live_process (S next).system pid ≡ Some q
         → live_process (after now e).system pid ≡ Some q
@@ -188,7 +188,7 @@ module _ (n k : ℕ) (o : Options) (s : TracedState) (h : List Entry) (run : IsF
             trapped place step (after-under place step w) (old-next place new) q (next-live q live_q) (goes q live_q)
             (since-on k o s pid f e (call_of_step pid step) since quiet)
         by (halt.killed z gone left status) =
-            gone-next k o s pid n h run f e later is lawful legal (call_of_step pid step) since (made place step w)
+            gone-next k o s pid n h run.of f e later is lawful legal (call_of_step pid step) since (made place step w)
             quiet
             p live gone z left status
 
@@ -223,7 +223,7 @@ module _ (n k : ℕ) (o : Options) (s : TracedState) (h : List Entry) (run : IsF
             let same : p ≡ before.0 = same_Some p before.0 (sym live ∙ before.1.0) in
             alone-trap step.lwp before.0 q before.1.1 (subst (AtTrap step.lwp) same a))
         by (lost report w made_it gone was_killed) =
-            lost-next k o s pid n h run f e later is lawful legal report w made_it gone was_killed
+            lost-next k o s pid n h run.of f e later is lawful legal report w made_it gone was_killed
 
     -- ---- a turn of the process
 
@@ -442,7 +442,7 @@ module _ (n k : ℕ) (o : Options) (s : TracedState) (h : List Entry) (run : IsF
                 call-is
                 ∙ step-call t now pid own turned p l p-live l-there place step stood
                 (subst (λ (y : Options). IsStepOf y step stood) (sym g.options) of) at w.its w.under_way
-                (planted-long n k o s h run reached bytes f (e ∷ later) is place w.within)
+                (planted-long n k o s h run f (e ∷ later) is place w.within)
                 (ap (λ (y : TracedLwp). y.phase) stood-there ∙ stepped.in_program)
                 (ap (λ (y : TracedLwp). y.regs) stood-there ∙ st.holds) same trap
 

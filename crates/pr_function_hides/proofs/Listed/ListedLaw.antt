@@ -6,11 +6,10 @@ use Rattle.pr_model.specs.declared.events.Entry.{Entry}
 use Rattle.pr_model.specs.declared.events.Turned.{Turned}
 use Rattle.pr_num.specs.Control.{prot_exec}
 use Rattle.pr_num.specs.Spaces.{bytes_for}
-use Rattle.pr_reached.specs.ByteHistories.{HasBytes}
-use Rattle.pr_reached.specs.Reached.{IsReached}
 use Rattle.pr_truss.specs.Trusses.{TrussState}
 use Rattle.pr_function_laws.proofs.LeavingProcesses.LeavingCourse.{entry-legal}
-use Rattle.pr_function_laws.specs.Opened.{IsFunctionRun, functions_at}
+use Rattle.pr_function_laws.specs.ReachedRuns.{IsReachedFunctionRun}
+use Rattle.pr_function_laws.specs.Opened.{functions_at}
 use Rattle.pr_function_laws.specs.ToldTurns.{AreSteppable}
 use Rattle.pr_function_hides.proofs.StepsUnderWay.FetchedBreakpoints.{none-fetched, trapped-moves}
 use Rattle.pr_function_hides.proofs.Listed.LeavingLists.{lists-its-turns}
@@ -20,8 +19,8 @@ use Rattle.pr_function_hides.specs.ListedCalls.{FetchesBreakpoints, ListsItsTurn
 -- The calls of functions that truss has shown are the turns that are such calls, where no lwp completes an instruction
 -- at one of its breakpoints.
 
-module _ (n k : ℕ) (o : Options) (s : TracedState) (h : List Entry) (run : IsFunctionRun n k o s h)
-    (reached : IsReached s) (bytes : HasBytes h) (able : AreSteppable o) where
+module _ (n k : ℕ) (o : Options) (s : TracedState) (h : List Entry) (run : IsReachedFunctionRun n k o s h)
+    (able : AreSteppable o) where
   abbrev T : List Entry → TrussState
   T front = functions_at k o front
 
@@ -31,10 +30,10 @@ module _ (n k : ℕ) (o : Options) (s : TracedState) (h : List Entry) (run : IsF
   turn-legal : (front later : List Entry) (pid id : ℕ) (t : Turned) → h ≡ front ++ turn_entry pid id t ∷ later
       → IsLegalEntry n (S front) (turn_entry pid id t)
   turn-legal front later pid id t is =
-      entry-legal (Unit {0}) n k o s h run (λ r. reached) (λ r. bytes) front (turn_entry pid id t) later is
+      entry-legal (Unit {0}) n k o s h run.of (λ r. run.reached) (λ r. run.bytes) front (turn_entry pid id t) later is
 
   turns-listed : BreakpointsHold k o s h → (pid : ℕ) → ListsItsTurns k o s h pid
-  turns-listed facts = lists-its-turns n k o s h run reached bytes able facts
+  turns-listed facts = lists-its-turns n k o s h run able facts
 
   -- ---- what is fetched where they stand is a breakpoint
 

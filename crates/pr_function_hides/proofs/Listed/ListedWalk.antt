@@ -21,8 +21,6 @@ use Rattle.pr_model.specs.declared.events.Entry.{Entry}
 use Rattle.pr_model.specs.declared.events.Turned.{Turned}
 use Rattle.pr_num.specs.Signals.{signal_number}
 use Rattle.pr_num.specs.declared.signals.Sig.TheVariants.{Kill}
-use Rattle.pr_reached.specs.ByteHistories.{HasBytes}
-use Rattle.pr_reached.specs.Reached.{IsReached}
 use Rattle.pr_report_laws.proofs.Files.WatchHistories.{cons-exchanges, exchanges-both, exchanges-push, no-exchanges}
 use Rattle.pr_report_laws.proofs.Machine.GoneLaws.{is_read, read-lives}
 use Rattle.pr_report_laws.proofs.SeenChildren.Splits as splits
@@ -50,6 +48,7 @@ use Rattle.pr_function_laws.proofs.CallTurns.ToldLaws.{legal}
 use Rattle.pr_function_laws.specs.Calls.{call_told}
 use Rattle.pr_function_laws.specs.FunctionTurns.{call_in, call_of_turn, calls_of, function_turns, is_process, is_trap}
 use Rattle.pr_function_laws.specs.Lifted.{IsNoRead}
+use Rattle.pr_function_laws.specs.ReachedRuns.{IsReachedFunctionRun}
 use Rattle.pr_function_laws.specs.Opened.{IsFunctionRun, WasNotInterrupted, functions_at}
 use Rattle.pr_function_laws.specs.Runs.{functions_after, functions_on}
 use Rattle.pr_function_laws.specs.ToldTurns.{AreSteppable, HasStep}
@@ -64,8 +63,8 @@ use Rattle.pr_function_hides.specs.ListedCalls.{ListsItsTurns, MayLack, TurnIsUn
 -- The calls that truss has shown are the turns that are calls, entry by entry, but for the last one, where its turn is
 -- unread or SIGKILL has ended its process since.
 
-module _ (n k : ℕ) (o : Options) (s : TracedState) (h : List Entry) (run : IsFunctionRun n k o s h)
-    (reached : IsReached s) (bytes : HasBytes h) (able : AreSteppable o) (facts : BreakpointsHold k o s h)
+module _ (n k : ℕ) (o : Options) (s : TracedState) (h : List Entry) (run : IsReachedFunctionRun n k o s h)
+    (able : AreSteppable o) (facts : BreakpointsHold k o s h)
     (all_calm : All WasNotInterrupted (exchanges k h)) (pid : ℕ) where
   abbrev T : List Entry → TrussState
   T front = functions_at k o front
@@ -74,7 +73,7 @@ module _ (n k : ℕ) (o : Options) (s : TracedState) (h : List Entry) (run : IsF
   S front = state_after s front
 
   abbrev pub Pending : List Entry → Type 0
-  Pending f = Unread n k o s h run reached bytes able facts all_calm pid f
+  Pending f = Unread n k o s h run able facts all_calm pid f
 
   -- the call that the turn of a step is
   abbrev call_of_step : Stepped → Report
@@ -85,7 +84,7 @@ module _ (n k : ℕ) (o : Options) (s : TracedState) (h : List Entry) (run : IsF
   call_here f e = call_of_turn (T f) (S f) pid e.actor e.act
 
   calm-at : (f later : List Entry) → h ≡ f ++ later → All WasNotInterrupted (exchanges k f)
-  calm-at = calm-front n k o s h run reached bytes able facts all_calm pid
+  calm-at = calm-front n k o s h run able facts all_calm pid
 
   nothing-before : (front mid : List Entry) (one : Entry) → [] ≡ front ++ one ∷ mid → ⊥
   nothing-before [] mid one is = cc
@@ -160,10 +159,10 @@ module _ (n k : ℕ) (o : Options) (s : TracedState) (h : List Entry) (run : IsF
     next-is = is ∙ sym (append_assoc f (e ∷ []) later)
 
     its-legal : IsLegalEntry n (S f) e
-    its-legal = legal n k o s h run reached bytes able f e later is calm
+    its-legal = legal n k o s h run able f e later is calm
 
     its-lawful : IsLawful (S f)
-    its-lawful = lawful-here n k o s h run f (e ∷ later) is calm
+    its-lawful = lawful-here n k o s h run.of f (e ∷ later) is calm
 
     state-is : S next ≡ after (S f) e
     state-is = state_after-push s f e
@@ -198,15 +197,15 @@ module _ (n k : ℕ) (o : Options) (s : TracedState) (h : List Entry) (run : IsF
     call-of : (a : Pending f) → call_here a.front (turn_entry pid a.id a.turned) ≡ call_of_step a.step ∷ []
     call-of a =
         let u = a.under in
-        step-call n k o s h run reached bytes able facts a.front (a.mid ++ e ∷ later) pid a.id a.turned
-        (parted n k o s h run reached bytes able facts all_calm pid f (e ∷ later) is a) u.calm a.place a.step a.under
+        step-call n k o s h run able facts a.front (a.mid ++ e ∷ later) pid a.id a.turned
+        (parted n k o s h run able facts all_calm pid f (e ∷ later) is a) u.calm a.place a.step a.under
         a.own a.trapped
 
     call-next : (a : Pending next) → call_here a.front (turn_entry pid a.id a.turned) ≡ call_of_step a.step ∷ []
     call-next a =
         let u = a.under in
-        step-call n k o s h run reached bytes able facts a.front (a.mid ++ later) pid a.id a.turned
-        (parted n k o s h run reached bytes able facts all_calm pid next later next-is a) u.calm a.place a.step a.under
+        step-call n k o s h run able facts a.front (a.mid ++ later) pid a.id a.turned
+        (parted n k o s h run able facts all_calm pid next later next-is a) u.calm a.place a.step a.under
         a.own a.trapped
 
     -- one entry more behind it
@@ -302,8 +301,8 @@ module _ (n k : ℕ) (o : Options) (s : TracedState) (h : List Entry) (run : IsF
       later-is : after (S f) e ≡ state_after then (a.mid ++ e ∷ [])
       later-is = ap (λ (u : TracedState). after u e) since-turn ∙ sym (state_after-push then a.mid e)
 
-      one : OneMore n k o s h run reached bytes able facts all_calm pid f (e ∷ later) is a e p
-      one = one-more n k o s h run reached bytes able facts all_calm pid f (e ∷ later) is a e later refl p live
+      one : OneMore n k o s h run able facts all_calm pid f (e ∷ later) is a e p
+      one = one-more n k o s h run able facts all_calm pid f (e ∷ later) is a e later refl p live
 
       its-quiet : (g : File) → ReadsFile k pid g (S f) e → ⊥
       its-quiet g r =
@@ -378,12 +377,12 @@ module _ (n k : ℕ) (o : Options) (s : TracedState) (h : List Entry) (run : IsF
             ∙ ap (λ cs. cs ++ was.lacking) shown-same
 
         clear-still : (Pending f → ⊥) → Pending next → ⊥
-        clear-still never a = by (where-is n k o s h run reached bytes able facts all_calm pid f e a)
+        clear-still never a = by (where-is n k o s h run able facts all_calm pid f e a)
           where
             one-none : {r : Report} → [] ≡ r ∷ [] → ⊥
             one-none same = cc
 
-            by : Where n k o s h run reached bytes able facts all_calm pid f e → ⊥
+            by : Where n k o s h run able facts all_calm pid f e → ⊥
             by (before b quiet) = never b
             by (here b front_is entry_is) =
                 one-none (sym plain
@@ -411,7 +410,7 @@ module _ (n k : ℕ) (o : Options) (s : TracedState) (h : List Entry) (run : IsF
 
         live-now : (p : TracedProcess) × (live_process (S f).system pid ≡ Some p)
         live-now =
-            let x = its-turn n k o s h run reached bytes able facts f later pid id turned turn-is calm in
+            let x = its-turn n k o s h run able facts f later pid id turned turn-is calm in
             (x.process, x.live)
 
         made-now : pid < (S f).system.made
@@ -422,19 +421,19 @@ module _ (n k : ℕ) (o : Options) (s : TracedState) (h : List Entry) (run : IsF
         lives-next : (q : TracedProcess) × (live_process (S next).system pid ≡ Some q)
         lives-next =
             let it =
-            lives-behind n k o s h run reached bytes able facts f later pid id turned turn-is calm place step under own
+            lives-behind n k o s h run able facts f later pid id turned turn-is calm place step under own
             trap in
             (it.0, ap (λ (u : TracedState). live_process u.system pid) (state-is ∙ ap (after (S f)) entry_is) ∙ it.1)
 
         step-is : its_call ≡ call_of_step step ∷ []
         step-is =
             ap (call_here f) entry_is
-            ∙ step-call n k o s h run reached bytes able facts f later pid id turned turn-is calm place step under own
+            ∙ step-call n k o s h run able facts f later pid id turned turn-is calm place step under own
             trap
 
         new-turn : Pending next
         new-turn =
-            let holds = holds-opened n k o s h run in
+            let holds = holds-opened n k o s h run.of in
             let owns = holds.each f (e ∷ later) place is calm under.within under.opened in
             let files = owns.files in
             record {
@@ -470,7 +469,7 @@ module _ (n k : ℕ) (o : Options) (s : TracedState) (h : List Entry) (run : IsF
               stands = pending new-turn (made-later made-now) lives-next.0 lives-next.1 none-yet;
             }
             by (pending a made p live none_yet) are =
-                absurd (no-more n k o s h run reached bytes able facts all_calm pid f later a id turned
+                absurd (no-more n k o s h run able facts all_calm pid f later a id turned
                 turn-is place step under own trap)
             by (lost report a) are = absurd (none-some live-now.0 (sym a.over ∙ live-now.1))
 
@@ -479,10 +478,10 @@ module _ (n k : ℕ) (o : Options) (s : TracedState) (h : List Entry) (run : IsF
         where
           turned-next : (id : ℕ) (turned : Turned) → e ≡ turn_entry pid id turned → Listed next
           turned-next id turned entry_is =
-              by-turn (what-turn n k o s h run reached bytes able facts f later pid id turned
+              by-turn (what-turn n k o s h run able facts f later pid id turned
               (is ∙ ap (λ x. f ++ x ∷ later) entry_is) calm)
             where
-              by-turn : WhatTurn n k o s h run reached bytes able facts f later pid id turned
+              by-turn : WhatTurn n k o s h run able facts f later pid id turned
                   (is ∙ ap (λ x. f ++ x ∷ later) entry_is) calm → Listed next
               by-turn (no_call empty) = plain-next (ap (call_here f) entry_is ∙ empty)
               by-turn (step_turn it) = step-next id turned entry_is it.place it.step it.under it.own it.trapped
@@ -516,7 +515,7 @@ module _ (n k : ℕ) (o : Options) (s : TracedState) (h : List Entry) (run : IsF
           by Clock did same = absurd (none-some x same)
 
       has-now : has_functions (T f).options ≡ true
-      has-now = ap has_functions (options-here n k o s h run f (e ∷ later) is calm) ∙ run.has
+      has-now = ap has_functions (options-here n k o s h run.of f (e ∷ later) is calm) ∙ run.of.has
 
       shown-next : calls_of pid (T next).reports ≡ calls_of pid (T f).reports ++ calls_of pid told
       shown-next =
@@ -535,7 +534,7 @@ module _ (n k : ℕ) (o : Options) (s : TracedState) (h : List Entry) (run : IsF
           ∙ append-nil (calls_of pid (T f).reports))
 
       abbrev TellsIt : Type 0
-      TellsIt = TellsUnread n k o s h run reached bytes able facts all_calm pid f x
+      TellsIt = TellsUnread n k o s h run able facts all_calm pid f x
 
       -- what is told of this process is an unread turn, or nothing
       data Told : Type 0 where
@@ -549,13 +548,13 @@ module _ (n k : ℕ) (o : Options) (s : TracedState) (h : List Entry) (run : IsF
           by (nothing empty) = told_none empty
           by (one_call report is_told its) =
               told_one
-              (told-unread n k o s h run reached bytes able facts all_calm pid f e later is x own report is_told its)
+              (told-unread n k o s h run able facts all_calm pid f e later is x own report is_told its)
 
       no-turn : {A : Type 0} (b : Pending next) → e ≡ turn_entry pid b.id b.turned → A
       no-turn b entry_is = absurd (none-some x (ap (exchange_of k) (sym entry_is) ∙ own))
 
       same-number-of : (a b : Pending f) → a.number ≡ b.number
-      same-number-of = same-number n k o s h run reached bytes able facts all_calm pid f (e ∷ later) is
+      same-number-of = same-number n k o s h run able facts all_calm pid f (e ∷ later) is
 
       -- ---- the read of an unread turn
 
@@ -570,7 +569,7 @@ module _ (n k : ℕ) (o : Options) (s : TracedState) (h : List Entry) (run : IsF
 
         told-first : TellsOf (traced_at (T a.front) a.place).pid
         told-first parts lives =
-            let all = steps-read n k o s h run reached bytes able in
+            let all = steps-read n k o s h run able in
             all.told a.front a.mid later a.place a.id a.step a.turned e x parts a.under a.trapped
             (record {
               own = own;
@@ -586,7 +585,7 @@ module _ (n k : ℕ) (o : Options) (s : TracedState) (h : List Entry) (run : IsF
         told-now =
             ap (λ es. call_told (T es) x.reply) a.is
             ∙ subst TellsOf a.own told-first
-            (parted n k o s h run reached bytes able facts all_calm pid f (e ∷ later) is a)
+            (parted n k o s h run able facts all_calm pid f (e ∷ later) is a)
             (ap (λ (u : TracedState). live_process u.system pid)
             (sym (ap (state_after s) a.is ∙ state_after-both s a.front (turn_entry pid a.id a.turned ∷ a.mid)))
             ∙ live)
@@ -595,9 +594,9 @@ module _ (n k : ℕ) (o : Options) (s : TracedState) (h : List Entry) (run : IsF
         told-is = ap (calls_of pid) told-now ∙ one-shown pid (call_of_step a.step) (eq-eqb pid pid refl)
 
         read-clear : Pending next → ⊥
-        read-clear c = by (where-is n k o s h run reached bytes able facts all_calm pid f e c)
+        read-clear c = by (where-is n k o s h run able facts all_calm pid f e c)
           where
-            by : Where n k o s h run reached bytes able facts all_calm pid f e → ⊥
+            by : Where n k o s h run able facts all_calm pid f e → ⊥
             by (before b quiet) =
                 let q = quiet x own in
                 q.no_read (reads ∙ ap (λ i. read_record (Some i)) (same-number-of a b))
@@ -612,9 +611,9 @@ module _ (n k : ℕ) (o : Options) (s : TracedState) (h : List Entry) (run : IsF
       still lacking are empty = are ∙ ap (λ cs. cs ++ lacking) (shown-still empty)
 
       clear-next : (Pending f → ⊥) → Pending next → ⊥
-      clear-next never c = by (where-is n k o s h run reached bytes able facts all_calm pid f e c)
+      clear-next never c = by (where-is n k o s h run able facts all_calm pid f e c)
         where
-          by : Where n k o s h run reached bytes able facts all_calm pid f e → ⊥
+          by : Where n k o s h run able facts all_calm pid f e → ⊥
           by (before b quiet) = never b
           by (here b front_is entry_is) = no-turn b entry_is
 
@@ -689,7 +688,7 @@ module _ (n k : ℕ) (o : Options) (s : TracedState) (h : List Entry) (run : IsF
     are = no-turns k pid (first_truss o) s
         ∙ sym (append-nil (calls_of pid (T []).reports)
         ∙ ap (λ xs. calls_of pid (functions_after (first_truss o) xs).reports) (no-exchanges k)
-        ∙ none-shown pid o run.has);
+        ∙ none-shown pid o run.of.has);
     stands = clear (λ a. nothing-before a.front a.mid (turn_entry pid a.id a.turned) a.is);
   }
 
@@ -714,7 +713,7 @@ module _ (n k : ℕ) (o : Options) (s : TracedState) (h : List Entry) (run : IsF
         lacking = it.lacking;
         are = it.are;
         few = few;
-        at_last = λ finished some. lacking-at-last k o s pid n h run finished few some;
+        at_last = λ finished some. lacking-at-last k o s pid n h run.of finished few some;
       }
     where
       -- the turn came, and was not read since
@@ -734,29 +733,29 @@ module _ (n k : ℕ) (o : Options) (s : TracedState) (h : List Entry) (run : IsF
       call-at-end : (a : Pending h) → call_here a.front (turn_entry pid a.id a.turned) ≡ call_of_step a.step ∷ []
       call-at-end a =
           let u = a.under in
-          step-call n k o s h run reached bytes able facts a.front (a.mid ++ []) pid a.id a.turned
-          (parted n k o s h run reached bytes able facts all_calm pid h [] whole a) u.calm a.place a.step a.under a.own
+          step-call n k o s h run able facts a.front (a.mid ++ []) pid a.id a.turned
+          (parted n k o s h run able facts all_calm pid h [] whole a) u.calm a.place a.step a.under a.own
           a.trapped
 
       unread-now : (a : Pending h) → (p : TracedProcess) → live_process (S h).system pid ≡ Some p
           → Unanswered a.front (turn_entry pid a.id a.turned) a.mid
           → MayLack k o s h pid (call_of_step a.step ∷ [])
       unread-now a p live since =
-          let u = still-under n k o s h run reached bytes able facts all_calm pid h [] whole a p live in
+          let u = still-under n k o s h run able facts all_calm pid h [] whole a p live in
           let its = u.under in
-          let g = goes-here n k o s h run h [] whole all_calm in
+          let g = goes-here n k o s h run.of h [] whole all_calm in
           unread (call_of_step a.step)
           (its-turn-unread a.front (turn_entry pid a.id a.turned) a.mid a.is (call_of_step a.step) (call-at-end a)
           since)
           (record {
             place = u.place;
             traced =
-                place-of pid (T h).traced u.place (apart-here n k o s h run h [] whole all_calm) its.within u.own;
+                place-of pid (T h).traced u.place (apart-here n k o s h run.of h [] whole all_calm) its.within u.own;
             step = a.step;
             under_way = its.under_way;
             is = refl;
           })
-          (opened-watched n k o s h [] pid (subst (λ (es : List Entry). IsFunctionRun n k o s es) whole run)
+          (opened-watched n k o s h [] pid (subst (λ (es : List Entry). IsFunctionRun n k o s es) whole run.of)
           (IsSo ⊥ k (T h).options (S h)) g.kept u.place its.within u.own its.opened) p live
 
       by : {lacking : List Report} → Stands h lacking → MayLack k o s h pid lacking

@@ -3,7 +3,7 @@ use Rattle.std.proofs.lemmas.Bool.{cases_eq, false≢true}
 use Rattle.std.proofs.lemmas.Option.{none-some, same_Some}
 use Rattle.pr_api.specs.Entries.{call_entry}
 use Rattle.pr_function_hides.proofs.Files.CallFacts.{legal-here, open-made}
-use Rattle.pr_function_hides.proofs.Tidy.CopyFree.{entry-is, function-run, opens-out, run-options}
+use Rattle.pr_function_hides.proofs.Tidy.CopyFree.{entry-is, opens-out, reached-run, run-options}
 use Rattle.pr_function_hides.proofs.Copying.CopyWalk.{next-is}
 use Rattle.pr_function_hides.proofs.Memory.Unborrowed.{IsUnborrowed, entry-unborrowed, unborrowed-none, unborrowed-now}
 use Rattle.pr_function_hides.specs.CountedFunctions.{HasBorrowed, directly, through}
@@ -195,8 +195,7 @@ module _ {n : ℕ} {who : Hiders} {controllers : List ControllerState} {first : 
 
       next-call : next_function_call_of (functions_at k o front) ≡ Some x.call
       next-call =
-          next-is n k o first h (function-run run.legal run.reached run.own_calls run.are k hider) run.reached run.awake
-          run.bytes (opens-out run k hider) front back e place x own
+          next-is n k o first h (reached-run run k hider) run.awake (opens-out run k hider) front back e place x own
 
       -- one that it opens
       opened-one : (pid id : ℕ) (f : File) (mode : Mode) → x.call ≡ call.Open pid id f mode → is_control f ≡ true

@@ -21,6 +21,7 @@ use Rattle.pr_function_laws.proofs.OrdinaryTruss.OrdinaryExchanges.{IsFit}
 use Rattle.pr_function_laws.proofs.OrdinaryTruss.OrdinaryStops.{FitsAside}
 use Rattle.pr_function_laws.proofs.Marks.SoundLemmas.{AsideIsBelow}
 use Rattle.pr_function_laws.specs.Lifted.{HasControl}
+use Rattle.pr_function_laws.specs.ReachedRuns.{IsReachedFunctionRun}
 use Rattle.pr_function_laws.specs.Opened.{IsFunctionRun, WasNotInterrupted, functions_at}
 use Rattle.pr_function_laws.specs.Runs.{functions_on}
 use Rattle.pr_line.specs.declared.options.Options.{Options}
@@ -29,7 +30,6 @@ use Rattle.pr_model.specs.Legal.{IsLegalEntry, after, state_after}
 use Rattle.pr_model.specs.State.{TracedProcess, TracedState, live_process}
 use Rattle.pr_model.specs.declared.events.Entry.{Entry}
 use Rattle.pr_reached.specs.ByteHistories.{HasBytes}
-use Rattle.pr_reached.specs.Reached.{IsReached}
 use Rattle.pr_report_laws.proofs.Invariant.StandLemmas.{Each}
 use Rattle.pr_truss.specs.FunctionCalls.{next_function_call_of}
 use Rattle.pr_truss.specs.FunctionFeeding.{fed_functions}
@@ -46,8 +46,8 @@ use Rattle.pr_truss_laws.specs.Exchanges.{Exchange, exchange_of, exchanges}
 -- An entry of a history of truss with functions before which it was not interrupted: what is so of truss and of the
 -- machine before it and behind it.
 
-module _ (n k : ℕ) (o : Options) (s : TracedState) (h : List Entry) (run : IsFunctionRun n k o s h)
-    (reached : IsReached s) (bytes : HasBytes h) (front : List Entry) (e : Entry) (later : List Entry)
+module _ (n k : ℕ) (o : Options) (s : TracedState) (h : List Entry) (run : IsReachedFunctionRun n k o s h)
+    (front : List Entry) (e : Entry) (later : List Entry)
     (is : h ≡ front ++ e ∷ later) (calm : All WasNotInterrupted (exchanges k front)) where
   abbrev pub t : TrussState
   t = functions_at k o front
@@ -60,11 +60,11 @@ module _ (n k : ℕ) (o : Options) (s : TracedState) (h : List Entry) (run : IsF
 
   pub goes : Goes (Unit {0}) k o t now
   goes =
-      before-goes n k o s h run front (e ∷ later) is calm (Unit {0}) (λ r. reached)
-      (λ r. bytes-front front (e ∷ later) (subst HasBytes is bytes))
+      before-goes n k o s h run.of front (e ∷ later) is calm (Unit {0}) (λ r. run.reached)
+      (λ r. bytes-front front (e ∷ later) (subst HasBytes is run.bytes))
 
   pub legal : IsLegalEntry n now e
-  legal = fronts.legal n k o s h run front e later is calm
+  legal = fronts.legal n k o s h run.of front e later is calm
 
   pub lawful : IsLawful now
   lawful = let g = goes in g.lawful
@@ -73,7 +73,7 @@ module _ (n k : ℕ) (o : Options) (s : TracedState) (h : List Entry) (run : IsF
   options = let g = goes in g.options
 
   pub has : has_functions t.options ≡ true
-  has = fronts.has n k o s h run front e later is calm
+  has = fronts.has n k o s h run.of front e later is calm
 
   pub kept : Kept (IsSo (Unit {0}) k t.options now) t
   kept = let g = goes in g.kept
@@ -93,7 +93,7 @@ module _ (n k : ℕ) (o : Options) (s : TracedState) (h : List Entry) (run : IsF
   fit : IsFit o t
   fit =
       let half =
-      run-halfway n k o s front (e ∷ later) (subst (λ (es : List Entry). IsFunctionRun n k o s es) is run) in
+      run-halfway n k o s front (e ∷ later) (subst (λ (es : List Entry). IsFunctionRun n k o s es) is run.of) in
       let f = half.follows in f.fit
 
   pub fits : FitsAside t.aside t.stage
@@ -104,7 +104,7 @@ module _ (n k : ℕ) (o : Options) (s : TracedState) (h : List Entry) (run : IsF
   below = let f = fit in let sound = f.sound in let names = sound.names in names.aside
 
   pub firsts : TrussIn (IsFirstOf o) t
-  firsts = firsts-after n k o s h run front (e ∷ later) is calm
+  firsts = firsts-after n k o s h run.of front (e ∷ later) is calm
 
   pub control : (q : ℕ) → q < length t.traced → HasControl k (traced_at t q).pid (traced_at t q).control now
   control q within = control-at n k o t now goes q within
@@ -117,10 +117,10 @@ module _ (n k : ℕ) (o : Options) (s : TracedState) (h : List Entry) (run : IsF
   apart i j one two other = let w = kept in apart-at t.traced i j one two other w.apart
 
   pub pushed : functions_at k o next_front ≡ functions_on t (exchange_of k e)
-  pushed = fronts.pushed n k o s h run front e later is calm
+  pushed = fronts.pushed n k o s h run.of front e later is calm
 
   pub next-state : state_after s next_front ≡ after now e
-  next-state = fronts.next-state n k o s h run front e later is calm
+  next-state = fronts.next-state n k o s h run.of front e later is calm
 
   pub next-live : (pid : ℕ) → live_process (state_after s next_front).system pid
       ≡ live_process (after now e).system pid
@@ -158,7 +158,7 @@ module _ (n k : ℕ) (o : Options) (s : TracedState) (h : List Entry) (run : IsF
     own = own-entry n k now e x legal mine
 
     pub next : next_function_call_of t ≡ Some x.call
-    next = fronts.makes-next n k o s h run front e later is calm x mine
+    next = fronts.makes-next n k o s h run.of front e later is calm x mine
 
     pub fed-truss : functions_at k o next_front ≡ fed_functions t x.reply
     fed-truss = pushed ∙ ap (functions_on t) mine
@@ -185,5 +185,5 @@ module _ (n k : ℕ) (o : Options) (s : TracedState) (h : List Entry) (run : IsF
         → live_process now.system (traced_at t q).pid ≡ None
     gone told q here =
         let it = own in
-        gone-there n k o t now goes (known-at n k o s h run front (e ∷ later) is calm) x.call it.answer it.is
+        gone-there n k o t now goes (known-at n k o s h run.of front (e ∷ later) is calm) x.call it.answer it.is
         (ap answer_of it.replied ∙ told) has next q here

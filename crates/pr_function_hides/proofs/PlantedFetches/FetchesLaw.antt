@@ -14,8 +14,6 @@ use Rattle.pr_model.specs.declared.events.Actor.TheVariants.{Lwp}
 use Rattle.pr_model.specs.declared.events.Entry.{Entry}
 use Rattle.pr_model.specs.declared.events.Turned.{Turned}
 use Rattle.pr_probe_laws.proofs.Hiding.HiddenFacts.{legal-turn}
-use Rattle.pr_reached.specs.ByteHistories.{HasBytes}
-use Rattle.pr_reached.specs.Reached.{IsReached}
 use Rattle.pr_report_laws.proofs.Machine.OwnTurnLaws.{event-halts}
 use Rattle.pr_report_laws.specs.Watching.{is_away}
 use Rattle.pr_truss.specs.Asides.{marks_at}
@@ -24,7 +22,8 @@ use Rattle.pr_truss.specs.Trusses.{TrussState, traced_at}
 use Rattle.pr_truss_laws.specs.Stills.{IsFrozen, IsHalting, stands_still}
 use Rattle.pr_function_laws.proofs.LeavingProcesses.LeavingCourse.{entry-legal, options-at}
 use Rattle.pr_function_laws.proofs.LeavingProcesses.LeavingHolds.{here-unlooked, has-one-event-each}
-use Rattle.pr_function_laws.specs.Opened.{IsFunctionRun, functions_at}
+use Rattle.pr_function_laws.specs.ReachedRuns.{IsReachedFunctionRun}
+use Rattle.pr_function_laws.specs.Opened.{functions_at}
 use Rattle.pr_function_hides.proofs.PlantedFetches.BreakpointBytes.{breakpoint-fetched}
 use Rattle.pr_function_hides.proofs.PlantedFetches.ForeignEntries.{AllHold, patchable-at}
 use Rattle.pr_function_hides.proofs.PlantedFetches.LeavingBreakpoints as Leaving
@@ -69,8 +68,8 @@ module _ (s : TracedSystem) (pid id : ℕ) (turn : LwpTurn) (took : turn_of s pi
 
 -- ---- a history
 
-module _ (n k : ℕ) (o : Options) (s : TracedState) (h : List Entry) (run : IsFunctionRun n k o s h)
-    (reached : IsReached s) (bytes : HasBytes h) (fit : ArePatchable o) (spared : LeavesPlanted k o s h) where
+module _ (n k : ℕ) (o : Options) (s : TracedState) (h : List Entry) (run : IsReachedFunctionRun n k o s h)
+    (fit : ArePatchable o) (spared : LeavesPlanted k o s h) where
   abbrev T : List Entry → TrussState
   T front = functions_at k o front
 
@@ -92,7 +91,7 @@ module _ (n k : ℕ) (o : Options) (s : TracedState) (h : List Entry) (run : IsF
         ≡ Some (record { system = next; turned = turned }))
     taken =
         legal-turn n (S front) pid id turned
-        (entry-legal (Unit {0}) n k o s h run (λ r. reached) (λ r. bytes) front its later is)
+        (entry-legal (Unit {0}) n k o s h run.of (λ r. run.reached) (λ r. run.bytes) front its later is)
 
     not-halting : IsHalting p → ⊥
     not-halting =
@@ -108,9 +107,9 @@ module _ (n k : ℕ) (o : Options) (s : TracedState) (h : List Entry) (run : IsF
       not-empty none = false≢true (sym (none i) ∙ planted)
 
       standing : AllHold o (marks_at (T front) q) p
-      standing = by (Leaving.course-of n k o s h run reached bytes fit spared front (its ∷ later) is)
+      standing = by (Leaving.course-of n k o s h run fit spared front (its ∷ later) is)
         where
-          of-calm : Standing.Waits n k o s h run reached bytes fit spared front pid
+          of-calm : Standing.Waits n k o s h run fit spared front pid
               ⊎ AllHold o (marks_at (T front) q) p → AllHold o (marks_at (T front) q) p
           of-calm (inl w) =
               let pending = w.pending in
@@ -123,17 +122,17 @@ module _ (n k : ℕ) (o : Options) (s : TracedState) (h : List Entry) (run : IsF
           of-left (inl halts) = absurd (not-halting halts)
           of-left (inr hold) = hold
 
-          by : Leaving.CourseOf n k o s h run reached bytes fit spared front
+          by : Leaving.CourseOf n k o s h run fit spared front
               → AllHold o (marks_at (T front) q) p
           by (goes_calm calm) =
-              of-calm (Standing.stand-at n k o s h run reached bytes fit spared front (its ∷ later) is calm q
+              of-calm (Standing.stand-at n k o s h run fit spared front (its ∷ later) is calm q
               within p live)
           by (has_left w) = elim (cases_Bool (traced_at (T front) q).attached) [
             | inl attached ↦
                 elim (cases_Bool (is_away true (T front).stage q)) [
                   | inl away ↦
                       absurd (not-frozen
-                      (let each = has-one-event-each n k o s h run reached bytes in
+                      (let each = has-one-event-each n k o s h run in
                       let none = w.none in
                       each.looked_last front (its ∷ later) q p is none.on within attached away live))
                   | inr here ↦
@@ -149,7 +148,7 @@ module _ (n k : ℕ) (o : Options) (s : TracedState) (h : List Entry) (run : IsF
     each = λ front later q id i turned p l f xs is within live there user going named at planted fetch.
         let its_named : slice_get o.functions i ≡ Some f =
         ap (λ (x : Options). slice_get x.functions i)
-        (sym (options-at (Unit {0}) n k o s h run (λ r. reached) (λ r. bytes) front
+        (sym (options-at (Unit {0}) n k o s h run.of (λ r. run.reached) (λ r. run.bytes) front
         (record { actor = Lwp (traced_at (T front) q).pid id; act = act.Turn turned } ∷ later) is)) ∙ named in
         breakpoint-fetched f (patchable-at o fit i f its_named) p
         (standing front later q id turned p l is within live there going i planted i f its_named planted) xs fetch;

@@ -29,6 +29,7 @@ use Rattle.pr_function_laws.proofs.OrdinaryTruss.OrdinaryReplies.{at-ordinary}
 use Rattle.pr_function_laws.proofs.OpenedProcesses.StoodLemmas.{Stood, as_stopped, waits}
 use Rattle.pr_function_laws.proofs.OpenedProcesses.TracedSets.{IsSetBy}
 use Rattle.pr_function_laws.specs.Lifted.{HasControl}
+use Rattle.pr_function_laws.specs.ReachedRuns.{IsReachedFunctionRun}
 use Rattle.pr_function_laws.specs.Opened.{IsFunctionRun, TracesAll, WasNotInterrupted, functions_at, is_opened}
 use Rattle.pr_function_laws.specs.Ordinary.{ordinary}
 use Rattle.pr_function_laws.specs.Runs.{functions_on}
@@ -43,8 +44,6 @@ use Rattle.pr_model.specs.declared.events.Act.{Act}
 use Rattle.pr_model.specs.declared.events.Actor.{Actor}
 use Rattle.pr_model.specs.declared.events.Entry.{Entry}
 use Rattle.pr_num.specs.declared.errnos.Errno.TheVariants.{Intr}
-use Rattle.pr_reached.specs.ByteHistories.{HasBytes}
-use Rattle.pr_reached.specs.Reached.{IsReached}
 use Rattle.pr_report_laws.proofs.Files.FileLaws.{HasFiles}
 use Rattle.pr_report_laws.proofs.Files.WatchHistories.{no-exchanges}
 use Rattle.pr_report_laws.proofs.Invariant.StandLemmas.{Each}
@@ -77,8 +76,8 @@ moved-holds f p q (alone w) holds =
     let kept = memory.own holds.own in
     holds-same f p q (kept.0 ∙ sym holds.own) kept.1 holds
 
-module _ (n k : ℕ) (o : Options) (s : TracedState) (h : List Entry) (run : IsFunctionRun n k o s h)
-    (reached : IsReached s) (bytes : HasBytes h) (fit : ArePatchable o) (spared : LeavesPlanted k o s h) where
+module _ (n k : ℕ) (o : Options) (s : TracedState) (h : List Entry) (run : IsReachedFunctionRun n k o s h)
+    (fit : ArePatchable o) (spared : LeavesPlanted k o s h) where
   abbrev pub truss : List Entry → TrussState
   truss front = functions_at k o front
 
@@ -114,19 +113,19 @@ module _ (n k : ℕ) (o : Options) (s : TracedState) (h : List Entry) (run : IsF
     v = fed_functions t x.reply
 
     legal : IsLegalEntry n now e
-    legal = Calm.legal n k o s h run reached bytes front e later is calm
+    legal = Calm.legal n k o s h run front e later is calm
 
     own : IsOwnEntry k now e x
-    own = Calm.own n k o s h run reached bytes front e later is calm x mine
+    own = Calm.own n k o s h run front e later is calm x mine
 
     sent : next_function_call_of t ≡ Some x.call
-    sent = Calm.next n k o s h run reached bytes front e later is calm x mine
+    sent = Calm.next n k o s h run front e later is calm x mine
 
     has : has_functions t.options ≡ true
-    has = Calm.has n k o s h run reached bytes front e later is calm
+    has = Calm.has n k o s h run front e later is calm
 
     kept : Kept (IsSo (Unit {0}) k t.options now) t
-    kept = Calm.kept n k o s h run reached bytes front e later is calm
+    kept = Calm.kept n k o s h run front e later is calm
 
     may : may_wait x.call ≡ true
     may = let calm_x = entry-calm n k now e x legal mine in calm_x.waits broken
@@ -138,17 +137,17 @@ module _ (n k : ℕ) (o : Options) (s : TracedState) (h : List Entry) (run : IsF
         w.beside sent
 
     v-is : truss next_front ≡ v
-    v-is = Calm.fed-truss n k o s h run reached bytes front e later is calm x mine
+    v-is = Calm.fed-truss n k o s h run front e later is calm x mine
 
     system-is : (here next_front).system ≡ now.system
     unfolding own
     system-is =
         ap (λ (u : TracedState). u.system)
-        (sym (Calm.left-state n k o s h run reached bytes front e later is calm x mine))
-        ∙ same-system (Unit {0}) n k o t now (Calm.goes n k o s h run reached bytes front e later is calm)
-        (files-at (Unit {0}) n k o s h run (λ r. reached) (λ r. bytes) front (e ∷ later) is) e legal
-        (λ r. entry-bytes (Unit {0}) n k o s h run (λ r. reached) (λ r. bytes) front e later is tt) x own sent has
-        broken
+        (sym (Calm.left-state n k o s h run front e later is calm x mine))
+        ∙ same-system (Unit {0}) n k o t now (Calm.goes n k o s h run front e later is calm)
+        (files-at (Unit {0}) n k o s h run.of (λ r. run.reached) (λ r. run.bytes) front (e ∷ later) is) e legal
+        (λ r. entry-bytes (Unit {0}) n k o s h run.of (λ r. run.reached) (λ r. run.bytes) front e later is tt) x own
+        sent has broken
         may
 
     marks-same : (i : ℕ) → marks_at v i ≡ marks_at t i
@@ -165,8 +164,8 @@ module _ (n k : ℕ) (o : Options) (s : TracedState) (h : List Entry) (run : IsF
     opened-so q within opened =
         let a =
         opened-attached n k o s front (e ∷ later) (traced_at t q).pid
-        (subst (λ (es : List Entry). IsFunctionRun n k o s es) is run) (IsSo (Unit {0}) k t.options now) kept q within
-        opened in
+        (subst (λ (es : List Entry). IsFunctionRun n k o s es) is run.of) (IsSo (Unit {0}) k t.options now) kept q
+        within opened in
         ap (λ (u : Traced). u.attached) (sym (at-ordinary t q)) ∙ a.attached
 
     waiting-none : WaitsAt t → Each HasNoneUnattached t.traced
@@ -175,7 +174,7 @@ module _ (n k : ℕ) (o : Options) (s : TracedState) (h : List Entry) (run : IsF
     waiting-none (awaits_opening a until at) q within free = elim (cases_eq a q) [
       | inl same ↦
           subst (λ i. IsEmpty (marks_at t i).planted) same
-          (opening-unplanted n k o s h run reached bytes front (e ∷ later) is calm a
+          (opening-unplanted n k o s h run front (e ∷ later) is calm a
           (subst (λ i. i < length t.traced) (sym same) within) (opening.AwaitStop until) at refl)
       | inr other ↦
           absurd (false≢true
@@ -187,11 +186,11 @@ module _ (n k : ℕ) (o : Options) (s : TracedState) (h : List Entry) (run : IsF
     began = record {
       none =
           subst LeavesNone (sym v-is)
-          (none-begun t x.reply (Calm.follow n k o s h run reached bytes front e later is calm) has
-          (Calm.apart n k o s h run reached bytes front e later is calm)
+          (none-begun t x.reply (Calm.follow n k o s h run front e later is calm) has
+          (Calm.apart n k o s h run front e later is calm)
           (let w = b in waiting-none w.waits) (broken-answer x broken) x.call (may-can x.call may)
-          (Calm.at-stage n k o s h run reached bytes front e later is calm)
-          (Calm.at-aside n k o s h run reached bytes front e later is calm) sent);
+          (Calm.at-stage n k o s h run front e later is calm)
+          (Calm.at-aside n k o s h run front e later is calm) sent);
       fine = λ q within attached unlooked p live.
           let w = b in
           let shares = w.shares in
@@ -205,13 +204,13 @@ module _ (n k : ℕ) (o : Options) (s : TracedState) (h : List Entry) (run : IsF
           let its_marks : marks_at (truss next_front) q ≡ marks_at t q =
           ap (λ (u : TrussState). marks_at u q) v-is ∙ marks-same q in
           by q p was_live its_marks
-          (Standing.stand-at n k o s h run reached bytes fit spared front (e ∷ later) is calm q inside p
+          (Standing.stand-at n k o s h run fit spared front (e ∷ later) is calm q inside p
           was_live);
     }
       where
         by : (q : ℕ) (p : TracedProcess) → live_process now.system (traced_at t q).pid ≡ Some p
             → marks_at (truss next_front) q ≡ marks_at t q
-            → Standing.Waits n k o s h run reached bytes fit spared front (traced_at t q).pid
+            → Standing.Waits n k o s h run fit spared front (traced_at t q).pid
             ⊎ AllHold o (marks_at t q) p → IsHalting p ⊎ AllHold o (marks_at (truss next_front) q) p
         by q p live marks (inl w) =
             let pending = w.pending in
@@ -238,28 +237,28 @@ module _ (n k : ℕ) (o : Options) (s : TracedState) (h : List Entry) (run : IsF
     leaving : IsLeaving (Unit {0}) k o leaver state
     leaving =
         let w = was.none in
-        leaving-at (Unit {0}) n k o s h run (λ r. reached) (λ r. bytes) front (entry ∷ later) is w.on
+        leaving-at (Unit {0}) n k o s h run.of (λ r. run.reached) (λ r. run.bytes) front (entry ∷ later) is w.on
 
     files : HasFiles k (ordinary leaver) state
-    files = files-at (Unit {0}) n k o s h run (λ r. reached) (λ r. bytes) front (entry ∷ later) is
+    files = files-at (Unit {0}) n k o s h run.of (λ r. run.reached) (λ r. run.bytes) front (entry ∷ later) is
 
     is-legal : IsLegalEntry n state entry
-    is-legal = entry-legal (Unit {0}) n k o s h run (λ r. reached) (λ r. bytes) front entry later is
+    is-legal = entry-legal (Unit {0}) n k o s h run.of (λ r. run.reached) (λ r. run.bytes) front entry later is
 
     next-truss : truss longer ≡ functions_on leaver (exchange_of k entry)
-    next-truss = truss-next (Unit {0}) n k o s h run (λ r. reached) (λ r. bytes) front entry later is
+    next-truss = truss-next (Unit {0}) n k o s h run.of (λ r. run.reached) (λ r. run.bytes) front entry later is
 
     next-state : here longer ≡ after state entry
-    next-state = state-next (Unit {0}) n k o s h run (λ r. reached) (λ r. bytes) front entry later is
+    next-state = state-next (Unit {0}) n k o s h run.of (λ r. run.reached) (λ r. run.bytes) front entry later is
 
     options-are : leaver.options ≡ o
-    options-are = options-at (Unit {0}) n k o s h run (λ r. reached) (λ r. bytes) front (entry ∷ later) is
+    options-are = options-at (Unit {0}) n k o s h run.of (λ r. run.reached) (λ r. run.bytes) front (entry ∷ later) is
 
     has-it : has_functions leaver.options ≡ true
-    has-it = has-there (Unit {0}) n k o s h run (λ r. reached) (λ r. bytes) front entry later is
+    has-it = has-there (Unit {0}) n k o s h run.of (λ r. run.reached) (λ r. run.bytes) front entry later is
 
     follow-it : leaver.options.follow ≡ false
-    follow-it = follow-there (Unit {0}) n k o s h run (λ r. reached) (λ r. bytes) front entry later is
+    follow-it = follow-there (Unit {0}) n k o s h run.of (λ r. run.reached) (λ r. run.bytes) front entry later is
 
     -- ---- of others
 
@@ -347,7 +346,8 @@ module _ (n k : ℕ) (o : Options) (s : TracedState) (h : List Entry) (run : IsF
       own-it = own-entry n k state entry x is-legal mine
 
       asked-next : next_function_call_of leaver ≡ Some x.call
-      asked-next = makes-there (Unit {0}) n k o s h run (λ r. reached) (λ r. bytes) front entry later is x mine
+      asked-next =
+          makes-there (Unit {0}) n k o s h run.of (λ r. run.reached) (λ r. run.bytes) front entry later is x mine
 
       leaver-next-is : truss longer ≡ leaver_next
       leaver-next-is = next-truss ∙ ap (functions_on leaver) mine
@@ -359,8 +359,8 @@ module _ (n k : ℕ) (o : Options) (s : TracedState) (h : List Entry) (run : IsF
       own-fine i within attached unlooked y live =
           let w =
           behind (Unit {0}) n k o leaver state leaving files entry is-legal
-          (λ r. entry-bytes (Unit {0}) n k o s h run (λ r. reached) (λ r. bytes) front entry later is tt) x own-it
-          asked-next has-it
+          (λ r. entry-bytes (Unit {0}) n k o s h run.of (λ r. run.reached) (λ r. run.bytes) front entry later is tt) x
+          own-it asked-next has-it
           follow-it i within attached unlooked in
           let it = own-it in
           let y_live : live_process it.answer.state.system (traced_at leaver w.q).pid ≡ Some y =
@@ -408,7 +408,8 @@ module _ (n k : ℕ) (o : Options) (s : TracedState) (h : List Entry) (run : IsF
     where
       on : ((x : Exchange) → exchange_of k e ≡ Some x → WasNotInterrupted x) → CourseOf (front ++ e ∷ [])
       on quiet =
-          goes_calm (calm-next (Unit {0}) n k o s h run (λ r. reached) (λ r. bytes) front e later is calm quiet)
+          goes_calm
+          (calm-next (Unit {0}) n k o s h run.of (λ r. run.reached) (λ r. run.bytes) front e later is calm quiet)
 
       of : (x : Exchange) → exchange_of k e ≡ Some x → (x.reply ≡ reply.Fail Intr) ⊎ WasNotInterrupted x
           → CourseOf (front ++ e ∷ [])

@@ -20,7 +20,8 @@ use Rattle.pr_function_laws.proofs.Marks.KeptPlaces.{AtAside}
 use Rattle.pr_function_laws.proofs.LeavingProcesses.LeftProcesses.{Lasts, foreign-lasts}
 use Rattle.pr_function_laws.proofs.OpenedProcesses.OpenedCalls.{IsSo, read-mild, write-mild}
 use Rattle.pr_function_laws.proofs.OpenedProcesses.StoodCalls.{BeginLeavingLwps}
-use Rattle.pr_function_laws.specs.Opened.{IsFunctionRun, WasNotInterrupted, functions_at, is_opened}
+use Rattle.pr_function_laws.specs.ReachedRuns.{IsReachedFunctionRun}
+use Rattle.pr_function_laws.specs.Opened.{WasNotInterrupted, functions_at, is_opened}
 use Rattle.pr_function_laws.specs.Runs.{functions_after}
 use Rattle.pr_line.specs.declared.options.Options.{Options}
 use Rattle.pr_model.specs.Legal.{state_after}
@@ -29,8 +30,6 @@ use Rattle.pr_model.specs.declared.calls.Call.TheVariants as call
 use Rattle.pr_model.specs.declared.events.Entry.{Entry}
 use Rattle.pr_num.specs.Messages.{spelling}
 use Rattle.pr_num.specs.declared.messages.Message.TheVariants as message
-use Rattle.pr_reached.specs.ByteHistories.{HasBytes}
-use Rattle.pr_reached.specs.Reached.{IsReached}
 use Rattle.pr_report_laws.proofs.Files.WatchHistories.{exchanges-both, no-exchanges}
 use Rattle.pr_report_laws.proofs.Invariant.StandLemmas.{Each}
 use Rattle.pr_report_laws.proofs.Watching.HistoryParts.{all-front}
@@ -82,8 +81,7 @@ late-halted opening.Follow late = refl
 late-halted opening.Start late = refl
 late-halted _ late = absurd (false≢true (sym late))
 
-module _ (n k : ℕ) (o : Options) (s : TracedState) (h : List Entry) (run : IsFunctionRun n k o s h)
-    (reached : IsReached s) (bytes : HasBytes h) where
+module _ (n k : ℕ) (o : Options) (s : TracedState) (h : List Entry) (run : IsReachedFunctionRun n k o s h) where
   abbrev pub truss : List Entry → TrussState
   truss front = functions_at k o front
 
@@ -133,31 +131,31 @@ module _ (n k : ℕ) (o : Options) (s : TracedState) (h : List Entry) (run : IsF
     pid_at q = (traced_at t q).pid
 
     within-now : IsWithin (length t.traced) t.stage
-    within-now = Calm.at-stage n k o s h run reached bytes front e later is calm
+    within-now = Calm.at-stage n k o s h run front e later is calm
 
     over-now : (q : ℕ) → q < length t.traced → Over front (pid_at q) → Over next_front (pid_at q)
-    over-now q within none = Calm.over-next n k o s h run reached bytes front e later is calm q within none
+    over-now q within none = Calm.over-next n k o s h run front e later is calm q within none
 
     start-halts : (q : ℕ) (step : OpeningStep) → t.stage ≡ stage.Opening q step → is_start step ≡ true
         → Halts front (pid_at q)
     start-halts q step at start p live =
-        opening-halts n k o t now (Calm.goes n k o s h run reached bytes front e later is calm) q step at p live
+        opening-halts n k o t now (Calm.goes n k o s h run front e later is calm) q step at p live
         (start-late step start)
 
     -- ---- of others
 
     module _ (none : exchange_of k e ≡ None) where
       same : truss next_front ≡ t
-      same = Calm.same-truss n k o s h run reached bytes front e later is calm none
+      same = Calm.same-truss n k o s h run front e later is calm none
 
       halts-on : (q : ℕ) → q < length t.traced → Halts front (pid_at q) → Halts next_front (pid_at q)
       halts-on q within halts y live =
-          let legal = Calm.legal n k o s h run reached bytes front e later is calm in
+          let legal = Calm.legal n k o s h run front e later is calm in
           let w =
-          foreign-lasts n k o t now (Calm.lawful n k o s h run reached bytes front e later is calm) e.actor e.act legal
-          (Calm.foreign n k o s h run reached bytes front e later is calm none) (pid_at q) (traced_at t q).control
-          (Calm.control n k o s h run reached bytes front e later is calm q within) y
-          (sym (Calm.next-live n k o s h run reached bytes front e later is calm (pid_at q)) ∙ live) in
+          foreign-lasts n k o t now (Calm.lawful n k o s h run front e later is calm) e.actor e.act legal
+          (Calm.foreign n k o s h run front e later is calm none) (pid_at q) (traced_at t q).control
+          (Calm.control n k o s h run front e later is calm q within) y
+          (sym (Calm.next-live n k o s h run front e later is calm (pid_at q)) ∙ live) in
           let lasts : Lasts w.0 y = w.1.1 in lasts.halting (halts w.0 w.1.0)
 
       unplanted-on : (pid : ℕ) → Unplanted front pid → Unplanted next_front pid
@@ -184,13 +182,13 @@ module _ (n k : ℕ) (o : Options) (s : TracedState) (h : List Entry) (run : IsF
 
     module _ (x : Exchange) (mine : exchange_of k e ≡ Some x) (unbroken : WasNotInterrupted x) where
       abbrev own : IsOwnEntry k now e x
-      own = Calm.own n k o s h run reached bytes front e later is calm x mine
+      own = Calm.own n k o s h run front e later is calm x mine
 
       has-it : has_functions t.options ≡ true
-      has-it = Calm.has n k o s h run reached bytes front e later is calm
+      has-it = Calm.has n k o s h run front e later is calm
 
       next : next_function_call_of t ≡ Some x.call
-      next = Calm.next n k o s h run reached bytes front e later is calm x mine
+      next = Calm.next n k o s h run front e later is calm x mine
 
       beside-is : (aside : Aside) → t.aside ≡ aside → call_beside t t.stage aside ≡ Some x.call
       unfolding next_function_call_of
@@ -203,10 +201,10 @@ module _ (n k : ℕ) (o : Options) (s : TracedState) (h : List Entry) (run : IsF
       idle-is idle st at = ap (function_call_of t) (sym at) ∙ beside-is Nothing idle
 
       fed-is : truss next_front ≡ fed_functions t x.reply
-      fed-is = Calm.fed-truss n k o s h run reached bytes front e later is calm x mine
+      fed-is = Calm.fed-truss n k o s h run front e later is calm x mine
 
       left-is : (let it = own in it.answer.state ≡ here next_front)
-      left-is = Calm.left-state n k o s h run reached bytes front e later is calm x mine
+      left-is = Calm.left-state n k o s h run front e later is calm x mine
 
       to-later : (pid : ℕ) → (let it = own in HaltsIn it.answer.state pid) → Halts next_front pid
       to-later pid halts = subst (λ (u : TracedState). HaltsIn u pid) left-is halts
@@ -228,18 +226,18 @@ module _ (n k : ℕ) (o : Options) (s : TracedState) (h : List Entry) (run : IsF
       sent q within bytes_sent is_call begins halts =
           let it = own in
           to-later (pid_at q)
-          (leaving-halts n k o now (Calm.lawful n k o s h run reached bytes front e later is calm) x.call it.answer
+          (leaving-halts n k o now (Calm.lawful n k o s h run front e later is calm) x.call it.answer
           it.is
-          (Calm.over n k o s h run reached bytes front e later is calm x mine) (traced_at t q) bytes_sent is_call
-          (Calm.control n k o s h run reached bytes front e later is calm q within) begins halts)
+          (Calm.over n k o s h run front e later is calm x mine) (traced_at t q) bytes_sent is_call
+          (Calm.control n k o s h run front e later is calm q within) begins halts)
 
       -- the call was refused
       refused : answer_of x.reply ≢ Accepted → here next_front ≡ now
       refused other =
           let it = own in
           sym left-is
-          ∙ refused-same n k now (Calm.lawful n k o s h run reached bytes front e later is calm) x.call it.answer it.is
-          (Calm.over n k o s h run reached bytes front e later is calm x mine)
+          ∙ refused-same n k now (Calm.lawful n k o s h run front e later is calm) x.call it.answer it.is
+          (Calm.over n k o s h run front e later is calm x mine)
           (λ accepted. other (sym (ap answer_of it.replied) ∙ accepted))
           (λ broken. calm-answer x unbroken (sym (ap answer_of it.replied) ∙ broken))
 
@@ -250,9 +248,9 @@ module _ (n k : ℕ) (o : Options) (s : TracedState) (h : List Entry) (run : IsF
           → pid_at q ≡ pid → first_function plants ≡ None) → Unplanted front pid → Unplanted next_front pid
       unplanted-next pid plants_not patches_not all =
           subst (λ (u : TrussState). Each (So (HasNone pid)) u.traced) (sym fed-is)
-          (none-later pid t x.reply (Calm.off n k o s h run reached bytes front e later is calm)
-          (Calm.follow n k o s h run reached bytes front e later is calm) within-now
-          (Calm.at-aside n k o s h run reached bytes front e later is calm) (calm-answer x unbroken) has-it plants_not
+          (none-later pid t x.reply (Calm.off n k o s h run front e later is calm)
+          (Calm.follow n k o s h run front e later is calm) within-now
+          (Calm.at-aside n k o s h run front e later is calm) (calm-answer x unbroken) has-it plants_not
           patches_not all)
 
       idle-unplanted : t.aside ≡ Nothing → (pid : ℕ) → Unplanted front pid → Unplanted next_front pid
@@ -389,15 +387,15 @@ module _ (n k : ℕ) (o : Options) (s : TracedState) (h : List Entry) (run : IsF
               let it = own in
               let late = before-start start in
               to-later (pid_at q)
-              (step-halts n k o now (Calm.lawful n k o s h run reached bytes front e later is calm) x.call it.answer
+              (step-halts n k o now (Calm.lawful n k o s h run front e later is calm) x.call it.answer
               it.is
-              (Calm.over n k o s h run reached bytes front e later is calm x mine) t q step
-              (Calm.control n k o s h run reached bytes front e later is calm q within)
-              (Calm.made-at n k o s h run reached bytes front e later is calm q within)
+              (Calm.over n k o s h run front e later is calm x mine) t q step
+              (Calm.control n k o s h run front e later is calm q within)
+              (Calm.made-at n k o s h run front e later is calm q within)
               (idle-is idle (stage.Opening q step) at) (late-halted step late)
               (λ first. absurd (false≢true (sym not-start ∙ ap is_start first)))
               (λ p live.
-              opening-halts n k o t now (Calm.goes n k o s h run reached bytes front e later is calm) q step at p live
+              opening-halts n k o t now (Calm.goes n k o s h run front e later is calm) q step at p live
               late))
 
       -- ---- a process whose opening was refused
@@ -414,7 +412,7 @@ module _ (n k : ℕ) (o : Options) (s : TracedState) (h : List Entry) (run : IsF
         bare none j inside same = elim (cases_eq j q) [
           | inl one ↦ subst (λ m. IsEmpty (marks_at t m).planted) (sym one) none
           | inr other ↦
-              absurd (Calm.apart n k o s h run reached bytes front e later is calm j q inside within other same)
+              absurd (Calm.apart n k o s h run front e later is calm j q inside within other same)
         ]
 
         not-opening : {b : ℕ} {c : OpeningStep} → t.stage ≡ stage.Opening b c → ⊥
@@ -447,7 +445,7 @@ module _ (n k : ℕ) (o : Options) (s : TracedState) (h : List Entry) (run : IsF
 
           busy : (is_some (first_function plants) || is_some (first_function lifts)) ≡ true
           busy =
-              let kept = Calm.kept n k o s h run reached bytes front e later is calm in
+              let kept = Calm.kept n k o s h run front e later is calm in
               let at_aside = subst (AtAside (IsSo (Unit {0}) k t.options now) t.traced) beside kept.beside in
               at_aside.1.0
 
@@ -483,7 +481,7 @@ module _ (n k : ℕ) (o : Options) (s : TracedState) (h : List Entry) (run : IsF
             by : Over front (pid_at q) ⊎ (Leaves front (pid_at q) × LiftsSo t.aside) → Leaves next_front (pid_at q)
             by (inl over) = inl (λ p live. absurd (none-some p (sym (over-now q within over) ∙ live)))
             by (inr it) =
-                leaves-by t.aside refl (Calm.at-aside n k o s h run reached bytes front e later is calm) was.looks it.1
+                leaves-by t.aside refl (Calm.at-aside n k o s h run front e later is calm) was.looks it.1
                 w
 
       called : CalledSo (Over next_front) (Opens next_front) (Leaves next_front) t x.reply
@@ -501,13 +499,13 @@ module _ (n k : ℕ) (o : Options) (s : TracedState) (h : List Entry) (run : IsF
             (subst (StageSo (Over front) (Opens front) (Leaves front) t) at was.stage);
         gone = λ q here_so told.
             over-now q
-            (called-within t within-now (Calm.at-aside n k o s h run reached bytes front e later is calm) q here_so)
-            (Calm.gone n k o s h run reached bytes front e later is calm x mine told q here_so);
+            (called-within t within-now (Calm.at-aside n k o s h run front e later is calm) q here_so)
+            (Calm.gone n k o s h run front e later is calm x mine told q here_so);
         begins = λ pid at idle accepted. (
           λ start. absurd (false≢true start),
           λ other.
               idle-unplanted idle pid (λ j inside same.
-              absurd (Calm.fresh n k o s h run reached bytes front e later is calm x mine pid at idle accepted j inside
+              absurd (Calm.fresh n k o s h run front e later is calm x mine pid at idle accepted j inside
               same)),
         );
         steps = λ q step following at idle accepted behind.
@@ -522,9 +520,9 @@ module _ (n k : ℕ) (o : Options) (s : TracedState) (h : List Entry) (run : IsF
       own-shuts =
           subst (ClosesSo (Over next_front) (Opens next_front) (Leaves next_front)) (sym fed-is)
           (fed-closes (Over next_front) (Opens next_front) (Leaves next_front) (opens-leaves next_front) t x.reply
-          (Calm.off n k o s h run reached bytes front e later is calm)
-          (Calm.follow n k o s h run reached bytes front e later is calm) within-now
-          (Calm.at-aside n k o s h run reached bytes front e later is calm) (calm-answer x unbroken) was.looks called
+          (Calm.off n k o s h run front e later is calm)
+          (Calm.follow n k o s h run front e later is calm) within-now
+          (Calm.at-aside n k o s h run front e later is calm) (calm-answer x unbroken) was.looks called
           has-it)
 
     entry-shuts : ((x : Exchange) → exchange_of k e ≡ Some x → WasNotInterrupted x) → Shuts next_front

@@ -39,6 +39,7 @@ use Rattle.pr_function_laws.proofs.Pending.PendingReads as Reads
 use Rattle.pr_function_laws.proofs.Pending.PendingWalk.{IsStill, On, Pending, entry-next, on-stays, on-turns}
 use Rattle.pr_function_laws.proofs.Listing.OldStops.{still-while-old}
 use Rattle.pr_function_laws.proofs.Marks.SoundLemmas.{AsideIsBelow}
+use Rattle.pr_function_laws.specs.ReachedRuns.{IsReachedFunctionRun}
 use Rattle.pr_function_laws.specs.Opened.{IsFunctionRun, WasNotInterrupted, functions_at, is_opened}
 use Rattle.pr_function_laws.specs.Runs.{functions_after}
 use Rattle.pr_line.specs.Events.{event_of}
@@ -66,8 +67,6 @@ use Rattle.pr_num.specs.Words.{IsByte}
 use Rattle.pr_num.specs.declared.instructions.Instruction.TheVariants.{Bpt}
 use Rattle.pr_num.specs.declared.messages.Message.TheVariants as message
 use Rattle.pr_reached.proofs.StatesInRange.MemoryRanges.{instruction-bytes}
-use Rattle.pr_reached.specs.ByteHistories.{HasBytes}
-use Rattle.pr_reached.specs.Reached.{IsReached}
 use Rattle.pr_rec.specs.declared.lwps.LwpStatus.{LwpStatus}
 use Rattle.pr_report_laws.proofs.Files.WatchHistories.{exchanges-both, no-exchanges}
 use Rattle.pr_report_laws.proofs.Invariant.StandLemmas.{Each, EachBut, each-but}
@@ -110,8 +109,8 @@ use Rattle.pr_truss_laws.specs.Stills.{IsHalting}
 -- anything: no other lwp is there then but ones that will stop, so that nothing is fetched until the exit is read. Who
 -- is at the exit of such a call when truss comes makes it no more, and its stop is an old one.
 
-module _ (n k : ℕ) (o : Options) (s : TracedState) (h : List Entry) (run : IsFunctionRun n k o s h)
-    (reached : IsReached s) (bytes : HasBytes h) (fit : ArePatchable o) (spared : LeavesPlanted k o s h) where
+module _ (n k : ℕ) (o : Options) (s : TracedState) (h : List Entry) (run : IsReachedFunctionRun n k o s h)
+    (fit : ArePatchable o) (spared : LeavesPlanted k o s h) where
   abbrev pub truss : List Entry → TrussState
   truss front = functions_at k o front
 
@@ -180,7 +179,7 @@ module _ (n k : ℕ) (o : Options) (s : TracedState) (h : List Entry) (run : IsF
       event = w.event;
       tells = w.tells;
       pending =
-          entry-next n k o s h run w.was (On (record { id = w.id; event = w.event }))
+          entry-next n k o s h run.of w.was (On (record { id = w.id; event = w.event }))
           (on-stays (record { id = w.id; event = w.event })) front e later is calm w.pending
           (turns-on w.was (record { id = w.id; event = w.event }) w.pending) still;
     }
@@ -188,11 +187,11 @@ module _ (n k : ℕ) (o : Options) (s : TracedState) (h : List Entry) (run : IsF
     before : (q : ℕ) → q < length t.traced → (y : TracedProcess)
         → live_process (here next_front).system (pid_at q) ≡ Some y
         → (x : TracedProcess) × (live_process now.system (pid_at q) ≡ Some x)
-    before q within y live = Calm.lived-before n k o s h run reached bytes front e later is calm q within y live
+    before q within y live = Calm.lived-before n k o s h run front e later is calm q within y live
 
     now-live : (pid : ℕ) (y : TracedProcess) → live_process (here next_front).system pid ≡ Some y
         → live_process (after now e).system pid ≡ Some y
-    now-live pid y live = sym (Calm.next-live n k o s h run reached bytes front e later is calm pid) ∙ live
+    now-live pid y live = sym (Calm.next-live n k o s h run front e later is calm pid) ∙ live
 
     -- ---- of others
 
@@ -204,7 +203,7 @@ module _ (n k : ℕ) (o : Options) (s : TracedState) (h : List Entry) (run : IsF
       m = marks_at t j
 
       same : truss next_front ≡ t
-      same = Calm.same-truss n k o s h run reached bytes front e later is calm none
+      same = Calm.same-truss n k o s h run front e later is calm none
 
       waits-still : Waits front pid → Waits next_front pid
       waits-still w = waits-on pid w (λ x mine. absurd (none-some x (sym none ∙ mine)))
@@ -227,13 +226,13 @@ module _ (n k : ℕ) (o : Options) (s : TracedState) (h : List Entry) (run : IsF
               own = refl;
               id = id;
               event =
-                  Turns.event n k o s h run reached bytes front later j id turned its-place calm inside opened takes
+                  Turns.event n k o s h run front later j id turned its-place calm inside opened takes
                   new;
               tells =
-                  Turns.event-tells n k o s h run reached bytes front later j id turned its-place calm inside opened
+                  Turns.event-tells n k o s h run front later j id turned its-place calm inside opened
                   takes new;
               pending =
-                  Turns.first-pending n k o s h run reached bytes front later j id turned its-place calm inside opened
+                  Turns.first-pending n k o s h run front later j id turned its-place calm inside opened
                   takes new;
             })
           where
@@ -241,7 +240,7 @@ module _ (n k : ℕ) (o : Options) (s : TracedState) (h : List Entry) (run : IsF
             new = elim (cases_eq (traced_at t j).old 0) [
               | inl none_old ↦ none_old
               | inr old ↦
-                  (let st = still-while-old n k o s h run reached bytes pid in
+                  (let st = still-while-old n k o s h run pid in
                   absurd (none-some turn
                   (sym (frozen-turns now.system pid x live
                   (st.each front (its_entry ∷ later) j x its-place calm inside refl opened old live) id) ∙ took)))
@@ -251,7 +250,7 @@ module _ (n k : ℕ) (o : Options) (s : TracedState) (h : List Entry) (run : IsF
         took-fine same_turned y = elim (cases_Bool (is_opened t.stage j)) [
           | inl opened ↦ inl (took-waits opened)
           | inr closed ↦
-              shut (unopened-halts n k o s h run reached bytes front (e ∷ later) is calm j inside closed x live)
+              shut (unopened-halts n k o s h run front (e ∷ later) is calm j inside closed x live)
         ]
           where
             shut : IsHalting x ⊎ IsEmpty m.planted → Waits next_front pid ⊎ AllHold o m y
@@ -271,10 +270,10 @@ module _ (n k : ℕ) (o : Options) (s : TracedState) (h : List Entry) (run : IsF
           by x x_live (inl w) = inl (waits-still w)
           by x x_live (inr hold) =
               of (foreign-leaves n k o s h fit spared front actor did later is
-              (Calm.options n k o s h run reached bytes front e later is calm)
-              (Calm.lawful n k o s h run reached bytes front e later is calm)
-              (Calm.legal n k o s h run reached bytes front e later is calm) none j inside
-              (Calm.control n k o s h run reached bytes front e later is calm j inside) x y x_live
+              (Calm.options n k o s h run front e later is calm)
+              (Calm.lawful n k o s h run front e later is calm)
+              (Calm.legal n k o s h run front e later is calm) none j inside
+              (Calm.control n k o s h run front e later is calm j inside) x y x_live
               (now-live pid y later_live) hold)
             where
               of : Takes now pid e y ⊎ AllHold o m y → Waits next_front pid ⊎ AllHold o m y
@@ -286,7 +285,7 @@ module _ (n k : ℕ) (o : Options) (s : TracedState) (h : List Entry) (run : IsF
     foreign-stand : exchange_of k e ≡ None → Stand next_front
     foreign-stand none =
         subst (λ (u : TrussState). Each (So (Fine next_front)) u.traced)
-        (sym (Calm.same-truss n k o s h run reached bytes front e later is calm none))
+        (sym (Calm.same-truss n k o s h run front e later is calm none))
         (λ j inside. foreign-fine none j inside)
 
     -- ---- a call of truss
@@ -296,13 +295,13 @@ module _ (n k : ℕ) (o : Options) (s : TracedState) (h : List Entry) (run : IsF
       r = x.reply
 
       its-options : t.options ≡ o
-      its-options = Calm.options n k o s h run reached bytes front e later is calm
+      its-options = Calm.options n k o s h run front e later is calm
 
       has-it : has_functions t.options ≡ true
-      has-it = Calm.has n k o s h run reached bytes front e later is calm
+      has-it = Calm.has n k o s h run front e later is calm
 
       next : next_function_call_of t ≡ Some x.call
-      next = Calm.next n k o s h run reached bytes front e later is calm x mine
+      next = Calm.next n k o s h run front e later is calm x mine
 
       beside-is : (aside : Aside) → t.aside ≡ aside → call_beside t t.stage aside ≡ Some x.call
       unfolding next_function_call_of
@@ -311,10 +310,10 @@ module _ (n k : ℕ) (o : Options) (s : TracedState) (h : List Entry) (run : IsF
           ∙ sym (ap (λ b. cond b (call_beside t t.stage t.aside) (next_call_of t)) has-it) ∙ next
 
       at-stage : IsWithin (length t.traced) t.stage
-      at-stage = Calm.at-stage n k o s h run reached bytes front e later is calm
+      at-stage = Calm.at-stage n k o s h run front e later is calm
 
       at-aside : IsBeside (length t.traced) t.aside
-      at-aside = Calm.at-aside n k o s h run reached bytes front e later is calm
+      at-aside = Calm.at-aside n k o s h run front e later is calm
 
       -- ---- one process
 
@@ -328,7 +327,7 @@ module _ (n k : ℕ) (o : Options) (s : TracedState) (h : List Entry) (run : IsF
             calm = unbroken;
             no_read = λ number known same.
                 let rd =
-                Reads.stage n k o s h run reached bytes front later e is calm w.was
+                Reads.stage n k o s h run front later e is calm w.was
                 (On (record { id = w.id; event = w.event })) w.pending x mine
                 (same ∙ ap read_record (sym known)) in
                 unread rd.place rd.at (rd.its ∙ w.own);
@@ -342,8 +341,8 @@ module _ (n k : ℕ) (o : Options) (s : TracedState) (h : List Entry) (run : IsF
           → HoldsCode (breakpoint_of f) y → HoldsCode (breakpoint_of f) z
       holds-own j y z live behind i f named spares =
           own-hold k now f (patchable-at o fit i f named) n
-          (Calm.lawful n k o s h run reached bytes front e later is calm)
-          (pid_at j) actor did x mine spares (Calm.legal n k o s h run reached bytes front e later is calm) y z live
+          (Calm.lawful n k o s h run front e later is calm)
+          (pid_at j) actor did x mine spares (Calm.legal n k o s h run front e later is calm) y z live
           (now-live (pid_at j) z behind)
 
       -- so it is of those that are marked then
@@ -403,7 +402,7 @@ module _ (n k : ℕ) (o : Options) (s : TracedState) (h : List Entry) (run : IsF
         others-read q at j inside other =
             own-fine j inside
             (λ b reads same.
-            Calm.apart n k o s h run reached bytes front e later is calm b j
+            Calm.apart n k o s h run front e later is calm b j
             (subst (IsWithin (length t.traced)) reads at-stage) inside
             (λ one. other (sym one ∙ read-same (sym reads ∙ at))) same)
             (marks_at t j) (quiet-spared quiet j (marks_at t j)) (λ i has. has)
@@ -499,7 +498,7 @@ module _ (n k : ℕ) (o : Options) (s : TracedState) (h : List Entry) (run : IsF
 
             told : option_and_then status_lwp (bytes_in r) ≡ Some l
             told =
-                Reads.answered n k o s h run reached bytes front later e is calm w.was (On its_event) w.pending x mine
+                Reads.answered n k o s h run front later e is calm w.was (On its_event) w.pending x mine
                 reads y its-live its_event standing
 
             accepted : answer_of r ≡ Accepted
@@ -514,10 +513,10 @@ module _ (n k : ℕ) (o : Options) (s : TracedState) (h : List Entry) (run : IsF
             unfolding fresh_event
             fresh =
                 let same_file = seen in
-                let kept = Calm.kept n k o s h run reached bytes front e later is calm in
+                let kept = Calm.kept n k o s h run front e later is calm in
                 let attached =
                 opened-attached n k o s front (e ∷ later) (pid_at q)
-                (subst (λ (es : List Entry). IsFunctionRun n k o s es) is run)
+                (subst (λ (es : List Entry). IsFunctionRun n k o s es) is run.of)
                 (IsSo (Unit {0}) k t.options now) kept q within-read (ap (λ (st : Stage). is_opened st q) at) in
                 let has = standing in
                 ap (λ m. cond (m == 0) (cond (traced_at t q).seen None (event_of l)) None) same_file.new
@@ -526,15 +525,15 @@ module _ (n k : ℕ) (o : Options) (s : TracedState) (h : List Entry) (run : IsF
 
             fed-is : fed_functions t r ≡ with_function_event t q l Replaced
             fed-is =
-                event-fed t r q has-it (Calm.off n k o s h run reached bytes front e later is calm) idle at accepted l
+                event-fed t r q has-it (Calm.off n k o s h run front e later is calm) idle at accepted l
                 told w.event fresh
                 ∙ ap (with_function_event t q l)
                 (tells-replaced t.options (marks_at t q) l.id w.event w.tells)
 
             alike : IsAlike (with_marks t q no_marks) (with_function_event t q l Replaced)
             alike =
-                event-kept t (Calm.off n k o s h run reached bytes front e later is calm)
-                (Calm.follow n k o s h run reached bytes front e later is calm) q l within-read Replaced
+                event-kept t (Calm.off n k o s h run front e later is calm)
+                (Calm.follow n k o s h run front e later is calm) q l within-read Replaced
 
             abbrev bare : Traced
             bare = record (traced_at t q) { marks = no_marks }
@@ -577,10 +576,10 @@ module _ (n k : ℕ) (o : Options) (s : TracedState) (h : List Entry) (run : IsF
           one-first o i j f g (first f named) (second g its_name) same
 
       firsts : TrussIn (IsFirstOf o) t
-      firsts = Calm.firsts n k o s h run reached bytes front e later is calm
+      firsts = Calm.firsts n k o s h run front e later is calm
 
       below : AsideIsBelow (length o.functions) t.aside
-      below = Calm.below n k o s h run reached bytes front e later is calm
+      below = Calm.below n k o s h run front e later is calm
 
       marked-first : (q : ℕ) → q < length t.traced → (i : ℕ) → has_function (marks_at t q).planted i ≡ true
           → IsFirstOf o 0 i
@@ -598,7 +597,7 @@ module _ (n k : ℕ) (o : Options) (s : TracedState) (h : List Entry) (run : IsF
         write-spared j inside a f its_name only =
             subst (SparesIt k now f (patchable-at o fit a f its_name) (pid_at j)) (sym sent)
             (write-spares k now f (patchable-at o fit a f its_name) (traced_at t q).control (pid_at q) (pid_at j)
-            (Calm.control n k o s h run reached bytes front e later is calm q within) g (patchable-at o fit i g named)
+            (Calm.control n k o s h run front e later is calm q within) g (patchable-at o fit i g named)
             code size
             are_bytes
             (λ same at. only (same-place same) at))
@@ -607,7 +606,7 @@ module _ (n k : ℕ) (o : Options) (s : TracedState) (h : List Entry) (run : IsF
             same-place same = elim (cases_eq j q) [
               | inl one ↦ one
               | inr other ↦
-                  absurd (Calm.apart n k o s h run reached bytes front e later is calm j q inside within other
+                  absurd (Calm.apart n k o s h run front e later is calm j q inside within other
                   (sym same))
             ]
 
@@ -637,7 +636,7 @@ module _ (n k : ℕ) (o : Options) (s : TracedState) (h : List Entry) (run : IsF
             by y live (inr hold) = inr (λ a f its_name has. of a f its_name (more a has) has)
               where
                 it : IsOwnEntry k now e x
-                it = Calm.own n k o s h run reached bytes front e later is calm x mine
+                it = Calm.own n k o s h run front e later is calm x mine
 
                 of : (a : ℕ) (f : Function) → slice_get o.functions a ≡ Some f
                     → (a ≡ i) ⊎ (has_function (marks_at t q).planted a ≡ true) → has_function m.planted a ≡ true
@@ -650,10 +649,10 @@ module _ (n k : ℕ) (o : Options) (s : TracedState) (h : List Entry) (run : IsF
                     subst (λ (d : Function). HoldsCode (breakpoint_of d) z) same_function
                     (let own_call = it in
                     planted-holds k now g (patchable-at o fit i g named) (traced_at t q).control (pid_at q)
-                    (Calm.control n k o s h run reached bytes front e later is calm q within) own_call.answer
+                    (Calm.control n k o s h run front e later is calm q within) own_call.answer
                     (ap (answer_to now k) (sym sent) ∙ own_call.is) (ap answer_of own_call.replied ∙ accepted) y z live
                     (ap (λ (u : TracedState). live_process u.system (pid_at q))
-                    (Calm.left-state n k o s h run reached bytes front e later is calm x mine) ∙ behind))
+                    (Calm.left-state n k o s h run front e later is calm x mine) ∙ behind))
 
         plant-after : (lift : Option ℕ)
             → Fine next_front (pid_at q)
@@ -775,7 +774,7 @@ module _ (n k : ℕ) (o : Options) (s : TracedState) (h : List Entry) (run : IsF
           → FitsAside aside (ReadingStatus b)
       fits-there aside at b reads =
           subst (λ (a : Aside). FitsAside a (ReadingStatus b)) at
-          (subst (FitsAside t.aside) reads (Calm.fits n k o s h run reached bytes front e later is calm))
+          (subst (FitsAside t.aside) reads (Calm.fits n k o s h run front e later is calm))
 
       busy-after : (aside : Aside) → t.aside ≡ aside → IsBeside (length t.traced) aside
           → ((b : ℕ) → t.stage ≢ ReadingStatus b) → AfterAside (Fine next_front) t r aside
@@ -799,8 +798,8 @@ module _ (n k : ℕ) (o : Options) (s : TracedState) (h : List Entry) (run : IsF
 
       fed-fine-by : AfterAside (Fine next_front) t r t.aside → Each (So (Fine next_front)) (fed_functions t r).traced
       fed-fine-by after_it =
-          fed-so (Fine next_front) t r (Calm.off n k o s h run reached bytes front e later is calm)
-          (Calm.follow n k o s h run reached bytes front e later is calm) at-stage at-aside (calm-answer x unbroken)
+          fed-so (Fine next_front) t r (Calm.off n k o s h run front e later is calm)
+          (Calm.follow n k o s h run front e later is calm) at-stage at-aside (calm-answer x unbroken)
           has-it after_it
 
       -- it reads the status of a process
@@ -833,7 +832,7 @@ module _ (n k : ℕ) (o : Options) (s : TracedState) (h : List Entry) (run : IsF
       own-stand : Stand next_front
       own-stand =
           subst (λ (u : TrussState). Each (So (Fine next_front)) u.traced)
-          (sym (Calm.fed-truss n k o s h run reached bytes front e later is calm x mine))
+          (sym (Calm.fed-truss n k o s h run front e later is calm x mine))
           (by t.aside refl at-aside)
         where
           other-stage : t.aside ≡ Nothing → (st : Stage) → t.stage ≡ st → ((q : ℕ) → st ≢ ReadingStatus q)

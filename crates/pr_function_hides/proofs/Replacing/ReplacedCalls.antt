@@ -13,8 +13,6 @@ use Rattle.pr_model.specs.declared.calls.Reply.{Reply}
 use Rattle.pr_model.specs.declared.events.Act.TheVariants.{Turn}
 use Rattle.pr_model.specs.declared.events.Actor.TheVariants.{Lwp}
 use Rattle.pr_model.specs.declared.events.Entry.{Entry}
-use Rattle.pr_reached.specs.ByteHistories.{HasBytes}
-use Rattle.pr_reached.specs.Reached.{IsReached}
 use Rattle.pr_report_laws.proofs.Invariant.StandLemmas.{Each}
 use Rattle.pr_report_laws.specs.Positions.{HasEvent}
 use Rattle.pr_report_laws.specs.Shown.{LwpEvent}
@@ -46,7 +44,8 @@ use Rattle.pr_function_laws.proofs.OpenedProcesses.OpenedLaws.{Goes}
 use Rattle.pr_function_laws.proofs.Pending.PendingCalls.{IsPending, later-pending}
 use Rattle.pr_function_laws.proofs.Pending.PendingPlaces.{IsSame, Pends, still-pends}
 use Rattle.pr_function_laws.proofs.Pending.PendingWalk.{On, Pending, entry-next, on-stays, on-turns}
-use Rattle.pr_function_laws.specs.Opened.{IsFunctionRun, WasNotInterrupted, functions_at}
+use Rattle.pr_function_laws.specs.ReachedRuns.{IsReachedFunctionRun}
+use Rattle.pr_function_laws.specs.Opened.{WasNotInterrupted, functions_at}
 use Rattle.pr_function_laws.specs.Runs.{functions_on}
 use Rattle.pr_function_hides.proofs.Replies.ClosingWalk.{CalledSo, ClosesSo, LooksSo, StageSo, called_at, fed-closes}
 use Rattle.pr_function_hides.proofs.Copying.CopyEnds.{aside-within, stage-within}
@@ -109,9 +108,8 @@ module _ (own : ℕ) where
 
 -- ---- along a history
 
-module _ (n k : ℕ) (o : Options) (s : TracedState) (h : List Entry) (run : IsFunctionRun n k o s h)
-    (reached : IsReached s) (awake : NoneSleepsInCopy s.system) (bytes : HasBytes h)
-    (opens : OpensOutOfCopies k o s h) (was : Traced) (id : ℕ)
+module _ (n k : ℕ) (o : Options) (s : TracedState) (h : List Entry) (run : IsReachedFunctionRun n k o s h)
+    (awake : NoneSleepsInCopy s.system) (opens : OpensOutOfCopies k o s h) (was : Traced) (id : ℕ)
     (event : Event) (tells : TellsReplacement event) where
   abbrev own : ℕ
   own = was.pid
@@ -152,16 +150,16 @@ module _ (n k : ℕ) (o : Options) (s : TracedState) (h : List Entry) (run : IsF
     t = truss front
 
     goes : Goes (Unit {0}) k o t (now front)
-    goes = Copies.goes n k o s h run reached awake bytes opens front back e is calm
+    goes = Copies.goes n k o s h run awake opens front back e is calm
 
     legal : IsLegalEntry n (now front) e
-    legal = Copies.legal-now n k o s h run reached awake bytes opens front back e is
+    legal = Copies.legal-now n k o s h run awake opens front back e is
 
     abbrev next_front : List Entry
     next_front = front ++ e ∷ []
 
     pushed : truss next_front ≡ functions_on t (exchange_of k e)
-    pushed = fronts.pushed n k o s h run front e back is calm
+    pushed = fronts.pushed n k o s h run.of front e back is calm
 
     -- ---- of others
 
@@ -179,7 +177,7 @@ module _ (n k : ℕ) (o : Options) (s : TracedState) (h : List Entry) (run : IsF
             → Pending k o s was Stood next_front ⊎ TrussIn (IsOther own) (truss next_front)
         by (inl pending) =
             inl
-            (entry-next n k o s h run was Stood (on-stays its-event) front e back is calm pending turned
+            (entry-next n k o s h run.of was Stood (on-stays its-event) front e back is calm pending turned
             (λ x mine. none_own x mine))
           where
             turned : (acting : ℕ) (turn : LwpTurn) → e ≡ record { actor = Lwp own acting; act = Turn turn.turned }
@@ -201,12 +199,12 @@ module _ (n k : ℕ) (o : Options) (s : TracedState) (h : List Entry) (run : IsF
       r = x.reply
 
       abbrev it : IsOwnEntry k (now front) e x
-      it = Copies.own-answer n k o s h run reached awake bytes opens front back e is x mine
+      it = Copies.own-answer n k o s h run awake opens front back e is x mine
 
       w : OwnCall n k o t (now front) x.call it.answer
       w =
-          Copies.its-call n k o s h run reached awake bytes opens front back e is calm
-          (Copies.stands-after n k o s h run reached awake bytes opens front (e ∷ back) is calm) x mine unbroken
+          Copies.its-call n k o s h run awake opens front back e is calm
+          (Copies.stands-after n k o s h run awake opens front (e ∷ back) is calm) x mine unbroken
 
       kept : Kept (IsSo (Unit {0}) k t.options (now front)) t
       kept = let g = goes in g.kept
@@ -215,7 +213,7 @@ module _ (n k : ℕ) (o : Options) (s : TracedState) (h : List Entry) (run : IsF
       has = let c = w in c.has
 
       next : next_function_call_of t ≡ Some x.call
-      next = Copies.next-is n k o s h run reached awake bytes opens front back e is x mine
+      next = Copies.next-is n k o s h run awake opens front back e is x mine
 
       quiet : answer_of r ≢ Interrupted
       quiet = calm-answer x unbroken
@@ -358,7 +356,7 @@ module _ (n k : ℕ) (o : Options) (s : TracedState) (h : List Entry) (run : IsF
             here : live_process it.answer.state.system (traced_at t q).pid ≡ Some y
             here =
                 ap (λ (u : TracedState). live_process u.system (traced_at t q).pid)
-                (it.later ∙ sym (fronts.next-state n k o s h run front e back is calm))
+                (it.later ∙ sym (fronts.next-state n k o s h run.of front e back is calm))
                 ∙ ap (live_process (now next_front).system) same ∙ later
 
             standing : HasEvent y id event
@@ -375,11 +373,11 @@ module _ (n k : ℕ) (o : Options) (s : TracedState) (h : List Entry) (run : IsF
               pends = subst (Kept (Pends own was)) (sym (pushed ∙ ap (functions_on t) mine))
                   (still-pends own was t r pending.pends new read has quiet);
               is = subst (λ (u : TracedState). IsPending k o was Stood u)
-                  (sym (fronts.next-state n k o s h run front e back is calm)) goes_on;
+                  (sym (fronts.next-state n k o s h run.of front e back is calm)) goes_on;
             }
           where
             g : Goes ⊥ k o t (now front)
-            g = fronts.here n k o s h run front e back is calm
+            g = fronts.here n k o s h run.of front e back is calm
 
             its : Kept (IsSo ⊥ k t.options (now front)) t
             its = let y = g in y.kept
@@ -448,13 +446,13 @@ module _ (n k : ℕ) (o : Options) (s : TracedState) (h : List Entry) (run : IsF
   }
     where
       legal : IsLegalEntry n (now front) e
-      legal = fronts.legal n k o s h run front e back is calm
+      legal = fronts.legal n k o s h run.of front e back is calm
 
       lawful : IsLawful (now front)
-      lawful = let g = fronts.here n k o s h run front e back is calm in g.lawful
+      lawful = let g = fronts.here n k o s h run.of front e back is calm in g.lawful
 
       state-is : now (front ++ e ∷ []) ≡ after (now front) e
-      state-is = fronts.next-state n k o s h run front e back is calm
+      state-is = fronts.next-state n k o s h run.of front e back is calm
 
       by : (y : TracedProcess) → live_process (now (front ++ e ∷ [])).system own ≡ Some y
           → (z : Option TracedProcess) → live_process (now front).system own ≡ z → (x : Option Exchange)
@@ -476,9 +474,9 @@ module _ (n k : ℕ) (o : Options) (s : TracedState) (h : List Entry) (run : IsF
       let parts = sym (append_assoc front (e ∷ []) middle) in
       let more : Calm ((front ++ e ∷ []) ++ middle) = subst Calm parts calm in
       let here : Calm (front ++ e ∷ []) =
-      Copies.calm-front n k o s h run reached awake bytes opens (front ++ e ∷ []) middle more in
+      Copies.calm-front n k o s h run awake opens (front ++ e ∷ []) middle more in
       subst FollowsOn (append_assoc front (e ∷ []) middle)
       (walk middle (front ++ e ∷ []) back (is ∙ sym (append_assoc front (e ∷ []) (middle ++ back))) more
       (entry-follows front (middle ++ back) e is
-      (Copies.calm-front n k o s h run reached awake bytes opens front (e ∷ []) here)
+      (Copies.calm-front n k o s h run awake opens front (e ∷ []) here)
       (λ x mine. fronts.all-entry WasNotInterrupted k front [] e x here mine) so))

@@ -29,7 +29,6 @@ use Rattle.pr_num.specs.declared.syscalls.Sysno.TheVariants.{Exec, Vfork}
 use Rattle.pr_reached.proofs.Together.ReachedLemmas.{later-reached}
 use Rattle.pr_reached.specs.ByteHistories.{HasBytes}
 use Rattle.pr_reached.specs.Fits.{IsFitSystem}
-use Rattle.pr_reached.specs.Reached.{IsReached}
 use Rattle.pr_report_laws.proofs.Machine.OwnTurnLaws.{event-halts}
 use Rattle.pr_report_laws.proofs.Machine.TracedPoints.{StopsAtPicked, listed, told_of, turn-picks}
 use Rattle.pr_report_laws.proofs.Watching.HistoryParts.{legal-front}
@@ -62,6 +61,7 @@ use Rattle.pr_function_laws.proofs.OrdinaryTruss.OrdinaryFiles.{run-halfway}
 use Rattle.pr_function_laws.proofs.OrdinaryTruss.OrdinaryStops.{FitsAside}
 use Rattle.pr_function_laws.proofs.Marks.KeptPlaces.{Kept}
 use Rattle.pr_function_laws.specs.OneEvent.{HasOneEventAtMost, is_looked_at}
+use Rattle.pr_function_laws.specs.ReachedRuns.{IsReachedFunctionRun}
 use Rattle.pr_function_laws.specs.Opened.{IsFunctionRun, TracesAll, WasNotInterrupted, functions_at, is_opened}
 use Rattle.pr_function_laws.specs.Runs.{functions_on}
 use Rattle.pr_function_hides.proofs.Replacing.CopyCounts.{replaces-copies}
@@ -155,10 +155,8 @@ module _ (p : TracedProcess) (l : TracedLwp) (new : Option TracedLwp) (id : ℕ)
 
 -- ---- the turn
 
-module _ (n k : ℕ) (o : Options) (s : TracedState) (h : List Entry) (run : IsFunctionRun n k o s h)
-    (reached : IsReached s) (bytes : HasBytes h) (front back : List Entry)
-    (place id : ℕ) (turned : Turned)
-    (is : h
+module _ (n k : ℕ) (o : Options) (s : TracedState) (h : List Entry) (run : IsReachedFunctionRun n k o s h)
+    (front back : List Entry) (place id : ℕ) (turned : Turned) (is : h
     ≡ front ++ record { actor = Lwp (traced_at (functions_at k o front) place).pid id; act = Turn turned } ∷ back)
     (calm : All WasNotInterrupted (exchanges k front)) (within : place < length (functions_at k o front).traced)
     (opened : is_opened (functions_at k o front).stage place ≡ true) (takes : takes_memory turned.did ≡ true)
@@ -179,10 +177,10 @@ module _ (n k : ℕ) (o : Options) (s : TracedState) (h : List Entry) (run : IsF
   e = record { actor = Lwp pid id; act = Turn turned }
 
   here : Goes ⊥ k o t now
-  here = fronts.here n k o s h run front e back is calm
+  here = fronts.here n k o s h run.of front e back is calm
 
   legal : IsLegalEntry n now e
-  legal = fronts.legal n k o s h run front e back is calm
+  legal = fronts.legal n k o s h run.of front e back is calm
 
   abbrev Took : TracedSystem → Type 0
   Took u = turn_of now.system pid id ≡ Some (record { system = u; turned = turned })
@@ -206,7 +204,7 @@ module _ (n k : ℕ) (o : Options) (s : TracedState) (h : List Entry) (run : IsF
 
   away : is_looked_at t.stage place ≡ false
   away = elim (cases_Bool (is_looked_at t.stage place)) [
-    | inl looked ↦ no-turn (still-there n k o s h run reached bytes front (e ∷ back) is calm place p it.live looked)
+    | inl looked ↦ no-turn (still-there n k o s h run front (e ∷ back) is calm place p it.live looked)
     | inr other ↦ other
   ]
 
@@ -239,16 +237,16 @@ module _ (n k : ℕ) (o : Options) (s : TracedState) (h : List Entry) (run : IsF
   left : LeavesEvent pid id ends_replacement its-event turn
   left =
       let g = here in
-      let holds = holds-opened n k o s h run in
+      let holds = holds-opened n k o s h run.of in
       let owns = holds.each front (e ∷ back) place is calm within opened in
       let all = owns.traces p it.live in
       let stops = all.stops in
       let at =
-      later-reached n s front reached (bytes-front front (e ∷ back) (subst HasBytes is bytes))
-      (legal-front n s front (e ∷ back) (subst (IsLegal n s) is run.legal)) in
+      later-reached n s front run.reached (bytes-front front (e ∷ back) (subst HasBytes is run.bytes))
+      (legal-front n s front (e ∷ back) (subst (IsLegal n s) is run.of.legal)) in
       turn-leaves now pid id p turn g.lawful.system at.fit it.live its-turn.1 stops.directs ends_replacement
       (exits-stop o p.control all) its-event came
-      (few-there n k o s h run reached bytes front (e ∷ back) is calm place p it.live within opened not-run new)
+      (few-there n k o s h run front (e ∷ back) is calm place p it.live within opened not-run new)
 
   no-exchange : exchange_of k e ≡ None
   no-exchange = refl
@@ -259,7 +257,8 @@ module _ (n k : ℕ) (o : Options) (s : TracedState) (h : List Entry) (run : IsF
 
   fits : FitsAside t.aside t.stage
   fits =
-      let half = run-halfway n k o s front (e ∷ back) (subst (λ (es : List Entry). IsFunctionRun n k o s es) is run) in
+      let half = run-halfway n k o s front (e ∷ back) (subst (λ (es : List Entry). IsFunctionRun n k o s es) is run.of)
+      in
       let f = half.follows in
       let fit = f.fit in fit.fits
 
@@ -277,11 +276,11 @@ module _ (n k : ℕ) (o : Options) (s : TracedState) (h : List Entry) (run : IsF
       let w = left in
       record {
         pends = subst (Kept (Pends was.pid was))
-            (sym (fronts.pushed n k o s h run front e back is calm ∙ ap (functions_on t) no-exchange))
+            (sym (fronts.pushed n k o s h run.of front e back is calm ∙ ap (functions_on t) no-exchange))
             (first-pends (IsSo ⊥ k t.options now) t g.kept place within new fits opened
             (not-to-run t.stage place away));
         is = subst (λ (u : TracedState). IsPending k o was (On its-event) u)
-            (sym (fronts.next-state n k o s h run front e back is calm)) (record {
+            (sym (fronts.next-state n k o s h run.of front e back is calm)) (record {
               holds = holds-goes k o now (after now e) None was.pid was.control was.status was.lstatus was.memory
                   (λ m held there own. f.handles m ∙ there)
                   (foreign-sets n k now g.lawful e.actor e.act legal f was.pid was.control holds.its) holds;
@@ -297,13 +296,13 @@ module _ (n k : ℕ) (o : Options) (s : TracedState) (h : List Entry) (run : IsF
   made-later =
       let g = here in
       let lawful = g.lawful in
-      subst (λ (u : TracedState). pid < u.system.made) (sym (fronts.next-state n k o s h run front e back is calm))
+      subst (λ (u : TracedState). pid < u.system.made) (sym (fronts.next-state n k o s h run.of front e back is calm))
       (stays-made n now e pid lawful legal
       (was-made pid now.system p lawful.system (found-live now.system pid p it.live).0))
 
   -- truss is where it was
   pub truss-later : functions_at k o (front ++ e ∷ []) ≡ t
-  truss-later = fronts.pushed n k o s h run front e back is calm ∙ ap (functions_on t) no-exchange
+  truss-later = fronts.pushed n k o s h run.of front e back is calm ∙ ap (functions_on t) no-exchange
 
 -- ---- whatever truss does
 
@@ -343,8 +342,8 @@ module _ (o : Options) (s : TracedState) (lawful : IsLawfulSystem s.system) (fit
 
 -- ---- stops that stood before truss came
 
-module _ (n k : ℕ) (o : Options) (s : TracedState) (h : List Entry) (run : IsFunctionRun n k o s h)
-    (reached : IsReached s) (awake : NoneSleepsInCopy s.system) (bytes : HasBytes h)
+module _ (n k : ℕ) (o : Options) (s : TracedState) (h : List Entry) (run : IsReachedFunctionRun n k o s h)
+    (awake : NoneSleepsInCopy s.system)
     (opens : OpensOutOfCopies k o s h) (front back : List Entry) (place id : ℕ) (turned : Turned)
     (is : h
     ≡ front ++ record { actor = Lwp (traced_at (functions_at k o front) place).pid id; act = Turn turned } ∷ back)
@@ -365,7 +364,7 @@ module _ (n k : ℕ) (o : Options) (s : TracedState) (h : List Entry) (run : IsF
   took-then : (u : TracedSystem) × (turn_of now_then.system was_then.pid id
       ≡ Some (record { system = u; turned = turned }))
   unfolding IsLegalEntry
-  took-then = fronts.legal n k o s h run front e_then back is calm
+  took-then = fronts.legal n k o s h run.of front e_then back is calm
 
   turn-then : TakesTurn now_then.system was_then.pid id (record { system = took-then.0; turned = turned })
   turn-then =
@@ -379,7 +378,7 @@ module _ (n k : ℕ) (o : Options) (s : TracedState) (h : List Entry) (run : IsF
   -- no stop is left that stood before truss came
   pub none-old : was_then.old ≡ 0
   none-old =
-      let st = Copies.stands-after n k o s h run reached awake bytes opens front (e_then ∷ back) is calm in
+      let st = Copies.stands-after n k o s h run awake opens front (e_then ∷ back) is calm in
       let c = st.copies in by (c.each place within turn-then.process turn-then.live)
     where
       not-opened : not (place == place) ≡ true → ⊥
@@ -398,5 +397,5 @@ module _ (n k : ℕ) (o : Options) (s : TracedState) (h : List Entry) (run : IsF
       by (runs_so soon w) =
           no-turn-then
           (soon-still n k o t_then now_then
-          (Copies.goes n k o s h run reached awake bytes opens front back e_then is calm) place soon turn-then.process
+          (Copies.goes n k o s h run awake opens front back e_then is calm) place soon turn-then.process
           turn-then.live)

@@ -19,8 +19,6 @@ use Rattle.pr_num.specs.Messages.{first_message}
 use Rattle.pr_num.specs.declared.messages.Message.{Message}
 use Rattle.pr_num.specs.declared.messages.Message.TheVariants as message
 use Rattle.pr_num.specs.declared.messages.MsgFault.{MsgFault}
-use Rattle.pr_reached.specs.ByteHistories.{HasBytes}
-use Rattle.pr_reached.specs.Reached.{IsReached}
 use Rattle.pr_truss.specs.FunctionCalls.{call_beside, next_function_call_of, patch_call}
 use Rattle.pr_truss.specs.Marks.{first_function, has_functions}
 use Rattle.pr_truss.specs.NextCalls.{next_call_of}
@@ -39,7 +37,8 @@ use Rattle.pr_function_laws.proofs.OpenedProcesses.OpenedCalls.{IsSo}
 use Rattle.pr_function_laws.proofs.OpenedProcesses.OpenedLaws.{Goes}
 use Rattle.pr_function_laws.proofs.Pending.PendingPlaces.{Pends}
 use Rattle.pr_function_laws.proofs.Pending.PendingWalk.{On, Pending}
-use Rattle.pr_function_laws.specs.Opened.{IsFunctionRun, WasNotInterrupted, functions_at, is_opened}
+use Rattle.pr_function_laws.specs.ReachedRuns.{IsReachedFunctionRun}
+use Rattle.pr_function_laws.specs.Opened.{WasNotInterrupted, functions_at, is_opened}
 use Rattle.pr_function_hides.proofs.Replies.ClosingWalk.{LooksSo, StageSo}
 use Rattle.pr_function_hides.proofs.Copying.CopyEnds.{aside-within, stage-within}
 use Rattle.pr_function_hides.proofs.Copying.CopyForeign.{control-at}
@@ -61,9 +60,8 @@ use Rattle.pr_function_hides.proofs.Replacing.ReplacedCalls.{Follows, FollowsOn,
 
 -- Once a vfork or an exec of a process was granted that truss has opened, it sends no PCWRITE to the process.
 
-module _ (n k : ℕ) (o : Options) (s : TracedState) (h : List Entry) (run : IsFunctionRun n k o s h)
-    (reached : IsReached s) (awake : NoneSleepsInCopy s.system) (bytes : HasBytes h)
-    (opens : OpensOutOfCopies k o s h) (was : Traced) (id : ℕ)
+module _ (n k : ℕ) (o : Options) (s : TracedState) (h : List Entry) (run : IsReachedFunctionRun n k o s h)
+    (awake : NoneSleepsInCopy s.system) (opens : OpensOutOfCopies k o s h) (was : Traced) (id : ℕ)
     (event : Event) (tells : TellsReplacement event) where
   abbrev own : ℕ
   own = was.pid
@@ -82,7 +80,7 @@ module _ (n k : ℕ) (o : Options) (s : TracedState) (h : List Entry) (run : IsF
   module _ (front back : List Entry) (handle : ℕ) (sent : List ℕ) (r : Reply)
       (is : h ≡ front ++ call_entry k (call.Ctl handle sent) r ∷ back) (calm : Calm front) (held : Held)
       (there : handle_of (now front).opens k handle ≡ Some held) (its : held.pid ≡ own)
-      (follows : Follows n k o s h run reached awake bytes opens was id event tells front)
+      (follows : Follows n k o s h run awake opens was id event tells front)
       (at size len : ℕ) (read : first_message sent ≡ Ok (message.Write at size, len)) where
     abbrev t : TrussState
     t = truss front
@@ -97,13 +95,13 @@ module _ (n k : ℕ) (o : Options) (s : TracedState) (h : List Entry) (run : IsF
     own-entry-is = ap (λ b. cond b (Some x) None) (eq-eqb k k refl)
 
     g : Goes (Unit {0}) k o t (now front)
-    g = Copies.goes n k o s h run reached awake bytes opens front back (call_entry k c r) is calm
+    g = Copies.goes n k o s h run awake opens front back (call_entry k c r) is calm
 
     has : has_functions t.options ≡ true
-    has = fronts.has n k o s h run front (call_entry k c r) back is calm
+    has = fronts.has n k o s h run.of front (call_entry k c r) back is calm
 
     next : next_function_call_of t ≡ Some c
-    next = fronts.makes-next n k o s h run front (call_entry k c r) back is calm x own-entry-is
+    next = fronts.makes-next n k o s h run.of front (call_entry k c r) back is calm x own-entry-is
 
     -- it is no other message
     still-not : (number : ℕ) (bytes_sent : List ℕ) → c ≡ call.Ctl number bytes_sent → BeginStill bytes_sent → ⊥
@@ -148,7 +146,7 @@ module _ (n k : ℕ) (o : Options) (s : TracedState) (h : List Entry) (run : IsF
         fits : FitsSo (Patching q plants lifts clear) t.stage
         fits =
             let st =
-            Copies.stands-after n k o s h run reached awake bytes opens front (call_entry k c r ∷ back) is calm in
+            Copies.stands-after n k o s h run awake opens front (call_entry k c r ∷ back) is calm in
             let so = st.copies in subst (λ y. FitsSo y t.stage) beside so.fits
 
         soon : Pending k o s was (On (record { id = id; event = event })) front → (stage : Stage) → t.stage ≡ stage
@@ -213,9 +211,8 @@ module _ (n k : ℕ) (o : Options) (s : TracedState) (h : List Entry) (run : IsF
 
 -- ---- the law
 
-module _ (n k : ℕ) (o : Options) (s : TracedState) (h : List Entry) (run : IsFunctionRun n k o s h)
-    (reached : IsReached s) (awake : NoneSleepsInCopy s.system) (bytes : HasBytes h)
-    (opens : OpensOutOfCopies k o s h) where
+module _ (n k : ℕ) (o : Options) (s : TracedState) (h : List Entry) (run : IsReachedFunctionRun n k o s h)
+    (awake : NoneSleepsInCopy s.system) (opens : OpensOutOfCopies k o s h) where
   abbrev state_then : List Entry → TracedState
   state_then front = state_after s front
 
@@ -249,28 +246,28 @@ module _ (n k : ℕ) (o : Options) (s : TracedState) (h : List Entry) (run : IsF
     calm-all = subst (λ es. All WasNotInterrupted (exchanges k es)) front-is calm
 
     calm-before : All WasNotInterrupted (exchanges k w.before)
-    calm-before = Copies.calm-front n k o s h run reached awake bytes opens w.before (e ∷ w.later) calm-all
+    calm-before = Copies.calm-front n k o s h run awake opens w.before (e ∷ w.later) calm-all
 
     new-then : was.old ≡ 0
     new-then =
-        Turns.none-old n k o s h run reached awake bytes opens w.before rest w.place w.id w.t whole calm-before w.within
+        Turns.none-old n k o s h run awake opens w.before rest w.place w.id w.t whole calm-before w.within
         w.opened
 
     abbrev event : Event
     event =
-        Turns.event n k o s h run reached bytes w.before rest w.place w.id w.t whole calm-before w.within
+        Turns.event n k o s h run w.before rest w.place w.id w.t whole calm-before w.within
         w.opened w.takes new-then
 
     tells : TellsReplacement event
     tells =
-        Turns.event-tells n k o s h run reached bytes w.before rest w.place w.id w.t whole calm-before
+        Turns.event-tells n k o s h run w.before rest w.place w.id w.t whole calm-before
         w.within w.opened w.takes new-then
 
     abbrev Follows-on : List Entry → Type 0
-    Follows-on = FollowsOn n k o s h run reached awake bytes opens was w.id event tells
+    Follows-on = FollowsOn n k o s h run awake opens was w.id event tells
 
     first-there : Goes ⊥ k o truss_then (state_then w.before)
-    first-there = fronts.here n k o s h run w.before e rest whole calm-before
+    first-there = fronts.here n k o s h run.of w.before e rest whole calm-before
 
     -- when the call is made truss neither opens nor closes the process
     spared-first : Spares was.pid truss_then
@@ -280,7 +277,7 @@ module _ (n k : ℕ) (o : Options) (s : TracedState) (h : List Entry) (run : IsF
           let m = g.kept in
           by truss_then.stage w.opened m.stage;
       looks =
-          let st = Copies.stands-after n k o s h run reached awake bytes opens w.before (e ∷ rest) whole calm-before in
+          let st = Copies.stands-after n k o s h run awake opens w.before (e ∷ rest) whole calm-before in
           let so = st.copies in fits-looks truss_then.aside truss_then.stage so.fits;
     }
       where
@@ -307,16 +304,16 @@ module _ (n k : ℕ) (o : Options) (s : TracedState) (h : List Entry) (run : IsF
 
     first-follows : Follows-on (w.before ++ e ∷ [])
     first-follows =
-        let same = Turns.truss-later n k o s h run reached bytes w.before rest w.place w.id w.t whole
+        let same = Turns.truss-later n k o s h run w.before rest w.place w.id w.t whole
         calm-before w.within w.opened w.takes new-then in
         record {
-          made = Turns.made-later n k o s h run reached bytes w.before rest w.place w.id w.t whole
+          made = Turns.made-later n k o s h run w.before rest w.place w.id w.t whole
               calm-before w.within w.opened w.takes new-then;
           lives = λ y later. record {
             spared = subst (Spares was.pid) (sym same) spared-first;
             there = subst (λ (u : TrussState). IsIn was.pid u.traced) (sym same)
                 (record { place = w.place; within = w.within; own = refl });
-            how = inl (Turns.first-pending n k o s h run reached bytes w.before rest w.place w.id w.t whole
+            how = inl (Turns.first-pending n k o s h run w.before rest w.place w.id w.t whole
                 calm-before w.within w.opened w.takes new-then);
           };
         }
@@ -327,7 +324,7 @@ module _ (n k : ℕ) (o : Options) (s : TracedState) (h : List Entry) (run : IsF
     at-front : Follows-on front
     at-front =
         subst Follows-on parts
-        (walk n k o s h run reached awake bytes opens was w.id event tells w.later (w.before ++ e ∷ [])
+        (walk n k o s h run awake opens was w.id event tells w.later (w.before ++ e ∷ [])
         (call_entry k (call.Ctl handle sent) r ∷ back)
         (whole ∙ sym (append_assoc w.before (e ∷ []) rest))
         (subst (λ es. All WasNotInterrupted (exchanges k es)) (sym parts) calm) first-follows)
@@ -335,7 +332,7 @@ module _ (n k : ℕ) (o : Options) (s : TracedState) (h : List Entry) (run : IsF
     pub none-written : ⊥
     none-written =
         let so = at-front in
-        never-writes n k o s h run reached awake bytes opens was w.id event tells front back handle sent r is calm held
+        never-writes n k o s h run awake opens was w.id event tells front back handle sent r is calm held
         there (sym w.own)
         (so.lives p (ap (live_process (state_then front).system) w.own ∙ live)) at size len read
 

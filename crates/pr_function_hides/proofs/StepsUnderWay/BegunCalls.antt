@@ -7,8 +7,6 @@ use Rattle.pr_model.specs.Legal.{after, state_after}
 use Rattle.pr_model.specs.State.{TracedProcess, TracedState, live_process, lwp_of}
 use Rattle.pr_model.specs.declared.events.Entry.{Entry}
 use Rattle.pr_model.specs.declared.events.Turned.{Turned}
-use Rattle.pr_reached.specs.ByteHistories.{HasBytes}
-use Rattle.pr_reached.specs.Reached.{IsReached}
 use Rattle.pr_report_laws.proofs.Files.WatchHistories.{cons-exchanges, exchanges-both}
 use Rattle.pr_report_laws.proofs.SeenChildren.Splits.{state_after-both}
 use Rattle.pr_report_laws.proofs.Watching.HistoryParts.{all-front}
@@ -21,7 +19,8 @@ use Rattle.pr_function_laws.proofs.CallTurns.OwnSteps.{begun-there}
 use Rattle.pr_function_laws.proofs.CallTurns.TurnStates.{Steps}
 use Rattle.pr_function_laws.proofs.CallTurns.TurnWalks.{AreNoReads}
 use Rattle.pr_function_laws.specs.FunctionTurns.{is_trap}
-use Rattle.pr_function_laws.specs.Opened.{IsFunctionRun, WasNotInterrupted, functions_at}
+use Rattle.pr_function_laws.specs.ReachedRuns.{IsReachedFunctionRun}
+use Rattle.pr_function_laws.specs.Opened.{WasNotInterrupted, functions_at}
 use Rattle.pr_function_laws.specs.ToldTurns.{AreSteppable, HasStep}
 use Rattle.pr_function_laws.specs.Turns.{EndsInTrap, HasOneTurn}
 use Rattle.pr_function_hides.proofs.StepsUnderWay.CallLists.{all-quiet}
@@ -34,8 +33,8 @@ use Rattle.pr_function_hides.proofs.StepsUnderWay.UnreadTurns.{Unread, one-place
 -- How a step stands that is under way at the end of a history in which truss was not interrupted: its lwp is stepped
 -- alone, or its process halts; and where it had its turn and that ended with a trace trap, the turn is unread.
 
-module _ (n k : ℕ) (o : Options) (s : TracedState) (f : List Entry) (run : IsFunctionRun n k o s f)
-    (reached : IsReached s) (bytes : HasBytes f) (able : AreSteppable o) (facts : BreakpointsHold k o s f)
+module _ (n k : ℕ) (o : Options) (s : TracedState) (f : List Entry) (run : IsReachedFunctionRun n k o s f)
+    (able : AreSteppable o) (facts : BreakpointsHold k o s f)
     (calm : All WasNotInterrupted (exchanges k f)) (pid : ℕ) where
   abbrev T : List Entry → TrussState
   T front = functions_at k o front
@@ -55,10 +54,10 @@ module _ (n k : ℕ) (o : Options) (s : TracedState) (f : List Entry) (run : IsF
     live-own = ap (live_process (S f).system) own ∙ live
 
     b : WasBegun k o f (traced_at (T f) place).pid (traced_at (T f) place).status step
-    b = begun-there n k o s f run reached bytes able f [] whole place step under p live-own
+    b = begun-there n k o s f run able f [] whole place step under p live-own
 
     abbrev HowNow : Type 0
-    HowNow = How n k o s f run reached bytes able f [] whole calm number1 (traced_at (T f) place).status step b p
+    HowNow = How n k o s f run able f [] whole calm number1 (traced_at (T f) place).status step b p
 
     abbrev pid0 : ℕ
     pid0 = let x = b in (traced_at (T x.before) x.place).pid
@@ -126,22 +125,22 @@ module _ (n k : ℕ) (o : Options) (s : TracedState) (f : List Entry) (run : IsF
       quiet-rest i [] ys quiet = quiet
       quiet-rest i (z ∷ xs) ys quiet = quiet-rest i xs ys quiet.1
 
-      unread-turn : Unread n k o s f run reached bytes able facts calm pid f
+      unread-turn : Unread n k o s f run able facts calm pid f
       unfolding begun-g
       unread-turn =
           let x = b in
           let u =
-          marks-say n k o s f run reached bytes able g (its_turn ∷ more) f-is calm-g number1
+          marks-say n k o s f run able g (its_turn ∷ more) f-is calm-g number1
           (traced_at (T f) place).status step begun-g process
           (ap (live_process (S g).system) (sym x.its_pid)
           ∙ ap (λ (v : TracedState). live_process v.system pid0) (state_after-both s x.before (x.e ∷ before)) ∙ lives)
           in
           let file : ℕ =
-          ns n k o s f run reached bytes able g (its_turn ∷ more) f-is calm-g number1 (traced_at (T f) place).status
+          ns n k o s f run able g (its_turn ∷ more) f-is calm-g number1 (traced_at (T f) place).status
           step
           begun-g in
           let file_is : (traced_at (T x.before) x.place).status ≡ Some file =
-          ns-is n k o s f run reached bytes able g (its_turn ∷ more) f-is calm-g number1 (traced_at (T f) place).status
+          ns-is n k o s f run able g (its_turn ∷ more) f-is calm-g number1 (traced_at (T f) place).status
           step begun-g in
           record {
             front = g;
@@ -165,34 +164,34 @@ module _ (n k : ℕ) (o : Options) (s : TracedState) (f : List Entry) (run : IsF
 
     lwp-is : lwp0 ≡ step.lwp
     lwp-is =
-        its-lwp n k o s f run reached bytes able f [] whole calm number1 (traced_at (T f) place).status step b
+        its-lwp n k o s f run able f [] whole calm number1 (traced_at (T f) place).status step b
 
     pub ready-there : ((q : ℕ) → (functions_at k o f).stage ≢ Running q)
-        → (Unread n k o s f run reached bytes able facts calm pid f → ⊥)
+        → (Unread n k o s f run able facts calm pid f → ⊥)
         → ((traced_at (functions_at k o f) place).old ≡ 0) × Ready o step p
     ready-there still never = (old, by now-so)
       where
         old : (traced_at (T f) place).old ≡ 0
         old =
             let u =
-            marks-say n k o s f run reached bytes able f [] whole calm number1 (traced_at (T f) place).status step b p
+            marks-say n k o s f run able f [] whole calm number1 (traced_at (T f) place).status step b p
             live-own in
             let its = u.under in
             let at : place ≡ u.place =
-            one-place n k o s f run reached bytes able facts calm pid f [] whole place u.place under.within its.within
+            one-place n k o s f run able facts calm pid f [] whole place u.place under.within its.within
             (sym u.own) in
             ap (λ i. (traced_at (T f) i).old) at ∙ u.new
 
         now-so : HowNow
-        now-so = how n k o s f run reached bytes able f [] whole calm number1 (traced_at (T f) place).status step b p
+        now-so = how n k o s f run able f [] whole calm number1 (traced_at (T f) place).status step b p
             live-own
 
         by : HowNow → Ready o step p
         by (looks_now q at) = absurd (still q at)
         by (steps_on st) =
-            runs (stood n k o s f run reached bytes able f [] whole calm number1 (traced_at (T f) place).status step b)
-            (is-step n k o s f run reached bytes able f [] whole calm number1 (traced_at (T f) place).status step b)
-            (subst (λ i. Steps i (stood n k o s f run reached bytes able f [] whole calm number1
+            runs (stood n k o s f run able f [] whole calm number1 (traced_at (T f) place).status step b)
+            (is-step n k o s f run able f [] whole calm number1 (traced_at (T f) place).status step b)
+            (subst (λ i. Steps i (stood n k o s f run able f [] whole calm number1
             (traced_at (T f) place).status step b) p) lwp-is st)
         by (had_turn before more did point one turn had) = elim (cases_Bool (is_trap did.did)) [
           | inl it ↦ absurd (never (unread-turn before more did one (trap-is did.did it) turn.process turn.live))

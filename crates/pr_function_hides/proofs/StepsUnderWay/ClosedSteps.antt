@@ -3,13 +3,12 @@ use Rattle.std.proofs.lemmas.Bool.{eqb-true, false≢true}
 use Rattle.std.proofs.lemmas.Option.{none-some}
 use Rattle.std.specs.List.{All}
 use Rattle.pr_line.specs.declared.options.Options.{Options}
-use Rattle.pr_model.specs.Legal.{IsLegal, IsLegalEntry, state_after}
+use Rattle.pr_model.specs.Legal.{IsLegalEntry, state_after}
 use Rattle.pr_model.specs.State.{TracedProcess, TracedState, live_process}
 use Rattle.pr_model.specs.declared.events.Entry.{Entry}
 use Rattle.pr_reached.specs.ByteHistories.{HasBytes}
-use Rattle.pr_reached.specs.Reached.{IsReached}
 use Rattle.pr_report_laws.proofs.Files.WatchHistories.{exchanges-both, no-exchanges}
-use Rattle.pr_report_laws.proofs.Watching.HistoryParts.{all-front, legal-front}
+use Rattle.pr_report_laws.proofs.Watching.HistoryParts.{all-front}
 use Rattle.pr_truss.specs.Asides.{marks_at}
 use Rattle.pr_truss.specs.FunctionFeeding.{fed_functions}
 use Rattle.pr_truss.specs.Replies.{answer_of}
@@ -24,10 +23,12 @@ use Rattle.pr_function_laws.proofs.Pending.FrontLemmas as fronts
 use Rattle.pr_function_laws.proofs.Pending.FrontLemmas.{all-entry, calm-answer}
 use Rattle.pr_function_laws.proofs.Pending.KnownLaws.{known-at}
 use Rattle.pr_function_laws.proofs.OpenedProcesses.OpenedCalls.{IsSo, lowest}
-use Rattle.pr_function_laws.proofs.OpenedProcesses.OpenedLaws.{Goes, before-goes, bytes-front, calls-front}
+use Rattle.pr_function_laws.proofs.OpenedProcesses.OpenedLaws.{Goes, before-goes, bytes-front}
 use Rattle.pr_function_laws.proofs.OpenedProcesses.OpenedLemmas.{control-made}
+use Rattle.pr_function_laws.proofs.OrdinaryTruss.OrdinaryEntries.{front-run}
+use Rattle.pr_function_laws.specs.ReachedRuns.{IsReachedFunctionRun}
 use Rattle.pr_function_laws.specs.Opened.{IsFunctionRun, WasNotInterrupted, functions_at, is_opened}
-use Rattle.pr_function_laws.specs.Runs.{MakesFunctionCalls, functions_after, functions_on}
+use Rattle.pr_function_laws.specs.Runs.{functions_after, functions_on}
 use Rattle.pr_function_hides.proofs.Closing.ClosingCourse.{no_leaves, no_opens}
 use Rattle.pr_function_hides.proofs.Replies.ClosingStages.{stage-stays}
 use Rattle.pr_function_hides.proofs.Replies.ClosingWalk.{ClosesSo, StageSo, fed-closes, first-closes}
@@ -41,8 +42,7 @@ use Rattle.pr_function_hides.proofs.Replies.OwnFiles.{IsBeside, IsWithin}
 
 -- ---- along a history
 
-module _ (n k : ℕ) (o : Options) (s : TracedState) (h : List Entry) (run : IsFunctionRun n k o s h)
-    (reached : IsReached s) (bytes : HasBytes h) where
+module _ (n k : ℕ) (o : Options) (s : TracedState) (h : List Entry) (run : IsReachedFunctionRun n k o s h) where
   abbrev T : List Entry → TrussState
   T front = functions_at k o front
 
@@ -66,11 +66,11 @@ module _ (n k : ℕ) (o : Options) (s : TracedState) (h : List Entry) (run : IsF
 
     goes : Goes (Unit {0}) k o t (S front)
     goes =
-        before-goes n k o s h run front (e ∷ later) is calm (Unit {0}) (λ r. reached)
-        (λ r. bytes-front front (e ∷ later) (subst HasBytes is bytes))
+        before-goes n k o s h run.of front (e ∷ later) is calm (Unit {0}) (λ r. run.reached)
+        (λ r. bytes-front front (e ∷ later) (subst HasBytes is run.bytes))
 
     legal : IsLegalEntry n (S front) e
-    legal = fronts.legal n k o s h run front e later is calm
+    legal = fronts.legal n k o s h run.of front e later is calm
 
     within-stage : IsWithin (length t.traced) t.stage
     within-stage =
@@ -89,7 +89,7 @@ module _ (n k : ℕ) (o : Options) (s : TracedState) (h : List Entry) (run : IsF
         let low = lowest (Unit {0}) k t.options (S front) t.traced t.stage w.stage q within in
         let holds = low.holds in
         ap (λ (u : TracedState). live_process u.system (traced_at t q).pid)
-        (fronts.next-state n k o s h run front e later is calm)
+        (fronts.next-state n k o s h run.of front e later is calm)
         ∙ stays-over n (S front) e (traced_at t q).pid g.lawful legal
         (control-made k (traced_at t q).pid (traced_at t q).control (S front) g.lawful holds.its) over
 
@@ -103,7 +103,7 @@ module _ (n k : ℕ) (o : Options) (s : TracedState) (h : List Entry) (run : IsF
     own-closes x own quiet =
         let g = goes in
         let w = g.kept in
-        let has = fronts.has n k o s h run front e later is calm in
+        let has = fronts.has n k o s h run.of front e later is calm in
         let it = own-entry n k (S front) e x legal own in
         fed-closes (Over next) no_opens no_leaves (λ step pid it. tt) t x.reply w.off w.follow within-stage within-aside
         (calm-answer x quiet) was.looks
@@ -112,16 +112,16 @@ module _ (n k : ℕ) (o : Options) (s : TracedState) (h : List Entry) (run : IsF
           closes = λ q following v at left. subst (StageSo (Over next) no_opens no_leaves t) at stage-later;
           gone = λ q here told.
               stays q (called-within t within-stage within-aside q here)
-              (gone-there n k o t (S front) goes (known-at n k o s h run front (e ∷ later) is calm) x.call it.answer
+              (gone-there n k o t (S front) goes (known-at n k o s h run.of front (e ∷ later) is calm) x.call it.answer
               it.is (ap answer_of it.replied ∙ told) has
-              (fronts.makes-next n k o s h run front e later is calm x own) q here);
+              (fronts.makes-next n k o s h run.of front e later is calm x own) q here);
           begins = λ pid at idle accepted. tt;
           steps = λ q step following at idle accepted after. tt;
         }) has
 
     entry-closes : ((x : Exchange) → exchange_of k e ≡ Some x → WasNotInterrupted x) → Closes next
     entry-closes quiet =
-        subst (ClosesSo (Over next) no_opens no_leaves) (sym (fronts.pushed n k o s h run front e later is calm))
+        subst (ClosesSo (Over next) no_opens no_leaves) (sym (fronts.pushed n k o s h run.of front e later is calm))
         (by (exchange_of k e) refl)
       where
         by : (x : Option Exchange) → exchange_of k e ≡ x → ClosesSo (Over next) no_opens no_leaves (functions_on t x)
@@ -154,16 +154,7 @@ module _ (n k : ℕ) (o : Options) (s : TracedState) (h : List Entry) (run : IsF
     closes-at = walk front [] later is calm at-first
 
     run-front : IsFunctionRun n k o s front
-    run-front = record {
-      has = run.has;
-      follows_none = run.follows_none;
-      lawful = run.lawful;
-      nothing_open = run.nothing_open;
-      legal = legal-front n s front later (subst (IsLegal n s) is run.legal);
-      makes =
-          calls-front (first_truss o) (exchanges k front) (exchanges k later)
-          (subst (MakesFunctionCalls (first_truss o)) (ap (exchanges k) is ∙ exchanges-both k front later) run.makes);
-    }
+    run-front = front-run n k o s front later (subst (IsFunctionRun n k o s) is run.of)
 
     unnot : (b : Bool) → not b ≡ false → b ≡ true
     unnot true is_off = refl
@@ -186,8 +177,8 @@ module _ (n k : ℕ) (o : Options) (s : TracedState) (h : List Entry) (run : IsF
         stage-there : IsWithin (length (T front).traced) (T front).stage
         stage-there =
             let g =
-            before-goes n k o s h run front later is calm (Unit {0}) (λ r. reached)
-            (λ r. bytes-front front later (subst HasBytes is bytes)) in
+            before-goes n k o s h run.of front later is calm (Unit {0}) (λ r. run.reached)
+            (λ r. bytes-front front later (subst HasBytes is run.bytes)) in
             let w = g.kept in
             stage-within (IsSo (Unit {0}) k (T front).options (S front)) (T front).traced (T front).stage w.stage
 

@@ -9,8 +9,6 @@ use Rattle.pr_model.specs.declared.calls.Reply.{Reply}
 use Rattle.pr_model.specs.declared.calls.Reply.TheVariants as reply
 use Rattle.pr_model.specs.declared.events.Entry.{Entry}
 use Rattle.pr_num.specs.declared.errnos.Errno.TheVariants.{Intr}
-use Rattle.pr_reached.specs.ByteHistories.{HasBytes}
-use Rattle.pr_reached.specs.Reached.{IsReached}
 use Rattle.pr_rec.specs.declared.lwps.LwpStatus.{LwpStatus}
 use Rattle.pr_report_laws.proofs.Files.WatchHistories.{no-exchanges}
 use Rattle.pr_report_laws.proofs.Invariant.StandLemmas.{Each, each-but}
@@ -39,7 +37,8 @@ use Rattle.pr_function_laws.proofs.LeavingProcesses.LeavingStages.{lifted_after}
 use Rattle.pr_function_laws.proofs.Listing.LeavingEvents as begins
 use Rattle.pr_function_laws.proofs.OpenedProcesses.OpenedCalls.{IsSo}
 use Rattle.pr_function_laws.proofs.Pending.FrontLemmas.{calm-answer}
-use Rattle.pr_function_laws.specs.Opened.{IsFunctionRun, WasNotInterrupted, functions_at}
+use Rattle.pr_function_laws.specs.ReachedRuns.{IsReachedFunctionRun}
+use Rattle.pr_function_laws.specs.Opened.{WasNotInterrupted, functions_at}
 use Rattle.pr_function_laws.specs.Runs.{functions_after, functions_on}
 use Rattle.pr_function_hides.proofs.Copying.CopyEnds.{aside-within, stage-within}
 use Rattle.pr_function_hides.proofs.Replies.LeavingWalk.{after-all, fed-left}
@@ -122,8 +121,7 @@ fewer-long set (Some i) long = length-set set i false ∙ long
 
 -- ---- along a history
 
-module _ (n k : ℕ) (o : Options) (s : TracedState) (h : List Entry) (run : IsFunctionRun n k o s h)
-    (reached : IsReached s) (bytes : HasBytes h) where
+module _ (n k : ℕ) (o : Options) (s : TracedState) (h : List Entry) (run : IsReachedFunctionRun n k o s h) where
   abbrev T : List Entry → TrussState
   T front = functions_at k o front
 
@@ -136,16 +134,16 @@ module _ (n k : ℕ) (o : Options) (s : TracedState) (h : List Entry) (run : IsF
     t = functions_at k o f
 
     truss-is : T (f ++ e ∷ []) ≡ functions_on t (exchange_of k e)
-    truss-is = truss-next (Unit {0}) n k o s h run (λ r. reached) (λ r. bytes) f e later is
+    truss-is = truss-next (Unit {0}) n k o s h run.of (λ r. run.reached) (λ r. run.bytes) f e later is
 
     has : has_functions t.options ≡ true
-    has = has-there (Unit {0}) n k o s h run (λ r. reached) (λ r. bytes) f e later is
+    has = has-there (Unit {0}) n k o s h run.of (λ r. run.reached) (λ r. run.bytes) f e later is
 
     -- a reply that is no interrupt, before the first one
     quiet-long : All WasNotInterrupted (exchanges k f) → (x : Exchange) → WasNotInterrupted x
         → Each Long (fed_functions t x.reply).traced
     quiet-long calm x quiet =
-        let g = goes-there (Unit {0}) n k o s h run (λ r. reached) (λ r. bytes) f e later is calm in
+        let g = goes-there (Unit {0}) n k o s h run.of (λ r. run.reached) (λ r. run.bytes) f e later is calm in
         let w = g.kept in
         let within = stage-within (IsSo (Unit {0}) k t.options (S f)) t.traced t.stage w.stage in
         let beside = aside-within (IsSo (Unit {0}) k t.options (S f)) t.traced t.aside w.beside in
@@ -156,10 +154,10 @@ module _ (n k : ℕ) (o : Options) (s : TracedState) (h : List Entry) (run : IsF
     broken-long : All WasNotInterrupted (exchanges k f) → (x : Exchange) → exchange_of k e ≡ Some x
         → x.reply ≡ reply.Fail Intr → Each Long (fed_functions t x.reply).traced
     broken-long calm x own broken i within =
-        let b = begins.b n k o s h run reached bytes 0 f e later is calm x own broken in
+        let b = begins.b n k o s h run 0 f e later is calm x own broken in
         let shares = b.shares in
         ap (λ (m : Marks). length m.planted)
-        (begins.marks-same n k o s h run reached bytes 0 f e later is calm x own broken i)
+        (begins.marks-same n k o s h run 0 f e later is calm x own broken i)
         ∙ was i (subst (λ m. i < m) shares.many within)
 
     -- while it leaves its processes
@@ -167,19 +165,19 @@ module _ (n k : ℕ) (o : Options) (s : TracedState) (h : List Entry) (run : IsF
     leaving-long g x =
         let l =
         fed-left Long long-alike Any any-old t x.reply g.on
-        (follow-there (Unit {0}) n k o s h run (λ r. reached) (λ r. bytes) f e later is) has
+        (follow-there (Unit {0}) n k o s h run.of (λ r. run.reached) (λ r. run.bytes) f e later is) has
         (λ i j one two other.
-        its-apart k t (S f) (files-at (Unit {0}) n k o s h run (λ r. reached) (λ r. bytes) f (e ∷ later) is) i j one two
-        other) (λ q within still. tt) g.at
-        (after-all Long long-alike Any any-old t x.reply
-        (λ v. fewer-long v.marks.planted (first_function v.marks.planted)) (λ v long. refl) lost-long was g.at) in
+         its-apart k t (S f) (files-at (Unit {0}) n k o s h run.of (λ r. run.reached) (λ r. run.bytes) f (e ∷ later) is)
+         i j one two other) (λ q within still. tt) g.at
+         (after-all Long long-alike Any any-old t x.reply
+         (λ v. fewer-long v.marks.planted (first_function v.marks.planted)) (λ v long. refl) lost-long was g.at) in
         l.each
 
     own-long : (x : Exchange) → exchange_of k e ≡ Some x → Each Long (fed_functions t x.reply).traced
     own-long x own =
-        by (course-at (Unit {0}) n k o s h run (λ r. reached) (λ r. bytes) f (e ∷ later) is) (is-broken x)
+        by (course-at (Unit {0}) n k o s h run.of (λ r. run.reached) (λ r. run.bytes) f (e ∷ later) is) (is-broken x)
       where
-        by : Course (Unit {0}) n k o s h run (λ r. reached) (λ r. bytes) f
+        by : Course (Unit {0}) n k o s h run.of (λ r. run.reached) (λ r. run.bytes) f
             → (x.reply ≡ reply.Fail Intr) ⊎ WasNotInterrupted x → Each Long (fed_functions t x.reply).traced
         by (goes_on calm) (inl broken) = broken-long calm x own broken
         by (goes_on calm) (inr quiet) = quiet-long calm x quiet

@@ -18,8 +18,6 @@ use Rattle.pr_model.specs.declared.events.Entry.{Entry}
 use Rattle.pr_model.specs.declared.events.Turned.{Turned}
 use Rattle.pr_model.specs.declared.lwps.Phase.TheVariants.{User}
 use Rattle.pr_num.specs.declared.faults.Flt.TheVariants.{Trace}
-use Rattle.pr_reached.specs.ByteHistories.{HasBytes}
-use Rattle.pr_reached.specs.Reached.{IsReached}
 use Rattle.pr_truss.specs.Asides.{marks_at}
 use Rattle.pr_truss.specs.FunctionEvents.{begins_at, function_at, if_standing}
 use Rattle.pr_truss.specs.Marks.{has_function, standing, with_step}
@@ -33,7 +31,8 @@ use Rattle.pr_function_laws.proofs.Marks.MetLemmas.{found-function}
 use Rattle.pr_function_laws.proofs.CallTurns.OwnSteps.{its-step, steps-read}
 use Rattle.pr_function_laws.proofs.CallTurns.ToldLaws.{legal}
 use Rattle.pr_function_laws.specs.FunctionTurns.{call_at, call_of_turn, is_in_program, is_process}
-use Rattle.pr_function_laws.specs.Opened.{IsFunctionRun, WasNotInterrupted, functions_at, is_opened}
+use Rattle.pr_function_laws.specs.ReachedRuns.{IsReachedFunctionRun}
+use Rattle.pr_function_laws.specs.Opened.{WasNotInterrupted, functions_at, is_opened}
 use Rattle.pr_function_laws.specs.ToldTurns.{AreSteppable, HasStep}
 use Rattle.pr_function_laws.specs.Turns.{EndsInTrap, first_arguments}
 use Rattle.pr_function_hides.proofs.StepsUnderWay.ClosedSteps.{closed-unstepped}
@@ -64,8 +63,8 @@ stopped-not same = cc
 
 -- ---- a turn
 
-module _ (n k : ℕ) (o : Options) (s : TracedState) (h : List Entry) (run : IsFunctionRun n k o s h)
-    (reached : IsReached s) (bytes : HasBytes h) (able : AreSteppable o) (facts : BreakpointsHold k o s h)
+module _ (n k : ℕ) (o : Options) (s : TracedState) (h : List Entry) (run : IsReachedFunctionRun n k o s h)
+    (able : AreSteppable o) (facts : BreakpointsHold k o s h)
     (front later : List Entry) (pid id : ℕ) (turned : Turned) (is : h ≡ front ++ turn_entry pid id turned ∷ later)
     (calm : All WasNotInterrupted (exchanges k front)) where
   abbrev t : TrussState
@@ -80,7 +79,7 @@ module _ (n k : ℕ) (o : Options) (s : TracedState) (h : List Entry) (run : IsF
   pub taken : (x : LwpTurn) × (turn_of now.system pid id ≡ Some x)
   unfolding IsLegalEntry
   taken =
-      let it_is : IsLegalEntry n now e = legal n k o s h run reached bytes able front e later is calm in
+      let it_is : IsLegalEntry n now e = legal n k o s h run able front e later is calm in
       (record { system = it_is.0; turned = turned }, it_is.1)
 
   pub its-turn : TakesTurn now.system pid id taken.0
@@ -120,17 +119,17 @@ module _ (n k : ℕ) (o : Options) (s : TracedState) (h : List Entry) (run : IsF
       | inr other ↦ absurd
           (stopped-not
           (ap (λ (x : Turned). x.did)
-          (sym (let all = steps-read n k o s h run reached bytes able in
+          (sym (let all = steps-read n k o s h run able in
           all.alone front later place id step turned is-own under other))
           ∙ trap))
     ]
 
     pub begun : WasBegun k o front (traced_at t place).pid (traced_at t place).status step
-    begun = its-step n k o s h run reached bytes able front later place id step turned is-own under
+    begun = its-step n k o s h run able front later place id step turned is-own under
 
     same-id : (let b = begun in let m = b.meets in m.l.id) ≡ id
     same-id =
-        its-lwp n k o s h run reached bytes able front (e ∷ later) is calm (traced_at t place).pid
+        its-lwp n k o s h run able front (e ∷ later) is calm (traced_at t place).pid
         (traced_at t place).status step begun ∙ sym own-lwp
 
     live-own : live_process now.system (traced_at t place).pid ≡ Some (let x = its-turn in x.process)
@@ -142,7 +141,7 @@ module _ (n k : ℕ) (o : Options) (s : TracedState) (h : List Entry) (run : IsF
     lives-behind =
         let x = its-turn in
         let it =
-        lives-on n k o s h run reached bytes able front (e ∷ later) is calm (traced_at t place).pid
+        lives-on n k o s h run able front (e ∷ later) is calm (traced_at t place).pid
         (traced_at t place).status step begun taken.0 x.process live-own
         (ap (λ i. turn_of now.system i (let b = begun in let m = b.meets in m.l.id)) own
         ∙ ap (turn_of now.system pid) same-id ∙ taken.1) in (
@@ -151,13 +150,13 @@ module _ (n k : ℕ) (o : Options) (s : TracedState) (h : List Entry) (run : IsF
               ∙ ap (λ i. live_process taken.0.system i) (sym own) ∙ it.1,
         )
 
-    stands : StandsAtStart n k o s h run reached bytes able front (e ∷ later) is calm
+    stands : StandsAtStart n k o s h run able front (e ∷ later) is calm
         (traced_at t place).pid (traced_at t place).status step begun taken.0 (let x = its-turn in x.process) live-own
         (ap (λ i. turn_of now.system i (let b = begun in let m = b.meets in m.l.id)) own
         ∙ ap (turn_of now.system pid) same-id ∙ taken.1) l
     stands =
         let x = its-turn in
-        lwp-stands n k o s h run reached bytes able front (e ∷ later) is calm (traced_at t place).pid
+        lwp-stands n k o s h run able front (e ∷ later) is calm (traced_at t place).pid
         (traced_at t place).status step begun taken.0 x.process live-own
         (ap (λ i. turn_of now.system i (let b = begun in let m = b.meets in m.l.id)) own
         ∙ ap (turn_of now.system pid) same-id ∙ taken.1) l (ap (lwp_of x.process) same-id ∙ x.there)
@@ -165,24 +164,24 @@ module _ (n k : ℕ) (o : Options) (s : TracedState) (h : List Entry) (run : IsF
     found-is : position (begins_at (pc_of l.regs)) t.options.functions ≡ Some step.function
     found-is =
         let f =
-        found n k o s h run reached bytes able front (e ∷ later) is calm (traced_at t place).pid
+        found n k o s h run able front (e ∷ later) is calm (traced_at t place).pid
         (traced_at t place).status step begun in
         ap (λ pc. position (begins_at pc) t.options.functions) stands.stands
         ∙ ap (λ (opts : Options). position (begins_at f.f.at) opts.functions)
-        (options-here n k o s h run front (e ∷ later) is calm
-        ∙ sym (options-then n k o s h run reached bytes able front (e ∷ later) is calm (traced_at t place).pid
+        (options-here n k o s h run.of front (e ∷ later) is calm
+        ∙ sym (options-then n k o s h run able front (e ∷ later) is calm (traced_at t place).pid
         (traced_at t place).status step begun))
         ∙ f.first
         ∙ ap (λ i. Some i)
-        (its-function n k o s h run reached bytes able front (e ∷ later) is calm (traced_at t place).pid
+        (its-function n k o s h run able front (e ∷ later) is calm (traced_at t place).pid
         (traced_at t place).status step begun)
 
     few : step.function < function_limit
     few =
         subst (λ i. i < function_limit)
-        (its-function n k o s h run reached bytes able front (e ∷ later) is calm (traced_at t place).pid
+        (its-function n k o s h run able front (e ∷ later) is calm (traced_at t place).pid
         (traced_at t place).status step begun)
-        (its-few n k o s h run reached bytes able front (e ∷ later) is calm (traced_at t place).pid
+        (its-few n k o s h run able front (e ∷ later) is calm (traced_at t place).pid
         (traced_at t place).status step begun)
 
     standing-is : has_function (standing (marks_at t place)) step.function ≡ true
@@ -193,7 +192,7 @@ module _ (n k : ℕ) (o : Options) (s : TracedState) (h : List Entry) (run : IsF
         (omega (
           arith,
           few,
-          planted-long n k o s h run reached bytes front (e ∷ later) is place under.within,
+          planted-long n k o s h run front (e ∷ later) is place under.within,
         ))
 
     function-is : met place ≡ Some step.function
@@ -205,7 +204,7 @@ module _ (n k : ℕ) (o : Options) (s : TracedState) (h : List Entry) (run : IsF
     pub step-call : its_call ≡ Called pid step.lwp step.function step.arguments ∷ []
     step-call =
         at-there place
-        (place-of pid t.traced place (apart-here n k o s h run front (e ∷ later) is calm) under.within own) trap
+        (place-of pid t.traced place (apart-here n k o s h run.of front (e ∷ later) is calm) under.within own) trap
         ∙ ap
         (λ phase. call_at (traced_at t place).pid id l (cond {A = Option ℕ} (is_in_program phase) (met place) None))
         stands.in_program
@@ -248,7 +247,7 @@ module _ (n k : ℕ) (o : Options) (s : TracedState) (h : List Entry) (run : IsF
       | inl opened ↦ opened
       | inr not ↦ absurd
           (none-some step
-          (sym (closed-unstepped n k o s h run reached bytes front (e ∷ later) is calm m.place
+          (sym (closed-unstepped n k o s h run front (e ∷ later) is calm m.place
           (let x = its-turn in x.process) m.within live-there not) ∙ under))
     ]
 

@@ -27,8 +27,6 @@ use Rattle.pr_model.specs.declared.calls.File.TheVariants.{Ctl}
 use Rattle.pr_model.specs.declared.calls.Mode.TheVariants.{WriteExcl}
 use Rattle.pr_model.specs.declared.lwps.Phase.TheVariants.{User}
 use Rattle.pr_reached.proofs.FitStates.FitHistoryLemmas.{history-fits}
-use Rattle.pr_reached.specs.ByteHistories.{HasBytes}
-use Rattle.pr_reached.specs.Reached.{IsReached}
 use Rattle.pr_rec.specs.declared.lwps.LwpStatus.{LwpStatus}
 use Rattle.pr_report_laws.proofs.Files.WatchHistories.{cons-exchanges, exchanges-both}
 use Rattle.pr_report_laws.proofs.Machine.StayingLwps.{keeps-meeting, live-by, row-leaves, settled-to}
@@ -78,6 +76,7 @@ use Rattle.pr_function_laws.proofs.CallTurns.TurnWalks as walks
 use Rattle.pr_function_laws.proofs.CallTurns.TurnWalks.{After, AreNoReads, Comes, Files, Turns}
 use Rattle.pr_function_laws.specs.Lifted.{GoesElsewhere, HasControl, IsAtStopAtBreakpoint, ReadsOnlyLast}
 use Rattle.pr_function_laws.specs.Met.{arguments_of}
+use Rattle.pr_function_laws.specs.ReachedRuns.{IsReachedFunctionRun}
 use Rattle.pr_function_laws.specs.Opened.{IsFunctionRun, ReadsBreakpoint, WasNotInterrupted, functions_at, is_opened}
 use Rattle.pr_function_laws.specs.Runs.{functions_after}
 use Rattle.pr_function_laws.specs.Steppable.{IsSteppable}
@@ -135,8 +134,8 @@ module _ (n k : ℕ) (o : Options) (s : TracedState) (h : List Entry) (run : IsF
 
 -- ---- a step that was begun
 
-module _ (n k : ℕ) (o : Options) (s : TracedState) (h : List Entry) (run : IsFunctionRun n k o s h)
-    (reached : IsReached s) (bytes : HasBytes h) (able : AreSteppable o) (front later : List Entry)
+module _ (n k : ℕ) (o : Options) (s : TracedState) (h : List Entry) (run : IsReachedFunctionRun n k o s h)
+    (able : AreSteppable o) (front later : List Entry)
     (is : h ≡ front ++ later) (calm : All WasNotInterrupted (exchanges k front)) (pid : ℕ) (status : Option ℕ)
     (step : Stepped) (b : WasBegun k o front pid status step) where
   abbrev tr : TrussState
@@ -167,7 +166,7 @@ module _ (n k : ℕ) (o : Options) (s : TracedState) (h : List Entry) (run : IsF
       (subst (All WasNotInterrupted) (ap (exchanges k) b.is ∙ exchanges-both k b.before (b.e ∷ b.between)) calm)
 
   pub options-then : t0.options ≡ o
-  options-then = options-here n k o s h run b.before (b.e ∷ (b.between ++ later)) parted calm-before
+  options-then = options-here n k o s h run.of b.before (b.e ∷ (b.between ++ later)) parted calm-before
 
   abbrev its_function : ℕ
   its_function = let m = b.meets in m.function
@@ -215,15 +214,15 @@ module _ (n k : ℕ) (o : Options) (s : TracedState) (h : List Entry) (run : IsF
       quiet-last number (x ∷ xs) quiet = inl (quiet.0, quiet-last number xs quiet.1)
 
   pub ns : ℕ
-  ns = status-handle n k o s h run reached bytes b.before b.between later b.e b.place id parted calm-before broke
+  ns = status-handle n k o s h run b.before b.between later b.e b.place id parted calm-before broke
 
   pub ns-is : (traced_at t0 b.place).status ≡ Some ns
   unfolding ns
-  ns-is = handle-is n k o s h run reached bytes b.before b.between later b.e b.place id parted calm-before broke
+  ns-is = handle-is n k o s h run b.before b.between later b.e b.place id parted calm-before broke
 
   pub stopped : IsAtStopAtBreakpoint n k t0 b.place ns pid0 id then b.e b.between
   unfolding ns
-  stopped = stop-there n k o s h run reached bytes b.before b.between later b.e b.place id parted calm-before broke
+  stopped = stop-there n k o s h run b.before b.between later b.e b.place id parted calm-before broke
 
   -- ---- the way since then
 
@@ -235,12 +234,12 @@ module _ (n k : ℕ) (o : Options) (s : TracedState) (h : List Entry) (run : IsF
 
   first-is : first_lwp ≡ (let m = b.meets in m.l)
   unfolding stopped ns broke
-  first-is = stop-lwp n k o s h run reached bytes b.before b.between later b.e b.place id parted calm-before broke
+  first-is = stop-lwp n k o s h run b.before b.between later b.e b.place id parted calm-before broke
 
   function-is : function ≡ its_function
   unfolding stopped ns broke
   function-is =
-      stop-function n k o s h run reached bytes b.before b.between later b.e b.place id parted calm-before broke
+      stop-function n k o s h run b.before b.between later b.e b.place id parted calm-before broke
 
   step-is : step_of first_lwp function ≡ step
   step-is =
@@ -327,7 +326,7 @@ module _ (n k : ℕ) (o : Options) (s : TracedState) (h : List Entry) (run : IsF
   away : Away Q c ns met tr → HasControl k pid0 c last → IsUnder
   away it control =
       let there =
-      traced-there n k o s h run front later is calm pid0 c (subst (HasControl k pid0 c) (sym state-is) control) in
+      traced-there n k o s h run.of front later is calm pid0 c (subst (HasControl k pid0 c) (sym state-is) control) in
       by there.0 there.1.0 there.1.1 (it.each there.0 there.1.0)
     where
       -- its files are no other process's
@@ -337,7 +336,7 @@ module _ (n k : ℕ) (o : Options) (s : TracedState) (h : List Entry) (run : IsF
           control-of Q (at_place tr.traced q) apart
           (record { controller = k; pid = (traced_at tr q).pid; lwp = 0; file = Ctl; mode = WriteExcl })
           (subst (HasControl k (traced_at tr q).pid (traced_at tr q).control) state-is
-          (control-there n k o s h run front later is calm q within)) same
+          (control-there n k o s h run.of front later is calm q within)) same
 
       opened : (q : ℕ) → q < length tr.traced → (traced_at tr q).pid ≡ pid0 → (stage : Stage)
           → AwayStage Q c ns met tr.traced stage → is_opened stage q ≡ true
@@ -384,7 +383,7 @@ module _ (n k : ℕ) (o : Options) (s : TracedState) (h : List Entry) (run : IsF
         by : Comes n k pid0 id c ns met b.place stood begun_truss (after then b.e) b.between → Steps id stood p
         by (walks.no_turn none (walks.looks look files lives)) =
             let w = lives p (live-last p live) in
-            let lawful = lawful-here n k o s h run front later is calm in
+            let lawful = lawful-here n k o s h run.of front later is calm in
             let l = live-lawful current.system pid p lawful.system live in
             absurd (none-some turn
             (sym (frozen-turns last.system pid0 p (live-last p live) (fault-frozen p id w.stands l.rising) id)
@@ -399,10 +398,11 @@ module _ (n k : ℕ) (o : Options) (s : TracedState) (h : List Entry) (run : IsF
     pub lives-on : (q : TracedProcess) × (live_process turn.system pid ≡ Some q)
     lives-on =
         let w = steps-there in
-        let lawful = lawful-here n k o s h run front later is calm in
+        let lawful = lawful-here n k o s h run.of front later is calm in
         let fits =
         fit-process current.system pid p
-        (history-fits n s front run.lawful reached.fit (legal-front n s front later (subst (IsLegal n s) is run.legal)))
+        (history-fits n s front run.of.lawful run.reached.fit
+        (legal-front n s front later (subst (IsLegal n s) is run.of.legal)))
         live in
         let stepped = w.stepped in
         let point = step-point current.system pid p id w.lwp turn live w.stepped w.all w.no_call fits took in
@@ -550,7 +550,7 @@ module _ (n k : ℕ) (o : Options) (s : TracedState) (h : List Entry) (run : IsF
         })
 
     lawful-last : IsLawful last
-    lawful-last = subst IsLawful state-is (lawful-here n k o s h run front later is calm)
+    lawful-last = subst IsLawful state-is (lawful-here n k o s h run.of front later is calm)
 
     control-last : HasControl k pid0 c last
     control-last =
@@ -574,7 +574,8 @@ module _ (n k : ℕ) (o : Options) (s : TracedState) (h : List Entry) (run : IsF
 
       its-legal : IsLegalEntry n last e
       its-legal =
-          subst (λ (u : TracedState). IsLegalEntry n u e) state-is (fronts.legal n k o s h run front e more whole calm)
+          subst (λ (u : TracedState). IsLegalEntry n u e) state-is
+          (fronts.legal n k o s h run.of front e more whole calm)
 
       by-others : exchange_of k e ≡ None → HaltsOn pid0 p (after last e).system
       by-others none =
@@ -590,8 +591,8 @@ module _ (n k : ℕ) (o : Options) (s : TracedState) (h : List Entry) (run : IsF
           (outlasts-halts pid0 p y.answer.state.system halting
           (own-call-elsewhere last k pid0 x.call y.answer p lawful-last
           (λ m held named there.
-          away-acts Q c ns met tr a.away m (fronts.has n k o s h run front e more whole calm) x.call
-          (fronts.makes-next n k o s h run front e more whole calm x own)
+          away-acts Q c ns met tr a.away m (fronts.has n k o s h run.of front e more whole calm) x.call
+          (fronts.makes-next n k o s h run.of front e more whole calm x own)
           (named-acts n k pid0 id c last lawful-last sole made-last x.call m named) held there)
           y.is (live-last p live)))
 
@@ -621,6 +622,6 @@ module _ (n k : ℕ) (o : Options) (s : TracedState) (h : List Entry) (run : IsF
             ap (λ (u : TracedState). handle_of u.opens k handle) (sym state-is) ∙ there in
             reads
             ∙ reads-status Q c ns met tr a.away handle from len (open-few k handle last file lawful-last here)
-            (λ goes. goes file here (its ∙ sym b.its_pid)) (fronts.has n k o s h run front e more whole calm)
-            (fronts.makes-next n k o s h run front e more whole calm x own ∙ ap (λ d. Some d) reads);
+            (λ goes. goes file here (its ∙ sym b.its_pid)) (fronts.has n k o s h run.of front e more whole calm)
+            (fronts.makes-next n k o s h run.of front e more whole calm x own ∙ ap (λ d. Some d) reads);
       }

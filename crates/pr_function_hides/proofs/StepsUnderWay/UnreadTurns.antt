@@ -11,8 +11,6 @@ use Rattle.pr_model.specs.declared.calls.Call.TheVariants as call
 use Rattle.pr_model.specs.declared.events.Entry.{Entry}
 use Rattle.pr_model.specs.declared.events.Turned.{Turned}
 use Rattle.pr_model.specs.declared.handles.Held.{Held}
-use Rattle.pr_reached.specs.ByteHistories.{HasBytes}
-use Rattle.pr_reached.specs.Reached.{IsReached}
 use Rattle.pr_report_laws.proofs.Files.WatchHistories.{cons-exchanges, exchanges-both, exchanges-push}
 use Rattle.pr_report_laws.proofs.SeenChildren.Splits.{Compares, ahead, behind, compare, same, state_after-both}
 use Rattle.pr_report_laws.proofs.Watching.HistoryParts.{all-front, all-rest}
@@ -33,7 +31,8 @@ use Rattle.pr_function_laws.proofs.CallTurns.TurnWalks.{AreNoReads}
 use Rattle.pr_function_laws.specs.Calls.{call_told}
 use Rattle.pr_function_laws.specs.FunctionTurns.{is_call_of}
 use Rattle.pr_function_laws.specs.Lifted.{IsNoRead, ReadsOnlyLast}
-use Rattle.pr_function_laws.specs.Opened.{IsFunctionRun, WasNotInterrupted, functions_at}
+use Rattle.pr_function_laws.specs.ReachedRuns.{IsReachedFunctionRun}
+use Rattle.pr_function_laws.specs.Opened.{WasNotInterrupted, functions_at}
 use Rattle.pr_function_laws.specs.ToldTurns.{AreSteppable, HasStep}
 use Rattle.pr_function_laws.specs.Turns.{EndsInTrap}
 use Rattle.pr_function_hides.proofs.StepsUnderWay.CallLists.{all-quiet}
@@ -43,8 +42,8 @@ use Rattle.pr_function_hides.proofs.StepsUnderWay.UnderWay.{apart-here, goes-beh
 
 -- The turn of a step that truss has not read yet: there is one at most, and a call that a read tells is of such a turn.
 
-module _ (n k : ℕ) (o : Options) (s : TracedState) (h : List Entry) (run : IsFunctionRun n k o s h)
-    (reached : IsReached s) (bytes : HasBytes h) (able : AreSteppable o) (facts : BreakpointsHold k o s h)
+module _ (n k : ℕ) (o : Options) (s : TracedState) (h : List Entry) (run : IsReachedFunctionRun n k o s h)
+    (able : AreSteppable o) (facts : BreakpointsHold k o s h)
     (all_calm : All WasNotInterrupted (exchanges k h)) (pid : ℕ) where
   abbrev T : List Entry → TrussState
   T front = functions_at k o front
@@ -64,7 +63,7 @@ module _ (n k : ℕ) (o : Options) (s : TracedState) (h : List Entry) (run : IsF
     | inl one ↦ one
     | inr other ↦ absurd
         (apart-at (T front).traced i j within inside other
-        (apart-here n k o s h run front later is (calm-front front later is)) own)
+        (apart-here n k o s h run.of front later is (calm-front front later is)) own)
   ]
 
   -- Among these entries is the turn of a step, and behind it truss has not read the status of the process.
@@ -111,7 +110,7 @@ module _ (n k : ℕ) (o : Options) (s : TracedState) (h : List Entry) (run : IsF
     begun-first : WasBegun k o a.front number1 status1 a.step
     begun-first =
         let u = a.under in
-        begun n k o s h run reached bytes able facts a.front (a.mid ++ later) pid a.id a.turned (parted f later is a)
+        begun n k o s h run able facts a.front (a.mid ++ later) pid a.id a.turned (parted f later is a)
         u.calm a.place a.step a.under a.own a.trapped
 
     begun-still : WasBegun k o f number1 status1 a.step
@@ -141,13 +140,13 @@ module _ (n k : ℕ) (o : Options) (s : TracedState) (h : List Entry) (run : IsF
     pub its-own-lwp : a.id ≡ (let step = a.step in step.lwp)
     its-own-lwp =
         let u = a.under in
-        own-lwp n k o s h run reached bytes able facts a.front (a.mid ++ later) pid a.id a.turned (parted f later is a)
+        own-lwp n k o s h run able facts a.front (a.mid ++ later) pid a.id a.turned (parted f later is a)
         u.calm a.place a.step a.under a.own a.trapped
 
     pub still-under : (p : TracedProcess) → live_process (S f).system pid ≡ Some p → StillUnder f a.step
     still-under p live =
         let u =
-        marks-say n k o s h run reached bytes able f later is (calm-front f later is) number1 status1 a.step begun-still
+        marks-say n k o s h run able f later is (calm-front f later is) number1 status1 a.step begun-still
         p
         (ap (live_process (S f).system) a.own ∙ live) in
         record { place = u.place; own = u.own ∙ a.own; under = u.under; new = u.new }
@@ -159,9 +158,9 @@ module _ (n k : ℕ) (o : Options) (s : TracedState) (h : List Entry) (run : IsF
     trap-still p live =
         let b = begun-first in
         let its =
-        its-lwp n k o s h run reached bytes able f later is (calm-front f later is) number1 status1 a.step
+        its-lwp n k o s h run able f later is (calm-front f later is) number1 status1 a.step
         begun-still in
-        trap-now n k o s h run reached bytes able f later is (calm-front f later is) number1 status1 a.step
+        trap-now n k o s h run able f later is (calm-front f later is) number1 status1 a.step
         begun-still b.between a.mid a.turned
         (ap (λ i. b.between ++ turn_entry i a.id a.turned ∷ a.mid) (sym (b.its_pid ∙ a.own))
         ∙ ap (λ i. b.between ++ turn_entry (let x = begun-first in (traced_at (T x.before) x.place).pid) i a.turned
@@ -182,10 +181,10 @@ module _ (n k : ℕ) (o : Options) (s : TracedState) (h : List Entry) (run : IsF
     one-more e more next_is p live =
         let b = begun-first in
         let its =
-        its-lwp n k o s h run reached bytes able f later is (calm-front f later is) number1 status1 a.step
+        its-lwp n k o s h run able f later is (calm-front f later is) number1 status1 a.step
         begun-still in
         let w =
-        goes-behind n k o s h run reached bytes able f later is (calm-front f later is) number1 status1 a.step
+        goes-behind n k o s h run able f later is (calm-front f later is) number1 status1 a.step
         begun-still b.between a.mid a.turned
         (ap (λ i. b.between ++ turn_entry i a.id a.turned ∷ a.mid) (sym (b.its_pid ∙ a.own))
         ∙ ap (λ i. b.between ++ turn_entry (let x = begun-first in (traced_at (T x.before) x.place).pid) i a.turned
@@ -197,7 +196,7 @@ module _ (n k : ℕ) (o : Options) (s : TracedState) (h : List Entry) (run : IsF
               w.reads x own handle from len file read there (of ∙ sym a.own)
               ∙ ap (λ i. read_record (Some i))
               (same_Some _ a.number
-              (sym (ns-is n k o s h run reached bytes able f later is (calm-front f later is) number1 status1 a.step
+              (sym (ns-is n k o s h run able f later is (calm-front f later is) number1 status1 a.step
               begun-still)
               ∙ b.its_status a.number a.file));
         }
@@ -218,7 +217,7 @@ module _ (n k : ℕ) (o : Options) (s : TracedState) (h : List Entry) (run : IsF
 
     same-step : step ≡ a.step
     same-step =
-        let x = its-turn n k o s h run reached bytes able facts f later pid id2 turned2 is
+        let x = its-turn n k o s h run able facts f later pid id2 turned2 is
         (calm-front f (two ∷ later) is) in
         let u = still-under f (two ∷ later) is a x.process x.live in
         let its = u.under in
@@ -229,13 +228,13 @@ module _ (n k : ℕ) (o : Options) (s : TracedState) (h : List Entry) (run : IsF
 
     same-lwp : id2 ≡ a.id
     same-lwp =
-        own-lwp n k o s h run reached bytes able facts f later pid id2 turned2 is (calm-front f (two ∷ later) is) place
+        own-lwp n k o s h run able facts f later pid id2 turned2 is (calm-front f (two ∷ later) is) place
         step under own trap
         ∙ ap (λ (x : Stepped). x.lwp) same-step ∙ sym (its-own-lwp f (two ∷ later) is a)
 
     pub no-more : ⊥
     no-more =
-        let all = steps-read n k o s h run reached bytes able in
+        let all = steps-read n k o s h run able in
         all.once a.front a.mid later a.place a.id a.step a.turned turned2
         (first-is
         ∙ ap (λ i. a.front ++ turn_entry i a.id a.turned ∷ (a.mid ++ turn_entry i id2 turned2 ∷ later)) (sym a.own)
@@ -350,7 +349,7 @@ module _ (n k : ℕ) (o : Options) (s : TracedState) (h : List Entry) (run : IsF
       (its : is_call_of pid report ≡ true) where
     pub told-unread : TellsUnread f x
     told-unread =
-        let all = tells-turns n k o s h run reached bytes able in
+        let all = tells-turns n k o s h run able in
         let w = all.each f later e x report is own (calm-front f (e ∷ later) is) told in
         let r = w.reads in
         let turn = w.turn in
@@ -397,16 +396,16 @@ module _ (n k : ℕ) (o : Options) (s : TracedState) (h : List Entry) (run : IsF
           quiet = λ i there. quiet-front i (exchanges k turn.before) (exchanges k turn.later) (quiet i there);
         } in
         let y =
-        its-turn n k o s h run reached bytes able facts g (turn.later ++ e ∷ later) pid w.id turn.turned h_is calm in
+        its-turn n k o s h run able facts g (turn.later ++ e ∷ later) pid w.id turn.turned h_is calm in
         let u =
-        marks-say n k o s h run reached bytes able g (one ∷ (turn.later ++ e ∷ later)) h_is calm number
+        marks-say n k o s h run able g (one ∷ (turn.later ++ e ∷ later)) h_is calm number
         (traced_at (T w.before) w.place).status (step_of m.l m.function) b y.process
         (ap (live_process (S g).system) own_pid ∙ y.live) in
         let file : ℕ =
-        ns n k o s h run reached bytes able g (one ∷ (turn.later ++ e ∷ later)) h_is calm number
+        ns n k o s h run able g (one ∷ (turn.later ++ e ∷ later)) h_is calm number
         (traced_at (T w.before) w.place).status (step_of m.l m.function) b in
         let file_is : (traced_at (T w.before) w.place).status ≡ Some file =
-        ns-is n k o s h run reached bytes able g (one ∷ (turn.later ++ e ∷ later)) h_is calm number
+        ns-is n k o s h run able g (one ∷ (turn.later ++ e ∷ later)) h_is calm number
         (traced_at (T w.before) w.place).status (step_of m.l m.function) b in
         record {
           its = record {

@@ -43,6 +43,7 @@ use Rattle.pr_function_laws.proofs.NextCalls.MarkedFlags.{is_waiting, no-flags-a
 use Rattle.pr_function_laws.proofs.Marks.SoundLemmas.{first-sound}
 use Rattle.pr_function_laws.proofs.OpenedProcesses.OpenedLaws.{Goes, before-goes, bytes-front}
 use Rattle.pr_function_laws.specs.Opened.{IsFunctionRun, WasNotInterrupted, functions_at}
+use Rattle.pr_function_laws.specs.ReachedRuns.{IsReachedFunctionRun}
 use Rattle.pr_function_laws.specs.Runs.{MakesFunctionCalls}
 use Rattle.pr_function_laws.specs.Soon.{IsCalm}
 use Rattle.pr_function_hides.proofs.Files.CallFacts.{legal-here, same-truss}
@@ -176,6 +177,10 @@ module _ {n : ℕ} {who : Hiders} {controllers : List ControllerState} {first : 
     abbrev its-run : IsFunctionRun n k (run-options k hider) first h
     its-run = function-run run.legal run.reached run.own_calls run.are k hider
 
+    -- each state of it is reached
+    abbrev pub reached-run : IsReachedFunctionRun n k (run-options k hider) first h
+    reached-run = record { of = its-run; reached = run.reached; bytes = run.bytes }
+
     pub opens-out : OpensOutOfCopies k (run-options k hider) first h
     opens-out = record {
       out = λ front back e x place until p at own waits accepted live.
@@ -189,14 +194,14 @@ module _ {n : ℕ} {who : Hiders} {controllers : List ControllerState} {first : 
     }
 
     finds : CopiesFindNone k (run-options k hider) first h
-    finds = finds-so n k (run-options k hider) first h its-run run.reached run.awake run.bytes opens-out
+    finds = finds-so n k (run-options k hider) first h reached-run run.awake opens-out
 
     -- as long as it does not leave its processes it was not interrupted
     pub calm-on : (front back : List Entry) → h ≡ front ++ back → (t : TrussState)
         → IsTrussAfter who controllers first h front k t → t.leaving ≡ false
         → All WasNotInterrupted (exchanges k front)
     calm-on front back place t is off =
-        stays-calm n k (run-options k hider) first h its-run run.reached run.awake run.bytes opens-out front back place
+        stays-calm n k (run-options k hider) first h reached-run run.awake opens-out front back place
         (subst (λ (u : TrussState). u.leaving ≡ false) (truss-is run.own_calls run.are k hider front back place t is)
         off)
 
@@ -227,8 +232,8 @@ module _ {n : ℕ} {who : Hiders} {controllers : List ControllerState} {first : 
         → IsTrussAfter who controllers first h front k t → t.leaving ≡ false → CopiesSo t (now front).system
     copies-on front back place t is off =
         let st =
-        stands-after n k (run-options k hider) first h its-run run.reached run.awake run.bytes opens-out front back
-        place (calm-on front back place t is off) in
+        stands-after n k (run-options k hider) first h reached-run run.awake opens-out front back place
+        (calm-on front back place t is off) in
         subst (λ (u : TrussState). CopiesSo u (now front).system)
         (sym (truss-is run.own_calls run.are k hider front back place t is)) st.copies
 
@@ -237,8 +242,8 @@ module _ {n : ℕ} {who : Hiders} {controllers : List ControllerState} {first : 
         → IsTrussAfter who controllers first h front k t → t.leaving ≡ false → KeptPlaces Knows t
     known-on front back place t is off =
         let st =
-        stands-after n k (run-options k hider) first h its-run run.reached run.awake run.bytes opens-out front back
-        place (calm-on front back place t is off) in
+        stands-after n k (run-options k hider) first h reached-run run.awake opens-out front back place
+        (calm-on front back place t is off) in
         subst (KeptPlaces Knows) (sym (truss-is run.own_calls run.are k hider front back place t is)) st.known
 
     -- and one that it opens is not attached before its stop
@@ -246,8 +251,8 @@ module _ {n : ℕ} {who : Hiders} {controllers : List ControllerState} {first : 
         → IsTrussAfter who controllers first h front k t → t.leaving ≡ false → KeptPlaces Young t
     young-on front back place t is off =
         let st =
-        stands-after n k (run-options k hider) first h its-run run.reached run.awake run.bytes opens-out front back
-        place (calm-on front back place t is off) in
+        stands-after n k (run-options k hider) first h reached-run run.awake opens-out front back place
+        (calm-on front back place t is off) in
         subst (KeptPlaces Young) (sym (truss-is run.own_calls run.are k hider front back place t is)) st.young
 
     -- where it waits for a stop, it would run no process with run flags

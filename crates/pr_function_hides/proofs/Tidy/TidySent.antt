@@ -36,7 +36,7 @@ use Rattle.pr_truss_laws.proofs.Machine.TakenLemmas.{target-live}
 use Rattle.pr_world.specs.ControllerStates.{ControllerState}
 use Rattle.pr_function_laws.specs.Stretches.{BeginWithWrite, is_write}
 use Rattle.pr_function_hides.proofs.Replies.LeavingStages.{IsLeft}
-use Rattle.pr_function_hides.proofs.Tidy.CopyFree.{calm-on, function-run, opens-out, run-options}
+use Rattle.pr_function_hides.proofs.Tidy.CopyFree.{calm-on, opens-out, reached-run, run-options}
 use Rattle.pr_function_hides.proofs.Memory.MarkedPatches.{found-is, function-patch, none-at, same-patch}
 use Rattle.pr_function_hides.proofs.Tidy.OwnTidy.{Kind, other, sends, writes}
 use Rattle.pr_function_hides.proofs.Tidy.OwnWrites.{write-read, write-tail}
@@ -234,8 +234,7 @@ module _ {n : ℕ} {who : Hiders} {controllers : List ControllerState} {first : 
             by goes g same (inl (inr replaced)) =
                 let w = truss_here in
                 let law =
-                writes-none-so n j (run-options run j hider) first h
-                (function-run run.legal run.reached run.own_calls run.are j hider) run.reached run.awake run.bytes
+                writes-none-so n j (run-options run j hider) first h (reached-run run j hider) run.awake
                 (opens-out run j hider) in
                 absurd
                 (law.none front back (traced_at tw m).control (spelling (message.Write f.at 16) code) r theld p f.at 16

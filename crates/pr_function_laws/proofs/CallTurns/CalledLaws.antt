@@ -39,7 +39,8 @@ use Rattle.pr_function_laws.specs.CalledTurns.{CallsAreTurns, HasItsTurn, ReadsT
 use Rattle.pr_function_laws.specs.Lifted.{ReadsOnlyLast}
 use Rattle.pr_function_laws.specs.Met.{arguments_of}
 use Rattle.pr_function_laws.specs.OneEvent.{HasOneEventAtMost, is_looked_at}
-use Rattle.pr_function_laws.specs.Opened.{IsFunctionRun, WasNotInterrupted, functions_at, is_opened}
+use Rattle.pr_function_laws.specs.ReachedRuns.{IsReachedFunctionRun}
+use Rattle.pr_function_laws.specs.Opened.{WasNotInterrupted, functions_at, is_opened}
 use Rattle.pr_function_laws.specs.Runs.{functions_after}
 use Rattle.pr_function_laws.specs.Turns.{CompletesOnce, HasTrap, ReadsAgain, TellsItsTurn, TellsOfLwp, TurnsOnce, call_of_stop, told_again}
 
@@ -50,8 +51,8 @@ pub functions-both : (t : TrussState) (xs ys : List Exchange)
 functions-both t [] ys = refl
 functions-both t (x ∷ xs) ys = functions-both (fed_functions t x.reply) xs ys
 
-module _ (n k : ℕ) (o : Options) (s : TracedState) (h : List Entry) (run : IsFunctionRun n k o s h)
-    (reached : IsReached s) (bytes : HasBytes h) (before between later : List Entry) (e again : Entry) (place id : ℕ)
+module _ (n k : ℕ) (o : Options) (s : TracedState) (h : List Entry) (run : IsReachedFunctionRun n k o s h)
+    (before between later : List Entry) (e again : Entry) (place id : ℕ)
     (r : ReadsTwice k o s h before e between again later place id) where
   abbrev t : TrussState
   t = functions_at k o before
@@ -70,30 +71,30 @@ module _ (n k : ℕ) (o : Options) (s : TracedState) (h : List Entry) (run : IsF
   reached-again : IsReached (state_after now (e ∷ between))
   reached-again =
       subst IsReached (state_after-both s before (e ∷ between))
-      (later-reached n s (before ++ e ∷ between) reached
-      (bytes-front (before ++ e ∷ between) (again ∷ later) (subst HasBytes front-is bytes))
-      (legal-front n s (before ++ e ∷ between) (again ∷ later) (subst (IsLegal n s) front-is run.legal)))
+      (later-reached n s (before ++ e ∷ between) run.reached
+      (bytes-front (before ++ e ∷ between) (again ∷ later) (subst HasBytes front-is run.bytes))
+      (legal-front n s (before ++ e ∷ between) (again ∷ later) (subst (IsLegal n s) front-is run.of.legal)))
 
   abbrev ns : ℕ
-  ns = status-handle n k o s h run reached bytes before (between ++ again ∷ []) later e place id place-is r.calm
+  ns = status-handle n k o s h run before (between ++ again ∷ []) later e place id place-is r.calm
       r.breakpoint
 
   again-is : ReadsAgain n k t place ns (traced_at t place).pid id now e between again
   again-is =
       let at = reached-again in
       let lawful =
-      history-state n s (before ++ e ∷ between) run.lawful
-      (legal-front n s (before ++ e ∷ between) (again ∷ later) (subst (IsLegal n s) front-is run.legal)) in
+      history-state n s (before ++ e ∷ between) run.of.lawful
+      (legal-front n s (before ++ e ∷ between) (again ∷ later) (subst (IsLegal n s) front-is run.of.legal)) in
       let lawful_again = subst IsLawful (state_after-both s before (e ∷ between)) lawful in
       let records = records-range (state_after now (e ∷ between)).system lawful_again.system at.in_range in
       record {
-        stop = stop-there n k o s h run reached bytes before (between ++ again ∷ []) later e place id place-is r.calm
+        stop = stop-there n k o s h run before (between ++ again ∷ []) later e place id place-is r.calm
             r.breakpoint;
         y = r.y;
         own = r.own;
         reads = r.reads
             ∙ ap read_record
-            (handle-is n k o s h run reached bytes before (between ++ again ∷ []) later e place id place-is r.calm
+            (handle-is n k o s h run before (between ++ again ∷ []) later e place id place-is r.calm
             r.breakpoint);
         process = r.process;
         live = r.live;
@@ -126,13 +127,13 @@ module _ (n k : ℕ) (o : Options) (s : TracedState) (h : List Entry) (run : IsF
   same-function : (let w = again-is in let it = w.stop in let m = it.meets in m.function) ≡ met_function
   unfolding again-is
   same-function =
-      stop-function n k o s h run reached bytes before (between ++ again ∷ []) later e place id place-is r.calm
+      stop-function n k o s h run before (between ++ again ∷ []) later e place id place-is r.calm
       r.breakpoint
 
   same-lwp : (let w = again-is in let it = w.stop in let m = it.meets in m.l) ≡ met_lwp
   unfolding again-is
   same-lwp =
-      stop-lwp n k o s h run reached bytes before (between ++ again ∷ []) later e place id place-is r.calm r.breakpoint
+      stop-lwp n k o s h run before (between ++ again ∷ []) later e place id place-is r.calm r.breakpoint
 
   call-same : call_of_stop n k t place ns (traced_at t place).pid id now e between again again-is
       ≡ call_met k o s h before e between again later place id r
@@ -204,7 +205,7 @@ module _ (n k : ℕ) (o : Options) (s : TracedState) (h : List Entry) (run : IsF
       let m = b.meets in
       let w = again-is in
       let it = w.stop in
-      few-there n k o s h run reached bytes before (e ∷ (between ++ again ∷ later)) r.is r.calm place it.process it.live
+      few-there n k o s h run before (e ∷ (between ++ again ∷ later)) r.is r.calm place it.process it.live
       m.within (ap (λ (x : Stage). is_opened x place) m.reads)
       (λ runs. reading-running place place (sym m.reads ∙ runs)) new-stop
 
@@ -228,14 +229,14 @@ module _ (n k : ℕ) (o : Options) (s : TracedState) (h : List Entry) (run : IsF
       ∙ ap (λ (x : TracedState). live_process x.system (traced_at t place).pid)
       (state_after-both s before (e ∷ between))
       ∙ r.live in
-      let holds = holds-opened n k o s h run in
+      let holds = holds-opened n k o s h run.of in
       let owns =
       holds.each (before ++ e ∷ between) (again ∷ later) at front-is calm-both inside opened in
       record {
         frozen =
-            still-there n k o s h run reached bytes (before ++ e ∷ between) (again ∷ later) front-is calm-both at
+            still-there n k o s h run (before ++ e ∷ between) (again ∷ later) front-is calm-both at
             r.process live (ap (λ (x : Stage). is_looked_at x at) stage ∙ eq-eqb at at refl);
-        few = few-there n k o s h run reached bytes (before ++ e ∷ between) (again ∷ later) front-is calm-both at
+        few = few-there n k o s h run (before ++ e ∷ between) (again ∷ later) front-is calm-both at
             r.process live inside opened (λ runs. reading-running at at (sym stage ∙ runs))
             (ap (λ (x : TrussState). (traced_at x at).old) later-is ∙ old ∙ new-stop);
         no_agent = owns.no_agent r.process live;
@@ -294,17 +295,17 @@ module _ (n k : ℕ) (o : Options) (s : TracedState) (h : List Entry) (run : IsF
       ∙ turn-is-told n k t place ns (traced_at t place).pid id now e between again again-is trap tells-there
       ∙ ap (λ c. c ∷ []) call-same
 
-pub calls-are-turns : (n k : ℕ) (o : Options) (s : TracedState) (h : List Entry) → IsFunctionRun n k o s h
-    → IsReached s → HasBytes h → CallsAreTurns k o s h
-calls-are-turns n k o s h run reached bytes = record {
+pub calls-are-turns : (n k : ℕ) (o : Options) (s : TracedState) (h : List Entry) → IsReachedFunctionRun n k o s h
+    → CallsAreTurns k o s h
+calls-are-turns n k o s h run = record {
   once = λ before between later e again place id r.
-      once-there n k o s h run reached bytes before between later e again place id r;
+      once-there n k o s h run before between later e again place id r;
   tells = λ before between later e again place id r.
-      tells-there n k o s h run reached bytes before between later e again place id r;
+      tells-there n k o s h run before between later e again place id r;
   call = λ before between later e again place id r report is.
-      call-there n k o s h run reached bytes before between later e again place id r report is;
+      call-there n k o s h run before between later e again place id r report is;
   turn = λ before between later e again place id r report is.
-      turn-there n k o s h run reached bytes before between later e again place id r report is;
+      turn-there n k o s h run before between later e again place id r report is;
   told = λ before between later e again place id r trap.
-      told-there n k o s h run reached bytes before between later e again place id r trap;
+      told-there n k o s h run before between later e again place id r trap;
 }

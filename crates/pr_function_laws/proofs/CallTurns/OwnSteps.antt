@@ -13,8 +13,6 @@ use Rattle.pr_model.specs.declared.events.Did.TheVariants.{Faulted, Stopped}
 use Rattle.pr_num.specs.declared.faults.Flt.TheVariants.{Trace}
 use Rattle.pr_model.specs.declared.events.Entry.{Entry}
 use Rattle.pr_model.specs.declared.events.Turned.{Turned}
-use Rattle.pr_reached.specs.ByteHistories.{HasBytes}
-use Rattle.pr_reached.specs.Reached.{IsReached}
 use Rattle.pr_report_laws.proofs.Files.WatchHistories.{cons-exchanges, exchanges-both, exchanges-push}
 use Rattle.pr_report_laws.proofs.Invariant.StandLemmas.{EachBut}
 use Rattle.pr_report_laws.proofs.SeenChildren.Splits.{state_after-both}
@@ -40,7 +38,8 @@ use Rattle.pr_function_laws.specs.CalledTurns.{ReadsTwice, call_met}
 use Rattle.pr_function_laws.specs.Calls.{call_told}
 use Rattle.pr_function_laws.specs.Lifted.{IsNoRead, ReadsOnlyLast}
 use Rattle.pr_function_laws.specs.Met.{arguments_of}
-use Rattle.pr_function_laws.specs.Opened.{IsFunctionRun, LiftsForOneAlone, OwnsAndTraces, ReadsBreakpoint, functions_at, is_opened}
+use Rattle.pr_function_laws.specs.ReachedRuns.{IsReachedFunctionRun}
+use Rattle.pr_function_laws.specs.Opened.{LiftsForOneAlone, OwnsAndTraces, ReadsBreakpoint, functions_at, is_opened}
 use Rattle.pr_function_laws.specs.ToldTurns.{AreSteppable, HasStep, IsReadAgain, StepsAreRead}
 use Rattle.pr_function_laws.specs.Turns.{EndsInTrap, HasTrap}
 
@@ -101,8 +100,8 @@ quiet-both status (x ∷ xs) ys quiet more = (quiet.0, quiet-both status xs ys q
 abbrev turn_entry : ℕ → ℕ → Turned → Entry
 turn_entry pid id t = record { actor = Lwp pid id; act = Turn t }
 
-module _ (n k : ℕ) (o : Options) (s : TracedState) (h : List Entry) (run : IsFunctionRun n k o s h)
-    (reached : IsReached s) (bytes : HasBytes h) (able : AreSteppable o) where
+module _ (n k : ℕ) (o : Options) (s : TracedState) (h : List Entry) (run : IsReachedFunctionRun n k o s h)
+    (able : AreSteppable o) where
   -- a step that is under way in a process that lives
   pub begun-there : (front later : List Entry) → h ≡ front ++ later → (place : ℕ) (step : Stepped)
       → HasStep k o front place step → (p : TracedProcess)
@@ -111,7 +110,7 @@ module _ (n k : ℕ) (o : Options) (s : TracedState) (h : List Entry) (run : IsF
       (traced_at (functions_at k o front) place).status step
   begun-there front later is place step under p live =
       let w : Kept (StepsAt k o s front) (functions_at k o front) =
-      kept-front n k o s h run reached bytes able front later is under.calm in
+      kept-front n k o s h run able front later is under.calm in
       by (steps-opened k o s front (functions_at k o front).traced place under.within (functions_at k o front).stage
       under.opened w.stage step under.under_way)
     where
@@ -141,7 +140,7 @@ module _ (n k : ℕ) (o : Options) (s : TracedState) (h : List Entry) (run : IsF
     lives : (p : TracedProcess) × (live_process now.system pid ≡ Some p)
     unfolding IsLegalEntry
     lives =
-        let it_is : IsLegalEntry n now e = legal n k o s h run reached bytes able front e later is under.calm in
+        let it_is : IsLegalEntry n now e = legal n k o s h run able front e later is under.calm in
         let it = turn-taken now.system pid id (record { system = it_is.0; turned = t }) it_is.1 in
         (it.process, it.live)
 
@@ -167,11 +166,11 @@ module _ (n k : ℕ) (o : Options) (s : TracedState) (h : List Entry) (run : IsF
         let between : List Entry = b.between ++ e ∷ [] in
         let only =
         lifts.each b.before between later b.e b.place lwp
-        (parted n k o s h run reached bytes able front e later is under.calm pid (traced_at tr place).status step b
+        (parted n k o s h run able front e later is under.calm pid (traced_at tr place).status step b
         ∙ ap (λ es. b.before ++ b.e ∷ es) (sym (append_assoc b.between (e ∷ []) later)))
-        (calm-before n k o s h run reached bytes able front e later is under.calm pid (traced_at tr place).status step
+        (calm-before n k o s h run able front e later is under.calm pid (traced_at tr place).status step
         b)
-        (breaks n k o s h run reached bytes able front e later is under.calm pid (traced_at tr place).status step b
+        (breaks n k o s h run able front e later is under.calm pid (traced_at tr place).status step b
         between (λ number there.
         subst (ReadsOnlyLast number) (sym (exchanges-push k b.between e ∙ append-nil (exchanges k b.between)))
         (none-read number (exchanges k b.between) (b.quiet number there)))) in
@@ -180,13 +179,13 @@ module _ (n k : ℕ) (o : Options) (s : TracedState) (h : List Entry) (run : IsF
         (λ same. other (same ∙ lwp-is))
       where
         lifts : LiftsForOneAlone k o s h
-        lifts = lifts-alone n k o s h run reached bytes
+        lifts = lifts-alone n k o s h run
 
     -- ---- its status file
 
     owns : OwnsAndTraces k o tr place now
     owns =
-        let holds = holds-opened n k o s h run in
+        let holds = holds-opened n k o s h run.of in
         holds.each front (e ∷ later) place is under.calm under.within under.opened
 
     -- it is that which truss had at the breakpoint
@@ -238,7 +237,7 @@ module _ (n k : ℕ) (o : Options) (s : TracedState) (h : List Entry) (run : IsF
     stretched : h ≡ (let b = begun-step in b.before ++ b.e ∷ (stretch ++ later))
     stretched =
         let b = begun-step in
-        parted n k o s h run reached bytes able front one (mid ++ two ∷ later) is under.calm pid_one
+        parted n k o s h run able front one (mid ++ two ∷ later) is under.calm pid_one
         (traced_at (functions_at k o front) place).status step b
         ∙ ap (λ es. b.before ++ b.e ∷ es)
         (sym (append_assoc b.between (one ∷ (mid ++ two ∷ [])) later
@@ -265,7 +264,7 @@ module _ (n k : ℕ) (o : Options) (s : TracedState) (h : List Entry) (run : IsF
     broke : (let b = begun-step in ReadsBreakpoint k at-break place0 lwp0 (state_after s b.before) b.e stretch)
     broke =
         let b = begun-step in
-        breaks n k o s h run reached bytes able front one (mid ++ two ∷ later) is under.calm pid_one
+        breaks n k o s h run able front one (mid ++ two ∷ later) is under.calm pid_one
         (traced_at (functions_at k o front) place).status step b stretch
         (λ status there. none-read status (exchanges k stretch) (quiet-stretch status there))
 
@@ -273,7 +272,7 @@ module _ (n k : ℕ) (o : Options) (s : TracedState) (h : List Entry) (run : IsF
     once own =
         let b = begun-step in
         let calm =
-        calm-before n k o s h run reached bytes able front one (mid ++ two ∷ later) is under.calm pid_one
+        calm-before n k o s h run able front one (mid ++ two ∷ later) is under.calm pid_one
         (traced_at (functions_at k o front) place).status step b in
         let own_lwp : id ≡ lwp0 = own ∙ sym (lwp-is front (mid ++ two ∷ later) place id step t is under) in
         let same : (did : Turned) → turn_entry pid_one id did ≡ turn_entry (traced_at at-break place0).pid lwp0 did =
@@ -281,16 +280,16 @@ module _ (n k : ℕ) (o : Options) (s : TracedState) (h : List Entry) (run : IsF
         ap (λ i. turn_entry i id did) (sym b.its_pid)
         ∙ ap (λ j. turn_entry (traced_at at-break place0).pid j did) own_lwp in
         no-second n k at-break place0
-        (status-handle n k o s h run reached bytes b.before stretch later b.e place0 lwp0 stretched calm broke)
+        (status-handle n k o s h run b.before stretch later b.e place0 lwp0 stretched calm broke)
         (traced_at at-break place0).pid lwp0 (state_after s b.before) b.e stretch
-        (stop-there n k o s h run reached bytes b.before stretch later b.e place0 lwp0 stretched calm broke)
+        (stop-there n k o s h run b.before stretch later b.e place0 lwp0 stretched calm broke)
         b.between mid [] t again
         (ap (λ f. b.between ++ f ∷ (mid ++ two ∷ [])) (same t)
         ∙ ap (λ f. b.between ++ turn_entry (traced_at at-break place0).pid lwp0 t ∷ (mid ++ f ∷ [])) (same again))
-        (subst (λ f. AreNoReads (status-handle n k o s h run reached bytes b.before stretch later b.e place0 lwp0
+        (subst (λ f. AreNoReads (status-handle n k o s h run b.before stretch later b.e place0 lwp0
         stretched calm broke) (exchanges k (b.between ++ f ∷ mid))) (same t)
         (quiet-passed _
-        (handle-is n k o s h run reached bytes b.before stretch later b.e place0 lwp0 stretched calm broke)))
+        (handle-is n k o s h run b.before stretch later b.e place0 lwp0 stretched calm broke)))
 
   -- ---- the next read
 
@@ -367,10 +366,10 @@ module _ (n k : ℕ) (o : Options) (s : TracedState) (h : List Entry) (run : IsF
       twice = record {
         is = is ∙ ap (λ es. es ++ turn ∷ rest) b.is ∙ append_assoc b.before (b.e ∷ b.between) (turn ∷ rest)
             ∙ ap (λ es. b.before ++ b.e ∷ es) (sym (append_assoc b.between (turn ∷ mid) (again ∷ later)));
-        calm = calm-before n k o s h run reached bytes able front turn rest is under.calm number
+        calm = calm-before n k o s h run able front turn rest is under.calm number
             (traced_at now-truss place).status step b;
         breakpoint =
-            breaks n k o s h run reached bytes able front turn rest is under.calm number
+            breaks n k o s h run able front turn rest is under.calm number
             (traced_at now-truss place).status step b (between ++ again ∷ []) reads-last;
         y = y;
         own = z.own;
@@ -405,12 +404,12 @@ module _ (n k : ℕ) (o : Options) (s : TracedState) (h : List Entry) (run : IsF
       call-is =
           let m = b.meets in
           ap (λ f. Called (traced_at t0 b.place).pid met f (arguments_of (let w =
-          breaks n k o s h run reached bytes able front turn rest is under.calm number
+          breaks n k o s h run able front turn rest is under.calm number
           (traced_at now-truss place).status step b (between ++ again ∷ []) reads-last in w.meets.l)))
-          (breaks-function n k o s h run reached bytes able front turn rest is under.calm number
+          (breaks-function n k o s h run able front turn rest is under.calm number
           (traced_at now-truss place).status step b (between ++ again ∷ []) reads-last)
           ∙ ap (λ l. Called (traced_at t0 b.place).pid met m.function (arguments_of l))
-          (breaks-lwp n k o s h run reached bytes able front turn rest is under.calm number
+          (breaks-lwp n k o s h run able front turn rest is under.calm number
           (traced_at now-truss place).status step b (between ++ again ∷ []) reads-last)
           ∙ ap (λ i. Called i met m.function (arguments_of m.l)) b.its_pid
           ∙ ap (λ (x : Stepped). Called number x.lwp x.function x.arguments) (sym b.its_step)
@@ -419,7 +418,7 @@ module _ (n k : ℕ) (o : Options) (s : TracedState) (h : List Entry) (run : IsF
           ≡ call_met k o s h b.before b.e between again later b.place met twice ∷ []
       unfolding twice
       second-tells =
-          let all = calls-are-turns n k o s h run reached bytes in
+          let all = calls-are-turns n k o s h run in
           all.told b.before between later b.e again b.place met twice has-trap
 
       told-then : call_told (functions_at k o (front ++ turn ∷ mid)) y.reply

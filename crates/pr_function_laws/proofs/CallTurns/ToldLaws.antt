@@ -17,8 +17,6 @@ use Rattle.pr_model.specs.declared.calls.Mode.TheVariants.{Read}
 use Rattle.pr_model.specs.declared.calls.Reply.{Reply}
 use Rattle.pr_model.specs.declared.calls.Reply.TheVariants as reply
 use Rattle.pr_model.specs.declared.events.Entry.{Entry}
-use Rattle.pr_reached.specs.ByteHistories.{HasBytes}
-use Rattle.pr_reached.specs.Reached.{IsReached}
 use Rattle.pr_rec.specs.declared.lwps.LwpStatus.{LwpStatus}
 use Rattle.pr_report_laws.proofs.Files.WatchHistories.{cons-exchanges, exchanges-both, exchanges-push, no-exchanges}
 use Rattle.pr_report_laws.proofs.Invariant.StandLemmas.{Each}
@@ -60,7 +58,8 @@ use Rattle.pr_function_laws.proofs.CallTurns.TurnWalks.{AreNoReads}
 use Rattle.pr_function_laws.specs.CalledTurns.{ReadsTwice}
 use Rattle.pr_function_laws.specs.Calls.{call_beside, call_of_lwp, call_read, call_told}
 use Rattle.pr_function_laws.specs.Lifted.{IsNoRead, ReadsOnlyLast}
-use Rattle.pr_function_laws.specs.Opened.{IsFunctionRun, OwnsAndTraces, ReadsBreakpoint, WasNotInterrupted, functions_at, is_opened}
+use Rattle.pr_function_laws.specs.ReachedRuns.{IsReachedFunctionRun}
+use Rattle.pr_function_laws.specs.Opened.{OwnsAndTraces, ReadsBreakpoint, WasNotInterrupted, functions_at, is_opened}
 use Rattle.pr_function_laws.specs.Runs.{functions_after, functions_on}
 use Rattle.pr_function_laws.specs.Steppable.{IsSteppable}
 use Rattle.pr_function_laws.specs.ToldTurns.{AreSteppable, TellsATurn, TellsTurnsAlone}
@@ -95,12 +94,12 @@ unfolding fresh_event
 new-event u l e new unseen on =
     ap (λ b. cond b (cond u.seen None (event_of l)) None) new ∙ ap (λ b. cond b None (event_of l)) unseen ∙ on
 
-module _ (n k : ℕ) (o : Options) (s : TracedState) (h : List Entry) (run : IsFunctionRun n k o s h)
-    (reached : IsReached s) (bytes : HasBytes h) (able : AreSteppable o) where
+module _ (n k : ℕ) (o : Options) (s : TracedState) (h : List Entry) (run : IsReachedFunctionRun n k o s h)
+    (able : AreSteppable o) where
   goes : (front later : List Entry) → h ≡ front ++ later → All WasNotInterrupted (exchanges k front)
       → Goes ⊥ k o (functions_at k o front) (state_after s front)
   goes front later is calm =
-      before-goes n k o s h run front later is calm ⊥ (λ none. absurd none) (λ none. absurd none)
+      before-goes n k o s h run.of front later is calm ⊥ (λ none. absurd none) (λ none. absurd none)
 
   module _ (front : List Entry) (e : Entry) (later : List Entry) (is : h ≡ front ++ e ∷ later)
       (calm : All WasNotInterrupted (exchanges k front)) where
@@ -114,13 +113,13 @@ module _ (n k : ℕ) (o : Options) (s : TracedState) (h : List Entry) (run : IsF
     next = front ++ e ∷ []
 
     here : Goes ⊥ k o t now
-    here = fronts.here n k o s h run front e later is calm
+    here = fronts.here n k o s h run.of front e later is calm
 
     pub legal : IsLegalEntry n now e
-    legal = fronts.legal n k o s h run front e later is calm
+    legal = fronts.legal n k o s h run.of front e later is calm
 
     has : has_functions t.options ≡ true
-    has = fronts.has n k o s h run front e later is calm
+    has = fronts.has n k o s h run.of front e later is calm
 
     made-at : (q : ℕ) → q < length t.traced → (traced_at t q).pid < now.system.made
     made-at q within =
@@ -241,7 +240,7 @@ module _ (n k : ℕ) (o : Options) (s : TracedState) (h : List Entry) (run : IsF
       unfolding twice breaks
       reads-step reads =
           let c =
-          step-there n k o s h run reached bytes b.before b.between later b.e e b.place its-id (twice reads) in
+          step-there n k o s h run b.before b.between later b.e e b.place its-id (twice reads) in
           subst (λ es. ReadsStep (functions_at k o es) pid (let m = b.meets in step_of m.l m.function)) (sym b.is)
           (record {
             at = c.at;
@@ -272,7 +271,7 @@ module _ (n k : ℕ) (o : Options) (s : TracedState) (h : List Entry) (run : IsF
           let c = reads-step reads in
           let same : c.at ≡ q = same_Some c.at q (sym c.is ∙ reading) in
           let tells =
-          tells-there n k o s h run reached bytes b.before b.between later b.e e b.place its-id (twice reads) in
+          tells-there n k o s h run b.before b.between later b.e e b.place its-id (twice reads) in
           no-other-trap t.options (marks_at t q) tells.l.id (step_of m.l m.function)
           (ap (λ i. (marks_at t i).stepped) (sym same) ∙ c.under_way) (sym tells.its) tells.event
           (none tells.l tells.event tells.told
@@ -326,11 +325,11 @@ module _ (n k : ℕ) (o : Options) (s : TracedState) (h : List Entry) (run : IsF
     -- ---- an entry
 
     makes-next : (x : Exchange) → exchange_of k e ≡ Some x → next_function_call_of t ≡ Some x.call
-    makes-next = fronts.makes-next n k o s h run front e later is calm
+    makes-next = fronts.makes-next n k o s h run.of front e later is calm
 
     owns : (q : ℕ) → q < length t.traced → t.stage ≡ ReadingStatus q → OwnsAndTraces k o t q now
     owns q within at =
-        let holds = holds-opened n k o s h run in
+        let holds = holds-opened n k o s h run.of in
         holds.each front (e ∷ later) q is calm within (ap (λ (stage : Stage). is_opened stage q) at)
 
     module _ (w : Kept (StepsAt k o s front) t) (x : Exchange) (own : exchange_of k e ≡ Some x)
@@ -456,7 +455,7 @@ module _ (n k : ℕ) (o : Options) (s : TracedState) (h : List Entry) (run : IsF
               let it = reading-is t.aside t.stage q reading in reads-status q reading it.0 it.1
 
     pushed : functions_at k o next ≡ functions_on t (exchange_of k e)
-    pushed = fronts.pushed n k o s h run front e later is calm
+    pushed = fronts.pushed n k o s h run.of front e later is calm
 
     entry-kept : Kept (StepsAt k o s front) t → ((x : Exchange) → exchange_of k e ≡ Some x → WasNotInterrupted x)
         → Kept (StepsAt k o s next) (functions_at k o next)
@@ -476,7 +475,7 @@ module _ (n k : ℕ) (o : Options) (s : TracedState) (h : List Entry) (run : IsF
   first : KeptAt []
   first =
       subst (λ xs. Kept (StepsAt k o s []) (functions_after (first_truss o) xs)) (sym (no-exchanges k))
-      (first-kept (StepsAt k o s []) o run.follows_none)
+      (first-kept (StepsAt k o s []) o run.of.follows_none)
 
   walk : (mid front later : List Entry) → h ≡ front ++ (mid ++ later)
       → All WasNotInterrupted (exchanges k (front ++ mid)) → KeptAt front → KeptAt (front ++ mid)
@@ -576,7 +575,7 @@ module _ (n k : ℕ) (o : Options) (s : TracedState) (h : List Entry) (run : IsF
         under step (ended over) = let it = lives in none-some it.0 (sym over ∙ it.1)
         under step (begun b) =
             let r = second-read step b in
-            let tells = tells-there n k o s h run reached bytes b.before b.between later b.e again b.place _ r in
+            let tells = tells-there n k o s h run b.before b.between later b.e again b.place _ r in
             let same : l ≡ tells.l =
             same_Some l tells.l
             (sym told
@@ -624,7 +623,7 @@ module _ (n k : ℕ) (o : Options) (s : TracedState) (h : List Entry) (run : IsF
                 → call_told (functions_at k o (b.before ++ b.e ∷ b.between)) y.reply ≡ report ∷ []
                 → TellsATurn k o s h front again later report
             second step b r told_then =
-                let all = calls-are-turns n k o s h run reached bytes in
+                let all = calls-are-turns n k o s h run in
                 let same : call_told (functions_at k o (b.before ++ b.e ∷ b.between)) r.y.reply ≡ report ∷ [] =
                 ap (λ (x : Exchange). call_told (functions_at k o (b.before ++ b.e ∷ b.between)) x.reply)
                 (same_Some r.y y (sym r.own ∙ own)) ∙ told_then in

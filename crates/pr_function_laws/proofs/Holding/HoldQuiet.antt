@@ -35,6 +35,7 @@ use Rattle.pr_function_laws.proofs.OpenedProcesses.StoodLemmas.{StoodOpening}
 use Rattle.pr_function_laws.proofs.OrdinaryTruss.OrdinaryEntries.{front-run}
 use Rattle.pr_function_laws.proofs.OrdinaryTruss.OrdinaryReplies.{at-ordinary}
 use Rattle.pr_function_laws.specs.Holds.{GetsHoldWithFunctions, HasWaited, IsOpenedFromWait, OpensQuietly}
+use Rattle.pr_function_laws.specs.ReachedRuns.{IsReachedFunctionRun}
 use Rattle.pr_function_laws.specs.Opened.{IsFunctionRun, functions_at}
 use Rattle.pr_function_laws.specs.Ordinary.{ordinary}
 use Rattle.pr_function_laws.specs.Runs.{functions_after}
@@ -119,8 +120,7 @@ has-waited n k o pid s before e run g =
       };
     }
 
-module _ (n k : ℕ) (o : Options) (s : TracedState) (h : List Entry) (run : IsFunctionRun n k o s h)
-    (reached : IsReached s) (bytes : HasBytes h) where
+module _ (n k : ℕ) (o : Options) (s : TracedState) (h : List Entry) (run : IsReachedFunctionRun n k o s h) where
   module _ (before between later : List Entry) (waiting running : Entry) (pid : ℕ)
       (is : h ≡ before ++ waiting ∷ (between ++ running ∷ later))
       (w : IsOpenedFromWait k o pid before waiting between running) where
@@ -137,7 +137,7 @@ module _ (n k : ℕ) (o : Options) (s : TracedState) (h : List Entry) (run : IsF
         (is
         ∙ sym
         (append_assoc (before ++ waiting ∷ between) (running ∷ []) later
-        ∙ append_assoc before (waiting ∷ between) (running ∷ later))) run)
+        ∙ append_assoc before (waiting ∷ between) (running ∷ later))) run.of)
 
     -- after some of the entries between
     module _ (first second : List Entry) (parts : between ≡ first ++ second) where
@@ -206,20 +206,21 @@ module _ (n k : ℕ) (o : Options) (s : TracedState) (h : List Entry) (run : IsF
           sym (ap (λ (z : Traced). z.pid) (at-ordinary t q))
           ∙ ap (λ (z : TrussState). (traced_at (ordinary z) q).pid) same-truss ∙ i.of in
           let files : HasFiles k (ordinary t) (state_after s f) =
-          files-at ⊥ n k o s h run (λ never. absurd never) (λ never. absurd never) f (second ++ running ∷ later) is-f in
+          files-at ⊥ n k o s h run.of (λ never. absurd never) (λ never. absurd never) f (second ++ running ∷ later) is-f
+          in
           let stands : Stands (ordinary t).traced t.leaving (Opening q there.now) =
           standing k (ordinary t) (state_after s f) (Opening q there.now) files stage in
           let calm =
-          calm-at ⊥ n k o s h run (λ never. absurd never) (λ never. absurd never) f (second ++ running ∷ later) is-f
+          calm-at ⊥ n k o s h run.of (λ never. absurd never) (λ never. absurd never) f (second ++ running ∷ later) is-f
           stands.leaves in
           let goes =
-          before-goes n k o s h run f (second ++ running ∷ later) is-f calm (IsReached s) (λ r. r)
-          (λ r. bytes-front f (second ++ running ∷ later) (subst HasBytes is-f bytes)) in
+          before-goes n k o s h run.of f (second ++ running ∷ later) is-f calm (IsReached s) (λ r. r)
+          (λ r. bytes-front f (second ++ running ∷ later) (subst HasBytes is-f run.bytes)) in
           let kept = goes.kept in
           let here =
           subst (AtStage (IsSo (IsReached s) k t.options (state_after s f)) t.traced) stage kept.stage in
           let so : IsSo (IsReached s) k t.options (state_after s f) _ (traced_at t q) = here.1.1 in
-          let stood = so.stands reached in
+          let stood = so.stands run.reached in
           halting-past there.now (traced_at t q).old p there.past
           (stood.stood p (ap (live_process (state_after s f).system) of ∙ live))
 
@@ -233,7 +234,7 @@ module _ (n k : ℕ) (o : Options) (s : TracedState) (h : List Entry) (run : IsF
     part-quiet (e ∷ second) first parts =
         let f : List Entry = before ++ waiting ∷ first in
         let legal : IsLegalEntry n (state_after s f) e =
-        entry-legal ⊥ n k o s h run (λ never. absurd never) (λ never. absurd never) f e (second ++ running ∷ later)
+        entry-legal ⊥ n k o s h run.of (λ never. absurd never) (λ never. absurd never) f e (second ++ running ∷ later)
         (is-f first (e ∷ second) parts) in
         let here = quiet-entry n (state_after s f) pid (halts first (e ∷ second) parts) e legal in
         let next : between ≡ (first ++ e ∷ []) ++ second = parts ∙ sym (append_assoc first (e ∷ []) second) in
@@ -254,15 +255,15 @@ module _ (n k : ℕ) (o : Options) (s : TracedState) (h : List Entry) (run : IsF
         (events_from (after (state_after s before) waiting) (between ++ running ∷ []))
         (subst (All (IsOfOther pid)) (sym none) (All-nil (IsOfOther pid))) rest_quiet
 
-pub opens-quietly : (n k : ℕ) (o : Options) (s : TracedState) (h : List Entry) → IsFunctionRun n k o s h → IsReached s
-    → HasBytes h → OpensQuietly k o s h
-opens-quietly n k o s h run reached bytes = record {
+pub opens-quietly : (n k : ℕ) (o : Options) (s : TracedState) (h : List Entry) → IsReachedFunctionRun n k o s h
+    → OpensQuietly k o s h
+opens-quietly n k o s h run = record {
   waits = λ before later e pid is g.
       has-waited n k o pid s before e
       (front-run n k o s (before ++ e ∷ []) later
-      (subst (IsFunctionRun n k o s) (is ∙ sym (append_assoc before (e ∷ []) later)) run)) g;
+      (subst (IsFunctionRun n k o s) (is ∙ sym (append_assoc before (e ∷ []) later)) run.of)) g;
   quiet = λ before between later waiting running pid is w.
-      quiet-so n k o s h run reached bytes before between later waiting running pid is w;
+      quiet-so n k o s h run before between later waiting running pid is w;
 }
 
 pub ruleset quiet_openings = (opens-quietly)

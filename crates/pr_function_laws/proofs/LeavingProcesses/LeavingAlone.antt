@@ -17,8 +17,7 @@ use Rattle.pr_model.specs.declared.events.Did.TheVariants.{Stopped}
 use Rattle.pr_model.specs.declared.events.Entry.{Entry}
 use Rattle.pr_model.specs.declared.events.Turned.{Turned}
 use Rattle.pr_model.specs.declared.handles.Held.{Held}
-use Rattle.pr_reached.specs.ByteHistories.{HasBytes, IsEntryOfBytes}
-use Rattle.pr_reached.specs.Reached.{IsReached}
+use Rattle.pr_reached.specs.ByteHistories.{IsEntryOfBytes}
 use Rattle.pr_report_laws.proofs.Files.FileLaws.{HasFiles}
 use Rattle.pr_report_laws.proofs.Files.WatchHistories.{cons-exchanges, exchanges-both}
 use Rattle.pr_report_laws.proofs.Invariant.StandLemmas.{IsAttached}
@@ -78,6 +77,7 @@ use Rattle.pr_function_laws.specs.Runs.{functions_on}
 use Rattle.pr_function_laws.specs.Leaving.{AsksAgain, Directs, HaltStep, Waits}
 use Rattle.pr_function_laws.specs.Leaving.{WaitsAgain, halt_next}
 use Rattle.pr_function_laws.specs.Lifted.{HasControl, IsNoRead, ReadsOnlyLast}
+use Rattle.pr_function_laws.specs.ReachedRuns.{IsReachedFunctionRun}
 use Rattle.pr_function_laws.specs.Opened.{IsFunctionRun, TracesAll, functions_at}
 use Rattle.pr_function_laws.specs.Ordinary as beside
 use Rattle.pr_function_laws.specs.Ordinary.{IsLike, IsTakenUp, SeesTo, ordinary}
@@ -238,8 +238,8 @@ module _ (n k : ℕ) (o : Options) (t : TrussState) (s : TracedState) (g : IsLea
 
 -- ---- a history
 
-module _ (n k : ℕ) (o : Options) (s : TracedState) (h : List Entry) (run : IsFunctionRun n k o s h)
-    (reached : IsReached s) (bytes : HasBytes h) (pid id number : ℕ) where
+module _ (n k : ℕ) (o : Options) (s : TracedState) (h : List Entry) (run : IsReachedFunctionRun n k o s h)
+    (pid id number : ℕ) where
   abbrev T : List Entry → TrussState
   T front = functions_at k o front
 
@@ -264,7 +264,7 @@ module _ (n k : ℕ) (o : Options) (s : TracedState) (h : List Entry) (run : IsF
   traced-left : (f later : List Entry) → h ≡ f ++ later → IsLeft (T f) → HasControl k pid number (S f)
       → (q : ℕ) × ((q < length (T f).traced) × ((traced_at (T f) q).pid ≡ pid))
   traced-left f later is at its =
-      traced-owned n k o s h run f later is pid number its (no-freed number (T f) at)
+      traced-owned n k o s h run.of f later is pid number its (no-freed number (T f) at)
 
   -- ---- the entries behind the interrupt
 
@@ -274,7 +274,7 @@ module _ (n k : ℕ) (o : Options) (s : TracedState) (h : List Entry) (run : IsF
     next = f ++ d ∷ []
 
     legal_here : IsLegalEntry n (S f) d
-    legal_here = entry-legal (Unit {0}) n k o s h run (λ r. reached) (λ r. bytes) f d later is
+    legal_here = entry-legal (Unit {0}) n k o s h run.of (λ r. run.reached) (λ r. run.bytes) f d later is
 
     made_here : pid < (S f).system.made
     made_here = control-made k pid number (S f) g.lawful its
@@ -291,14 +291,15 @@ module _ (n k : ℕ) (o : Options) (s : TracedState) (h : List Entry) (run : IsF
         (subst (IsLegalEntry n (S f)) same legal_here) goes differs
 
     now-is : S next ≡ after (S f) d
-    now-is = state-next (Unit {0}) n k o s h run (λ r. reached) (λ r. bytes) f d later is
+    now-is = state-next (Unit {0}) n k o s h run.of (λ r. run.reached) (λ r. run.bytes) f d later is
 
     truss-is : (y : Option Exchange) → exchange_of k d ≡ y → T next ≡ functions_on (T f) y
     truss-is y own =
-        truss-next (Unit {0}) n k o s h run (λ r. reached) (λ r. bytes) f d later is ∙ ap (functions_on (T f)) own
+        truss-next (Unit {0}) n k o s h run.of (λ r. run.reached) (λ r. run.bytes) f d later is
+        ∙ ap (functions_on (T f)) own
 
     pub left-on : Left next
-    left-on = leaving-next (Unit {0}) n k o s h run (λ r. reached) (λ r. bytes) f d later is g
+    left-on = leaving-next (Unit {0}) n k o s h run.of (λ r. run.reached) (λ r. run.bytes) f d later is g
 
     pub goes-on : HasControl k pid number (S next) → Goes pid id (S next).system × AreAttached pid (T next)
     goes-on still_open = by (exchange_of k d) refl
@@ -316,13 +317,13 @@ module _ (n k : ℕ) (o : Options) (s : TracedState) (h : List Entry) (run : IsF
             let l = left-on in
             let w =
             call-goes n k o (T f) (S f) g
-            (files-at (Unit {0}) n k o s h run (λ r. reached) (λ r. bytes) f (d ∷ later) is) d legal_here
-            (entry-bytes (Unit {0}) n k o s h run (λ r. reached) (λ r. bytes) f d later is) x
+            (files-at (Unit {0}) n k o s h run.of (λ r. run.reached) (λ r. run.bytes) f (d ∷ later) is) d legal_here
+            (entry-bytes (Unit {0}) n k o s h run.of (λ r. run.reached) (λ r. run.bytes) f d later is) x
             (own-entry n k (S f) d x legal_here own)
-            (makes-there (Unit {0}) n k o s h run (λ r. reached) (λ r. bytes) f d later is x own)
-            (has-there (Unit {0}) n k o s h run (λ r. reached) (λ r. bytes) f d later is)
-            (follow-there (Unit {0}) n k o s h run (λ r. reached) (λ r. bytes) f d later is) pid id number its attached
-            goes
+            (makes-there (Unit {0}) n k o s h run.of (λ r. run.reached) (λ r. run.bytes) f d later is x own)
+            (has-there (Unit {0}) n k o s h run.of (λ r. run.reached) (λ r. run.bytes) f d later is)
+            (follow-there (Unit {0}) n k o s h run.of (λ r. run.reached) (λ r. run.bytes) f d later is) pid id number
+            its attached goes
             (subst (λ (u : TrussState). (q : ℕ) × ((q < length u.traced) × ((traced_at u q).pid ≡ pid))) v_is
             (traced-left next later (is ∙ sym (append_assoc f (d ∷ []) later)) l.at still_open)) in (
               subst (λ (u : TracedState). Goes pid id u.system) (sym now-is) w.0,
@@ -412,8 +413,8 @@ poll-made t x at (goes_on y like called now) =
 
 -- ---- the interrupt
 
-module _ (n k : ℕ) (o : Options) (s : TracedState) (h : List Entry) (run : IsFunctionRun n k o s h)
-    (reached : IsReached s) (bytes : HasBytes h) (before until behind later : List Entry) (e c : Entry) (place id : ℕ)
+module _ (n k : ℕ) (o : Options) (s : TracedState) (h : List Entry) (run : IsReachedFunctionRun n k o s h)
+    (before until behind later : List Entry) (e c : Entry) (place id : ℕ)
     (is : h ≡ (before ++ e ∷ until) ++ c ∷ (behind ++ later)) (calm : All WasNotInterrupted (exchanges k before))
     (w : IsLeftAtStep k o s before until behind e c place id) where
   abbrev f : List Entry
@@ -437,13 +438,13 @@ module _ (n k : ℕ) (o : Options) (s : TracedState) (h : List Entry) (run : IsF
   until-quiet =
       let r = w.reads in
       let legal =
-      legal-at (Unit {0}) n k o s h run (λ x. reached) (λ x. bytes) before (e ∷ (until ++ c ∷ (behind ++ later)))
-      is-front in
-      quiet-until (status-handle n k o s h run reached bytes before until (c ∷ (behind ++ later)) e place id is-front
+      legal-at (Unit {0}) n k o s h run.of (λ x. run.reached) (λ x. run.bytes) before
+      (e ∷ (until ++ c ∷ (behind ++ later))) is-front in
+      quiet-until (status-handle n k o s h run before until (c ∷ (behind ++ later)) e place id is-front
       calm r)
       (exchanges k until)
       (r.reads_last _
-      (handle-is n k o s h run reached bytes before until (c ∷ (behind ++ later)) e place id is-front calm r))
+      (handle-is n k o s h run before until (c ∷ (behind ++ later)) e place id is-front calm r))
       (calm-exchanges until n k (after (state_after s before) e)
       (legal-front n (after (state_after s before) e) until (c ∷ (behind ++ later)) legal.1))
 
@@ -458,7 +459,7 @@ module _ (n k : ℕ) (o : Options) (s : TracedState) (h : List Entry) (run : IsF
       (All-cons WasNotInterrupted r.x (exchanges k until) read-quiet until-quiet)))
 
   run-there : IsFunctionRun n k o s (f ++ c ∷ (behind ++ later))
-  run-there = subst (IsFunctionRun n k o s) is run
+  run-there = subst (IsFunctionRun n k o s) is run.of
 
   -- It is in a poll. The only other call that waits is that of an opening, and where truss has read the status of a
   -- process it has polled, and opens none any more.
@@ -466,7 +467,7 @@ module _ (n k : ℕ) (o : Options) (s : TracedState) (h : List Entry) (run : IsF
   at-poll = by b.waits
     where
       b : BeginsToLeave (functions_at k o f) (fed_functions (functions_at k o f) w.x.reply)
-      b = begins n k o s h run reached bytes pid f c (behind ++ later) is calm-front w.x w.own w.interrupted
+      b = begins n k o s h run pid f c (behind ++ later) is calm-front w.x w.own w.interrupted
 
       polled : All IsGoingOn (exchanges k before) → ⊥
       polled =
@@ -474,7 +475,7 @@ module _ (n k : ℕ) (o : Options) (s : TracedState) (h : List Entry) (run : IsF
           let m = r.meets in
           subst (Going (exchanges k before)) m.reads
           (entries.going n k o s before (until ++ c ∷ (behind ++ later)) e
-          (subst (IsFunctionRun n k o s) is-front run))
+          (subst (IsFunctionRun n k o s) is-front run.of))
 
       by : WaitsAt (functions_at k o f) → (functions_at k o f).stage ≡ Polling
       by (polls at) = at
@@ -492,50 +493,50 @@ module _ (n k : ℕ) (o : Options) (s : TracedState) (h : List Entry) (run : IsF
 
   begun : IsLeaving (Unit {0}) k o (functions_at k o (f ++ c ∷ [])) (state_after s (f ++ c ∷ []))
   begun =
-      begins-next (Unit {0}) n k o s h run (λ r. reached) (λ r. bytes) f c (behind ++ later) is calm-front w.x w.own
-      w.interrupted
+      begins-next (Unit {0}) n k o s h run.of (λ r. run.reached) (λ r. run.bytes) f c (behind ++ later) is calm-front
+      w.x w.own w.interrupted
 
   goes-front : Goes pid id (state_after s f).system
   goes-front =
       subst (λ (u : TracedState). Goes pid id u.system) (sym (state_after-both s before (e ∷ until)))
-      (alone-goes n k o s h run reached bytes before until (c ∷ (behind ++ later)) e place id is-front calm w.reads)
+      (alone-goes n k o s h run before until (c ∷ (behind ++ later)) e place id is-front calm w.reads)
 
   goes-begun : Goes pid id (state_after s (f ++ c ∷ [])).system
   goes-begun =
       subst (Goes pid id)
-      (sym (system-is n k o s h run reached bytes pid f c (behind ++ later) is calm-front w.x w.own w.interrupted))
+      (sym (system-is n k o s h run pid f c (behind ++ later) is calm-front w.x w.own w.interrupted))
       goes-front
 
   attached-begun : AreAttached pid (functions_at k o (f ++ c ∷ []))
   attached-begun =
       subst (AreAttached pid)
-      (sym (v-is n k o s h run reached bytes pid f c (behind ++ later) is calm-front w.x w.own w.interrupted))
+      (sym (v-is n k o s h run pid f c (behind ++ later) is calm-front w.x w.own w.interrupted))
       (λ q within its.
       let t : TrussState = functions_at k o f in
       let b : BeginsToLeave t (fed_functions t w.x.reply) =
-      begins n k o s h run reached bytes pid f c (behind ++ later) is calm-front w.x w.own w.interrupted in
+      begins n k o s h run pid f c (behind ++ later) is calm-front w.x w.own w.interrupted in
       let shares = b.shares in
       let g : Runs (Unit {0}) k o t (state_after s f) =
-      goes-there (Unit {0}) n k o s h run (λ r. reached) (λ r. bytes) f c (behind ++ later) is calm-front in
+      goes-there (Unit {0}) n k o s h run.of (λ r. run.reached) (λ r. run.bytes) f c (behind ++ later) is calm-front in
       let a : IsAttached (traced_at (ordinary t) q) =
-      opened-attached n k o s f (c ∷ (behind ++ later)) pid (subst (IsFunctionRun n k o s) is run)
+      opened-attached n k o s f (c ∷ (behind ++ later)) pid (subst (IsFunctionRun n k o s) is run.of)
       (IsSo (Unit {0}) k t.options (state_after s f)) g.kept q (subst (λ m. q < m) shares.many within)
       (ap (λ (x : Stage). is_opened x q) at-poll) in
       shares.attached q ∙ ap (λ (u : Traced). u.attached) (sym (at-ordinary t q)) ∙ a.attached)
 
   left-alone-there : OthersOnlyStop pid id behind
   left-alone-there =
-      stays-alone n k o s h run reached bytes pid id (traced_at (functions_at k o before) place).control behind
+      stays-alone n k o s h run pid id (traced_at (functions_at k o before) place).control behind
       (f ++ c ∷ []) later (is ∙ sym (append_assoc f (c ∷ []) (behind ++ later))) begun w.keeps_open
       (λ its. (goes-begun, attached-begun))
 
-pub is-left-alone : (n k : ℕ) (o : Options) (s : TracedState) (h : List Entry) → IsFunctionRun n k o s h → IsReached s
-    → HasBytes h → IsLeftAlone k o s h
-is-left-alone n k o s h run reached bytes = record {
+pub is-left-alone : (n k : ℕ) (o : Options) (s : TracedState) (h : List Entry) → IsReachedFunctionRun n k o s h
+    → IsLeftAlone k o s h
+is-left-alone n k o s h run = record {
   polls = λ before until behind later e c place id is calm w.
-      polls-there n k o s h run reached bytes before until behind later e c place id is calm w;
+      polls-there n k o s h run before until behind later e c place id is calm w;
   each = λ before until behind later e c place id is calm w.
-      left-alone-there n k o s h run reached bytes before until behind later e c place id is calm w;
+      left-alone-there n k o s h run before until behind later e c place id is calm w;
 }
 
 pub ruleset left_alone = (is-left-alone)

@@ -5,7 +5,6 @@ use Rattle.pr_line.specs.declared.options.Options.{Options}
 use Rattle.pr_model.specs.Legal.{state_after}
 use Rattle.pr_model.specs.State.{TracedProcess, TracedState, live_process}
 use Rattle.pr_model.specs.declared.events.Entry.{Entry}
-use Rattle.pr_reached.specs.ByteHistories.{HasBytes}
 use Rattle.pr_reached.specs.Reached.{IsReached}
 use Rattle.pr_report_laws.proofs.Files.FileLaws.{FileOf, HasFiles, has-each, is_closing}
 use Rattle.pr_report_laws.proofs.Files.KeepLemmas.{FilesAre}
@@ -32,6 +31,7 @@ use Rattle.pr_function_laws.specs.OneEvent.{HasOneEventAtMost, HasOneEventEach, 
 use Rattle.pr_function_laws.specs.Opened.{HoldsWhatItOpened, IsFunctionRun, OwnsAndTraces, TracesAlone}
 use Rattle.pr_function_laws.specs.Opened.{functions_at, is_opened}
 use Rattle.pr_function_laws.specs.Ordinary.{ordinary, unmarked}
+use Rattle.pr_function_laws.specs.ReachedRuns.{IsReachedFunctionRun}
 
 -- What truss has of its processes and what of them is unread, also where it leaves them.
 
@@ -212,19 +212,21 @@ module _ (n k : ℕ) (o : Options) (s : TracedState) (h : List Entry) (run : IsF
             (files before later is on) place within attached;
       }
 
-  pub has-one-event-each : IsReached s → HasBytes h → HasOneEventEach k o s h
-  has-one-event-each reached bytes =
-      let calm = one-event-each n k o s h run reached bytes in
-      record {
-        few = calm.few;
-        still = calm.still;
-        left = λ before later place p is on within attached away new live.
-            leaving-few (Unit {0}) k o (functions_at k o before) (state_after s before)
-            (leaving-at (Unit {0}) n k o s h run (λ r. reached) (λ r. bytes) before later is on)
-            (files before later is on) place within attached tt away new p live;
-        looked_last = λ before later place p is on within attached away live.
-            leaving-still ⊥ k o (functions_at k o before) (state_after s before) (unread before later is on)
-            (files before later is on) place within attached away p live;
-      }
+pub has-one-event-each : (n k : ℕ) (o : Options) (s : TracedState) (h : List Entry) → IsReachedFunctionRun n k o s h
+    → HasOneEventEach k o s h
+has-one-event-each n k o s h run =
+    let calm = one-event-each n k o s h run in
+    record {
+      few = calm.few;
+      still = calm.still;
+      left = λ before later place p is on within attached away new live.
+          leaving-few (Unit {0}) k o (functions_at k o before) (state_after s before)
+          (leaving-at (Unit {0}) n k o s h run.of (λ r. run.reached) (λ r. run.bytes) before later is on)
+          (files n k o s h run.of before later is on) place within attached tt away new p live;
+      looked_last = λ before later place p is on within attached away live.
+          leaving-still ⊥ k o (functions_at k o before) (state_after s before)
+          (unread n k o s h run.of before later is on) (files n k o s h run.of before later is on) place within attached
+          away p live;
+    }
 
 pub ruleset held_open = (holds-what-it-opened, has-one-event-each)

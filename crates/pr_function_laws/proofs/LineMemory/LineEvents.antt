@@ -22,8 +22,6 @@ use Rattle.pr_model.specs.declared.events.Entry.{Entry}
 use Rattle.pr_num.specs.Signals.{signal_number}
 use Rattle.pr_num.specs.declared.errnos.Errno.TheVariants.{Noent}
 use Rattle.pr_num.specs.declared.signals.Sig.TheVariants.{Kill}
-use Rattle.pr_reached.specs.ByteHistories.{HasBytes}
-use Rattle.pr_reached.specs.Reached.{IsReached}
 use Rattle.pr_rec.specs.declared.lwps.LwpStatus.{LwpStatus}
 use Rattle.pr_report_laws.proofs.Machine.EventOwners.{event-owns}
 use Rattle.pr_report_laws.proofs.SeenChildren.Splits.{state_after-both}
@@ -63,6 +61,7 @@ use Rattle.pr_function_laws.specs.LineEvents.{AreOfTheirEventsIn, IsOfItsEventIn
 use Rattle.pr_function_laws.specs.LineMoments.{HasSameMemory}
 use Rattle.pr_function_laws.specs.LineTexts.{IsPatch, IsTextRead}
 use Rattle.pr_function_laws.specs.ListedEvents.{events_to_show, is_to_show_in, to_show_in}
+use Rattle.pr_function_laws.specs.ReachedRuns.{IsReachedFunctionRun}
 use Rattle.pr_function_laws.specs.Opened.{IsFunctionRun, functions_at}
 use Rattle.pr_function_laws.specs.Ordinary.{ordinary, ordinary_among}
 use Rattle.pr_function_laws.specs.OrdinaryRuns.{ShowsInEntry, nothing_new, one_more}
@@ -97,8 +96,8 @@ no-one x xs is = cc
 
 -- ---- one front of a history, behind which the text of a report came
 
-module _ (n k : ℕ) (o : Options) (s : TracedState) (h : List Entry) (pid : ℕ) (run : IsFunctionRun n k o s h)
-    (reached : IsReached s) (bytes : HasBytes h) (steps : AreSteppable o) where
+module _ (n k : ℕ) (o : Options) (s : TracedState) (h : List Entry) (pid : ℕ) (run : IsReachedFunctionRun n k o s h)
+    (steps : AreSteppable o) where
   abbrev T : List Entry → TrussState
   T f = functions_at k o f
 
@@ -107,10 +106,10 @@ module _ (n k : ℕ) (o : Options) (s : TracedState) (h : List Entry) (pid : ℕ
 
   module _ (f : List Entry) (e : Entry) (later : List Entry) (is : h ≡ f ++ e ∷ later) where
     run-here : IsFunctionRun n k o s (f ++ e ∷ later)
-    run-here = subst (IsFunctionRun n k o s) is run
+    run-here = subst (IsFunctionRun n k o s) is run.of
 
     legal : IsLegalEntry n (S f) e
-    legal = entry-legal (Unit {0}) n k o s h run (λ r. reached) (λ r. bytes) f e later is
+    legal = entry-legal (Unit {0}) n k o s h run.of (λ r. run.reached) (λ r. run.bytes) f e later is
 
     lawful : IsLawful (S f)
     lawful =
@@ -120,11 +119,11 @@ module _ (n k : ℕ) (o : Options) (s : TracedState) (h : List Entry) (pid : ℕ
     -- a call of truss brings no event
     own-empty : (x : Exchange) → exchange_of k e ≡ Some x → to_show_in (T f) (S f) pid e ≡ []
     own-empty x own =
-        states.elsewhere-empty k o s pid n h run f e later is lawful legal (λ i. own-in k pid i e.actor e.act x own)
+        states.elsewhere-empty k o s pid n h run.of f e later is lawful legal (λ i. own-in k pid i e.actor e.act x own)
 
     -- what is not read is not shown
     quiet-shown : (states.ReadsIts k o s pid f e → ⊥) → shown pid (T (f ++ e ∷ [])) ≡ shown pid (T f)
-    quiet-shown quiet = by (let w = shows-what-it-reads n k o s h run in w.each f later e pid is)
+    quiet-shown quiet = by (let w = shows-what-it-reads n k o s h run.of in w.each f later e pid is)
       where
         by : ShowsInEntry k o pid s f e → shown pid (T (f ++ e ∷ [])) ≡ shown pid (T f)
         by (nothing_new same) = same
@@ -159,7 +158,7 @@ module _ (n k : ℕ) (o : Options) (s : TracedState) (h : List Entry) (pid : ℕ
         (λ i. ReadsLately k o s front (ordinary (T front)).reports i
         (traced_at (ordinary (T front)) at.place).control l from len) (sym at.of)
         (subst (Lately k o s front (ordinary (T front))) at.at
-        (lately-at n k o s front (front-run n k o s front rest (subst (IsFunctionRun n k o s) is run)))))
+        (lately-at n k o s front (front-run n k o s front rest (subst (IsFunctionRun n k o s) is run.of)))))
 
     r : ReadsLately k o s front reports pid (traced_at (ordinary (T front)) at.place).control l from len
     r = lately
@@ -189,7 +188,7 @@ module _ (n k : ℕ) (o : Options) (s : TracedState) (h : List Entry) (pid : ℕ
       -- it called nothing since
       at-once : exchanges k since ≡ []
       at-once =
-          none-since n k o s h run reached bytes steps front rest is at.place l from len at.at base since
+          none-since n k o s h run steps front rest is at.place l from len at.at base since
           (front_is ∙ sym (append_assoc before (again ∷ []) since)) control patches
 
       its-read : states.ReadsIts k o s pid before again
@@ -215,7 +214,7 @@ module _ (n k : ℕ) (o : Options) (s : TracedState) (h : List Entry) (pid : ℕ
 
       still-living : live_process (S before).system pid ≡ None → ⊥
       still-living gone =
-          states.over-quiet k o s pid n h run before again (since ++ rest) before-is here_lawful here_legal gone
+          states.over-quiet k o s pid n h run.of before again (since ++ rest) before-is here_lawful here_legal gone
           its-read
 
       -- the read left the machine as it was
@@ -231,10 +230,10 @@ module _ (n k : ℕ) (o : Options) (s : TracedState) (h : List Entry) (pid : ℕ
 
       unread-then : states.ListedSo k o s pid before
       unread-then =
-          listed-at n k o s h run reached bytes pid before (again ∷ (since ++ rest)) before-is
+          listed-at n k o s h run pid before (again ∷ (since ++ rest)) before-is
 
       unread-next : states.ListedSo k o s pid base
-      unread-next = listed-at n k o s h run reached bytes pid base (since ++ rest) base-is
+      unread-next = listed-at n k o s h run pid base (since ++ rest) base-is
 
       missing-is : (let w = unread-then in w.missing) ≡ event ∷ (let w = unread-next in w.missing)
       missing-is =
@@ -243,7 +242,7 @@ module _ (n k : ℕ) (o : Options) (s : TracedState) (h : List Entry) (pid : ℕ
           let own = its-own in
           append_cancel_left shown_so w.missing (event ∷ v.missing)
           (ap (λ es. es ++ w.missing) (sym had_shown) ∙ sym w.are
-          ∙ sym (states.came-next k o s pid n h run before again (since ++ rest) before-is here_lawful here_legal
+          ∙ sym (states.came-next k o s pid n h run.of before again (since ++ rest) before-is here_lawful here_legal
           ∙ ap (λ es. events_to_show k pid (first_truss o) s before ++ es)
           (own-empty before again (since ++ rest) before-is own.0 own.1.0)
           ∙ append-nil (events_to_show k pid (first_truss o) s before))
@@ -365,7 +364,7 @@ module _ (n k : ℕ) (o : Options) (s : TracedState) (h : List Entry) (pid : ℕ
 
         abbrev FateAt : List Entry → Type 0
         FateAt =
-            Fate n k o s h run reached bytes base since rest base-is pid at.place l from len stage-there pid-there
+            Fate n k o s h run base since rest base-is pid at.place l from len stage-there pid-there
             at-once w.process Ended ended-now ended-on
 
         first-fate : FateAt []
@@ -377,7 +376,7 @@ module _ (n k : ℕ) (o : Options) (s : TracedState) (h : List Entry) (pid : ℕ
 
         fate : FateAt since
         fate =
-            fate-end n k o s h run reached bytes base since rest base-is pid at.place l from len stage-there pid-there
+            fate-end n k o s h run base since rest base-is pid at.place l from len stage-there pid-there
             at-once w.process Ended ended-now ended-on first-fate
 
         at-front : {A : Type 0} (o_of : Option A) (g : TracedSystem → Option A)
@@ -420,10 +419,10 @@ module _ (n k : ℕ) (o : Options) (s : TracedState) (h : List Entry) (pid : ℕ
 
         its-file : HasFile k pid Ctl control (state_after s front)
         its-file =
-            let files = files-at (Unit {0}) n k o s h run (λ r. reached) (λ r. bytes) front rest is in
+            let files = files-at (Unit {0}) n k o s h run.of (λ r. run.reached) (λ r. run.bytes) front rest is in
             let within : at.place < length (ordinary (T front)).traced =
             subst (Fits (ordinary (T front)).traced) at.at
-            (fits-at (Unit {0}) n k o s h run (λ r. reached) (λ r. bytes) front rest is) in
+            (fits-at (Unit {0}) n k o s h run.of (λ r. run.reached) (λ r. run.bytes) front rest is) in
             let f = files.control at.place within in
             record { held = _; there = f.is; of = sym at.of; file = refl }
 
@@ -494,14 +493,14 @@ module _ (n k : ℕ) (o : Options) (s : TracedState) (h : List Entry) (pid : ℕ
   its-event reports l text (lost_there from len asks m at patch) range asked =
       absurd
       (false≢true
-      (sym (next-no-message n k o s h run reached bytes steps m.before (m.entry ∷ m.later) m.is at.place l from len
+      (sym (next-no-message n k o s h run steps m.before (m.entry ∷ m.later) m.is at.place l from len
       at.at m.entry m.later refl (record { call = patch.call; reply = reply.Fail Noent }) patch.is)
       ∙ later-sends (T m.before) o patch.control patch.patch))
 
   pub are-of-their-events : AreOfTheirEventsIn k o pid s h (ordinary_among (functions_at k o h).reports)
   are-of-their-events = record {
     each = λ earlier later l text from len is asked.
-        let w = have-texts-there n k o s h run in
+        let w = have-texts-there n k o s h run.of in
         its-event earlier l text (w.each earlier later (report.Event pid l text) is) (from, len) asked;
   }
 

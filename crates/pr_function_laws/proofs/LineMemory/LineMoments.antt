@@ -8,8 +8,6 @@ use Rattle.pr_model.specs.LwpTurns.{LwpTurn, turn_of, with_counted}
 use Rattle.pr_model.specs.State.{TracedProcess, TracedState, TracedSystem, live_process, with_lwp}
 use Rattle.pr_model.specs.declared.calls.Call.TheVariants as call
 use Rattle.pr_model.specs.declared.events.Entry.{Entry}
-use Rattle.pr_reached.specs.ByteHistories.{HasBytes}
-use Rattle.pr_reached.specs.Reached.{IsReached}
 use Rattle.pr_report_laws.proofs.Machine.EventOwners.{event-owns}
 use Rattle.pr_report_laws.proofs.Machine.OwnTurnLaws.{event-halts}
 use Rattle.pr_report_laws.proofs.SeenChildren.Splits.{state_after-both}
@@ -32,6 +30,7 @@ use Rattle.pr_function_laws.proofs.OrdinaryTruss.OrdinaryReplies.{at-ordinary}
 use Rattle.pr_function_laws.proofs.Pending.PendingWalk.{On, Pending}
 use Rattle.pr_function_laws.specs.EventsRead.{ComesAndIsRead}
 use Rattle.pr_function_laws.specs.LineMoments.{HasSameMemory, MemoriesStand, ReadsMemoryIn}
+use Rattle.pr_function_laws.specs.ReachedRuns.{IsReachedFunctionRun}
 use Rattle.pr_function_laws.specs.Opened.{IsFunctionRun, functions_at}
 
 -- The memory that truss with calls of functions reads for a line is that of the moment of its event.
@@ -50,8 +49,8 @@ turn-keeps base event u pid own turn p q live took later has w =
 
 -- ---- up to the read of the event
 
-module _ (n k : ℕ) (o : Options) (s : TracedState) (h : List Entry) (run : IsFunctionRun n k o s h)
-    (reached : IsReached s) (bytes : HasBytes h) (front between later : List Entry) (e again : Entry) (place : ℕ)
+module _ (n k : ℕ) (o : Options) (s : TracedState) (h : List Entry) (run : IsReachedFunctionRun n k o s h)
+    (front between later : List Entry) (e again : Entry) (place : ℕ)
     (event : LwpEvent) (range : ℕ × ℕ) (p : TracedProcess) (is : h ≡ front ++ e ∷ (between ++ again ∷ later))
     (c : ComesAndIsRead k o s front e between again place event) (asks : text_range event.event ≡ Some range)
     (live : live_process (state_after s (front ++ e ∷ [])).system (traced_at (functions_at k o front) place).pid
@@ -65,7 +64,7 @@ module _ (n k : ℕ) (o : Options) (s : TracedState) (h : List Entry) (run : IsF
   -- it has its own memory
   own-memory : p.borrower ≡ None
   own-memory =
-      let all = legal-rest n s front (e ∷ (between ++ again ∷ later)) (subst (IsLegal n s) is run.legal) in
+      let all = legal-rest n s front (e ∷ (between ++ again ∷ later)) (subst (IsLegal n s) is run.of.legal) in
       event-owns n (is_selected o) pid (state_after s front) event range asks e all.0 c.came p
       (ap (λ (u : TracedState). live_process u.system pid) (sym (state_after-both s front (e ∷ []))) ∙ live)
 
@@ -85,7 +84,7 @@ module _ (n k : ℕ) (o : Options) (s : TracedState) (h : List Entry) (run : IsF
   kept-until : (q : TracedProcess) → live_process (state_after s last).system pid ≡ Some q → KeepsMemory p q
   kept-until q there =
       let w : Pending k o s (traced_at (functions_at k o front) place) (λ z. On event z × KeepsMemory p z) last =
-      pending-with n k o s h run reached bytes front between later e again place event is (is_selected o)
+      pending-with n k o s h run front between later e again place event is (is_selected o)
       (λ ev off. off) c.whole c.came c.exchange c.read (KeepsMemory p)
       (λ z v alone kept. memory-next p z v kept alone.memory)
       (turn-keeps p event)
@@ -107,7 +106,7 @@ module _ (n k : ℕ) (o : Options) (s : TracedState) (h : List Entry) (run : IsF
     whole-is = is ∙ sym (append_assoc front (e ∷ between) (again ∷ later))
 
     legal : IsLegal n (state_after s last) (again ∷ later)
-    legal = legal-rest n s last (again ∷ later) (subst (IsLegal n s) whole-is run.legal)
+    legal = legal-rest n s last (again ∷ later) (subst (IsLegal n s) whole-is run.of.legal)
 
     -- the read of the status left the machine as it was
     system-stays : (after (state_after s last) again).system ≡ (state_after s last).system
@@ -127,7 +126,7 @@ module _ (n k : ℕ) (o : Options) (s : TracedState) (h : List Entry) (run : IsF
     run-end =
         subst (IsFunctionRun n k o s)
         (whole-is ∙ ap (λ (es : List Entry). last ++ again ∷ es) splits
-        ∙ sym (append_assoc last (again ∷ middle) (reads ∷ rest))) run
+        ∙ sym (append_assoc last (again ∷ middle) (reads ∷ rest))) run.of
 
     -- it is about to read the memory
     to-read : IsToRead n k o s end rest reads run-end pid m.handle m.from m.len m.has
@@ -153,7 +152,7 @@ module _ (n k : ℕ) (o : Options) (s : TracedState) (h : List Entry) (run : IsF
     abbrev FateAt : List Entry → Type 0
     FateAt =
         let r = to-read in
-        Fate n k o s h run reached bytes base middle (reads ∷ rest) parts pid r.place r.lwp m.from m.len
+        Fate n k o s h run base middle (reads ∷ rest) parts pid r.place r.lwp m.from m.len
         (stage-there r) (pid-there r) none p (λ es. Unit {0}) (λ done more f z w split live gone left status. tt)
         (λ done f w. tt)
 
@@ -175,7 +174,7 @@ module _ (n k : ℕ) (o : Options) (s : TracedState) (h : List Entry) (run : IsF
     kept-end q live_q =
         let r = to-read in
         by
-        (fate-end n k o s h run reached bytes base middle (reads ∷ rest) parts pid r.place r.lwp m.from m.len
+        (fate-end n k o s h run base middle (reads ∷ rest) parts pid r.place r.lwp m.from m.len
         (stage-there r) (pid-there r) none p (λ es. Unit {0}) (λ done more f z w split live gone left status. tt)
         (λ done f w. tt) first)
       where
@@ -188,17 +187,17 @@ module _ (n k : ℕ) (o : Options) (s : TracedState) (h : List Entry) (run : IsF
 
 -- ---- the law
 
-pub memories-stand : (n k : ℕ) (o : Options) (s : TracedState) (h : List Entry) → IsFunctionRun n k o s h
-    → IsReached s → HasBytes h → MemoriesStand k o s h
-memories-stand n k o s h run reached bytes = record {
+pub memories-stand : (n k : ℕ) (o : Options) (s : TracedState) (h : List Entry) → IsReachedFunctionRun n k o s h
+    → MemoriesStand k o s h
+memories-stand n k o s h run = record {
   read = λ front between later e again place event range p q is c asks live there.
-      same-memory n k o s h run reached bytes front between later e again place event range p is c asks live
+      same-memory n k o s h run front between later e again place event range p is c asks live
       (state_after s (front ++ e ∷ between)) q there
-      (kept-until n k o s h run reached bytes front between later e again place event range p is c asks live q there);
+      (kept-until n k o s h run front between later e again place event range p is c asks live q there);
   line = λ front between middle rest e again reads place event range p q is c asks none m live there.
-      same-memory n k o s h run reached bytes front between (middle ++ reads ∷ rest) e again place event range p is c
+      same-memory n k o s h run front between (middle ++ reads ∷ rest) e again place event range p is c
       asks live (state_after s ((front ++ e ∷ between) ++ again ∷ middle)) q there
-      (kept-end n k o s h run reached bytes front between (middle ++ reads ∷ rest) e again place event range p is c asks
+      (kept-end n k o s h run front between (middle ++ reads ∷ rest) e again place event range p is c asks
       live middle rest reads refl none m q there);
 }
 

@@ -9,8 +9,6 @@ use Rattle.pr_model.specs.State.{TracedProcess, TracedState, live_process, proce
 use Rattle.pr_model.specs.declared.events.Entry.{Entry}
 use Rattle.pr_num.specs.Signals.{signal_number}
 use Rattle.pr_num.specs.declared.signals.Sig.TheVariants.{Kill}
-use Rattle.pr_reached.specs.ByteHistories.{HasBytes}
-use Rattle.pr_reached.specs.Reached.{IsReached}
 use Rattle.pr_rec.specs.declared.lwps.LwpStatus.{LwpStatus}
 use Rattle.pr_report_laws.proofs.Files.FileLaws.{HasFiles}
 use Rattle.pr_report_laws.proofs.Files.FileUses.{standing as standing-at}
@@ -40,6 +38,7 @@ use Rattle.pr_function_laws.proofs.OrdinaryTruss.OrdinaryReplies.{at-ordinary}
 use Rattle.pr_function_laws.proofs.Stepping.BreakpointLemmas.{foreign-entry}
 use Rattle.pr_function_laws.specs.Lifted.{HasControl}
 use Rattle.pr_function_laws.specs.OneEvent.{HasOneEventEach, is_looked_at}
+use Rattle.pr_function_laws.specs.ReachedRuns.{IsReachedFunctionRun}
 use Rattle.pr_function_laws.specs.Opened.{IsFunctionRun, functions_at}
 use Rattle.pr_function_laws.specs.Ordinary.{ordinary, unmarked}
 
@@ -62,9 +61,8 @@ none-first k e rest none = by (exchange_of k e) (sym (cons-exchanges k e rest) �
     by None nothing = refl
     by (Some x) nothing = absurd (cc)
 
-module _ (n k : ℕ) (o : Options) (s : TracedState) (h : List Entry) (run : IsFunctionRun n k o s h)
-    (reached : IsReached s) (bytes : HasBytes h) (base middle rest : List Entry) (is : h ≡ base ++ (middle ++ rest))
-    (pid here : ℕ) (lwp : LwpStatus) (from len : ℕ)
+module _ (n k : ℕ) (o : Options) (s : TracedState) (h : List Entry) (run : IsReachedFunctionRun n k o s h)
+    (base middle rest : List Entry) (is : h ≡ base ++ (middle ++ rest)) (pid here : ℕ) (lwp : LwpStatus) (from len : ℕ)
     (at : (functions_at k o (base ++ middle)).stage ≡ ReadingText here lwp from len)
     (of : (traced_at (functions_at k o (base ++ middle)) here).pid ≡ pid) (none : exchanges k middle ≡ []) where
   -- ---- one entry
@@ -86,10 +84,10 @@ module _ (n k : ℕ) (o : Options) (s : TracedState) (h : List Entry) (run : IsF
         ∙ sym (append_assoc base done (f ∷ (more ++ rest)))
 
     run-here : IsFunctionRun n k o s (front ++ f ∷ (more ++ rest))
-    run-here = subst (IsFunctionRun n k o s) parts run
+    run-here = subst (IsFunctionRun n k o s) parts run.of
 
     legal : IsLegalEntry n st f
-    legal = entry-legal (Unit {0}) n k o s h run (λ r. reached) (λ r. bytes) front f (more ++ rest) parts
+    legal = entry-legal (Unit {0}) n k o s h run.of (λ r. run.reached) (λ r. run.bytes) front f (more ++ rest) parts
 
     lawful : IsLawful st
     lawful =
@@ -97,10 +95,10 @@ module _ (n k : ℕ) (o : Options) (s : TracedState) (h : List Entry) (run : IsF
         let g = w.reaches in g.lawful
 
     files : HasFiles k (ordinary t) st
-    files = files-at (Unit {0}) n k o s h run (λ r. reached) (λ r. bytes) front (f ∷ (more ++ rest)) parts
+    files = files-at (Unit {0}) n k o s h run.of (λ r. run.reached) (λ r. run.bytes) front (f ∷ (more ++ rest)) parts
 
     fits : Fits (ordinary t).traced t.stage
-    fits = fits-at (Unit {0}) n k o s h run (λ r. reached) (λ r. bytes) front (f ∷ (more ++ rest)) parts
+    fits = fits-at (Unit {0}) n k o s h run.of (λ r. run.reached) (λ r. run.bytes) front (f ∷ (more ++ rest)) parts
 
     state-is : state_after s (front ++ f ∷ []) ≡ after st f
     state-is = state_after-both s front (f ∷ [])
@@ -139,7 +137,7 @@ module _ (n k : ℕ) (o : Options) (s : TracedState) (h : List Entry) (run : IsF
     frozen z live = by t.leaving refl
       where
         events : HasOneEventEach k o s h
-        events = has-one-event-each n k o s h run reached bytes
+        events = has-one-event-each n k o s h run
 
         live-at : live_process st.system (traced_at t here).pid ≡ Some z
         live-at = ap (live_process st.system) pid-here ∙ live
@@ -150,7 +148,8 @@ module _ (n k : ℕ) (o : Options) (s : TracedState) (h : List Entry) (run : IsF
             (ap (λ stage. is_away true stage here) stage-here ∙ eq-eqb here here refl) live-at
         by false off =
             events.still front (f ∷ (more ++ rest)) here z parts
-            (calm-at (Unit {0}) n k o s h run (λ r. reached) (λ r. bytes) front (f ∷ (more ++ rest)) parts off)
+            (calm-at (Unit {0}) n k o s h run.of (λ r. run.reached) (λ r. run.bytes) front (f ∷ (more ++ rest)) parts
+            off)
             (ap (λ stage. is_looked_at stage here) stage-here ∙ eq-eqb here here refl) live-at
 
     has-control : HasControl k pid (traced_at t here).control st

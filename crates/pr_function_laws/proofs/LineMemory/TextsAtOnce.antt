@@ -17,8 +17,6 @@ use Rattle.pr_model.specs.declared.events.Entry.{Entry}
 use Rattle.pr_num.specs.Syscalls.{is_fork_call, syscall_args}
 use Rattle.pr_num.specs.declared.syscalls.Sysno.{Sysno}
 use Rattle.pr_num.specs.declared.syscalls.Sysno.TheVariants.{Exec, Fork, Vfork}
-use Rattle.pr_reached.specs.ByteHistories.{HasBytes}
-use Rattle.pr_reached.specs.Reached.{IsReached}
 use Rattle.pr_rec.specs.declared.lwps.LwpStatus.{LwpStatus}
 use Rattle.pr_report_laws.proofs.Files.WatchHistories.{cons-exchanges, exchanges-both, no-exchanges}
 use Rattle.pr_report_laws.proofs.ToldForks.OldStops.{ReadsAt, at_lwps, at_status}
@@ -62,6 +60,7 @@ use Rattle.pr_function_laws.proofs.OrdinaryTruss.OrdinaryReplies.{at-ordinary, f
 use Rattle.pr_function_laws.proofs.OrdinaryTruss.OrdinaryStops.{FitsAside, none-before}
 use Rattle.pr_function_laws.proofs.Pending.FrontLemmas.{all-entry}
 use Rattle.pr_function_laws.specs.LineTexts.{IsPatch, ReadsAtOnceOf}
+use Rattle.pr_function_laws.specs.ReachedRuns.{IsReachedFunctionRun}
 use Rattle.pr_function_laws.specs.Opened.{IsFunctionRun, WasNotInterrupted, functions_at}
 use Rattle.pr_function_laws.specs.Ordinary.{ordinary, unmarked}
 use Rattle.pr_function_laws.specs.Runs.{functions_after}
@@ -199,8 +198,8 @@ quiet-same k o before later none =
 
 -- ---- along a history
 
-module _ (n k : ℕ) (o : Options) (s : TracedState) (h : List Entry) (run : IsFunctionRun n k o s h)
-    (reached : IsReached s) (bytes : HasBytes h) (steps : AreSteppable o) where
+module _ (n k : ℕ) (o : Options) (s : TracedState) (h : List Entry) (run : IsReachedFunctionRun n k o s h)
+    (steps : AreSteppable o) where
   abbrev T : List Entry → TrussState
   T f = functions_at k o f
 
@@ -220,13 +219,13 @@ module _ (n k : ℕ) (o : Options) (s : TracedState) (h : List Entry) (run : IsF
     then-is = is ∙ sym (append_assoc before (e ∷ []) later)
 
     run-here : IsFunctionRun n k o s (before ++ e ∷ later)
-    run-here = subst (IsFunctionRun n k o s) is run
+    run-here = subst (IsFunctionRun n k o s) is run.of
 
     fit : IsFit o t
     fit = let w : Follows k o t (state_after s before) = entries.follows n k o s before later e run-here in w.fit
 
     has : has_functions t.options ≡ true
-    has = ap has_functions (let f = fit in f.options) ∙ run.has
+    has = ap has_functions (let f = fit in f.options) ∙ run.of.has
 
     -- a call where it is free, and is to read a text
     text-call : (x : Exchange) → exchange_of k e ≡ Some x → IsFree t → (place : ℕ) (l : LwpStatus) (from len : ℕ)
@@ -244,10 +243,10 @@ module _ (n k : ℕ) (o : Options) (s : TracedState) (h : List Entry) (run : IsF
       calm =
           all-front WasNotInterrupted (exchanges k before) (exchanges k (e ∷ []))
           (subst (All WasNotInterrupted) (exchanges-both k before (e ∷ []))
-          (calm-at (Unit {0}) n k o s h run (λ r. reached) (λ r. bytes) then later then-is off))
+          (calm-at (Unit {0}) n k o s h run.of (λ r. run.reached) (λ r. run.bytes) then later then-is off))
 
       w : Kept (StepsAt k o s before) t
-      w = kept-front n k o s h run reached bytes steps before (e ∷ later) is calm
+      w = kept-front n k o s h run steps before (e ∷ later) is calm
 
       -- it was told of an event whose line asks for memory
       asked-free : (x : Exchange) → exchange_of k e ≡ Some x → (r : HasRead (ordinary t) x.reply)
@@ -268,7 +267,7 @@ module _ (n k : ℕ) (o : Options) (s : TracedState) (h : List Entry) (run : IsF
           (eq-eqb (traced_at t r.place).old 0
           (none-before (traced_at t r.place).old (ap (λ (u : Traced). nat_lt 0 u.old) (sym same) ∙ new.none_old)))
           (ap (λ (u : Traced). u.seen) (sym same) ∙ new.unseen) new.is) kept.off
-          (none-under-way n k o s h run reached bytes steps before later e x is own calm r.place idle at r.lwp told
+          (none-under-way n k o s h run steps before later e x is own calm r.place idle at r.lwp told
           r.event new.is (asks-other t.options (marks_at t r.place) r.lwp.id r.event r.range asks).1)
           x has idle at r.accepted told
 
@@ -303,7 +302,7 @@ module _ (n k : ℕ) (o : Options) (s : TracedState) (h : List Entry) (run : IsF
         by-leaving : (b : Bool) → (T then).leaving ≡ b → IsFree (T then)
         by-leaving true on =
             let g : IsLeaving (Unit {0}) k o (T then) (state_after s then) =
-            leaving-at (Unit {0}) n k o s h run (λ r. reached) (λ r. bytes) then later then-is on in
+            leaving-at (Unit {0}) n k o s h run.of (λ r. run.reached) (λ r. run.bytes) then later then-is on in
             left-free (T then) g.at
         by-leaving false off = by off (exchange_of k e) refl
 
@@ -382,7 +381,7 @@ module _ (n k : ℕ) (o : Options) (s : TracedState) (h : List Entry) (run : IsF
   pub reads-at-once : ReadsAtOnceOf k o s h
   reads-at-once = record {
     each = λ before later e pid handle from len reply is own mine w.
-        let all : IsFunctionRun n k o s (before ++ e ∷ later) = subst (IsFunctionRun n k o s) is run in
+        let all : IsFunctionRun n k o s (before ++ e ∷ later) = subst (IsFunctionRun n k o s) is run.of in
         let x : Exchange = record { call = call.Read handle from len; reply = reply } in
         let r = is-to-read n k o s before later e all pid handle from len mine x own refl in
         let read = w.read in

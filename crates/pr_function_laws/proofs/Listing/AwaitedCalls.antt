@@ -17,8 +17,7 @@ use Rattle.pr_model.specs.declared.events.Entry.{Entry}
 use Rattle.pr_model.specs.declared.handles.Held.{Held}
 use Rattle.pr_num.specs.Signals.{signal_number}
 use Rattle.pr_num.specs.declared.signals.Sig.TheVariants.{Kill}
-use Rattle.pr_reached.specs.ByteHistories.{HasBytes, IsEntryOfBytes}
-use Rattle.pr_reached.specs.Reached.{IsReached}
+use Rattle.pr_reached.specs.ByteHistories.{IsEntryOfBytes}
 use Rattle.pr_report_laws.proofs.Files.FileLaws.{HasFiles, IsFileOf}
 use Rattle.pr_report_laws.proofs.Files.FileUses.{lwps-read, memory-read}
 use Rattle.pr_report_laws.specs.Attachments.{ReadsFile}
@@ -60,7 +59,8 @@ use Rattle.pr_function_laws.proofs.CallTurns.TurnWalks.{own-in}
 use Rattle.pr_function_laws.specs.Lifted.{HasControl}
 use Rattle.pr_function_laws.specs.ListedEvents.{events_to_show, to_show_in}
 use Rattle.pr_function_laws.specs.OneEvent.{HasMetNothing}
-use Rattle.pr_function_laws.specs.Opened.{IsFunctionRun, functions_at}
+use Rattle.pr_function_laws.specs.ReachedRuns.{IsReachedFunctionRun}
+use Rattle.pr_function_laws.specs.Opened.{functions_at}
 use Rattle.pr_function_laws.specs.Ordinary.{awaits, ordinary}
 use Rattle.pr_function_laws.specs.OrdinaryRuns.{ShowsInEntry, nothing_new, one_more}
 use Rattle.pr_function_laws.specs.Runs.{functions_on}
@@ -70,8 +70,8 @@ use Rattle.pr_function_laws.proofs.Listing.AwaitedLooks.{AwaitsLook, StillOld}
 -- A call of a truss that leaves its processes: whether it is its last look at the lwps of a process, and what it leaves
 -- of the process where it is not.
 
-module _ (n k : ℕ) (o : Options) (s : TracedState) (h : List Entry) (run : IsFunctionRun n k o s h)
-    (reached : IsReached s) (bytes : HasBytes h) (pid : ℕ) where
+module _ (n k : ℕ) (o : Options) (s : TracedState) (h : List Entry) (run : IsReachedFunctionRun n k o s h)
+    (pid : ℕ) where
   abbrev T : List Entry → TrussState
   T front = functions_at k o front
 
@@ -110,19 +110,19 @@ module _ (n k : ℕ) (o : Options) (s : TracedState) (h : List Entry) (run : IsF
     now = S f
 
     abbrev legal : IsLegalEntry n now e
-    legal = awaited.legal n k o s h run reached bytes pid f e later is g
+    legal = awaited.legal n k o s h run pid f e later is g
 
     abbrev lawful : IsLawful now
-    lawful = awaited.lawful n k o s h run reached bytes pid f e later is g
+    lawful = awaited.lawful n k o s h run pid f e later is g
 
     abbrev files : HasFiles k (ordinary t) now
-    files = awaited.files n k o s h run reached bytes pid f e later is g
+    files = awaited.files n k o s h run pid f e later is g
 
     abbrev state-is : S next ≡ after now e
-    state-is = awaited.state-is n k o s h run reached bytes pid f e later is g
+    state-is = awaited.state-is n k o s h run pid f e later is g
 
     abbrev truss-is : T next ≡ functions_on t (exchange_of k e)
-    truss-is = awaited.truss-is n k o s h run reached bytes pid f e later is g
+    truss-is = awaited.truss-is n k o s h run pid f e later is g
 
     abbrev its_events : List LwpEvent
     its_events = to_show_in t now pid e
@@ -132,33 +132,33 @@ module _ (n k : ℕ) (o : Options) (s : TracedState) (h : List Entry) (run : IsF
 
     same-listed : (missing : List LwpEvent) → Before missing → its_events ≡ [] → shown pid (T next) ≡ shown pid t
         → Stands next missing → Listed next
-    same-listed = states.same-listed k o s pid n h run f e later is lawful legal AwaitsAt
+    same-listed = states.same-listed k o s pid n h run.of f e later is lawful legal AwaitsAt
 
     elsewhere-empty : ((own : ℕ) → e.actor ≢ Lwp pid own) → its_events ≡ []
-    elsewhere-empty = states.elsewhere-empty k o s pid n h run f e later is lawful legal
+    elsewhere-empty = states.elsewhere-empty k o s pid n h run.of f e later is lawful legal
 
     lost-next : (event : LwpEvent) (w : Since f event) → pid < now.system.made → live_process now.system pid ≡ None
         → WasKilled pid (S (w.front ++ w.entry ∷ [])) w.mid → Stands next (event ∷ [])
-    lost-next = states.lost-next k o s pid n h run f e later is lawful legal AwaitsAt
+    lost-next = states.lost-next k o s pid n h run.of f e later is lawful legal AwaitsAt
 
     abbrev control : (place : ℕ) → AwaitsLook t pid place → HasControl k pid (traced_at t place).control now
-    control = awaited.control n k o s h run reached bytes pid f e later is g
+    control = awaited.control n k o s h run pid f e later is g
 
     abbrev live-at : (place : ℕ) → AwaitsLook t pid place → (p : TracedProcess) → live_process now.system pid ≡ Some p
         → live_process now.system (traced_at t place).pid ≡ Some p
-    live-at = awaited.live-at n k o s h run reached bytes pid f e later is g
+    live-at = awaited.live-at n k o s h run pid f e later is g
 
     abbrev gone-stands : (event : LwpEvent) (missing : List LwpEvent) (place : ℕ) → AwaitsLook t pid place
         → (p : TracedProcess) → Missing f place event p missing → (ReadsIts f e → ⊥)
         → live_process now.system pid ≡ Some p
         → live_process (after now e).system pid ≡ None → (z : TracedProcess)
         → process_of (after now e).system pid ≡ Some z → z.ended ≡ Some (signal_number Kill) → Stands next missing
-    gone-stands = awaited.gone-stands n k o s h run reached bytes pid f e later is g
+    gone-stands = awaited.gone-stands n k o s h run pid f e later is g
 
     abbrev still-missing : (event : LwpEvent) (missing : List LwpEvent) (place place2 : ℕ) (p q : TracedProcess)
         → Missing f place event p missing → (ReadsIts f e → ⊥) → marks_at (T next) place2 ≡ marks_at t place
         → KeepsMemory p q → Missing next place2 event q missing
-    still-missing = awaited.still-missing n k o s h run reached bytes pid f e later is g
+    still-missing = awaited.still-missing n k o s h run pid f e later is g
 
     -- ---- an exchange of truss
 
@@ -167,16 +167,16 @@ module _ (n k : ℕ) (o : Options) (s : TracedState) (h : List Entry) (run : IsF
       it = own-entry n k now e x legal own
 
       pub sent : next_function_call_of t ≡ Some x.call
-      sent = makes-there (Unit {0}) n k o s h run (λ r. reached) (λ r. bytes) f e later is x own
+      sent = makes-there (Unit {0}) n k o s h run.of (λ r. run.reached) (λ r. run.bytes) f e later is x own
 
       pub has : has_functions t.options ≡ true
-      has = has-there (Unit {0}) n k o s h run (λ r. reached) (λ r. bytes) f e later is
+      has = has-there (Unit {0}) n k o s h run.of (λ r. run.reached) (λ r. run.bytes) f e later is
 
       pub follow : t.options.follow ≡ false
-      follow = follow-there (Unit {0}) n k o s h run (λ r. reached) (λ r. bytes) f e later is
+      follow = follow-there (Unit {0}) n k o s h run.of (λ r. run.reached) (λ r. run.bytes) f e later is
 
       pub bytes-here : Unit {0} → IsEntryOfBytes e
-      bytes-here = entry-bytes (Unit {0}) n k o s h run (λ r. reached) (λ r. bytes) f e later is
+      bytes-here = entry-bytes (Unit {0}) n k o s h run.of (λ r. run.reached) (λ r. run.bytes) f e later is
 
       abbrev v : TrussState
       v = fed_functions t x.reply
@@ -222,7 +222,7 @@ module _ (n k : ℕ) (o : Options) (s : TracedState) (h : List Entry) (run : IsF
       beside aside at = sym sent ∙ next-beside t.options has t refl ∙ ap (call_beside t t.stage) at
 
       pub fits : Fits (ordinary t).traced t.stage
-      fits = fits-at (Unit {0}) n k o s h run (λ r. reached) (λ r. bytes) f (e ∷ later) is
+      fits = fits-at (Unit {0}) n k o s h run.of (λ r. run.reached) (λ r. run.bytes) f (e ∷ later) is
 
       -- where bytes of its status or of the statuses of its lwps are read it is that look
       module _ (which : File) (r : ReadsFile k pid which now e) (other : which ≢ Mem) where
@@ -300,7 +300,7 @@ module _ (n k : ℕ) (o : Options) (s : TracedState) (h : List Entry) (run : IsF
         quiet-read (inr r) = not_it (lwps-look r)
 
         unshown : shown pid (T next) ≡ shown pid t
-        unshown = by (let w = shows-what-it-reads n k o s h run in w.each f later e pid is)
+        unshown = by (let w = shows-what-it-reads n k o s h run.of in w.each f later e pid is)
           where
             by : ShowsInEntry k o pid s f e → shown pid (T next) ≡ shown pid t
             by (nothing_new same) = same

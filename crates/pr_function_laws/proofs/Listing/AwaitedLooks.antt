@@ -8,8 +8,6 @@ use Rattle.pr_model.specs.State.{TracedProcess, TracedState, live_process, proce
 use Rattle.pr_model.specs.declared.events.Entry.{Entry}
 use Rattle.pr_num.specs.Signals.{signal_number}
 use Rattle.pr_num.specs.declared.signals.Sig.TheVariants.{Kill}
-use Rattle.pr_reached.specs.ByteHistories.{HasBytes}
-use Rattle.pr_reached.specs.Reached.{IsReached}
 use Rattle.pr_report_laws.proofs.Files.FileLaws.{HasFiles}
 use Rattle.pr_report_laws.specs.Shown.{LwpEvent}
 use Rattle.pr_truss.specs.Asides.{marks_at}
@@ -27,6 +25,7 @@ use Rattle.pr_function_laws.proofs.Listing.ListedStates.{clear, due, hidden, kil
 use Rattle.pr_function_laws.proofs.OpenedProcesses.OpenedLemmas.{control-made, control-sole}
 use Rattle.pr_function_laws.specs.Lifted.{HasControl}
 use Rattle.pr_function_laws.specs.ListedEvents.{is_to_show}
+use Rattle.pr_function_laws.specs.ReachedRuns.{IsReachedFunctionRun}
 use Rattle.pr_function_laws.specs.Opened.{IsFunctionRun, functions_at}
 use Rattle.pr_function_laws.specs.Ordinary.{ordinary}
 use Rattle.pr_function_laws.specs.Runs.{functions_on}
@@ -52,8 +51,8 @@ StillOld pid t s =
     → IsUnlooked t.stage place → (traced_at t place).old ≢ 0 → (p : TracedProcess) → live_process s.system pid ≡ Some p
     → IsFrozen p
 
-module _ (n k : ℕ) (o : Options) (s : TracedState) (h : List Entry) (run : IsFunctionRun n k o s h)
-    (reached : IsReached s) (bytes : HasBytes h) (pid : ℕ) where
+module _ (n k : ℕ) (o : Options) (s : TracedState) (h : List Entry) (run : IsReachedFunctionRun n k o s h)
+    (pid : ℕ) where
   abbrev T : List Entry → TrussState
   T front = functions_at k o front
 
@@ -88,22 +87,22 @@ module _ (n k : ℕ) (o : Options) (s : TracedState) (h : List Entry) (run : IsF
     now = S f
 
     pub legal : IsLegalEntry n now e
-    legal = entry-legal (Unit {0}) n k o s h run (λ r. reached) (λ r. bytes) f e later is
+    legal = entry-legal (Unit {0}) n k o s h run.of (λ r. run.reached) (λ r. run.bytes) f e later is
 
     pub lawful : IsLawful now
     lawful = g.lawful
 
     pub files : HasFiles k (ordinary t) now
-    files = files-at (Unit {0}) n k o s h run (λ r. reached) (λ r. bytes) f (e ∷ later) is
+    files = files-at (Unit {0}) n k o s h run.of (λ r. run.reached) (λ r. run.bytes) f (e ∷ later) is
 
     pub state-is : S next ≡ after now e
-    state-is = state-next (Unit {0}) n k o s h run (λ r. reached) (λ r. bytes) f e later is
+    state-is = state-next (Unit {0}) n k o s h run.of (λ r. run.reached) (λ r. run.bytes) f e later is
 
     pub truss-is : T next ≡ functions_on t (exchange_of k e)
-    truss-is = truss-next (Unit {0}) n k o s h run (λ r. reached) (λ r. bytes) f e later is
+    truss-is = truss-next (Unit {0}) n k o s h run.of (λ r. run.reached) (λ r. run.bytes) f e later is
 
     pub run-here : IsFunctionRun n k o s (f ++ e ∷ later)
-    run-here = subst (λ (es : List Entry). IsFunctionRun n k o s es) is run
+    run-here = subst (λ (es : List Entry). IsFunctionRun n k o s es) is run.of
 
     pub live-next : (q : TracedProcess) → live_process (S next).system pid ≡ Some q
         → live_process (after now e).system pid ≡ Some q
@@ -139,7 +138,7 @@ module _ (n k : ℕ) (o : Options) (s : TracedState) (h : List Entry) (run : IsF
         (sym (ap (λ (u : TracedState). live_process u.system pid) state-is ∙ gone) ∙ live_q)))
     gone-stands event missing place w p (due chosen since kept_so) quiet live gone z left status =
         lost event (since-on k o s pid f e event since quiet)
-        (states.made-next k o s pid n h run f e later is lawful legal (made place w))
+        (states.made-next k o s pid n h run.of f e later is lawful legal (made place w))
         (ap (λ (u : TracedState). live_process u.system pid) state-is ∙ gone)
         (killed-now k o s pid f e since.front since.entry since.mid since.is p live gone z left status)
 

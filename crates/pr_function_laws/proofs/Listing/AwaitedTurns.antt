@@ -18,8 +18,6 @@ use Rattle.pr_model.specs.declared.events.Actor.TheVariants.{Controller, Lwp, Cl
 use Rattle.pr_model.specs.declared.events.Entry.{Entry}
 use Rattle.pr_num.specs.Signals.{signal_number}
 use Rattle.pr_num.specs.declared.signals.Sig.TheVariants.{Kill}
-use Rattle.pr_reached.specs.ByteHistories.{HasBytes}
-use Rattle.pr_reached.specs.Reached.{IsReached}
 use Rattle.pr_report_laws.proofs.Files.FileLaws.{HasFiles, only-position}
 use Rattle.pr_report_laws.proofs.Files.FileUses.{place-is}
 use Rattle.pr_report_laws.proofs.Machine.OwnTurnLaws.{event-halts, halting-picks}
@@ -48,7 +46,8 @@ use Rattle.pr_function_laws.proofs.OpenedProcesses.TracedSets.{IsSetBy}
 use Rattle.pr_function_laws.specs.Lifted.{HasControl}
 use Rattle.pr_function_laws.specs.ListedEvents.{events_to_show, is_own_fault, is_to_show, is_to_show_in, to_show_in}
 use Rattle.pr_function_laws.specs.OneEvent.{HasMetNothing}
-use Rattle.pr_function_laws.specs.Opened.{IsFunctionRun, TracesAll, functions_at}
+use Rattle.pr_function_laws.specs.ReachedRuns.{IsReachedFunctionRun}
+use Rattle.pr_function_laws.specs.Opened.{TracesAll, functions_at}
 use Rattle.pr_function_laws.specs.Ordinary.{ordinary}
 use Rattle.pr_function_laws.specs.Runs.{functions_on}
 use Rattle.pr_function_laws.proofs.Listing.AwaitedLooks as awaited
@@ -57,8 +56,8 @@ use Rattle.pr_function_laws.proofs.Listing.AwaitedLooks.{AwaitsLook, StillOld}
 -- The events of a process that truss leaves are shown but for the last one, also behind an entry that is no call of
 -- truss: a turn of the process, or what others do.
 
-module _ (n k : ℕ) (o : Options) (s : TracedState) (h : List Entry) (run : IsFunctionRun n k o s h)
-    (reached : IsReached s) (bytes : HasBytes h) (pid : ℕ) where
+module _ (n k : ℕ) (o : Options) (s : TracedState) (h : List Entry) (run : IsReachedFunctionRun n k o s h)
+    (pid : ℕ) where
   abbrev T : List Entry → TrussState
   T front = functions_at k o front
 
@@ -97,27 +96,27 @@ module _ (n k : ℕ) (o : Options) (s : TracedState) (h : List Entry) (run : IsF
     now = S f
 
     abbrev legal : IsLegalEntry n now e
-    legal = awaited.legal n k o s h run reached bytes pid f e later is g
+    legal = awaited.legal n k o s h run pid f e later is g
 
     abbrev lawful : IsLawful now
-    lawful = awaited.lawful n k o s h run reached bytes pid f e later is g
+    lawful = awaited.lawful n k o s h run pid f e later is g
 
     abbrev files : HasFiles k (ordinary t) now
-    files = awaited.files n k o s h run reached bytes pid f e later is g
+    files = awaited.files n k o s h run pid f e later is g
 
     abbrev state-is : S next ≡ after now e
-    state-is = awaited.state-is n k o s h run reached bytes pid f e later is g
+    state-is = awaited.state-is n k o s h run pid f e later is g
 
     abbrev truss-is : T next ≡ functions_on t (exchange_of k e)
-    truss-is = awaited.truss-is n k o s h run reached bytes pid f e later is g
+    truss-is = awaited.truss-is n k o s h run pid f e later is g
 
     abbrev live-next : (q : TracedProcess) → live_process (S next).system pid ≡ Some q
         → live_process (after now e).system pid ≡ Some q
-    live-next = awaited.live-next n k o s h run reached bytes pid f e later is g
+    live-next = awaited.live-next n k o s h run pid f e later is g
 
     abbrev next-live : (q : TracedProcess) → live_process (after now e).system pid ≡ Some q
         → live_process (S next).system pid ≡ Some q
-    next-live = awaited.next-live n k o s h run reached bytes pid f e later is g
+    next-live = awaited.next-live n k o s h run pid f e later is g
 
     abbrev its_events : List LwpEvent
     its_events = to_show_in t now pid e
@@ -127,36 +126,36 @@ module _ (n k : ℕ) (o : Options) (s : TracedState) (h : List Entry) (run : IsF
 
     same-listed : (missing : List LwpEvent) → Before missing → its_events ≡ [] → shown pid (T next) ≡ shown pid t
         → Stands next missing → Listed next
-    same-listed = states.same-listed k o s pid n h run f e later is lawful legal AwaitsAt
+    same-listed = states.same-listed k o s pid n h run.of f e later is lawful legal AwaitsAt
 
     elsewhere-empty : ((own : ℕ) → e.actor ≢ Lwp pid own) → its_events ≡ []
-    elsewhere-empty = states.elsewhere-empty k o s pid n h run f e later is lawful legal
+    elsewhere-empty = states.elsewhere-empty k o s pid n h run.of f e later is lawful legal
 
     lost-next : (event : LwpEvent) (w : Since f event) → pid < now.system.made → live_process now.system pid ≡ None
         → WasKilled pid (S (w.front ++ w.entry ∷ [])) w.mid → Stands next (event ∷ [])
-    lost-next = states.lost-next k o s pid n h run f e later is lawful legal AwaitsAt
+    lost-next = states.lost-next k o s pid n h run.of f e later is lawful legal AwaitsAt
 
     abbrev control : (place : ℕ) → AwaitsLook t pid place → HasControl k pid (traced_at t place).control now
-    control = awaited.control n k o s h run reached bytes pid f e later is g
+    control = awaited.control n k o s h run pid f e later is g
 
     abbrev sole : (place : ℕ) → AwaitsLook t pid place → HasNoOtherWriter k pid now.opens
-    sole = awaited.sole n k o s h run reached bytes pid f e later is g
+    sole = awaited.sole n k o s h run pid f e later is g
 
     abbrev live-at : (place : ℕ) → AwaitsLook t pid place → (p : TracedProcess) → live_process now.system pid ≡ Some p
         → live_process now.system (traced_at t place).pid ≡ Some p
-    live-at = awaited.live-at n k o s h run reached bytes pid f e later is g
+    live-at = awaited.live-at n k o s h run pid f e later is g
 
     abbrev gone-stands : (event : LwpEvent) (missing : List LwpEvent) (place : ℕ) → AwaitsLook t pid place
         → (p : TracedProcess) → Missing f place event p missing → (ReadsIts f e → ⊥)
         → live_process now.system pid ≡ Some p
         → live_process (after now e).system pid ≡ None → (z : TracedProcess)
         → process_of (after now e).system pid ≡ Some z → z.ended ≡ Some (signal_number Kill) → Stands next missing
-    gone-stands = awaited.gone-stands n k o s h run reached bytes pid f e later is g
+    gone-stands = awaited.gone-stands n k o s h run pid f e later is g
 
     abbrev still-missing : (event : LwpEvent) (missing : List LwpEvent) (place place2 : ℕ) (p q : TracedProcess)
         → Missing f place event p missing → (ReadsIts f e → ⊥) → marks_at (T next) place2 ≡ marks_at t place
         → KeepsMemory p q → Missing next place2 event q missing
-    still-missing = awaited.still-missing n k o s h run reached bytes pid f e later is g
+    still-missing = awaited.still-missing n k o s h run pid f e later is g
 
     -- ---- an entry of others, or a turn
 
@@ -171,7 +170,7 @@ module _ (n k : ℕ) (o : Options) (s : TracedState) (h : List Entry) (run : IsF
       shown-same = ap (shown pid) same-truss
 
       quiet : ReadsIts f e → ⊥
-      quiet = states.others-quiet k o s pid n h run f e later is lawful legal foreign
+      quiet = states.others-quiet k o s pid n h run.of f e later is lawful legal foreign
 
       before-rest : (place : ℕ) → AwaitsLook (T next) pid place → AwaitsLook t pid place
       before-rest place rest = subst (λ (u : TrussState). AwaitsLook u pid place) same-truss rest
@@ -337,7 +336,7 @@ module _ (n k : ℕ) (o : Options) (s : TracedState) (h : List Entry) (run : IsF
                 → Missing next place event m.process missing → Listed next
             listed-with missing came m_is = record {
               missing = missing;
-              are = states.came-next k o s pid n h run f e later is lawful legal
+              are = states.came-next k o s pid n h run.of f e later is lawful legal
                   ∙ ap (λ xs. events_to_show k pid (first_truss o) s f ++ xs) came
                   ∙ ap (λ xs. xs ++ missing) (are ∙ append-nil (shown pid t) ∙ sym shown-same);
               stands = standing place (after-rest place w) m.process q-live event m.has missing m_is;

@@ -5,17 +5,14 @@ use Rattle.std.proofs.lemmas.List.Elements.{All-nil}
 use Rattle.std.proofs.lemmas.Option.{none-some, same_Some}
 use Rattle.std.specs.List.{All}
 use Rattle.pr_line.specs.declared.options.Options.{Options}
-use Rattle.pr_model.specs.Legal.{IsLegal, IsLegalEntry, after, state_after}
+use Rattle.pr_model.specs.Legal.{IsLegalEntry, after, state_after}
 use Rattle.pr_model.specs.State.{TracedProcess, TracedState, TracedSystem, live_process}
 use Rattle.pr_model.specs.declared.calls.Reply.TheVariants as reply
 use Rattle.pr_model.specs.declared.events.Entry.{Entry}
 use Rattle.pr_num.specs.declared.errnos.Errno.TheVariants.{Intr}
-use Rattle.pr_reached.specs.ByteHistories.{HasBytes}
-use Rattle.pr_reached.specs.Reached.{IsReached}
 use Rattle.pr_report_laws.proofs.Files.FileLaws.{HasFiles, only-position}
-use Rattle.pr_report_laws.proofs.Files.WatchHistories.{exchanges-both, no-exchanges}
+use Rattle.pr_report_laws.proofs.Files.WatchHistories.{no-exchanges}
 use Rattle.pr_report_laws.proofs.Invariant.StandLemmas.{IsAttached}
-use Rattle.pr_report_laws.proofs.Watching.HistoryParts.{legal-front}
 use Rattle.pr_report_laws.specs.Reads.{by_lwps, by_status}
 use Rattle.pr_report_laws.specs.Shown.{LwpEvent, shown}
 use Rattle.pr_report_laws.specs.Watching.{is_away, is_of, place_of, watches, watches_at}
@@ -23,7 +20,7 @@ use Rattle.pr_truss.specs.Asides.{marks_at}
 use Rattle.pr_truss.specs.FunctionCalls.{next_function_call_of}
 use Rattle.pr_truss.specs.FunctionFeeding.{fed_functions}
 use Rattle.pr_truss.specs.Marks.{has_functions}
-use Rattle.pr_truss.specs.Trusses.{TrussState, first_truss, nobody, traced_at}
+use Rattle.pr_truss.specs.Trusses.{TrussState, nobody, traced_at}
 use Rattle.pr_truss.specs.declared.processes.Traced.{Traced}
 use Rattle.pr_truss_laws.specs.Exchanges.{Exchange, exchange_of, exchanges}
 use Rattle.pr_function_laws.proofs.Stepping.BreakpointLemmas.{IsOwnEntry, own-entry}
@@ -43,8 +40,8 @@ use Rattle.pr_function_laws.proofs.Listing.ListedSteps as steps
 use Rattle.pr_function_laws.proofs.Listing.ListedWalk.{listed, shows-its-events}
 use Rattle.pr_function_laws.proofs.Listing.OldStops.{still-while-old}
 use Rattle.pr_function_laws.proofs.OpenedProcesses.OpenedCalls.{IsSo}
-use Rattle.pr_function_laws.proofs.OpenedProcesses.OpenedLaws.{Goes, bytes-front, calls-front}
-use Rattle.pr_function_laws.proofs.OrdinaryTruss.OrdinaryEntries.{front-run}
+use Rattle.pr_function_laws.proofs.OpenedProcesses.OpenedLaws.{Goes}
+use Rattle.pr_function_laws.proofs.OrdinaryTruss.OrdinaryEntries.{front-reached}
 use Rattle.pr_function_laws.proofs.OrdinaryTruss.OrdinaryFiles.{entry-calm}
 use Rattle.pr_function_laws.proofs.OrdinaryTruss.OrdinaryReplies.{at-ordinary}
 use Rattle.pr_function_laws.proofs.OrdinaryTruss.OrdinaryShown.{shows-what-it-reads}
@@ -52,10 +49,11 @@ use Rattle.pr_function_laws.proofs.Pending.PendingWalk.{is_to_run}
 use Rattle.pr_function_laws.proofs.Listing.RestPlaces.{RestsAt}
 use Rattle.pr_function_laws.proofs.CallTurns.TurnWalks.{own-in}
 use Rattle.pr_function_laws.specs.ListedEvents.{ListsItsEvents, MayMiss, ended, is_to_show, none, unread}
+use Rattle.pr_function_laws.specs.ReachedRuns.{IsReachedFunctionRun}
 use Rattle.pr_function_laws.specs.Opened.{IsFunctionRun, WasNotInterrupted, functions_at, is_opened}
 use Rattle.pr_function_laws.specs.Ordinary.{ordinary}
 use Rattle.pr_function_laws.specs.OrdinaryRuns.{ShowsInEntry, nothing_new, one_more}
-use Rattle.pr_function_laws.specs.Runs.{MakesFunctionCalls, functions_on}
+use Rattle.pr_function_laws.specs.Runs.{functions_on}
 use Rattle.pr_function_laws.specs.Soon.{may_wait}
 
 -- The events of a process that truss has shown are those that it is to show, in each history, also where it is
@@ -85,8 +83,8 @@ awaits-watched k t s files at on pid place w =
     here false is = is
     here true is = let both = away-looked t place at is in absurd (w.unlooked both.1 both.0)
 
-module _ (n k : ℕ) (o : Options) (s : TracedState) (h : List Entry) (run : IsFunctionRun n k o s h)
-    (reached : IsReached s) (bytes : HasBytes h) (pid : ℕ) where
+module _ (n k : ℕ) (o : Options) (s : TracedState) (h : List Entry) (run : IsReachedFunctionRun n k o s h)
+    (pid : ℕ) where
   abbrev T : List Entry → TrussState
   T front = functions_at k o front
 
@@ -119,45 +117,35 @@ module _ (n k : ℕ) (o : Options) (s : TracedState) (h : List Entry) (run : IsF
     v = fed_functions t x.reply
 
     pub run-here : IsFunctionRun n k o s (f ++ e ∷ later)
-    run-here = subst (λ (es : List Entry). IsFunctionRun n k o s es) is run
+    run-here = subst (λ (es : List Entry). IsFunctionRun n k o s es) is run.of
 
-    pub run-front : IsFunctionRun n k o s f
-    run-front = record {
-      has = run.has;
-      follows_none = run.follows_none;
-      lawful = run.lawful;
-      nothing_open = run.nothing_open;
-      legal = legal-front n s f (e ∷ later) (subst (IsLegal n s) is run.legal);
-      makes =
-          calls-front (first_truss o) (exchanges k f) (exchanges k (e ∷ later))
-          (subst (MakesFunctionCalls (first_truss o)) (ap (exchanges k) is ∙ exchanges-both k f (e ∷ later)) run.makes);
-    }
+    pub run-front : IsReachedFunctionRun n k o s f
+    run-front = front-reached n k o s f (e ∷ later) (subst (IsReachedFunctionRun n k o s) is run)
 
     -- what was so up to it
     abbrev RestsSo : List Entry → ℕ → Type 0
     RestsSo g place = RestsAt (functions_at k o g) pid place
 
     so-far : states.Listed k o s pid RestsSo f
-    so-far =
-        listed n k o s f run-front reached (bytes-front f (e ∷ later) (subst HasBytes is bytes)) calm pid
+    so-far = listed n k o s f run-front calm pid
 
     pub goes : Goes (Unit {0}) k o t now
-    goes = goes-there (Unit {0}) n k o s h run (λ r. reached) (λ r. bytes) f e later is calm
+    goes = goes-there (Unit {0}) n k o s h run.of (λ r. run.reached) (λ r. run.bytes) f e later is calm
 
     pub files : HasFiles k (ordinary t) now
-    files = files-at (Unit {0}) n k o s h run (λ r. reached) (λ r. bytes) f (e ∷ later) is
+    files = files-at (Unit {0}) n k o s h run.of (λ r. run.reached) (λ r. run.bytes) f (e ∷ later) is
 
     pub legal : IsLegalEntry n now e
-    legal = entry-legal (Unit {0}) n k o s h run (λ r. reached) (λ r. bytes) f e later is
+    legal = entry-legal (Unit {0}) n k o s h run.of (λ r. run.reached) (λ r. run.bytes) f e later is
 
     it : IsOwnEntry k now e x
     it = own-entry n k now e x legal own
 
     pub sent : next_function_call_of t ≡ Some x.call
-    sent = makes-there (Unit {0}) n k o s h run (λ r. reached) (λ r. bytes) f e later is x own
+    sent = makes-there (Unit {0}) n k o s h run.of (λ r. run.reached) (λ r. run.bytes) f e later is x own
 
     pub has : has_functions t.options ≡ true
-    has = has-there (Unit {0}) n k o s h run (λ r. reached) (λ r. bytes) f e later is
+    has = has-there (Unit {0}) n k o s h run.of (λ r. run.reached) (λ r. run.bytes) f e later is
 
     may : may_wait x.call ≡ true
     may = let calm_x = entry-calm n k now e x legal own in calm_x.waits broken
@@ -171,17 +159,19 @@ module _ (n k : ℕ) (o : Options) (s : TracedState) (h : List Entry) (run : IsF
 
     pub v-is : T next ≡ v
     v-is =
-        truss-next (Unit {0}) n k o s h run (λ r. reached) (λ r. bytes) f e later is ∙ ap (functions_on t) own
+        truss-next (Unit {0}) n k o s h run.of (λ r. run.reached) (λ r. run.bytes) f e later is
+        ∙ ap (functions_on t) own
 
     pub state-is : S next ≡ after now e
-    state-is = state-next (Unit {0}) n k o s h run (λ r. reached) (λ r. bytes) f e later is
+    state-is = state-next (Unit {0}) n k o s h run.of (λ r. run.reached) (λ r. run.bytes) f e later is
 
     -- the wait changes nothing of the machine
     pub system-is : (S next).system ≡ now.system
     system-is =
         ap (λ (u : TracedState). u.system) (state-is ∙ sym it.later)
         ∙ same-system (Unit {0}) n k o t now goes files e legal
-        (λ r. entry-bytes (Unit {0}) n k o s h run (λ r. reached) (λ r. bytes) f e later is tt) x it sent has broken may
+        (λ r. entry-bytes (Unit {0}) n k o s h run.of (λ r. run.reached) (λ r. run.bytes) f e later is tt) x it sent has
+        broken may
 
     pub was-live : (q : TracedProcess) → live_process (S next).system pid ≡ Some q
         → live_process now.system pid ≡ Some q
@@ -197,7 +187,7 @@ module _ (n k : ℕ) (o : Options) (s : TracedState) (h : List Entry) (run : IsF
     quiet (inr r) = false≢true (ap (λ (y : Exchange). may_wait y.call) (same_Some _ x (sym r.is ∙ own)) ∙ may)
 
     unshown : shown pid (T next) ≡ shown pid t
-    unshown = by (let w = shows-what-it-reads n k o s h run in w.each f later e pid is)
+    unshown = by (let w = shows-what-it-reads n k o s h run.of in w.each f later e pid is)
       where
         by : ShowsInEntry k o pid s f e → shown pid (T next) ≡ shown pid t
         by (nothing_new same) = same
@@ -241,7 +231,7 @@ module _ (n k : ℕ) (o : Options) (s : TracedState) (h : List Entry) (run : IsF
         let begun = b in
         let shares = begun.shares in
         let there = open-there begun.waits place (sym (shares.attached place) ∙ attached) in
-        let still = still-while-old n k o s h run reached bytes pid in
+        let still = still-while-old n k o s h run pid in
         still.each f (e ∷ later) place q is calm (subst (λ m. place < m) shares.many within)
         (sym (shares.pids place) ∙ its) there.0 (λ none. old (old-same place ∙ none)) (was-live q live))
 
@@ -295,14 +285,14 @@ module _ (n k : ℕ) (o : Options) (s : TracedState) (h : List Entry) (run : IsF
             due (ap (λ m. is_to_show o m event.event) (ap (λ (u : TrussState). marks_at u place) v-is
             ∙ marks-same place) ∙ chosen) (since-on k o s pid f e event since quiet) kept_so
     stands-begun (lost event w made gone was_killed) =
-        states.lost-next k o s pid n h run f e later is (let g = goes in g.lawful) legal AwaitsAt event w made gone
+        states.lost-next k o s pid n h run.of f e later is (let g = goes in g.lawful) legal AwaitsAt event w made gone
         was_killed
 
     listed-begun : states.Listed k o s pid AwaitsAt next
     listed-begun =
         let so = so-far in
-        states.same-listed k o s pid n h run f e later is (let g = goes in g.lawful) legal AwaitsAt so.missing so.are
-        (states.elsewhere-empty k o s pid n h run f e later is (let g = goes in g.lawful) legal
+        states.same-listed k o s pid n h run.of f e later is (let g = goes in g.lawful) legal AwaitsAt so.missing so.are
+        (states.elsewhere-empty k o s pid n h run.of f e later is (let g = goes in g.lawful) legal
         (λ i. own-in k pid i e.actor e.act x own)) unshown (stands-begun so.stands)
 
   -- ---- all entries
@@ -318,25 +308,25 @@ module _ (n k : ℕ) (o : Options) (s : TracedState) (h : List Entry) (run : IsF
       by-broken : (x : Exchange) → exchange_of k e ≡ Some x → (x.reply ≡ reply.Fail Intr) ⊎ WasNotInterrupted x
           → Along (f ++ e ∷ [])
       by-broken x own (inr quiet_x) =
-          calm_yet (calm-next (Unit {0}) n k o s h run (λ r. reached) (λ r. bytes) f e later is calm
+          calm_yet (calm-next (Unit {0}) n k o s h run.of (λ r. run.reached) (λ r. run.bytes) f e later is calm
           (λ y same. subst WasNotInterrupted (same_Some x y (sym own ∙ same)) quiet_x))
       by-broken x own (inl broken) =
           left_now (
-            begins-next (Unit {0}) n k o s h run (λ r. reached) (λ r. bytes) f e later is calm x own broken,
+            begins-next (Unit {0}) n k o s h run.of (λ r. run.reached) (λ r. run.bytes) f e later is calm x own broken,
             (listed-begun f e later is calm x own broken, still-begun f e later is calm x own broken),
           )
 
       by : (x : Option Exchange) → exchange_of k e ≡ x → Along (f ++ e ∷ [])
       by None none_own =
-          calm_yet (calm-next (Unit {0}) n k o s h run (λ r. reached) (λ r. bytes) f e later is calm
+          calm_yet (calm-next (Unit {0}) n k o s h run.of (λ r. run.reached) (λ r. run.bytes) f e later is calm
           (λ y same. absurd (none-some y (sym none_own ∙ same))))
       by (Some x) own = by-broken x own (is-broken x)
   entry-along f e later is (left_now w) =
       left_now (
-        leaving-next (Unit {0}) n k o s h run (λ r. reached) (λ r. bytes) f e later is w.0,
+        leaving-next (Unit {0}) n k o s h run.of (λ r. run.reached) (λ r. run.bytes) f e later is w.0,
         (
-          entry-listed n k o s h run reached bytes pid f e later is w.0 w.1.1 w.1.0,
-          still-next n k o s h run reached bytes pid f e later is w.0 w.1.1,
+          entry-listed n k o s h run pid f e later is w.0 w.1.1 w.1.0,
+          still-next n k o s h run pid f e later is w.0 w.1.1,
         ),
       )
 
@@ -361,8 +351,7 @@ module _ (n k : ℕ) (o : Options) (s : TracedState) (h : List Entry) (run : IsF
       by : Along f → states.ListedSo k o s pid f
       by (calm_yet calm) =
           states.listed-so k o s pid (λ g place. RestsAt (functions_at k o g) pid place) f
-          (listed n k o s f (front-run n k o s f later (subst (λ (es : List Entry). IsFunctionRun n k o s es) is run))
-          reached (bytes-front f later (subst HasBytes is bytes)) calm pid)
+          (listed n k o s f (front-reached n k o s f later (subst (IsReachedFunctionRun n k o s) is run)) calm pid)
       by (left_now w) = states.listed-so k o s pid AwaitsAt f w.1.0
 
   pub lists-its-events : ListsItsEvents k o s h pid
@@ -370,7 +359,7 @@ module _ (n k : ℕ) (o : Options) (s : TracedState) (h : List Entry) (run : IsF
   lists-its-events = by (along-at h [] whole)
     where
       files-end : HasFiles k (ordinary (T h)) (S h)
-      files-end = files-at (Unit {0}) n k o s h run (λ r. reached) (λ r. bytes) h [] whole
+      files-end = files-at (Unit {0}) n k o s h run.of (λ r. run.reached) (λ r. run.bytes) h [] whole
 
       by-missing : IsLeaving (Unit {0}) k o (T h) (S h) → (place : ℕ) (w : AwaitsLook (T h) pid place)
           (p : TracedProcess) → live_process (S h).system pid ≡ Some p
@@ -389,7 +378,7 @@ module _ (n k : ℕ) (o : Options) (s : TracedState) (h : List Entry) (run : IsF
           ended event (comes-unread k o s pid h event w) gone was_killed
 
       by : Along h → ListsItsEvents k o s h pid
-      by (calm_yet calm) = shows-its-events n k o s h run reached bytes calm pid
+      by (calm_yet calm) = shows-its-events n k o s h run calm pid
       by (left_now w) =
           let so = w.1.0 in
           let few : MayMiss k o s h pid so.missing = by-stands w.0 so.stands in
@@ -397,5 +386,5 @@ module _ (n k : ℕ) (o : Options) (s : TracedState) (h : List Entry) (run : IsF
             missing = so.missing;
             are = so.are;
             few = few;
-            at_last = λ finished some. missing-at-last n k o s h run finished pid few some;
+            at_last = λ finished some. missing-at-last n k o s h run.of finished pid few some;
           }

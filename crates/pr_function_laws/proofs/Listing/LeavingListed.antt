@@ -23,8 +23,7 @@ use Rattle.pr_model.specs.declared.calls.Reply.{Reply}
 use Rattle.pr_model.specs.declared.events.Entry.{Entry}
 use Rattle.pr_num.specs.ById.{IsRising}
 use Rattle.pr_reached.proofs.RecordsInRange.EntryRanges.{records-range}
-use Rattle.pr_reached.specs.ByteHistories.{HasBytes, IsEntryOfBytes}
-use Rattle.pr_reached.specs.Reached.{IsReached}
+use Rattle.pr_reached.specs.ByteHistories.{IsEntryOfBytes}
 use Rattle.pr_rec.specs.declared.lwps.LwpStatus.{LwpStatus}
 use Rattle.pr_report_laws.proofs.Files.FileLaws.{HasFiles}
 use Rattle.pr_report_laws.proofs.Files.FileUses.{standing as standing-at}
@@ -67,6 +66,7 @@ use Rattle.pr_function_laws.proofs.Pending.PendingWalk.{On}
 use Rattle.pr_function_laws.specs.Leaving.{AsksAgain, Directs, Waits, WaitsAgain}
 use Rattle.pr_function_laws.specs.ListedEvents.{events_to_show, is_to_show, to_show_in}
 use Rattle.pr_function_laws.specs.OneEvent.{HasMetNothing}
+use Rattle.pr_function_laws.specs.ReachedRuns.{IsReachedFunctionRun}
 use Rattle.pr_function_laws.specs.Opened.{IsFunctionRun, functions_at}
 use Rattle.pr_function_laws.specs.Ordinary.{AwaitsStop, OwnFaultRead, SeesTo, asks_again, awaits, awaits_again, ordinary}
 use Rattle.pr_function_laws.specs.Ordinary.{unmarked}
@@ -101,8 +101,8 @@ awaits-sends awaits = refl
 awaits-sends asks_again = refl
 awaits-sends awaits_again = refl
 
-module _ (n k : ℕ) (o : Options) (s : TracedState) (h : List Entry) (run : IsFunctionRun n k o s h)
-    (reached : IsReached s) (bytes : HasBytes h) (pid : ℕ) where
+module _ (n k : ℕ) (o : Options) (s : TracedState) (h : List Entry) (run : IsReachedFunctionRun n k o s h)
+    (pid : ℕ) where
   abbrev T : List Entry → TrussState
   T front = functions_at k o front
 
@@ -138,16 +138,16 @@ module _ (n k : ℕ) (o : Options) (s : TracedState) (h : List Entry) (run : IsF
     now = S f
 
     abbrev legal : IsLegalEntry n now e
-    legal = awaited.legal n k o s h run reached bytes pid f e later is g
+    legal = awaited.legal n k o s h run pid f e later is g
 
     abbrev lawful : IsLawful now
-    lawful = awaited.lawful n k o s h run reached bytes pid f e later is g
+    lawful = awaited.lawful n k o s h run pid f e later is g
 
     abbrev files : HasFiles k (ordinary t) now
-    files = awaited.files n k o s h run reached bytes pid f e later is g
+    files = awaited.files n k o s h run pid f e later is g
 
     abbrev run-here : IsFunctionRun n k o s (f ++ e ∷ later)
-    run-here = awaited.run-here n k o s h run reached bytes pid f e later is g
+    run-here = awaited.run-here n k o s h run pid f e later is g
 
     abbrev its_events : List LwpEvent
     its_events = to_show_in t now pid e
@@ -157,49 +157,49 @@ module _ (n k : ℕ) (o : Options) (s : TracedState) (h : List Entry) (run : IsF
 
     same-listed : (missing : List LwpEvent) → Before missing → its_events ≡ [] → shown pid (T next) ≡ shown pid t
         → Stands next missing → Listed next
-    same-listed = states.same-listed k o s pid n h run f e later is lawful legal AwaitsAt
+    same-listed = states.same-listed k o s pid n h run.of f e later is lawful legal AwaitsAt
 
     lost-next : (event : LwpEvent) (w : Since f event) → pid < now.system.made → live_process now.system pid ≡ None
         → WasKilled pid (S (w.front ++ w.entry ∷ [])) w.mid → Stands next (event ∷ [])
-    lost-next = states.lost-next k o s pid n h run f e later is lawful legal AwaitsAt
+    lost-next = states.lost-next k o s pid n h run.of f e later is lawful legal AwaitsAt
 
     module _ (x : Exchange) (own : exchange_of k e ≡ Some x) where
       abbrev it : IsOwnEntry k now e x
-      it = awaited-calls.it n k o s h run reached bytes pid f e later is g x own
+      it = awaited-calls.it n k o s h run pid f e later is g x own
 
       abbrev sent : next_function_call_of t ≡ Some x.call
-      sent = awaited-calls.sent n k o s h run reached bytes pid f e later is g x own
+      sent = awaited-calls.sent n k o s h run pid f e later is g x own
 
       abbrev has : has_functions t.options ≡ true
-      has = awaited-calls.has n k o s h run reached bytes pid f e later is g x own
+      has = awaited-calls.has n k o s h run pid f e later is g x own
 
       abbrev follow : t.options.follow ≡ false
-      follow = awaited-calls.follow n k o s h run reached bytes pid f e later is g x own
+      follow = awaited-calls.follow n k o s h run pid f e later is g x own
 
       abbrev bytes-here : Unit {0} → IsEntryOfBytes e
-      bytes-here = awaited-calls.bytes-here n k o s h run reached bytes pid f e later is g x own
+      bytes-here = awaited-calls.bytes-here n k o s h run pid f e later is g x own
 
       abbrev v : TrussState
       v = fed_functions t x.reply
 
       abbrev v-is : T next ≡ v
-      v-is = awaited-calls.v-is n k o s h run reached bytes pid f e later is g x own
+      v-is = awaited-calls.v-is n k o s h run pid f e later is g x own
 
       abbrev exchange-empty : its_events ≡ []
-      exchange-empty = awaited-calls.exchange-empty n k o s h run reached bytes pid f e later is g x own
+      exchange-empty = awaited-calls.exchange-empty n k o s h run pid f e later is g x own
 
       abbrev LooksAtIt : Type 0
       LooksAtIt = IsAt (functions_at k o f) ReadingLwps Nothing × ((traced_at (functions_at k o f) 0).pid ≡ pid)
 
       abbrev staged : (stage : Stage) → t.stage ≡ stage → t.aside ≡ Nothing → Some x.call ≡ function_call_of t stage
-      staged = awaited-calls.staged n k o s h run reached bytes pid f e later is g x own
+      staged = awaited-calls.staged n k o s h run pid f e later is g x own
 
       abbrev fits : Fits (ordinary t).traced t.stage
-      fits = awaited-calls.fits n k o s h run reached bytes pid f e later is g x own
+      fits = awaited-calls.fits n k o s h run pid f e later is g x own
 
       module _ (not_it : LooksAtIt → ⊥) where
         abbrev other-next : {missing : List LwpEvent} → Stands f missing → Before missing → Listed next
-        other-next = awaited-calls.other-next n k o s h run reached bytes pid f e later is g x own not_it
+        other-next = awaited-calls.other-next n k o s h run pid f e later is g x own not_it
 
       -- ---- where it does
 
@@ -292,7 +292,7 @@ module _ (n k : ℕ) (o : Options) (s : TracedState) (h : List Entry) (run : IsF
         gone-next gone st are = by st are
           where
             unshown-gone : shown pid (T next) ≡ shown pid t
-            unshown-gone = states.over-shown k o s pid n h run f e later is lawful legal gone
+            unshown-gone = states.over-shown k o s pid n h run.of f e later is lawful legal gone
 
             by : {missing : List LwpEvent} → Stands f missing → Before missing → Listed next
             by (clear unmet) are = same-listed [] are exchange-empty unshown-gone read-clear
@@ -383,7 +383,7 @@ module _ (n k : ℕ) (o : Options) (s : TracedState) (h : List Entry) (run : IsF
               event-look : Listed next
               event-look = record {
                 missing = [];
-                are = states.came-next k o s pid n h run f e later is lawful legal
+                are = states.came-next k o s pid n h run.of f e later is lawful legal
                     ∙ ap (λ xs. events_to_show k pid (first_truss o) s f ++ xs) exchange-empty
                     ∙ append-nil (events_to_show k pid (first_truss o) s f) ∙ are
                     ∙ ap (λ xs. shown pid t ++ xs) due_is ∙ sym shown-it ∙ sym (append-nil (shown pid (T next)));
@@ -450,7 +450,7 @@ module _ (n k : ℕ) (o : Options) (s : TracedState) (h : List Entry) (run : IsF
     entry-listed old_still it_was = by (exchange_of k e) refl
       where
         by : (x : Option Exchange) → exchange_of k e ≡ x → Listed next
-        by None foreign = awaited-turns.foreign-next n k o s h run reached bytes pid f e later is g foreign old_still
+        by None foreign = awaited-turns.foreign-next n k o s h run pid f e later is g foreign old_still
             it_was
         by (Some x) own = exchange-next x own it_was
 
@@ -458,5 +458,5 @@ module _ (n k : ℕ) (o : Options) (s : TracedState) (h : List Entry) (run : IsF
     still-next old_still = by (exchange_of k e) refl
       where
         by : (x : Option Exchange) → exchange_of k e ≡ x → StillOld pid (T next) (S next)
-        by None foreign = awaited-turns.still-foreign n k o s h run reached bytes pid f e later is g foreign old_still
-        by (Some x) own = awaited-calls.still-own n k o s h run reached bytes pid f e later is g x own old_still
+        by None foreign = awaited-turns.still-foreign n k o s h run pid f e later is g foreign old_still
+        by (Some x) own = awaited-calls.still-own n k o s h run pid f e later is g x own old_still

@@ -14,8 +14,6 @@ use Rattle.pr_model.specs.Statuses.{lwpstatus_of, status_of_found}
 use Rattle.pr_model.specs.Stops.{representative}
 use Rattle.pr_model.specs.declared.events.Actor.TheVariants.{Lwp}
 use Rattle.pr_model.specs.declared.events.Entry.{Entry}
-use Rattle.pr_reached.specs.ByteHistories.{HasBytes}
-use Rattle.pr_reached.specs.Reached.{IsReached}
 use Rattle.pr_rec.specs.declared.lwps.LwpStatus.{LwpStatus}
 use Rattle.pr_report_laws.proofs.Invariant.StandLemmas.{Each}
 use Rattle.pr_report_laws.specs.Memories.{WasKilled}
@@ -61,6 +59,7 @@ use Rattle.pr_function_laws.proofs.Listing.RestPlaces.{Cause, RestsAt, about, be
 use Rattle.pr_function_laws.proofs.Listing.BusyStages.{is_reading}
 use Rattle.pr_function_laws.specs.ListedEvents.{events_to_show, is_to_show, to_show_in}
 use Rattle.pr_function_laws.specs.OneEvent.{HasMetNothing, is_looked_at}
+use Rattle.pr_function_laws.specs.ReachedRuns.{IsReachedFunctionRun}
 use Rattle.pr_function_laws.specs.Opened.{IsFunctionRun, WasNotInterrupted, functions_at, is_opened}
 use Rattle.pr_function_laws.specs.Runs.{functions_on}
 use Rattle.pr_function_laws.proofs.Listing.ListedRests as rests-of
@@ -69,8 +68,8 @@ use Rattle.pr_function_laws.proofs.Listing.ListedRests.{unmet-alone}
 -- The events of a process that truss has shown are those that it is to show, also behind a call of truss: it reads the
 -- status of the process, or does not.
 
-module _ (n k : ℕ) (o : Options) (s : TracedState) (h : List Entry) (run : IsFunctionRun n k o s h)
-    (reached : IsReached s) (bytes : HasBytes h) (all_calm : All WasNotInterrupted (exchanges k h)) (pid : ℕ) where
+module _ (n k : ℕ) (o : Options) (s : TracedState) (h : List Entry) (run : IsReachedFunctionRun n k o s h)
+    (all_calm : All WasNotInterrupted (exchanges k h)) (pid : ℕ) where
   abbrev T : List Entry → TrussState
   T front = functions_at k o front
 
@@ -103,42 +102,42 @@ module _ (n k : ℕ) (o : Options) (s : TracedState) (h : List Entry) (run : IsF
     now = S f
 
     abbrev calm : All WasNotInterrupted (exchanges k f)
-    calm = rests-of.calm n k o s h run reached bytes all_calm pid f e later is
+    calm = rests-of.calm n k o s h run all_calm pid f e later is
 
     abbrev there : Goes (Unit {0}) k o t now
-    there = rests-of.there n k o s h run reached bytes all_calm pid f e later is
+    there = rests-of.there n k o s h run all_calm pid f e later is
 
     abbrev legal : IsLegalEntry n now e
-    legal = rests-of.legal n k o s h run reached bytes all_calm pid f e later is
+    legal = rests-of.legal n k o s h run all_calm pid f e later is
 
     abbrev lawful : IsLawful now
-    lawful = rests-of.lawful n k o s h run reached bytes all_calm pid f e later is
+    lawful = rests-of.lawful n k o s h run all_calm pid f e later is
 
     abbrev has : has_functions t.options ≡ true
-    has = rests-of.has n k o s h run reached bytes all_calm pid f e later is
+    has = rests-of.has n k o s h run all_calm pid f e later is
 
     abbrev kept : Kept (IsSo ⊥ k t.options now) t
-    kept = rests-of.kept n k o s h run reached bytes all_calm pid f e later is
+    kept = rests-of.kept n k o s h run all_calm pid f e later is
 
     abbrev apart : Apart t.traced
-    apart = rests-of.apart n k o s h run reached bytes all_calm pid f e later is
+    apart = rests-of.apart n k o s h run all_calm pid f e later is
 
     abbrev run-here : IsFunctionRun n k o s (f ++ e ∷ later)
-    run-here = rests-of.run-here n k o s h run reached bytes all_calm pid f e later is
+    run-here = rests-of.run-here n k o s h run all_calm pid f e later is
 
     abbrev truss-is : T next ≡ functions_on t (exchange_of k e)
-    truss-is = rests-of.truss-is n k o s h run reached bytes all_calm pid f e later is
+    truss-is = rests-of.truss-is n k o s h run all_calm pid f e later is
 
     abbrev over : (i : ℕ) → i < now.system.made → live_process now.system i ≡ None
         → live_process (after now e).system i ≡ None
-    over = rests-of.over n k o s h run reached bytes all_calm pid f e later is
+    over = rests-of.over n k o s h run all_calm pid f e later is
 
     abbrev live-next : (q : TracedProcess) → live_process (S next).system pid ≡ Some q
         → live_process (after now e).system pid ≡ Some q
-    live-next = rests-of.live-next n k o s h run reached bytes all_calm pid f e later is
+    live-next = rests-of.live-next n k o s h run all_calm pid f e later is
 
     abbrev calm-of : (x : Exchange) → exchange_of k e ≡ Some x → WasNotInterrupted x
-    calm-of = rests-of.calm-of n k o s h run reached bytes all_calm pid f e later is
+    calm-of = rests-of.calm-of n k o s h run all_calm pid f e later is
 
     abbrev its_events : List LwpEvent
     its_events = to_show_in t now pid e
@@ -147,7 +146,7 @@ module _ (n k : ℕ) (o : Options) (s : TracedState) (h : List Entry) (run : IsF
     came-next = events-push k pid f (first_truss o) s e
 
     over-shown : live_process now.system pid ≡ None → shown pid (T next) ≡ shown pid t
-    over-shown = states.over-shown k o s pid n h run f e later is lawful legal
+    over-shown = states.over-shown k o s pid n h run.of f e later is lawful legal
 
     module _ (place : ℕ) (w : RestsAt t pid place) where
       abbrev was : Traced
@@ -155,11 +154,11 @@ module _ (n k : ℕ) (o : Options) (s : TracedState) (h : List Entry) (run : IsF
 
       abbrev live-was : (p : TracedProcess) → live_process now.system pid ≡ Some p
           → live_process now.system was.pid ≡ Some p
-      live-was = rests-of.live-was n k o s h run reached bytes all_calm pid f e later is place w
+      live-was = rests-of.live-was n k o s h run all_calm pid f e later is place w
 
       abbrev pending-now : (H : TracedProcess → Type 0)
           → ((p : TracedProcess) → live_process now.system pid ≡ Some p → H p) → Pending k o s was H f
-      pending-now = rests-of.pending-now n k o s h run reached bytes all_calm pid f e later is place w
+      pending-now = rests-of.pending-now n k o s h run all_calm pid f e later is place w
 
       abbrev NotRead : Type 0
       NotRead =
@@ -168,12 +167,12 @@ module _ (n k : ℕ) (o : Options) (s : TracedState) (h : List Entry) (run : IsF
       module _ (p : TracedProcess) (live : live_process now.system pid ≡ Some p) (event : LwpEvent) (on : On event p)
           (other : NotRead) where
         abbrev stand-next : (missing : List LwpEvent) → Missing f place event p missing → Stands next missing
-        stand-next = rests-of.stand-next n k o s h run reached bytes all_calm pid f e later is place w p live event on
+        stand-next = rests-of.stand-next n k o s h run all_calm pid f e later is place w p live event on
             other
 
     lost-next : (event : LwpEvent) (w : Since f event) → pid < now.system.made → live_process now.system pid ≡ None
         → WasKilled pid (S (w.front ++ w.entry ∷ [])) w.mid → Stands next (event ∷ [])
-    lost-next = states.lost-next k o s pid n h run f e later is lawful legal RestsSo
+    lost-next = states.lost-next k o s pid n h run.of f e later is lawful legal RestsSo
 
     -- ---- where the process stands
 
@@ -184,14 +183,14 @@ module _ (n k : ℕ) (o : Options) (s : TracedState) (h : List Entry) (run : IsF
         subst (AtStage (IsSo ⊥ k t.options now) t.traced) at x.stage in stands.0
 
     elsewhere-empty : ((own : ℕ) → e.actor ≢ Lwp pid own) → its_events ≡ []
-    elsewhere-empty = states.elsewhere-empty k o s pid n h run f e later is lawful legal
+    elsewhere-empty = states.elsewhere-empty k o s pid n h run.of f e later is lawful legal
 
     abbrev Before : List LwpEvent → Type 0
     Before missing = events_to_show k pid (first_truss o) s f ≡ shown pid t ++ missing
 
     same-listed : (missing : List LwpEvent) → Before missing → its_events ≡ [] → shown pid (T next) ≡ shown pid t
         → Stands next missing → Listed next
-    same-listed = states.same-listed k o s pid n h run f e later is lawful legal RestsSo
+    same-listed = states.same-listed k o s pid n h run.of f e later is lawful legal RestsSo
 
     -- ---- an exchange of truss
 
@@ -200,7 +199,7 @@ module _ (n k : ℕ) (o : Options) (s : TracedState) (h : List Entry) (run : IsF
       it = own-entry n k now e x legal own
 
       sent : next_function_call_of t ≡ Some x.call
-      sent = fronts.makes-next n k o s h run f e later is calm x own
+      sent = fronts.makes-next n k o s h run.of f e later is calm x own
 
       exchange-empty : its_events ≡ []
       exchange-empty = elsewhere-empty (λ i. own-in k pid i e.actor e.act x own)
@@ -248,7 +247,7 @@ module _ (n k : ℕ) (o : Options) (s : TracedState) (h : List Entry) (run : IsF
         -- it rested before
         from-rest : (place : ℕ) (w : RestsAt t pid place) → is_looked_at t.stage place ≡ false → HasMetNothing q
         from-rest place w away =
-            rests-of.has-next n k o s h run reached bytes all_calm pid f e later is place w HasMetNothing unmet-alone
+            rests-of.has-next n k o s h run all_calm pid f e later is place w HasMetNothing unmet-alone
             (quiet_if place w away)
             (λ i turn entry_is took after_is p live_p.
             absurd (own-in k (traced_at t place).pid i e.actor e.act x own (ap (λ (d : Entry). d.actor) entry_is)))
@@ -429,7 +428,7 @@ module _ (n k : ℕ) (o : Options) (s : TracedState) (h : List Entry) (run : IsF
 
           tells : option_and_then status_lwp (bytes_in x.reply) ≡ Some told
           tells =
-              sees n k o s h run reached bytes f later e is calm (traced_at t place) (λ q. Unit {0})
+              sees n k o s h run f later e is calm (traced_at t place) (λ q. Unit {0})
               (pending-read (λ q. Unit {0}) tt) x own reads p (live-was place at-it p live)
 
           -- no lwp stands on an event
@@ -443,7 +442,7 @@ module _ (n k : ℕ) (o : Options) (s : TracedState) (h : List Entry) (run : IsF
               by None none_told = none_told
               by (Some ev) on =
                   absurd
-                  (tells-none n k o s h run reached bytes f later e is calm (traced_at t place) HasMetNothing
+                  (tells-none n k o s h run f later e is calm (traced_at t place) HasMetNothing
                   (pending-read HasMetNothing unmet) x own reads p (live-was place at-it p live) unmet told ev tells on)
 
           -- one does: that is shown, if it is to be shown
@@ -455,7 +454,7 @@ module _ (n k : ℕ) (o : Options) (s : TracedState) (h : List Entry) (run : IsF
 
             tells-it : option_and_then status_lwp (bytes_in x.reply) ≡ Some its_told
             tells-it =
-                answered n k o s h run reached bytes f later e is calm (traced_at t place) (On event)
+                answered n k o s h run f later e is calm (traced_at t place) (On event)
                 (pending-read (On event) on) x own reads p (live-was place at-it p live) event on
 
             its-id : its_told.id ≡ event.id

@@ -17,7 +17,6 @@ use Rattle.pr_model.specs.declared.events.Entry.{Entry}
 use Rattle.pr_num.specs.Signals.{signal_number}
 use Rattle.pr_num.specs.declared.signals.Sig.TheVariants.{Kill}
 use Rattle.pr_reached.specs.ByteHistories.{HasBytes}
-use Rattle.pr_reached.specs.Reached.{IsReached}
 use Rattle.pr_report_laws.proofs.Files.WatchHistories.{cons-exchanges, exchanges-both}
 use Rattle.pr_report_laws.proofs.Machine.OwnTurnLaws.{event-halts}
 use Rattle.pr_report_laws.proofs.Watching.HistoryParts.{all-front, all-rest}
@@ -57,6 +56,7 @@ use Rattle.pr_function_laws.proofs.Listing.TracedPlaces.{traced-there}
 use Rattle.pr_function_laws.specs.Lifted.{HasControl}
 use Rattle.pr_function_laws.specs.ListedEvents.{is_to_show}
 use Rattle.pr_function_laws.specs.OneEvent.{HasMetNothing, is_looked_at}
+use Rattle.pr_function_laws.specs.ReachedRuns.{IsReachedFunctionRun}
 use Rattle.pr_function_laws.specs.Opened.{IsFunctionRun, WasNotInterrupted, functions_at, is_opened}
 use Rattle.pr_function_laws.specs.Runs.{functions_on}
 
@@ -73,8 +73,8 @@ looked-run (ReadingText at l from len) place is = is
 looked-run (Running at) place is = is
 looked-run _ place is = absurd (false≢true is)
 
-module _ (n k : ℕ) (o : Options) (s : TracedState) (h : List Entry) (run : IsFunctionRun n k o s h)
-    (reached : IsReached s) (bytes : HasBytes h) (all_calm : All WasNotInterrupted (exchanges k h)) (pid : ℕ) where
+module _ (n k : ℕ) (o : Options) (s : TracedState) (h : List Entry) (run : IsReachedFunctionRun n k o s h)
+    (all_calm : All WasNotInterrupted (exchanges k h)) (pid : ℕ) where
   abbrev T : List Entry → TrussState
   T front = functions_at k o front
 
@@ -122,21 +122,21 @@ module _ (n k : ℕ) (o : Options) (s : TracedState) (h : List Entry) (run : IsF
     calm-next = calm-at next later next-is
 
     pub here : Goes ⊥ k o t now
-    here = fronts.here n k o s h run f e later is calm
+    here = fronts.here n k o s h run.of f e later is calm
 
     pub there : Goes (Unit {0}) k o t now
     there =
-        before-goes n k o s h run f (e ∷ later) is calm (Unit {0}) (λ r. reached)
-        (λ r. bytes-front f (e ∷ later) (subst HasBytes is bytes))
+        before-goes n k o s h run.of f (e ∷ later) is calm (Unit {0}) (λ r. run.reached)
+        (λ r. bytes-front f (e ∷ later) (subst HasBytes is run.bytes))
 
     pub legal : IsLegalEntry n now e
-    legal = fronts.legal n k o s h run f e later is calm
+    legal = fronts.legal n k o s h run.of f e later is calm
 
     pub lawful : IsLawful now
     lawful = let g = here in g.lawful
 
     pub has : has_functions t.options ≡ true
-    has = fronts.has n k o s h run f e later is calm
+    has = fronts.has n k o s h run.of f e later is calm
 
     pub kept : Kept (IsSo ⊥ k t.options now) t
     kept = let g = here in g.kept
@@ -145,13 +145,13 @@ module _ (n k : ℕ) (o : Options) (s : TracedState) (h : List Entry) (run : IsF
     apart = let w = kept in w.apart
 
     pub run-here : IsFunctionRun n k o s (f ++ e ∷ later)
-    run-here = subst (λ (es : List Entry). IsFunctionRun n k o s es) is run
+    run-here = subst (λ (es : List Entry). IsFunctionRun n k o s es) is run.of
 
     pub state-is : S next ≡ after now e
-    state-is = fronts.next-state n k o s h run f e later is calm
+    state-is = fronts.next-state n k o s h run.of f e later is calm
 
     pub truss-is : T next ≡ functions_on t (exchange_of k e)
-    truss-is = fronts.pushed n k o s h run f e later is calm
+    truss-is = fronts.pushed n k o s h run.of f e later is calm
 
     pub over : (i : ℕ) → i < now.system.made → live_process now.system i ≡ None
         → live_process (after now e).system i ≡ None
@@ -217,7 +217,7 @@ module _ (n k : ℕ) (o : Options) (s : TracedState) (h : List Entry) (run : IsF
         no_read = λ number named reads.
             let p = pending-now (λ q. Unit {0}) (λ q live. tt) in
             let r =
-            stage n k o s h run reached bytes f later e is calm was (λ q. Unit {0}) p x own
+            stage n k o s h run f later e is calm was (λ q. Unit {0}) p x own
             (reads ∙ ap read_record (sym named)) in
             other x own r.place r.at (r.its ∙ w.its);
       }
@@ -225,17 +225,17 @@ module _ (n k : ℕ) (o : Options) (s : TracedState) (h : List Entry) (run : IsF
       quiet-reads : NotRead → ReadsIts f e → ⊥
       quiet-reads other (inl r) =
           let x : Exchange = record { call = call.Read r.handle r.from r.len; reply = reply.Bytes r.bytes } in
-          let sent = fronts.makes-next n k o s h run f e later is calm x r.is in
+          let sent = fronts.makes-next n k o s h run.of f e later is calm x r.is in
           let at =
           status-stage t r.held r.file
-          (reads-at n k o now t here (known-at n k o s h run f (e ∷ later) is calm) has r.handle r.held r.there
+          (reads-at n k o now t here (known-at n k o s h run.of f (e ∷ later) is calm) has r.handle r.held r.there
           (ap read_handle_if sent)) in
           other x r.is at.place at.at (at.its ∙ r.of)
       quiet-reads other (inr r) =
           let x : Exchange = record { call = call.Read r.handle r.from r.len; reply = reply.Bytes r.bytes } in
-          let sent = fronts.makes-next n k o s h run f e later is calm x r.is in
+          let sent = fronts.makes-next n k o s h run.of f e later is calm x r.is in
           by
-          (reads-at n k o now t here (known-at n k o s h run f (e ∷ later) is calm) has r.handle r.held r.there
+          (reads-at n k o now t here (known-at n k o s h run.of f (e ∷ later) is calm) has r.handle r.held r.there
           (ap read_handle_if sent))
         where
           by : ReadAt t r.held → ⊥
@@ -257,14 +257,14 @@ module _ (n k : ℕ) (o : Options) (s : TracedState) (h : List Entry) (run : IsF
           → live_process turn.system was.pid ≡ Some q → H q) (other : NotRead) where
         pending-next : Pending k o s was H next
         pending-next =
-            entry-next n k o s h run was H stays f e later is calm (pending-now H so) turns (still other)
+            entry-next n k o s h run.of was H stays f e later is calm (pending-now H so) turns (still other)
 
         place-next : (q : ℕ) × ((q < length (T next).traced) × ((traced_at (T next) q).pid ≡ was.pid))
         place-next =
             let p = pending-next in
             let i = p.is in
             let x = i.holds in
-            traced-there n k o s h run next later next-is calm-next was.pid was.control x.its
+            traced-there n k o s h run.of next later next-is calm-next was.pid was.control x.its
 
         rests-next : RestsAt (T next) pid place-next.0
         rests-next =
@@ -321,7 +321,7 @@ module _ (n k : ℕ) (o : Options) (s : TracedState) (h : List Entry) (run : IsF
             (others-halt n now k pid lawful sole p live (event-halts p event.id event.event on) e legal fe.other)
         fate-of (Some x) own =
             by-outlasts
-            (own-outlasts n k o s h run was (On event) (on-stays event) f e later is calm
+            (own-outlasts n k o s h run.of was (On event) (on-stays event) f e later is calm
             (pending-now (On event) on-now)
             x own (still other x own) p (live-was p live))
 

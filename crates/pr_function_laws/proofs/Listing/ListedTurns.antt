@@ -18,7 +18,6 @@ use Rattle.pr_model.specs.declared.events.Actor.TheVariants.{Controller, Lwp, Cl
 use Rattle.pr_model.specs.declared.events.Entry.{Entry}
 use Rattle.pr_reached.proofs.Together.ReachedLemmas.{later-reached}
 use Rattle.pr_reached.specs.ByteHistories.{HasBytes}
-use Rattle.pr_reached.specs.Reached.{IsReached}
 use Rattle.pr_report_laws.proofs.Files.FileUses.{place-is}
 use Rattle.pr_report_laws.proofs.Invariant.OtherSteps.{lives-later}
 use Rattle.pr_report_laws.proofs.Machine.OwnTurnLaws.{event-halts, halting-picks}
@@ -51,6 +50,7 @@ use Rattle.pr_function_laws.proofs.Pending.PendingWalk.{On, is_to_run}
 use Rattle.pr_function_laws.proofs.Listing.RestPlaces.{RestsAt}
 use Rattle.pr_function_laws.specs.ListedEvents.{events_to_show, is_own_fault, is_to_show, is_to_show_in, to_show_in}
 use Rattle.pr_function_laws.specs.OneEvent.{HasMetNothing}
+use Rattle.pr_function_laws.specs.ReachedRuns.{IsReachedFunctionRun}
 use Rattle.pr_function_laws.specs.Opened.{IsFunctionRun, WasNotInterrupted, functions_at, is_opened}
 use Rattle.pr_function_laws.specs.Runs.{functions_on}
 use Rattle.pr_function_laws.proofs.Listing.ListedRests as rests-of
@@ -59,8 +59,8 @@ use Rattle.pr_function_laws.proofs.Listing.ListedRests.{looked-run, unmet-alone}
 -- The events of a process that truss has shown are those that it is to show, also behind an entry that is no call of
 -- truss: a turn of the process, or what others do.
 
-module _ (n k : ℕ) (o : Options) (s : TracedState) (h : List Entry) (run : IsFunctionRun n k o s h)
-    (reached : IsReached s) (bytes : HasBytes h) (all_calm : All WasNotInterrupted (exchanges k h)) (pid : ℕ) where
+module _ (n k : ℕ) (o : Options) (s : TracedState) (h : List Entry) (run : IsReachedFunctionRun n k o s h)
+    (all_calm : All WasNotInterrupted (exchanges k h)) (pid : ℕ) where
   abbrev T : List Entry → TrussState
   T front = functions_at k o front
 
@@ -93,36 +93,36 @@ module _ (n k : ℕ) (o : Options) (s : TracedState) (h : List Entry) (run : IsF
     now = S f
 
     abbrev calm : All WasNotInterrupted (exchanges k f)
-    calm = rests-of.calm n k o s h run reached bytes all_calm pid f e later is
+    calm = rests-of.calm n k o s h run all_calm pid f e later is
 
     abbrev here : Goes ⊥ k o t now
-    here = rests-of.here n k o s h run reached bytes all_calm pid f e later is
+    here = rests-of.here n k o s h run all_calm pid f e later is
 
     abbrev legal : IsLegalEntry n now e
-    legal = rests-of.legal n k o s h run reached bytes all_calm pid f e later is
+    legal = rests-of.legal n k o s h run all_calm pid f e later is
 
     abbrev lawful : IsLawful now
-    lawful = rests-of.lawful n k o s h run reached bytes all_calm pid f e later is
+    lawful = rests-of.lawful n k o s h run all_calm pid f e later is
 
     abbrev kept : Kept (IsSo ⊥ k t.options now) t
-    kept = rests-of.kept n k o s h run reached bytes all_calm pid f e later is
+    kept = rests-of.kept n k o s h run all_calm pid f e later is
 
     abbrev run-here : IsFunctionRun n k o s (f ++ e ∷ later)
-    run-here = rests-of.run-here n k o s h run reached bytes all_calm pid f e later is
+    run-here = rests-of.run-here n k o s h run all_calm pid f e later is
 
     abbrev state-is : S next ≡ after now e
-    state-is = rests-of.state-is n k o s h run reached bytes all_calm pid f e later is
+    state-is = rests-of.state-is n k o s h run all_calm pid f e later is
 
     abbrev truss-is : T next ≡ functions_on t (exchange_of k e)
-    truss-is = rests-of.truss-is n k o s h run reached bytes all_calm pid f e later is
+    truss-is = rests-of.truss-is n k o s h run all_calm pid f e later is
 
     abbrev over : (i : ℕ) → i < now.system.made → live_process now.system i ≡ None
         → live_process (after now e).system i ≡ None
-    over = rests-of.over n k o s h run reached bytes all_calm pid f e later is
+    over = rests-of.over n k o s h run all_calm pid f e later is
 
     abbrev live-next : (q : TracedProcess) → live_process (S next).system pid ≡ Some q
         → live_process (after now e).system pid ≡ Some q
-    live-next = rests-of.live-next n k o s h run reached bytes all_calm pid f e later is
+    live-next = rests-of.live-next n k o s h run all_calm pid f e later is
 
     abbrev its_events : List LwpEvent
     its_events = to_show_in t now pid e
@@ -135,14 +135,14 @@ module _ (n k : ℕ) (o : Options) (s : TracedState) (h : List Entry) (run : IsF
       was = at_place t.traced place
 
       abbrev made : pid < now.system.made
-      made = rests-of.made n k o s h run reached bytes all_calm pid f e later is place w
+      made = rests-of.made n k o s h run all_calm pid f e later is place w
 
       abbrev sole : HasNoOtherWriter k pid now.opens
-      sole = rests-of.sole n k o s h run reached bytes all_calm pid f e later is place w
+      sole = rests-of.sole n k o s h run all_calm pid f e later is place w
 
       abbrev live-was : (p : TracedProcess) → live_process now.system pid ≡ Some p
           → live_process now.system was.pid ≡ Some p
-      live-was = rests-of.live-was n k o s h run reached bytes all_calm pid f e later is place w
+      live-was = rests-of.live-was n k o s h run all_calm pid f e later is place w
 
       abbrev NotRead : Type 0
       NotRead =
@@ -151,13 +151,13 @@ module _ (n k : ℕ) (o : Options) (s : TracedState) (h : List Entry) (run : IsF
       module _ (p : TracedProcess) (live : live_process now.system pid ≡ Some p) (event : LwpEvent) (on : On event p)
           (other : NotRead) where
         abbrev stand-next : (missing : List LwpEvent) → Missing f place event p missing → Stands next missing
-        stand-next = rests-of.stand-next n k o s h run reached bytes all_calm pid f e later is place w p live event on
+        stand-next = rests-of.stand-next n k o s h run all_calm pid f e later is place w p live event on
             other
 
     -- a lost event stays lost
     lost-next : (event : LwpEvent) (w : Since f event) → pid < now.system.made → live_process now.system pid ≡ None
         → WasKilled pid (S (w.front ++ w.entry ∷ [])) w.mid → Stands next (event ∷ [])
-    lost-next = states.lost-next k o s pid n h run f e later is lawful legal RestsSo
+    lost-next = states.lost-next k o s pid n h run.of f e later is lawful legal RestsSo
 
     rest-place : (place : ℕ) → RestsAt t pid place → place_of t pid ≡ Some place
     rest-place place w = its-place n k o s f (e ∷ later) pid run-here (IsSo ⊥ k t.options now) kept place w
@@ -167,7 +167,7 @@ module _ (n k : ℕ) (o : Options) (s : TracedState) (h : List Entry) (run : IsF
         → All WasNotInterrupted (exchanges k front) → place < length (T front).traced
         → (traced_at (T front) place).pid ≡ pid → is_opened (T front).stage place ≡ true
         → (traced_at (T front) place).old ≢ 0 → live_process (S front).system pid ≡ Some p → IsFrozen p
-    old-still = let w = still-while-old n k o s h run reached bytes pid in w.each
+    old-still = let w = still-while-old n k o s h run pid in w.each
 
     -- it rests at a place, is not watched, or stands still
     data Where (p : TracedProcess) : Type 0 where
@@ -197,7 +197,7 @@ module _ (n k : ℕ) (o : Options) (s : TracedState) (h : List Entry) (run : IsF
             → (b : Bool) → is_to_run t.stage place ≡ b → Where p
         by-run place within its opened true running =
             stands_still
-            (still-there n k o s h run reached bytes f (e ∷ later) is calm place p
+            (still-there n k o s h run f (e ∷ later) is calm place p
             (ap (live_process now.system) its ∙ live) (looked-run t.stage place running))
         by-run place within its opened false away = elim (cases_eq (traced_at t place).old 0) [
           | inl new ↦ at_rest place (record { within = within; its = its; opened = opened; away = away; new = new })
@@ -226,7 +226,7 @@ module _ (n k : ℕ) (o : Options) (s : TracedState) (h : List Entry) (run : IsF
 
     -- what is no turn of the process brings no event of it
     elsewhere-empty : ((own : ℕ) → e.actor ≢ Lwp pid own) → its_events ≡ []
-    elsewhere-empty = states.elsewhere-empty k o s pid n h run f e later is lawful legal
+    elsewhere-empty = states.elsewhere-empty k o s pid n h run.of f e later is lawful legal
 
     abbrev Before : List LwpEvent → Type 0
     Before missing = events_to_show k pid (first_truss o) s f ≡ shown pid t ++ missing
@@ -234,7 +234,7 @@ module _ (n k : ℕ) (o : Options) (s : TracedState) (h : List Entry) (run : IsF
     -- nothing came, and nothing was shown
     same-listed : (missing : List LwpEvent) → Before missing → its_events ≡ [] → shown pid (T next) ≡ shown pid t
         → Stands next missing → Listed next
-    same-listed = states.same-listed k o s pid n h run f e later is lawful legal RestsSo
+    same-listed = states.same-listed k o s pid n h run.of f e later is lawful legal RestsSo
 
     -- ---- an entry of others, or a turn
 
@@ -311,13 +311,13 @@ module _ (n k : ℕ) (o : Options) (s : TracedState) (h : List Entry) (run : IsF
               → AfterQuiet pid own picks turn
               (picked picks pid (events_of now (record { actor = Lwp pid own; act = act.Turn turn.turned })))
           after-quiet unmet =
-              let owned = holds-opened n k o s h run in
+              let owned = holds-opened n k o s h run.of in
               let owns = owned.each f (e ∷ later) place is calm w.within w.opened in
               let all = owns.traces p (live-was place w p live) in
               let stops = all.stops in
-              let at = later-reached n s f reached
-              (bytes-front f (e ∷ later) (subst HasBytes is bytes))
-              (legal-front n s f (e ∷ later) (subst (IsLegal n s) is run.legal)) in
+              let at = later-reached n s f run.reached
+              (bytes-front f (e ∷ later) (subst HasBytes is run.bytes))
+              (legal-front n s f (e ∷ later) (subst (IsLegal n s) is run.of.legal)) in
               quiet-turn now pid own p turn (let l = lawful in l.system) at.fit live took stops.directs picks
               (fewer-picked p.control (is_selected o) picks fewer (all-picked o p.control all)) unmet
 

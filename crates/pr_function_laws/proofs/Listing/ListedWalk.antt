@@ -4,8 +4,6 @@ use Rattle.pr_line.specs.declared.options.Options.{Options}
 use Rattle.pr_model.specs.Legal.{state_after}
 use Rattle.pr_model.specs.State.{TracedProcess, TracedState, live_process}
 use Rattle.pr_model.specs.declared.events.Entry.{Entry}
-use Rattle.pr_reached.specs.ByteHistories.{HasBytes}
-use Rattle.pr_reached.specs.Reached.{IsReached}
 use Rattle.pr_report_laws.proofs.Files.WatchHistories.{no-exchanges}
 use Rattle.pr_report_laws.specs.Shown.{LwpEvent, shown}
 use Rattle.pr_report_laws.specs.Watching.{watches}
@@ -21,6 +19,7 @@ use Rattle.pr_function_laws.proofs.OpenedProcesses.OpenedCalls.{IsSo}
 use Rattle.pr_function_laws.proofs.OpenedProcesses.OpenedLaws.{Goes, before-goes}
 use Rattle.pr_function_laws.proofs.Listing.RestPlaces.{RestsAt}
 use Rattle.pr_function_laws.specs.ListedEvents.{MayMiss, ListsItsEvents, ended, none, unread}
+use Rattle.pr_function_laws.specs.ReachedRuns.{IsReachedFunctionRun}
 use Rattle.pr_function_laws.specs.Opened.{IsFunctionRun, WasNotInterrupted, functions_at}
 use Rattle.pr_function_laws.specs.Runs.{functions_after}
 use Rattle.pr_function_laws.proofs.Listing.ListedRests as rests-of
@@ -68,8 +67,8 @@ module _ (k : ℕ) (o : Options) where
   none-shown : (pid : ℕ) → shown pid (functions_at k o []) ≡ []
   none-shown pid = ap (shown pid) first-is ∙ first-shown pid o
 
-module _ (n k : ℕ) (o : Options) (s : TracedState) (h : List Entry) (run : IsFunctionRun n k o s h)
-    (reached : IsReached s) (bytes : HasBytes h) (all_calm : All WasNotInterrupted (exchanges k h)) (pid : ℕ) where
+module _ (n k : ℕ) (o : Options) (s : TracedState) (h : List Entry) (run : IsReachedFunctionRun n k o s h)
+    (all_calm : All WasNotInterrupted (exchanges k h)) (pid : ℕ) where
   abbrev T : List Entry → TrussState
   T front = functions_at k o front
 
@@ -77,7 +76,7 @@ module _ (n k : ℕ) (o : Options) (s : TracedState) (h : List Entry) (run : IsF
   S front = state_after s front
 
   abbrev calm-at : (f later : List Entry) → h ≡ f ++ later → All WasNotInterrupted (exchanges k f)
-  calm-at = rests-of.calm-at n k o s h run reached bytes all_calm pid
+  calm-at = rests-of.calm-at n k o s h run all_calm pid
 
   abbrev RestsSo : List Entry → ℕ → Type 0
   RestsSo f place = RestsAt (functions_at k o f) pid place
@@ -99,8 +98,8 @@ module _ (n k : ℕ) (o : Options) (s : TracedState) (h : List Entry) (run : IsF
     entry-listed it_was = by (exchange_of k e) refl
       where
         by : (x : Option Exchange) → exchange_of k e ≡ x → Listed next
-        by None foreign = turns-of.foreign-next n k o s h run reached bytes all_calm pid f e later is foreign it_was
-        by (Some x) own = calls-of.exchange-next n k o s h run reached bytes all_calm pid f e later is x own it_was
+        by None foreign = turns-of.foreign-next n k o s h run all_calm pid f e later is foreign it_was
+        by (Some x) own = calls-of.exchange-next n k o s h run all_calm pid f e later is x own it_was
 
   -- ---- all entries
 
@@ -128,12 +127,12 @@ module _ (n k : ℕ) (o : Options) (s : TracedState) (h : List Entry) (run : IsF
   module _ (place : ℕ) (w : RestsAt (T h) pid place) where
     at-end : Goes ⊥ k o (T h) (S h)
     at-end =
-        before-goes n k o s h run h [] whole (calm-at h [] whole) ⊥ (λ none. absurd none) (λ none. absurd none)
+        before-goes n k o s h run.of h [] whole (calm-at h [] whole) ⊥ (λ none. absurd none) (λ none. absurd none)
 
     watched-still : watches (T h) pid ≡ true
     watched-still =
         let g = at-end in
-        watched n k o s h [] pid (subst (λ (es : List Entry). IsFunctionRun n k o s es) whole run)
+        watched n k o s h [] pid (subst (λ (es : List Entry). IsFunctionRun n k o s es) whole run.of)
         (IsSo ⊥ k (T h).options (S h)) g.kept place w
 
   pub shows-its-events : ListsItsEvents k o s h pid
@@ -145,7 +144,7 @@ module _ (n k : ℕ) (o : Options) (s : TracedState) (h : List Entry) (run : IsF
         missing = it.missing;
         are = it.are;
         few = few;
-        at_last = λ finished some. missing-at-last n k o s h run finished pid few some;
+        at_last = λ finished some. missing-at-last n k o s h run.of finished pid few some;
       }
     where
       by-missing : (place : ℕ) (w : RestsAt (T h) pid place) (p : TracedProcess)

@@ -14,7 +14,6 @@ use Rattle.pr_model.specs.declared.events.Actor.{Actor}
 use Rattle.pr_model.specs.declared.events.Actor.TheVariants.{Controller, Lwp, Clock}
 use Rattle.pr_model.specs.declared.events.Entry.{Entry}
 use Rattle.pr_reached.specs.ByteHistories.{HasBytes}
-use Rattle.pr_reached.specs.Reached.{IsReached}
 use Rattle.pr_report_laws.proofs.Files.WatchHistories.{exchanges-both, no-exchanges}
 use Rattle.pr_report_laws.proofs.Invariant.StandLemmas.{EachBut}
 use Rattle.pr_report_laws.proofs.Watching.HistoryParts.{all-front}
@@ -40,7 +39,8 @@ use Rattle.pr_function_laws.proofs.OpenedProcesses.OpenedLaws.{Goes, before-goes
 use Rattle.pr_function_laws.proofs.OpenedProcesses.OpenedLemmas.{control-made}
 use Rattle.pr_function_laws.specs.Lifted.{HasControl}
 use Rattle.pr_function_laws.specs.ListedEvents.{IsStillWhileOld}
-use Rattle.pr_function_laws.specs.Opened.{IsFunctionRun, WasNotInterrupted, functions_at, is_opened}
+use Rattle.pr_function_laws.specs.ReachedRuns.{IsReachedFunctionRun}
+use Rattle.pr_function_laws.specs.Opened.{WasNotInterrupted, functions_at, is_opened}
 use Rattle.pr_function_laws.specs.Runs.{functions_after, functions_on}
 
 -- Wherever truss has come to, until it is interrupted, it counts just the stops that are left of each process and stood
@@ -130,8 +130,7 @@ left-frozen flags old n p some (some_left w) = let waits = w.waits in waits.froz
 
 -- ---- along a history
 
-module _ (n k : ℕ) (o : Options) (s : TracedState) (h : List Entry) (run : IsFunctionRun n k o s h)
-    (reached : IsReached s) (bytes : HasBytes h) where
+module _ (n k : ℕ) (o : Options) (s : TracedState) (h : List Entry) (run : IsReachedFunctionRun n k o s h) where
   abbrev Counted : List Entry → Type 0
   Counted front = Kept (CountsSo (state_after s front)) (functions_at k o front)
 
@@ -145,11 +144,11 @@ module _ (n k : ℕ) (o : Options) (s : TracedState) (h : List Entry) (run : IsF
 
     goes : Goes (Unit {0}) k o t now
     goes =
-        before-goes n k o s h run front (e ∷ later) is calm (Unit {0}) (λ r. reached)
-        (λ r. bytes-front front (e ∷ later) (subst HasBytes is bytes))
+        before-goes n k o s h run.of front (e ∷ later) is calm (Unit {0}) (λ r. run.reached)
+        (λ r. bytes-front front (e ∷ later) (subst HasBytes is run.bytes))
 
     legal : IsLegalEntry n now e
-    legal = fronts.legal n k o s h run front e later is calm
+    legal = fronts.legal n k o s h run.of front e later is calm
 
     others-counted : exchange_of k e ≡ None → Kept (CountsSo (after now e)) t
     others-counted none =
@@ -175,15 +174,15 @@ module _ (n k : ℕ) (o : Options) (s : TracedState) (h : List Entry) (run : IsF
         subst (λ (u : TracedState). Kept (CountsSo u) (functions_on t (Some x))) it.later
         (subst (λ (r : Reply). Kept (CountsSo it.answer.state) (fed_functions t r)) it.replied
         (call-counts n k now g.lawful x.call it.answer it.is over t g.kept (g.reached tt) w
-        (fronts.has n k o s h run front e later is calm)
-        (fronts.makes-next n k o s h run front e later is calm x mine)
+        (fronts.has n k o s h run.of front e later is calm)
+        (fronts.makes-next n k o s h run.of front e later is calm x mine)
         (λ broken. calm-answer x quiet (ap answer_of (sym it.replied) ∙ broken))))
 
     entry-counted : ((x : Exchange) → exchange_of k e ≡ Some x → WasNotInterrupted x) → Counted (front ++ e ∷ [])
     entry-counted quiet =
         subst (λ (u : TracedState). Kept (CountsSo u) (functions_at k o (front ++ e ∷ [])))
-        (sym (fronts.next-state n k o s h run front e later is calm))
-        (subst (Kept (CountsSo (after now e))) (sym (fronts.pushed n k o s h run front e later is calm))
+        (sym (fronts.next-state n k o s h run.of front e later is calm))
+        (subst (Kept (CountsSo (after now e))) (sym (fronts.pushed n k o s h run.of front e later is calm))
         (by (exchange_of k e) refl))
       where
         by : (x : Option Exchange) → exchange_of k e ≡ x → Kept (CountsSo (after now e)) (functions_on t x)
@@ -210,7 +209,7 @@ module _ (n k : ℕ) (o : Options) (s : TracedState) (h : List Entry) (run : IsF
   counted-at front later is calm =
       walk front [] later is calm
       (subst (λ xs. Kept (CountsSo s) (functions_after (first_truss o) xs)) (sym (no-exchanges k))
-      (first-kept (CountsSo s) o run.follows_none))
+      (first-kept (CountsSo s) o run.of.follows_none))
 
   pub still-while-old : (pid : ℕ) → IsStillWhileOld k o s h pid
   still-while-old pid = record {

@@ -79,6 +79,7 @@ use Rattle.pr_function_laws.proofs.Stepping.StretchLemmas.{no-agent}
 use Rattle.pr_function_laws.specs.Lifted.{GoesElsewhere, HasControl, IsAtStopAtBreakpoint, TellsOfFault, ReadsOnlyLast, StepsNoCall}
 use Rattle.pr_function_laws.specs.OneEvent.{HasOneEventAtMost, is_looked_at, unmet}
 use Rattle.pr_function_laws.specs.Opened.{OwnsAndTraces, IsFunctionRun, WasNotInterrupted, LiftsForOneAlone, ReadsBreakpoint, TracesAll, functions_at, is_opened}
+use Rattle.pr_function_laws.specs.ReachedRuns.{IsReachedFunctionRun}
 use Rattle.pr_function_laws.specs.Runs.{MakesFunctionCalls, functions_after}
 use Rattle.pr_function_laws.specs.Stretches.{OthersOnlyStop}
 use Rattle.pr_function_laws.proofs.Marks.KeptPlaces.{AtStage, Kept, apart-at, first-kept, looks, Position, rests, runs, to_read}
@@ -598,16 +599,31 @@ module _ (n k : ℕ) (o : Options) (s : TracedState) (h : List Entry) (run : IsF
           history-goes Reached n k o before (first_truss o) s run.has (first-goes Reached reached) legal-before bytes
           (calls-front (first_truss o) (exchanges k before) (exchanges k later) calls-both) calm
 
-  -- ---- the events of what is opened
+  -- truss has its files of each that it opened, alone, and traces all of it
+  pub record HoldsUnbroken : Type 0 where
+    pub each : (before later : List Entry) (place : ℕ) → h ≡ before ++ later
+        → All WasNotInterrupted (exchanges k before) → place < length (functions_at k o before).traced
+        → is_opened (functions_at k o before).stage place ≡ true
+        → OwnsAndTraces k o (functions_at k o before) place (state_after s before)
 
-  module _ (reached : IsReached s) (bytes : HasBytes h) (before later : List Entry) (is : h ≡ before ++ later)
-      (calm : All WasNotInterrupted (exchanges k before)) (place : ℕ) (p : TracedProcess)
+  pub holds-opened : HoldsUnbroken
+  holds-opened = record {
+    each = λ before later place is calm within opened.
+        goes-opened ⊥ k o (functions_at k o before) (state_after s before)
+        (before-goes before later is calm ⊥ (λ none. absurd none) (λ none. absurd none)) place within opened;
+  }
+
+-- ---- the events of what is opened
+
+module _ (n k : ℕ) (o : Options) (s : TracedState) (h : List Entry) (run : IsReachedFunctionRun n k o s h) where
+  module _ (before later : List Entry) (is : h ≡ before ++ later) (calm : All WasNotInterrupted (exchanges k before))
+      (place : ℕ) (p : TracedProcess)
       (live : live_process (state_after s before).system (traced_at (functions_at k o before) place).pid ≡ Some p)
     where
       goes-there : Goes (Unit {0}) k o (functions_at k o before) (state_after s before)
       goes-there =
-          before-goes before later is calm (Unit {0}) (λ r. reached)
-          (λ r. bytes-front before later (subst HasBytes is bytes))
+          before-goes n k o s h run.of before later is calm (Unit {0}) (λ r. run.reached)
+          (λ r. bytes-front before later (subst HasBytes is run.bytes))
 
       pub few-there : place < length (functions_at k o before).traced
           → is_opened (functions_at k o before).stage place ≡ true
@@ -634,31 +650,16 @@ module _ (n k : ℕ) (o : Options) (s : TracedState) (h : List Entry) (run : IsF
         → live_process (state_after s before).system (traced_at (functions_at k o before) place).pid ≡ Some p
         → IsFrozen p
 
-  pub one-event-each : IsReached s → HasBytes h → HasOneEventUnbroken
-  one-event-each reached bytes = record {
+  pub one-event-each : HasOneEventUnbroken
+  one-event-each = record {
     few = λ before later place p is calm within opened rests_so new live.
-        few-there reached bytes before later is calm place p live within opened rests_so new;
-    still = λ before later place p is calm looked live.
-        still-there reached bytes before later is calm place p live looked;
-  }
-
-  -- and truss has its files of each that it opened, alone, and traces all of it
-  pub record HoldsUnbroken : Type 0 where
-    pub each : (before later : List Entry) (place : ℕ) → h ≡ before ++ later
-        → All WasNotInterrupted (exchanges k before) → place < length (functions_at k o before).traced
-        → is_opened (functions_at k o before).stage place ≡ true
-        → OwnsAndTraces k o (functions_at k o before) place (state_after s before)
-
-  pub holds-opened : HoldsUnbroken
-  holds-opened = record {
-    each = λ before later place is calm within opened.
-        goes-opened ⊥ k o (functions_at k o before) (state_after s before)
-        (before-goes before later is calm ⊥ (λ none. absurd none) (λ none. absurd none)) place within opened;
+        few-there before later is calm place p live within opened rests_so new;
+    still = λ before later place p is calm looked live. still-there before later is calm place p live looked;
   }
 
   -- ---- the stop at a breakpoint
 
-  module _ (reached : IsReached s) (bytes : HasBytes h) (before between later : List Entry) (e : Entry) (place id : ℕ)
+  module _ (before between later : List Entry) (e : Entry) (place id : ℕ)
       (is : h ≡ before ++ e ∷ (between ++ later)) (calm : All WasNotInterrupted (exchanges k before))
       (w : ReadsBreakpoint k (functions_at k o before) place id (state_after s before) e between) where
     abbrev t : TrussState
@@ -668,31 +669,33 @@ module _ (n k : ℕ) (o : Options) (s : TracedState) (h : List Entry) (run : IsF
     now = state_after s before
 
     bytes-before : HasBytes before
-    bytes-before = bytes-front before (e ∷ (between ++ later)) (subst HasBytes is bytes)
+    bytes-before = bytes-front before (e ∷ (between ++ later)) (subst HasBytes is run.bytes)
 
     goes : Goes (Unit {0}) k o t now
-    goes = before-goes before (e ∷ (between ++ later)) is calm (Unit {0}) (λ r. reached) (λ r. bytes-before)
+    goes =
+        before-goes n k o s h run.of before (e ∷ (between ++ later)) is calm (Unit {0}) (λ r. run.reached)
+        (λ r. bytes-before)
 
     legal-now : IsLegal n now (e ∷ (between ++ later))
-    legal-now = legal-rest n s before (e ∷ (between ++ later)) (subst (IsLegal n s) is run.legal)
+    legal-now = legal-rest n s before (e ∷ (between ++ later)) (subst (IsLegal n s) is run.of.legal)
 
     legal-here : IsLegal n now (e ∷ between)
     legal-here = (legal-now.0, legal-front n (after now e) between later legal-now.1)
 
     pub reached-now : IsReached now
     reached-now =
-        later-reached n s before reached bytes-before
-        (legal-before before (e ∷ (between ++ later)) is calm)
+        later-reached n s before run.reached bytes-before
+        (legal-before n k o s h run.of before (e ∷ (between ++ later)) is calm)
 
     makes-now : MakesFunctionCalls t (exchanges k (e ∷ between))
     makes-now =
         calls-front t (exchanges k (e ∷ between)) (exchanges k later)
         (subst (MakesFunctionCalls t) (exchanges-both k (e ∷ between) later)
         (calls-rest (first_truss o) (exchanges k before) (exchanges k (e ∷ (between ++ later)))
-        (calls-both before (e ∷ (between ++ later)) is calm)))
+        (calls-both n k o s h run.of before (e ∷ (between ++ later)) is calm)))
 
     has-now : has_functions t.options ≡ true
-    has-now = let g = goes in ap has_functions g.options ∙ run.has
+    has-now = let g = goes in ap has_functions g.options ∙ run.of.has
 
     opened : OwnsAndTraces k o t place now
     opened =
@@ -884,12 +887,12 @@ module _ (n k : ℕ) (o : Options) (s : TracedState) (h : List Entry) (run : IsF
     alone-goes =
         breakpoint-goes n k t place status-handle (traced_at t place).pid id now e between stop-there
 
-  pub lifts-alone : IsReached s → HasBytes h → LiftsForOneAlone k o s h
-  lifts-alone reached bytes = record {
+  pub lifts-alone : LiftsForOneAlone k o s h
+  lifts-alone = record {
     each = λ before between later e place id is calm w.
-        alone-again reached bytes before between later e place id is calm w;
+        alone-again before between later e place id is calm w;
     code = λ before between later e place id is calm w.
-        stop-code reached bytes before between later e place id is calm w;
+        stop-code before between later e place id is calm w;
   }
 
 pub ruleset opens = (lifts-alone)

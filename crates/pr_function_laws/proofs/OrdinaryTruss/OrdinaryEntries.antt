@@ -13,13 +13,14 @@ use Rattle.pr_truss.specs.declared.processes.Traced.{Traced}
 use Rattle.pr_truss_laws.specs.Exchanges.{Exchange, exchange_of, exchanges}
 use Rattle.pr_function_laws.proofs.ShownOnce.GoingOn.{Going, after-going}
 use Rattle.pr_function_laws.proofs.LeavingProcesses.LeavingLaws.{calm-exchanges}
-use Rattle.pr_function_laws.proofs.OpenedProcesses.OpenedLaws.{calls-front}
+use Rattle.pr_function_laws.proofs.OpenedProcesses.OpenedLaws.{bytes-front, calls-front}
 use Rattle.pr_function_laws.proofs.OrdinaryTruss.OrdinaryExchanges.{Turn, turn}
 use Rattle.pr_function_laws.proofs.OrdinaryTruss.OrdinaryFiles.{Follows, Halfway, MakesOwn, entry-calm, own-next, run-halfway, with_own}
 use Rattle.pr_function_laws.proofs.OrdinaryTruss.OrdinaryReplies.{at-ordinary, position-unmarked}
 use Rattle.pr_function_laws.proofs.OrdinaryTruss.OrdinaryShown.{functions_at-push}
 use Rattle.pr_function_laws.specs.Opened.{IsFunctionRun, functions_at}
 use Rattle.pr_function_laws.specs.Ordinary.{ordinary}
+use Rattle.pr_function_laws.specs.ReachedRuns.{IsReachedFunctionRun}
 use Rattle.pr_function_laws.specs.Runs.{MakesFunctionCalls}
 use Rattle.pr_function_laws.specs.Soon.{IsCalm}
 
@@ -59,6 +60,15 @@ front-run n k o s front later run = record {
   makes =
       calls-front (first_truss o) (exchanges k front) (exchanges k later)
       (subst (MakesFunctionCalls (first_truss o)) (exchanges-both k front later) run.makes);
+}
+
+-- so it is of one of which each state is reached
+pub front-reached : (n k : ℕ) (o : Options) (s : TracedState) (front later : List Entry)
+    → IsReachedFunctionRun n k o s (front ++ later) → IsReachedFunctionRun n k o s front
+front-reached n k o s front later run = record {
+  of = front-run n k o s front later run.of;
+  reached = run.reached;
+  bytes = bytes-front front later run.bytes;
 }
 
 module _ (n k : ℕ) (o : Options) (s : TracedState) (before later : List Entry) (e : Entry)

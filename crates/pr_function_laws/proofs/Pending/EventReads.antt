@@ -17,7 +17,6 @@ use Rattle.pr_model.specs.declared.events.Actor.TheVariants.{Controller, Lwp, Cl
 use Rattle.pr_model.specs.declared.events.Entry.{Entry}
 use Rattle.pr_reached.proofs.Together.ReachedLemmas.{later-reached}
 use Rattle.pr_reached.specs.ByteHistories.{HasBytes}
-use Rattle.pr_reached.specs.Reached.{IsReached}
 use Rattle.pr_report_laws.proofs.Files.WatchHistories.{cons-exchanges, exchanges-both}
 use Rattle.pr_report_laws.proofs.Machine.FrameLaws.{no-events}
 use Rattle.pr_report_laws.proofs.SeenChildren.Splits.{state_after-both}
@@ -49,6 +48,7 @@ use Rattle.pr_function_laws.proofs.OrdinaryTruss.OrdinaryStops.{FitsAside}
 use Rattle.pr_function_laws.specs.EventsRead.{EventsAreRead, HasWhole}
 use Rattle.pr_function_laws.specs.Lifted.{IsNoRead}
 use Rattle.pr_function_laws.specs.OneEvent.{is_looked_at}
+use Rattle.pr_function_laws.specs.ReachedRuns.{IsReachedFunctionRun}
 use Rattle.pr_function_laws.specs.Opened.{IsFunctionRun, WasNotInterrupted, functions_at}
 use Rattle.pr_function_laws.specs.OrdinaryRuns.{HasNoOldLeft}
 use Rattle.pr_function_laws.specs.ToldTurns.{IsReadAgain}
@@ -62,8 +62,8 @@ use Rattle.pr_function_laws.specs.Runs.{functions_on}
 -- Each event of a process that truss selects and that comes while it has opened the process whole is told by the next
 -- read of it.
 
-module _ (n k : ℕ) (o : Options) (s : TracedState) (h : List Entry) (run : IsFunctionRun n k o s h)
-    (reached : IsReached s) (bytes : HasBytes h) (front between later : List Entry) (e again : Entry) (place : ℕ)
+module _ (n k : ℕ) (o : Options) (s : TracedState) (h : List Entry) (run : IsReachedFunctionRun n k o s h)
+    (front between later : List Entry) (e again : Entry) (place : ℕ)
     (event : LwpEvent) (is : h ≡ front ++ e ∷ (between ++ again ∷ later)) (picks : Event → Bool)
     (fewer : (ev : Event) → is_selected o ev ≡ false → picks ev ≡ false) (whole : HasWhole k o front place)
     (came : picked picks (traced_at (functions_at k o front) place).pid (events_of (state_after s front) e)
@@ -78,10 +78,10 @@ module _ (n k : ℕ) (o : Options) (s : TracedState) (h : List Entry) (run : IsF
   now = state_after s front
 
   here : Goes ⊥ k o t now
-  here = fronts.here n k o s h run front e (between ++ again ∷ later) is whole.calm
+  here = fronts.here n k o s h run.of front e (between ++ again ∷ later) is whole.calm
 
   legal : IsLegalEntry n now e
-  legal = fronts.legal n k o s h run front e (between ++ again ∷ later) is whole.calm
+  legal = fronts.legal n k o s h run.of front e (between ++ again ∷ later) is whole.calm
 
   -- ---- the turn
 
@@ -102,7 +102,7 @@ module _ (n k : ℕ) (o : Options) (s : TracedState) (h : List Entry) (run : IsF
     away = elim (cases_Bool (is_looked_at t.stage place)) [
       | inl looked ↦ absurd (none-some turn
           (sym (frozen-turns now.system was.pid p live
-          (still-there n k o s h run reached bytes front (e ∷ (between ++ again ∷ later)) is whole.calm place p live
+          (still-there n k o s h run front (e ∷ (between ++ again ∷ later)) is whole.calm place p live
           looked) own) ∙ taken))
       | inr other ↦ other
     ]
@@ -114,24 +114,24 @@ module _ (n k : ℕ) (o : Options) (s : TracedState) (h : List Entry) (run : IsF
     left : LeavesEvent was.pid own picks event turn
     left =
         let g = here in
-        let holds = holds-opened n k o s h run in
+        let holds = holds-opened n k o s h run.of in
         let owns = holds.each front (e ∷ (between ++ again ∷ later)) place is whole.calm whole.within whole.opened in
         let all = owns.traces p live in
         let stops = all.stops in
-        let at = later-reached n s front reached
-        (bytes-front front (e ∷ (between ++ again ∷ later)) (subst HasBytes is bytes))
-        (legal-front n s front (e ∷ (between ++ again ∷ later)) (subst (IsLegal n s) is run.legal)) in
+        let at = later-reached n s front run.reached
+        (bytes-front front (e ∷ (between ++ again ∷ later)) (subst HasBytes is run.bytes))
+        (legal-front n s front (e ∷ (between ++ again ∷ later)) (subst (IsLegal n s) is run.of.legal)) in
         turn-leaves now was.pid own p turn g.lawful.system at.fit live taken stops.directs picks
         (fewer-picked p.control (is_selected o) picks fewer (all-picked o p.control all)) event
         (ap (λ (x : Entry). picked picks was.pid (events_of now x)) (sym actor_is) ∙ came)
-        (few-there n k o s h run reached bytes front (e ∷ (between ++ again ∷ later)) is whole.calm place p live
+        (few-there n k o s h run front (e ∷ (between ++ again ∷ later)) is whole.calm place p live
         whole.within whole.opened not-run whole.new)
 
     fits : FitsAside t.aside t.stage
     fits =
         let half =
         run-halfway n k o s front (e ∷ (between ++ again ∷ later))
-        (subst (λ (es : List Entry). IsFunctionRun n k o s es) is run) in
+        (subst (λ (es : List Entry). IsFunctionRun n k o s es) is run.of) in
         let f = half.follows in
         let fit = f.fit in fit.fits
 
@@ -150,12 +150,12 @@ module _ (n k : ℕ) (o : Options) (s : TracedState) (h : List Entry) (run : IsF
         let w = left in
         record {
           pends = subst (Kept (Pends was.pid was))
-              (sym (fronts.pushed n k o s h run front e (between ++ again ∷ later) is whole.calm
+              (sym (fronts.pushed n k o s h run.of front e (between ++ again ∷ later) is whole.calm
               ∙ ap (functions_on t) no-exchange))
               (first-pends (IsSo ⊥ k t.options now) t g.kept place whole.within whole.new fits whole.opened
               (not-to-run t.stage place away));
           is = subst (λ (u : TracedState). IsPending k o was (On event) u)
-              (sym (fronts.next-state n k o s h run front e (between ++ again ∷ later) is whole.calm)) (record {
+              (sym (fronts.next-state n k o s h run.of front e (between ++ again ∷ later) is whole.calm)) (record {
                 holds = holds-goes k o now (after now e) None was.pid was.control was.status was.lstatus was.memory
                     (λ m held there own. f.handles m ∙ there)
                     (foreign-sets n k now g.lawful e.actor e.act legal f was.pid was.control holds.its) holds;
@@ -247,7 +247,7 @@ module _ (n k : ℕ) (o : Options) (s : TracedState) (h : List Entry) (run : IsF
       pending-with =
           let first = comes e.actor e.act refl legal in
           subst (λ (es : List Entry). Pending k o s was Both es) parts
-          (still-stands n k o s h run was Both
+          (still-stands n k o s h run.of was Both
           (λ p q alone both. (on-stays event p q alone both.0, stays p q alone both.1))
           (λ u pid own turn p q live took later_live both. (
             on-turns event u pid own turn p q live took later_live both.0,
@@ -292,24 +292,23 @@ module _ (n k : ℕ) (o : Options) (s : TracedState) (h : List Entry) (run : IsF
 
   pub tells-it : ReadsStatusOf k was.pid then again event
   tells-it =
-      tells n k o s h run reached bytes last later again last-at calm-all was (On event) pending exchange read.own
+      tells n k o s h run last later again last-at calm-all was (On event) pending exchange read.own
       read.reads process process-live event stands-there
 
   -- and no stop is left that stood before truss came
   pub old-gone : HasNoOldLeft k o was.pid last
   old-gone =
-      none-old n k o s h run reached bytes last later again last-at calm-all was (On event) pending exchange read.own
+      none-old n k o s h run last later again last-at calm-all was (On event) pending exchange read.own
       read.reads
 
-module _ (n k : ℕ) (o : Options) (s : TracedState) (h : List Entry) (run : IsFunctionRun n k o s h)
-    (reached : IsReached s) (bytes : HasBytes h) where
+module _ (n k : ℕ) (o : Options) (s : TracedState) (h : List Entry) (run : IsReachedFunctionRun n k o s h) where
   pub events-read : EventsAreRead k o s h
   events-read = record {
     each = λ front between later e again place event is c.
-        tells-it n k o s h run reached bytes front between later e again place event is (is_selected o) (λ ev off. off)
+        tells-it n k o s h run front between later e again place event is (is_selected o) (λ ev off. off)
         c.whole c.came c.exchange c.read;
     new = λ front between later e again place event is c.
-        old-gone n k o s h run reached bytes front between later e again place event is (is_selected o) (λ ev off. off)
+        old-gone n k o s h run front between later e again place event is (is_selected o) (λ ev off. off)
         c.whole c.came c.exchange c.read;
   }
 

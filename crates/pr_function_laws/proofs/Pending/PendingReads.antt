@@ -25,7 +25,6 @@ use Rattle.pr_model.specs.declared.handles.Held.{Held}
 use Rattle.pr_reached.proofs.RecordsInRange.EntryRanges.{records-range}
 use Rattle.pr_reached.proofs.Together.ReachedLemmas.{later-reached}
 use Rattle.pr_reached.specs.ByteHistories.{HasBytes}
-use Rattle.pr_reached.specs.Reached.{IsReached}
 use Rattle.pr_rec.specs.declared.lwps.LwpStatus.{LwpStatus}
 use Rattle.pr_report_laws.proofs.Machine.RecordLaws.{status-read}
 use Rattle.pr_report_laws.proofs.Machine.StoppedLaws.{frozen-first}
@@ -60,7 +59,8 @@ use Rattle.pr_function_laws.proofs.OpenedProcesses.OpenedLemmas.{Holds, IsFile}
 use Rattle.pr_function_laws.proofs.Pending.PendingPlaces.{IsSame, Pends}
 use Rattle.pr_function_laws.proofs.Pending.PendingWalk.{Pending}
 use Rattle.pr_function_laws.specs.OneEvent.{is_looked_at}
-use Rattle.pr_function_laws.specs.Opened.{IsFunctionRun, WasNotInterrupted, functions_at}
+use Rattle.pr_function_laws.specs.ReachedRuns.{IsReachedFunctionRun}
+use Rattle.pr_function_laws.specs.Opened.{WasNotInterrupted, functions_at}
 use Rattle.pr_function_laws.specs.OrdinaryRuns.{HasNoOldLeft}
 use Rattle.pr_num.specs.Limits.{read_limit}
 use Rattle.pr_model.specs.Replies.{number_of}
@@ -214,8 +214,8 @@ told-bytes _ l is = absurd (none-some l is)
 
 -- ---- the read of a process that was not read since
 
-module _ (n k : ℕ) (o : Options) (s : TracedState) (h : List Entry) (run : IsFunctionRun n k o s h)
-    (reached : IsReached s) (bytes : HasBytes h) (last later : List Entry) (again : Entry)
+module _ (n k : ℕ) (o : Options) (s : TracedState) (h : List Entry) (run : IsReachedFunctionRun n k o s h)
+    (last later : List Entry) (again : Entry)
     (at : h ≡ last ++ again ∷ later) (calm : All WasNotInterrupted (exchanges k last)) (was : Traced)
     (H : TracedProcess → Type 0) (pending : Pending k o s was H last) (x : Exchange)
     (own : exchange_of k again ≡ Some x) where
@@ -226,10 +226,10 @@ module _ (n k : ℕ) (o : Options) (s : TracedState) (h : List Entry) (run : IsF
   then = state_after s last
 
   pub there : Goes ⊥ k o u then
-  there = fronts.here n k o s h run last again later at calm
+  there = fronts.here n k o s h run.of last again later at calm
 
   legal-there : IsLegalEntry n then again
-  legal-there = fronts.legal n k o s h run last again later at calm
+  legal-there = fronts.legal n k o s h run.of last again later at calm
 
   pub files : Holds k o then None was.pid was.control was.status was.lstatus was.memory
   files = let is = pending.is in is.holds
@@ -251,14 +251,14 @@ module _ (n k : ℕ) (o : Options) (s : TracedState) (h : List Entry) (run : IsF
   module _ (reads : x.call ≡ read_record was.status) where
     reads-it : next_function_call_of u ≡ Some (read_record (Some status-number))
     reads-it =
-        fronts.makes-next n k o s h run last again later at calm x own
+        fronts.makes-next n k o s h run.of last again later at calm x own
         ∙ ap (λ (d : Call). let it : Option Call = Some d in it) (reads ∙ ap read_record status-is)
 
     pub stage : Reads u was.pid
     stage =
         status-stage u (held_by k was.pid 0 file.Status Read) refl
-        (reads-at n k o then u there (known-at n k o s h run last (again ∷ later) at calm)
-        (fronts.has n k o s h run last again later at calm) status-number (held_by k was.pid 0 file.Status Read)
+        (reads-at n k o then u there (known-at n k o s h run.of last (again ∷ later) at calm)
+        (fronts.has n k o s h run.of last again later at calm) status-number (held_by k was.pid 0 file.Status Read)
         file-there (ap read_handle_if reads-it))
 
     -- no stop is left that stood before truss came
@@ -275,7 +275,7 @@ module _ (n k : ℕ) (o : Options) (s : TracedState) (h : List Entry) (run : IsF
       frozen : IsFrozen process
       frozen =
           let r = stage in
-          still-there n k o s h run reached bytes last (again ∷ later) at calm r.place process
+          still-there n k o s h run last (again ∷ later) at calm r.place process
           (ap (live_process then.system) r.its ∙ live)
           (ap (λ (y : Stage). is_looked_at y r.place) r.at ∙ eq-eqb r.place r.place refl)
 
@@ -287,8 +287,9 @@ module _ (n k : ℕ) (o : Options) (s : TracedState) (h : List Entry) (run : IsF
       unfolding status_of
       sees =
           let g = there in
-          let reached_it = later-reached n s last reached (bytes-front last (again ∷ later) (subst HasBytes at bytes))
-          (legal-front n s last (again ∷ later) (subst (IsLegal n s) at run.legal)) in
+          let reached_it = later-reached n s last run.reached
+          (bytes-front last (again ∷ later) (subst HasBytes at run.bytes))
+          (legal-front n s last (again ∷ later) (subst (IsLegal n s) at run.of.legal)) in
           let records = records-range then.system g.lawful.system reached_it.in_range in
           let ranged = (records.processes was.pid process (found-live then.system was.pid process live).0).status in
           let call = its in

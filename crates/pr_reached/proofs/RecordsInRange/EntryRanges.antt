@@ -29,7 +29,7 @@ use Rattle.pr_model.specs.Records.{fd_entries_from, fd_entry_before, fd_entry_of
 use Rattle.pr_model.specs.State.{TracedProcess, TracedSystem, process_of}
 use Rattle.pr_reached.proofs.StatesInRange.CallRanges.{parent-below, parent-id, process-id}
 use Rattle.pr_reached.proofs.StatesInRange.ProcessRanges.{ProcessInRange, process-range}
-use Rattle.pr_reached.proofs.RecordsInRange.RecordRanges.{lstatus-of-range, lwpstatus-of-range, size-word, status-range, seen-word, shown-one}
+use Rattle.pr_reached.proofs.RecordsInRange.RecordRanges.{lstatus-of-range, lwpstatus-of-range, status-range, seen-word, shown-one}
 use Rattle.pr_reached.specs.AllRecords.{AreRecordsInRange}
 use Rattle.pr_reached.specs.InRange.{AreFilesInRange, IsAreaInRange, IsFileInRange, IsInRange, IsMappingInRange, IsShortName, IsProcessInRange, IsWordIf, IsSpaceInRange}
 

@@ -1,19 +1,14 @@
 use Rattle.std.proofs.Common.{ℕ, List}
 use Rattle.std.proofs.lemmas.List.Elements.{All-weaker}
-use Rattle.pr_lawful.proofs.LawfulStates.StartLemmas.{first-lawful}
-use Rattle.pr_lawful.specs.Starts.{IsStart}
-use Rattle.pr_model.specs.FirstState.{first_state}
 use Rattle.pr_model.specs.Lawful.{IsLawful}
 use Rattle.pr_model.specs.Legal.{IsLegal, state_after}
 use Rattle.pr_model.specs.State.{TracedProcess, TracedState, TracedSystem}
 use Rattle.pr_model.specs.declared.events.Entry.{Entry}
-use Rattle.pr_num.specs.Programs.{Program}
-use Rattle.pr_num.specs.declared.files.StoredFile.{StoredFile}
-use Rattle.pr_reached.proofs.StatesInRange.HistoryRanges.{first-state-range, history-range}
+use Rattle.pr_reached.proofs.StatesInRange.HistoryRanges.{history-range}
 use Rattle.pr_reached.proofs.RecordsInRange.EntryRanges.{seen-range}
 use Rattle.pr_reached.proofs.StatesInRange.ProcessRanges.{ProcessInRange, process-range}
 use Rattle.pr_reached.specs.ByteHistories.{HasBytes}
-use Rattle.pr_reached.specs.InRange.{IsInRange, IsMappingInRange, IsProcessInRange, IsStartInRange}
+use Rattle.pr_reached.specs.InRange.{IsInRange, IsMappingInRange, IsProcessInRange}
 use Rattle.pr_reached.specs.Mapped.{HasAPage, HasFewMappings, HaveAddressSpaces, HaveFewMappings}
 
 -- The processes of a system in range have few mappings, which are an address space, and so have those of each state
@@ -37,14 +32,6 @@ pub history-few : (n : ℕ) (s : TracedState) (h : List Entry) → IsLawful s �
 history-few n s h lawful ranged bytes legal =
     all-few (state_after s h).system (history-range n s h lawful ranged bytes legal)
 
-pub first-history-few : (n : ℕ) (programs : List Program) (files : List StoredFile) (spawns : List ℕ) (h : List Entry)
-    → IsStart programs files spawns → IsStartInRange programs files → HasBytes h
-    → IsLegal n (first_state programs files spawns) h
-    → HaveFewMappings (state_after (first_state programs files spawns) h).system
-first-history-few n programs files spawns h start ranged bytes legal =
-    history-few n (first_state programs files spawns) h (first-lawful programs files spawns start)
-    (first-state-range programs files spawns ranged) bytes legal
-
 -- ---- how they stand
 
 pub all-spaces : (s : TracedSystem) → IsInRange s → HaveAddressSpaces s
@@ -57,11 +44,3 @@ pub history-spaces : (n : ℕ) (s : TracedState) (h : List Entry) → IsLawful s
     → IsLegal n s h → HaveAddressSpaces (state_after s h).system
 history-spaces n s h lawful ranged bytes legal =
     all-spaces (state_after s h).system (history-range n s h lawful ranged bytes legal)
-
-pub first-history-spaces : (n : ℕ) (programs : List Program) (files : List StoredFile) (spawns : List ℕ)
-    (h : List Entry) → IsStart programs files spawns → IsStartInRange programs files → HasBytes h
-    → IsLegal n (first_state programs files spawns) h
-    → HaveAddressSpaces (state_after (first_state programs files spawns) h).system
-first-history-spaces n programs files spawns h start ranged bytes legal =
-    history-spaces n (first_state programs files spawns) h (first-lawful programs files spawns start)
-    (first-state-range programs files spawns ranged) bytes legal

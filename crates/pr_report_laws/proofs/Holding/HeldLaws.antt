@@ -7,13 +7,12 @@ use Rattle.pr_model.specs.State.{TracedState}
 use Rattle.pr_model.specs.declared.calls.Call.TheVariants.{Read}
 use Rattle.pr_model.specs.declared.calls.Reply.TheVariants.{Handle}
 use Rattle.pr_model.specs.declared.events.Entry.{Entry}
-use Rattle.pr_reached.specs.ByteHistories.{HasBytes}
-use Rattle.pr_reached.specs.Reached.{IsReached}
 use Rattle.pr_truss.specs.NextCalls.{call_of, next_call_of, open_control}
 use Rattle.pr_truss.specs.Trusses.{TrussState, first_truss}
 use Rattle.pr_truss.specs.declared.reports.Report.{Report}
 use Rattle.pr_truss.specs.declared.stages.Stage.TheVariants.{OpeningChildControl}
 use Rattle.pr_truss_laws.specs.Exchanges.{Exchange, exchange_of, truss_at}
+use Rattle.pr_report_laws.specs.ReachedRuns.{IsReachedTrussRun}
 use Rattle.pr_truss_laws.specs.Runs.{IsTrussRun}
 use Rattle.pr_report_laws.proofs.Files.FileSteps.{MakesNext}
 use Rattle.pr_report_laws.proofs.Files.WatchHistories.{run-next}
@@ -175,23 +174,21 @@ module _ (n k : ℕ) (o : Options) (pid : ℕ) (s : TracedState) (h : List Entry
 
 -- ---- the laws
 
-pub shown-while-held : (n k : ℕ) (o : Options) (pid : ℕ) (s : TracedState) (h : List Entry) → IsReached s
-    → IsTrussRun n k o s h → HasBytes h → IsLeftToTruss k o pid s h ⊎ IsNeverOpenedAsChild k o pid s h
-    → ShowsHeld k o pid s h
-shown-while-held n k o pid s h reached run bytes (inl left) =
-    shows-held n k o pid s h run (left-report n k o pid s h reached run bytes left)
-shown-while-held n k o pid s h reached run bytes (inr unopened) =
-    shows-held n k o pid s h run
-    (unfollowed-report n k o pid s h reached run bytes (never-followed n k o pid s h run unopened))
+pub shown-while-held : (n k : ℕ) (o : Options) (pid : ℕ) (s : TracedState) (h : List Entry)
+    → IsReachedTrussRun n k o s h → IsLeftToTruss k o pid s h ⊎ IsNeverOpenedAsChild k o pid s h → ShowsHeld k o pid s h
+shown-while-held n k o pid s h run (inl left) =
+    shows-held n k o pid s h run.of (left-report n k o pid s h run left)
+shown-while-held n k o pid s h run (inr unopened) =
+    shows-held n k o pid s h run.of
+    (unfollowed-report n k o pid s h run (never-followed n k o pid s h run.of unopened))
 
-pub read-while-held : (n k : ℕ) (o : Options) (pid : ℕ) (s : TracedState) (h : List Entry) → IsReached s
-    → IsTrussRun n k o s h → HasBytes h → IsLeftToTruss k o pid s h ⊎ IsNeverOpenedAsChild k o pid s h
-    → ReadsHeld k o pid s h
-read-while-held n k o pid s h reached run bytes (inl left) =
-    reads-held n k o pid s h run (lineage-reads n k o pid s h reached run bytes left)
-read-while-held n k o pid s h reached run bytes (inr unopened) =
-    reads-held n k o pid s h run
-    (unfollowed-reads n k o pid s h reached run bytes (never-followed n k o pid s h run unopened))
+pub read-while-held : (n k : ℕ) (o : Options) (pid : ℕ) (s : TracedState) (h : List Entry)
+    → IsReachedTrussRun n k o s h → IsLeftToTruss k o pid s h ⊎ IsNeverOpenedAsChild k o pid s h → ReadsHeld k o pid s h
+read-while-held n k o pid s h run (inl left) =
+    reads-held n k o pid s h run.of (lineage-reads n k o pid s h run left)
+read-while-held n k o pid s h run (inr unopened) =
+    reads-held n k o pid s h run.of
+    (unfollowed-reads n k o pid s h run (never-followed n k o pid s h run.of unopened))
 
 -- the memory of its events
 module _ (n k : ℕ) (o : Options) (pid : ℕ) (s : TracedState) (h : List Entry) (run : IsTrussRun n k o s h) where
@@ -231,28 +228,28 @@ module _ (n k : ℕ) (o : Options) (pid : ℕ) (s : TracedState) (h : List Entry
         stands-at from len earlier l text (w.each earlier later l text from len is asked);
   }
 
-pub moments-while-held : (n k : ℕ) (o : Options) (pid : ℕ) (s : TracedState) (h : List Entry) → IsReached s
-    → IsTrussRun n k o s h → HasBytes h → IsLeftToTruss k o pid s h ⊎ IsNeverOpenedAsChild k o pid s h
+pub moments-while-held : (n k : ℕ) (o : Options) (pid : ℕ) (s : TracedState) (h : List Entry)
+    → IsReachedTrussRun n k o s h → IsLeftToTruss k o pid s h ⊎ IsNeverOpenedAsChild k o pid s h
     → StandAtTheirEvents k o pid s h (truss_at k o h).reports
-moments-while-held n k o pid s h reached run bytes (inl left) =
-    stand-at n k o pid s h run (truss_at k o h).reports (lineage-memories n k o pid s h reached run bytes left)
-moments-while-held n k o pid s h reached run bytes (inr unopened) =
-    stand-at n k o pid s h run (truss_at k o h).reports
-    (unfollowed-memories n k o pid s h reached run bytes (never-followed n k o pid s h run unopened))
+moments-while-held n k o pid s h run (inl left) =
+    stand-at n k o pid s h run.of (truss_at k o h).reports (lineage-memories n k o pid s h run left)
+moments-while-held n k o pid s h run (inr unopened) =
+    stand-at n k o pid s h run.of (truss_at k o h).reports
+    (unfollowed-memories n k o pid s h run (never-followed n k o pid s h run.of unopened))
 
 -- its grip
-pub gripped-once : (n k : ℕ) (o : Options) (pid : ℕ) (s : TracedState) (h : List Entry) → IsReached s
-    → IsTrussRun n k o s h → HasBytes h → HasOneGrip k o pid s h
-gripped-once n k o pid s h reached run bytes =
-    let w : HasGrips k o pid s h = grips-held n k o pid s h reached run bytes in
+pub gripped-once : (n k : ℕ) (o : Options) (pid : ℕ) (s : TracedState) (h : List Entry)
+    → IsReachedTrussRun n k o s h → HasOneGrip k o pid s h
+gripped-once n k o pid s h run =
+    let w : HasGrips k o pid s h = grips-held n k o pid s h run in
     record {
       once = w.once;
       waits = w.waits;
       quiet = w.quiet;
       held = λ before grip later logged is g c.
-          w.watched before grip later is g ∙ ap (selected o pid) (came-is n k o pid s h run logged c);
+          w.watched before grip later is g ∙ ap (selected o pid) (came-is n k o pid s h run.of logged c);
       born = λ grip later logged is g left c.
-          w.born grip later is g left ∙ ap (selected o pid) (came-is n k o pid s h run logged c);
+          w.born grip later is g left ∙ ap (selected o pid) (came-is n k o pid s h run.of logged c);
     }
 
 -- the children of forks
@@ -284,10 +281,10 @@ module _ (n k : ℕ) (o : Options) (s : TracedState) (h : List Entry) (run : IsT
         (front-run n k o s before _ (subst (IsTrussRun n k o s) is run)) held) made);
   }
 
-pub cares-for-children : (n k : ℕ) (o : Options) (s : TracedState) (h : List Entry) → o.follow ≡ true → IsReached s
-    → IsTrussRun n k o s h → HasBytes h → next_call_of (truss_at k o h) ≡ None → CaresForChildren k o s h
-cares-for-children n k o s h follow reached run bytes finished =
-    cares n k o s h run (none-left n k o s h follow reached run bytes finished)
+pub cares-for-children : (n k : ℕ) (o : Options) (s : TracedState) (h : List Entry) → o.follow ≡ true
+    → IsReachedTrussRun n k o s h → next_call_of (truss_at k o h) ≡ None → CaresForChildren k o s h
+cares-for-children n k o s h follow run finished =
+    cares n k o s h run.of (none-left n k o s h follow run finished)
 
 pub lets-go-for-reason : (n k : ℕ) (o : Options) (pid : ℕ) (s : TracedState) (before : List Entry) (e : Entry)
     → IsTrussRun n k o s (before ++ e ∷ []) → HasHold k o pid s before → LetsGoIn k pid s before e

@@ -7,11 +7,9 @@ use Rattle.pr_model.specs.Events.{Logged}
 use Rattle.pr_model.specs.Legal.{after, state_after}
 use Rattle.pr_model.specs.State.{TracedProcess, TracedState, live_process}
 use Rattle.pr_model.specs.declared.events.Entry.{Entry}
-use Rattle.pr_reached.specs.ByteHistories.{HasBytes}
-use Rattle.pr_reached.specs.Reached.{IsReached}
 use Rattle.pr_truss.specs.Trusses.{TrussState, first_truss, traced_at}
 use Rattle.pr_truss_laws.specs.Exchanges.{exchange_of, exchanges, truss_after, truss_at}
-use Rattle.pr_truss_laws.specs.Runs.{IsTrussRun}
+use Rattle.pr_report_laws.specs.ReachedRuns.{IsReachedTrussRun}
 use Rattle.pr_report_laws.proofs.Files.WatchHistories.{first-reaches}
 use Rattle.pr_report_laws.proofs.Holding.HeldLaws.{never-followed}
 use Rattle.pr_report_laws.proofs.Holding.HoldEvents.{came-is}
@@ -95,23 +93,23 @@ module _ (n k : ℕ) (o : Options) (pid : ℕ) (p : TracedProcess) where
       (subst (λ (y : Tally). Placed (truss_after (fed_by_entry k t e) (exchanges k h)) y)
       (tally-next t s tally e h) later)
 
-born-stands : (n k : ℕ) (o : Options) (pid : ℕ) (s : TracedState) (h : List Entry) → IsReached s
-    → IsTrussRun n k o s h → HasBytes h → OpensAtBirth k o pid s h → StandsWithTruss k o pid s h
-born-stands n k o pid s h reached run bytes born = record {
+born-stands : (n k : ℕ) (o : Options) (pid : ℕ) (s : TracedState) (h : List Entry)
+    → IsReachedTrussRun n k o s h → OpensAtBirth k o pid s h → StandsWithTruss k o pid s h
+born-stands n k o pid s h run born = record {
   each = λ p held live.
-      let g = first-along (traces o) n k o pid s h (picks-traced o) reached run bytes born in
+      let g = first-along (traces o) n k o pid s h (picks-traced o) run born in
       let w =
-      placed-end n k o pid p h ⊥ (first_truss o) s (first_tally (traces o)) g (hold-watched n k o pid s h run held)
+      placed-end n k o pid p h ⊥ (first_truss o) s (first_tally (traces o)) g (hold-watched n k o pid s h run.of held)
       live in
-      let c = came n k o pid s h run in
+      let c = came n k o pid s h run.of in
       record {
         traced_so = w.traced_so;
         place = w.place;
         at = w.at;
         events = told_along (traces o) k pid (first_truss o) h;
         read =
-            are-read (traces o) n k pid h (first_truss o) s (first-reaches k o s run.lawful run.nothing_open)
-            run.legal run.makes;
+            are-read (traces o) n k pid h (first_truss o) s (first-reaches k o s run.of.lawful run.of.nothing_open)
+            run.of.legal run.of.makes;
         logged = c.logged;
         held = c.held;
         position =
@@ -121,17 +119,17 @@ born-stands n k o pid s h reached run bytes born = record {
               picks = traces o;
               came = traced o pid ls;
               told = told_along (traces o) k pid (first_truss o) h;
-            })) (came-is n k o pid s h run c.logged c.held) w.position;
+            })) (came-is n k o pid s h run.of c.logged c.held) w.position;
       };
 }
 
-pub stands-with-truss : (n k : ℕ) (o : Options) (pid : ℕ) (s : TracedState) (h : List Entry) → IsReached s
-    → IsTrussRun n k o s h → HasBytes h → IsLeftToTruss k o pid s h ⊎ IsNeverOpenedAsChild k o pid s h
+pub stands-with-truss : (n k : ℕ) (o : Options) (pid : ℕ) (s : TracedState) (h : List Entry)
+    → IsReachedTrussRun n k o s h → IsLeftToTruss k o pid s h ⊎ IsNeverOpenedAsChild k o pid s h
     → StandsWithTruss k o pid s h
-stands-with-truss n k o pid s h reached run bytes (inl left) =
-    born-stands n k o pid s h reached run bytes (births n k o pid s h reached run bytes left)
-stands-with-truss n k o pid s h reached run bytes (inr unopened) =
-    born-stands n k o pid s h reached run bytes
-    (unfollowed-births k o pid s h (never-followed n k o pid s h run unopened))
+stands-with-truss n k o pid s h run (inl left) =
+    born-stands n k o pid s h run (births n k o pid s h run left)
+stands-with-truss n k o pid s h run (inr unopened) =
+    born-stands n k o pid s h run
+    (unfollowed-births k o pid s h (never-followed n k o pid s h run.of unopened))
 
 pub ruleset positions = (stands-with-truss)

@@ -18,6 +18,7 @@ use Rattle.pr_truss.specs.declared.stages.OpeningStep.TheVariants.{AwaitStop}
 use Rattle.pr_truss.specs.declared.stages.Stage.TheVariants.{Opening, OpeningChild, OpeningChildControl}
 use Rattle.pr_truss_laws.proofs.Files.OwnLemmas.{first-owns}
 use Rattle.pr_truss_laws.specs.Exchanges.{Exchange, Makes, exchange_of, exchanges, truss_after}
+use Rattle.pr_report_laws.specs.ReachedRuns.{IsReachedTrussRun}
 use Rattle.pr_truss_laws.specs.Runs.{IsTrussRun}
 use Rattle.pr_reached.proofs.StatesInRange.HistoryRanges.{history-range}
 use Rattle.pr_reached.proofs.RecordsInRange.RecordRanges.{lstatus-of-range, status-range}
@@ -375,14 +376,14 @@ first-holds picks n k o pid s h within reached run =
 
 -- so it is along a whole history
 pub first-along : (picks : Event → Bool) (n k : ℕ) (o : Options) (pid : ℕ) (s : TracedState) (h : List Entry)
-    → PicksTraced o picks → IsReached s → IsTrussRun n k o s h → HasBytes h → OpensAtBirth k o pid s h
+    → PicksTraced o picks → IsReachedTrussRun n k o s h → OpensAtBirth k o pid s h
     → Along ⊥ n k o pid (first_truss o) s (first_tally picks) h
-first-along picks n k o pid s h within reached run bytes births = record {
-  holds = first-holds picks n k o pid s h within reached run;
-  legal = run.legal;
-  makes = run.makes;
-  range = reached.in_range;
-  bytes = bytes;
+first-along picks n k o pid s h within run births = record {
+  holds = first-holds picks n k o pid s h within run.reached run.of;
+  legal = run.of.legal;
+  makes = run.of.makes;
+  range = run.reached.in_range;
+  bytes = run.bytes;
   births =
       record {
         child = λ before later e x handle parent p is own stage reply live. births.child before later e x

@@ -5,11 +5,9 @@ use Rattle.pr_line.specs.declared.options.Options.{Options}
 use Rattle.pr_model.specs.Legal.{after}
 use Rattle.pr_model.specs.State.{TracedState}
 use Rattle.pr_model.specs.declared.events.Entry.{Entry}
-use Rattle.pr_reached.specs.ByteHistories.{HasBytes}
-use Rattle.pr_reached.specs.Reached.{IsReached}
 use Rattle.pr_truss.specs.Trusses.{TrussState, first_truss}
 use Rattle.pr_truss_laws.specs.Exchanges.{Exchange, exchange_of, exchanges, truss_after}
-use Rattle.pr_truss_laws.specs.Runs.{IsTrussRun}
+use Rattle.pr_report_laws.specs.ReachedRuns.{IsReachedTrussRun}
 use Rattle.pr_report_laws.proofs.Invariant.EntrySteps.{EndsByKill}
 use Rattle.pr_report_laws.proofs.Invariant.HistoryLaw.{Along, OpensAtBirth, after-next, along-next, first-along, first-is, no-exchanges, told_along}
 use Rattle.pr_report_laws.proofs.Invariant.HistorySteps.{Holds, picked_of, read_of, tally_after}
@@ -66,10 +64,10 @@ shown-next K n k o pid t s base e h g =
     (along-next K n k o pid t s (shown_tally o pid t base) e h g)
 
 -- truss has shown nothing before its first call
-pub shown-first : (n k : ℕ) (o : Options) (pid : ℕ) (s : TracedState) (h : List Entry) → IsReached s
-    → IsTrussRun n k o s h → HasBytes h → OpensAtBirth k o pid s h
+pub shown-first : (n k : ℕ) (o : Options) (pid : ℕ) (s : TracedState) (h : List Entry)
+    → IsReachedTrussRun n k o s h → OpensAtBirth k o pid s h
     → Along ⊥ n k o pid (first_truss o) s (shown_tally o pid (first_truss o) []) h
-shown-first n k o pid s h reached run bytes births =
+shown-first n k o pid s h run births =
     let first = first-is o pid in
     subst (λ (xs : List LwpEvent). let y : Tally = record {
       picks = is_selected o;
@@ -77,7 +75,7 @@ shown-first n k o pid s h reached run bytes births =
       told = xs;
     } in Along ⊥ n k o pid (first_truss o) s y h)
     (sym first.nothing)
-    (first-along (is_selected o) n k o pid s h (selects-traced o) reached run bytes births)
+    (first-along (is_selected o) n k o pid s h (selects-traced o) run births)
 
 pub shown-along : (k : ℕ) (o : Options) (pid : ℕ) (t : TrussState) (h : List Entry) → t.options ≡ o
     → shown pid (truss_after t (exchanges k h)) ≡ shown pid t ++ told_along (is_selected o) k pid t h
@@ -98,11 +96,11 @@ shown-all-along k o pid h =
 
 -- ---- the law
 
-pub truss-reports : (n k : ℕ) (o : Options) (pid : ℕ) (s : TracedState) (h : List Entry) → IsReached s
-    → IsTrussRun n k o s h → HasBytes h → OpensAtBirth k o pid s h → IsReported k o pid s h
-truss-reports n k o pid s h reached run bytes births =
+pub truss-reports : (n k : ℕ) (o : Options) (pid : ℕ) (s : TracedState) (h : List Entry)
+    → IsReachedTrussRun n k o s h → OpensAtBirth k o pid s h → IsReported k o pid s h
+truss-reports n k o pid s h run births =
     let r : TellsAll (is_selected o) k o pid s h =
-    truss-told (is_selected o) n k o pid s h (selects-traced o) reached run bytes births in
+    truss-told (is_selected o) n k o pid s h (selects-traced o) run births in
     record {
       missing = r.missing;
       is = r.is ∙ ap (λ (xs : List LwpEvent). xs ++ r.missing) (sym (shown-all-along k o pid h));

@@ -11,12 +11,10 @@ use Rattle.pr_model.specs.declared.calls.File.TheVariants.{Lstatus, Status}
 use Rattle.pr_model.specs.declared.events.Actor.{Actor}
 use Rattle.pr_model.specs.declared.events.Actor.TheVariants.{Lwp}
 use Rattle.pr_model.specs.declared.events.Entry.{Entry}
-use Rattle.pr_reached.specs.ByteHistories.{HasBytes}
-use Rattle.pr_reached.specs.Reached.{IsReached}
 use Rattle.pr_truss.specs.Trusses.{TrussState, first_truss, traced_at}
 use Rattle.pr_truss_laws.proofs.Files.OwnLemmas.{Owns}
 use Rattle.pr_truss_laws.specs.Exchanges.{Exchange, exchange_in, exchange_of, exchanges, truss_after}
-use Rattle.pr_truss_laws.specs.Runs.{IsTrussRun}
+use Rattle.pr_report_laws.specs.ReachedRuns.{IsReachedTrussRun}
 use Rattle.pr_report_laws.proofs.Invariant.Tallies.{Tally, told_in}
 use Rattle.pr_report_laws.proofs.Invariant.AnsweredReads.{read-whole, tells_event}
 use Rattle.pr_report_laws.proofs.Invariant.EntrySteps.{EndsByKill, Lost}
@@ -323,10 +321,9 @@ history-unread picks n k o pid s h event g is =
     nothing e = cc
 
 pub truss-told : (picks : Event → Bool) (n k : ℕ) (o : Options) (pid : ℕ) (s : TracedState) (h : List Entry)
-    → PicksTraced o picks → IsReached s → IsTrussRun n k o s h → HasBytes h → OpensAtBirth k o pid s h
-    → TellsAll picks k o pid s h
-truss-told picks n k o pid s h within reached run bytes births =
-    let g = first-along picks n k o pid s h within reached run bytes births in
+    → PicksTraced o picks → IsReachedTrussRun n k o s h → OpensAtBirth k o pid s h → TellsAll picks k o pid s h
+truss-told picks n k o pid s h within run births =
+    let g = first-along picks n k o pid s h within run births in
     let r = history-told k o pid h ⊥ n (first_truss o) s (first_tally picks) g in
     record {
       missing = r.missing;

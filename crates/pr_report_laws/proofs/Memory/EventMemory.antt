@@ -29,8 +29,6 @@ use Rattle.pr_model.specs.declared.handles.Held.{Held}
 use Rattle.pr_num.specs.Limits.{read_limit}
 use Rattle.pr_num.specs.Spaces.{Space}
 use Rattle.pr_num.specs.declared.errnos.Errno.TheVariants.{Inval}
-use Rattle.pr_reached.specs.ByteHistories.{HasBytes}
-use Rattle.pr_reached.specs.Reached.{IsReached}
 use Rattle.pr_rec.specs.declared.lwps.LwpStatus.{LwpStatus}
 use Rattle.pr_truss.specs.Feeding.{fed, with_reply}
 use Rattle.pr_truss.specs.NextCalls.{next_call_of}
@@ -45,6 +43,7 @@ use Rattle.pr_truss_laws.proofs.Files.ClosesLemmas.{after-grown, first-fits}
 use Rattle.pr_truss_laws.proofs.Files.HeldLemmas.{Fits, Grown, grown-all}
 use Rattle.pr_truss_laws.proofs.Files.OwnLemmas.{Owns}
 use Rattle.pr_truss_laws.specs.Exchanges.{Exchange, exchange_of, exchanges, truss_after, truss_at}
+use Rattle.pr_report_laws.specs.ReachedRuns.{IsReachedTrussRun}
 use Rattle.pr_truss_laws.specs.Runs.{IsTrussRun}
 use Rattle.pr_report_laws.proofs.Invariant.AnsweredReads as answered
 use Rattle.pr_report_laws.proofs.Invariant.AnsweredReads.{Reads, next-reads}
@@ -388,37 +387,34 @@ module _ (n k : ℕ) (o : Options) (s : TracedState) (h : List Entry) (run : IsT
   event-memory = of-event memory-read-is
 
 -- where truss opens the process at its birth, if it opens it as the child of a fork
-born-memories : (n k : ℕ) (o : Options) (pid : ℕ) (s : TracedState) (h : List Entry) → IsReached s
-    → IsTrussRun n k o s h → HasBytes h → OpensAtBirth k o pid s h
-    → AreOfTheirEvents k o pid s h (truss_at k o h).reports
-born-memories n k o pid s h reached run bytes born =
+born-memories : (n k : ℕ) (o : Options) (pid : ℕ) (s : TracedState) (h : List Entry)
+    → IsReachedTrussRun n k o s h → OpensAtBirth k o pid s h → AreOfTheirEvents k o pid s h (truss_at k o h).reports
+born-memories n k o pid s h run born =
     record {
-      each = λ earlier later l text from len is asked. event-memory n k o s h run pid
-          (shown-first n k o pid s h reached run bytes born) earlier later l text from len is asked;
+      each = λ earlier later l text from len is asked. event-memory n k o s h run.of pid
+          (shown-first n k o pid s h run born) earlier later l text from len is asked;
     }
 
-pub lineage-memories : (n k : ℕ) (o : Options) (pid : ℕ) (s : TracedState) (h : List Entry) → IsReached s
-    → IsTrussRun n k o s h → HasBytes h → IsLeftToTruss k o pid s h
-    → AreOfTheirEvents k o pid s h (truss_at k o h).reports
-lineage-memories n k o pid s h reached run bytes left =
-    born-memories n k o pid s h reached run bytes (births n k o pid s h reached run bytes left)
+pub lineage-memories : (n k : ℕ) (o : Options) (pid : ℕ) (s : TracedState) (h : List Entry)
+    → IsReachedTrussRun n k o s h → IsLeftToTruss k o pid s h → AreOfTheirEvents k o pid s h (truss_at k o h).reports
+lineage-memories n k o pid s h run left =
+    born-memories n k o pid s h run (births n k o pid s h run left)
 
-pub left-memories : (n k : ℕ) (o : Options) (pid : ℕ) (s : TracedState) (h : List Entry) → IsReached s
-    → IsTrussRun n k o s h → HasBytes h → NamesNoChild o h → LeavesForks k o h
+pub left-memories : (n k : ℕ) (o : Options) (pid : ℕ) (s : TracedState) (h : List Entry)
+    → IsReachedTrussRun n k o s h → NamesNoChild o h → LeavesForks k o h
     → AreOfTheirEvents k o pid s h (truss_at k o h).reports
-left-memories n k o pid s h reached run bytes named forks =
-    lineage-memories n k o pid s h reached run bytes (all-left k o pid s h named forks)
+left-memories n k o pid s h run named forks =
+    lineage-memories n k o pid s h run (all-left k o pid s h named forks)
 
-pub unfollowed-memories : (n k : ℕ) (o : Options) (pid : ℕ) (s : TracedState) (h : List Entry) → IsReached s
-    → IsTrussRun n k o s h → HasBytes h → IsNeverFollowed k o pid h
-    → AreOfTheirEvents k o pid s h (truss_at k o h).reports
-unfollowed-memories n k o pid s h reached run bytes unfollowed =
-    born-memories n k o pid s h reached run bytes (unfollowed-births k o pid s h unfollowed)
+pub unfollowed-memories : (n k : ℕ) (o : Options) (pid : ℕ) (s : TracedState) (h : List Entry)
+    → IsReachedTrussRun n k o s h → IsNeverFollowed k o pid h → AreOfTheirEvents k o pid s h (truss_at k o h).reports
+unfollowed-memories n k o pid s h run unfollowed =
+    born-memories n k o pid s h run (unfollowed-births k o pid s h unfollowed)
 
-pub birth-memories : (n k : ℕ) (o : Options) (pid : ℕ) (s : TracedState) (h : List Entry) → IsReached s
-    → IsTrussRun n k o s h → HasBytes h → IsFollowedAtBirth k o pid s h
+pub birth-memories : (n k : ℕ) (o : Options) (pid : ℕ) (s : TracedState) (h : List Entry)
+    → IsReachedTrussRun n k o s h → IsFollowedAtBirth k o pid s h
     → AreOfTheirEvents k o pid s h (truss_at k o h).reports
-birth-memories n k o pid s h reached run bytes at =
-    born-memories n k o pid s h reached run bytes (opens-birth k o pid s h at)
+birth-memories n k o pid s h run at =
+    born-memories n k o pid s h run (opens-birth k o pid s h at)
 
 pub ruleset moments = (lineage-memories, left-memories, unfollowed-memories, birth-memories)

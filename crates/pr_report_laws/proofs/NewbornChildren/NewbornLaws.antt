@@ -8,13 +8,11 @@ use Rattle.pr_model.specs.Legal.{after, state_after}
 use Rattle.pr_model.specs.Replies.{handle_in}
 use Rattle.pr_model.specs.State.{TracedState}
 use Rattle.pr_model.specs.declared.events.Entry.{Entry}
-use Rattle.pr_reached.specs.ByteHistories.{HasBytes}
-use Rattle.pr_reached.specs.Reached.{IsReached}
 use Rattle.pr_truss.specs.Trusses.{first_truss}
 use Rattle.pr_truss.specs.declared.processes.Traced.{Traced}
 use Rattle.pr_truss_laws.specs.Exchanges.{Exchange, Makes, exchange_of, exchanges, truss_after, truss_at}
 use Rattle.pr_truss_laws.specs.Given.{reply_at}
-use Rattle.pr_truss_laws.specs.Runs.{IsTrussRun}
+use Rattle.pr_report_laws.specs.ReachedRuns.{IsReachedTrussRun}
 use Rattle.pr_report_laws.proofs.Watching.BeginLaws.{followed-watches}
 use Rattle.pr_report_laws.proofs.Watching.BeginsOnlyLaws.{stays-off}
 use Rattle.pr_report_laws.proofs.Watching.ChildPlaces.{Placed, child-placed, push-same}
@@ -50,9 +48,8 @@ silent o pid (e ∷ h) s all =
 
 -- ---- the law
 
-module _ (n k : ℕ) (o : Options) (pid : ℕ) (s : TracedState) (before : List Entry) (e : Entry) (reached : IsReached s)
-    (run : IsTrussRun n k o s (before ++ e ∷ [])) (bytes : HasBytes (before ++ e ∷ []))
-    (left : IsLeftToTruss k o pid s (before ++ e ∷ [])) where
+module _ (n k : ℕ) (o : Options) (pid : ℕ) (s : TracedState) (before : List Entry) (e : Entry)
+    (run : IsReachedTrussRun n k o s (before ++ e ∷ [])) (left : IsLeftToTruss k o pid s (before ++ e ∷ [])) where
   abbrev Line : ℕ → Type 0
   Line = Lineage k o pid s (before ++ e ∷ [])
 
@@ -74,24 +71,24 @@ module _ (n k : ℕ) (o : Options) (pid : ℕ) (s : TracedState) (before : List 
   rests : Rests Line k o (truss_at k o before) (state_after s before) before (e ∷ [])
   rests =
       rests-after Line before n k o (e ∷ []) [] (first_truss o) s
-      (first-going Line n k o s (before ++ e ∷ []) reached run) run.legal run.makes reached.in_range bytes
-      (line-left n k o pid s (before ++ e ∷ []) run left) first-rests
+      (first-going Line n k o s (before ++ e ∷ []) run.reached run.of) run.of.legal run.of.makes run.reached.in_range
+      run.bytes (line-left n k o pid s (before ++ e ∷ []) run.of left) first-rests
 
   module _ (off : watches (truss_at k o before) pid ≡ false) (followed : HasFollowed k pid (before ++ e ∷ [])) where
     on : watches (truss_at k o (before ++ e ∷ [])) pid ≡ true
-    on = followed-watches n k o pid s (before ++ e ∷ []) run followed
+    on = followed-watches n k o pid s (before ++ e ∷ []) run.of followed
 
     earlier-makes : Makes (truss_after (first_truss o) followed.earlier) followed.opening
     earlier-makes =
         makes-front (truss_after (first_truss o) followed.earlier) followed.opening (followed.last ∷ [])
         (makes-rest (first_truss o) followed.earlier (followed.opening ++ followed.last ∷ [])
-        (subst (Makes (first_truss o)) followed.is run.makes))
+        (subst (Makes (first_truss o)) followed.is run.of.makes))
 
     placed : (x : Exchange) → exchange_of k e ≡ Some x → Placed pid (first_truss o) followed.last (truss_at k o before)
     placed x its =
         let split : exchanges k before ≡ followed.earlier ++ followed.opening =
         push-same (exchanges k before) (followed.earlier ++ followed.opening) x followed.last
-        (sym (run-pushed n k o s before e run x its) ∙ followed.is
+        (sym (run-pushed n k o s before e run.of x its) ∙ followed.is
         ∙ sym (append_assoc followed.earlier followed.opening (followed.last ∷ []))) in
         subst (Placed pid (first_truss o) followed.last) (sym (ap (truss_after (first_truss o)) split
         ∙ after-append (first_truss o) followed.earlier followed.opening))
@@ -102,7 +99,7 @@ module _ (n k : ℕ) (o : Options) (pid : ℕ) (s : TracedState) (before : List 
     rested = by (exchange_of k e) refl
       where
         by : (x : Option Exchange) → exchange_of k e ≡ x → HasRested pid (before ++ e ∷ [])
-        by None its = absurd (stays-off n k o pid s before e run off on its)
+        by None its = absurd (stays-off n k o pid s before e run.of off on its)
         by (Some x) its =
             let w = placed x its in
             let f = w.1.1.1.1 in
@@ -118,7 +115,7 @@ module _ (n k : ℕ) (o : Options) (pid : ℕ) (s : TracedState) (before : List 
 
     -- and so by no controller
     pub left-unstarted : (by : ℕ) → WasSpawned by pid (before ++ e ∷ []) → ⊥
-    left-unstarted by spawned = not-both n pid s (before ++ e ∷ []) run.lawful run.legal by left-forked spawned
+    left-unstarted by spawned = not-both n pid s (before ++ e ∷ []) run.of.lawful run.of.legal by left-forked spawned
 
     -- no lwp of it has had a turn
     pub left-rests : All (IsNoTurnOf pid) (before ++ e ∷ [])
@@ -129,23 +126,23 @@ module _ (n k : ℕ) (o : Options) (pid : ℕ) (s : TracedState) (before : List 
     left-silent = silent o pid (before ++ e ∷ []) s left-rests
 
 -- the same where all children of forks are left to truss
-module _ (n k : ℕ) (o : Options) (pid : ℕ) (s : TracedState) (before : List Entry) (e : Entry) (reached : IsReached s)
-    (run : IsTrussRun n k o s (before ++ e ∷ [])) (bytes : HasBytes (before ++ e ∷ []))
+module _ (n k : ℕ) (o : Options) (pid : ℕ) (s : TracedState) (before : List Entry) (e : Entry)
+    (run : IsReachedTrussRun n k o s (before ++ e ∷ []))
     (named : NamesNoChild o (before ++ e ∷ [])) (forks : LeavesForks k o (before ++ e ∷ []))
     (off : watches (truss_at k o before) pid ≡ false) (followed : HasFollowed k pid (before ++ e ∷ [])) where
   its-left : IsLeftToTruss k o pid s (before ++ e ∷ [])
   its-left = all-left k o pid s (before ++ e ∷ []) named forks
 
   pub followed-forked : WasForked pid (before ++ e ∷ [])
-  followed-forked = left-forked n k o pid s before e reached run bytes its-left off followed
+  followed-forked = left-forked n k o pid s before e run its-left off followed
 
   pub followed-unstarted : (by : ℕ) → WasSpawned by pid (before ++ e ∷ []) → ⊥
-  followed-unstarted = left-unstarted n k o pid s before e reached run bytes its-left off followed
+  followed-unstarted = left-unstarted n k o pid s before e run its-left off followed
 
   pub followed-rests : All (IsNoTurnOf pid) (before ++ e ∷ [])
-  followed-rests = left-rests n k o pid s before e reached run bytes its-left off followed
+  followed-rests = left-rests n k o pid s before e run its-left off followed
 
   pub followed-silent : selected o pid (events_from s (before ++ e ∷ [])) ≡ []
-  followed-silent = left-silent n k o pid s before e reached run bytes its-left off followed
+  followed-silent = left-silent n k o pid s before e run its-left off followed
 
 pub ruleset newborns = (left-forked, left-rests, left-silent, followed-forked, followed-rests, followed-silent)

@@ -6,11 +6,9 @@ use Rattle.pr_line.specs.declared.options.Options.{Options}
 use Rattle.pr_model.specs.Legal.{IsLegal, after}
 use Rattle.pr_model.specs.State.{TracedState}
 use Rattle.pr_model.specs.declared.events.Entry.{Entry}
-use Rattle.pr_reached.specs.ByteHistories.{HasBytes}
-use Rattle.pr_reached.specs.Reached.{IsReached}
 use Rattle.pr_truss.specs.Trusses.{TrussState, first_truss}
 use Rattle.pr_truss_laws.specs.Exchanges.{Makes, exchange_of, exchanges}
-use Rattle.pr_truss_laws.specs.Runs.{IsTrussRun}
+use Rattle.pr_report_laws.specs.ReachedRuns.{IsReachedTrussRun}
 use Rattle.pr_report_laws.proofs.Files.FileSteps.{makes-next}
 use Rattle.pr_report_laws.proofs.Files.WatchHistories.{Reaches, entry-reaches, first-reaches}
 use Rattle.pr_report_laws.proofs.Invariant.HistoryLaw.{OpensAtBirth, told_along}
@@ -84,40 +82,40 @@ chosen-along k o pid t (e ∷ h) =
 
 -- ---- the law
 
-born-reads : (n k : ℕ) (o : Options) (pid : ℕ) (s : TracedState) (h : List Entry) → IsReached s
-    → IsTrussRun n k o s h → HasBytes h → OpensAtBirth k o pid s h → HasRead k o pid s h
-born-reads n k o pid s h reached run bytes born =
+born-reads : (n k : ℕ) (o : Options) (pid : ℕ) (s : TracedState) (h : List Entry)
+    → IsReachedTrussRun n k o s h → OpensAtBirth k o pid s h → HasRead k o pid s h
+born-reads n k o pid s h run born =
     let r : TellsAll (traces o) k o pid s h = truss-told (traces o) n k o pid s h
-    (picks-traced o) reached run bytes born in
+    (picks-traced o) run born in
     record {
       events = told_along (traces o) k pid (first_truss o) h;
       read =
-          are-read (traces o) n k pid h (first_truss o) s (first-reaches k o s run.lawful run.nothing_open) run.legal
-          run.makes;
+          are-read (traces o) n k pid h (first_truss o) s (first-reaches k o s run.of.lawful run.of.nothing_open)
+          run.of.legal run.of.makes;
       missing = r.missing;
       came = r.is;
       few = r.few;
       shows = shown-all-along k o pid h ∙ chosen-along k o pid (first_truss o) h;
     }
 
-pub lineage-reads : (n k : ℕ) (o : Options) (pid : ℕ) (s : TracedState) (h : List Entry) → IsReached s
-    → IsTrussRun n k o s h → HasBytes h → IsLeftToTruss k o pid s h → HasRead k o pid s h
-lineage-reads n k o pid s h reached run bytes left =
-    born-reads n k o pid s h reached run bytes (births n k o pid s h reached run bytes left)
+pub lineage-reads : (n k : ℕ) (o : Options) (pid : ℕ) (s : TracedState) (h : List Entry)
+    → IsReachedTrussRun n k o s h → IsLeftToTruss k o pid s h → HasRead k o pid s h
+lineage-reads n k o pid s h run left =
+    born-reads n k o pid s h run (births n k o pid s h run left)
 
-pub birth-reads : (n k : ℕ) (o : Options) (pid : ℕ) (s : TracedState) (h : List Entry) → IsReached s
-    → IsTrussRun n k o s h → HasBytes h → IsFollowedAtBirth k o pid s h → HasRead k o pid s h
-birth-reads n k o pid s h reached run bytes at =
-    born-reads n k o pid s h reached run bytes (opens-birth k o pid s h at)
+pub birth-reads : (n k : ℕ) (o : Options) (pid : ℕ) (s : TracedState) (h : List Entry)
+    → IsReachedTrussRun n k o s h → IsFollowedAtBirth k o pid s h → HasRead k o pid s h
+birth-reads n k o pid s h run at =
+    born-reads n k o pid s h run (opens-birth k o pid s h at)
 
-pub left-reads : (n k : ℕ) (o : Options) (pid : ℕ) (s : TracedState) (h : List Entry) → IsReached s
-    → IsTrussRun n k o s h → HasBytes h → NamesNoChild o h → LeavesForks k o h → HasRead k o pid s h
-left-reads n k o pid s h reached run bytes named forks =
-    lineage-reads n k o pid s h reached run bytes (all-left k o pid s h named forks)
+pub left-reads : (n k : ℕ) (o : Options) (pid : ℕ) (s : TracedState) (h : List Entry)
+    → IsReachedTrussRun n k o s h → NamesNoChild o h → LeavesForks k o h → HasRead k o pid s h
+left-reads n k o pid s h run named forks =
+    lineage-reads n k o pid s h run (all-left k o pid s h named forks)
 
-pub unfollowed-reads : (n k : ℕ) (o : Options) (pid : ℕ) (s : TracedState) (h : List Entry) → IsReached s
-    → IsTrussRun n k o s h → HasBytes h → IsNeverFollowed k o pid h → HasRead k o pid s h
-unfollowed-reads n k o pid s h reached run bytes unfollowed =
-    born-reads n k o pid s h reached run bytes (unfollowed-births k o pid s h unfollowed)
+pub unfollowed-reads : (n k : ℕ) (o : Options) (pid : ℕ) (s : TracedState) (h : List Entry)
+    → IsReachedTrussRun n k o s h → IsNeverFollowed k o pid h → HasRead k o pid s h
+unfollowed-reads n k o pid s h run unfollowed =
+    born-reads n k o pid s h run (unfollowed-births k o pid s h unfollowed)
 
 pub ruleset readings = (lineage-reads, birth-reads, left-reads, unfollowed-reads)

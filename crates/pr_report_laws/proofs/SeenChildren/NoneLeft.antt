@@ -1,7 +1,6 @@
 use Rattle.std.proofs.Common.{◌≡◌, ◌++◌, ◌⊎◌, ℕ, true, cond, Option, Some, None, List, [], ◌∷◌, length, refl, sym, subst, ap, ◌∙◌, append_assoc, arith, inl, inr}
 use Rattle.std.proofs.lemmas.Bool.{false≢true}
 use Rattle.std.proofs.lemmas.List.{append_cancel_left, length-append}
-use Rattle.std.proofs.lemmas.List.Elements.{All-cons, All-head, All-nil, All-tail}
 use Rattle.std.proofs.lemmas.Option.{none-some}
 use Rattle.std.specs.List.{cons_option}
 use Rattle.pr_api.specs.Entries.{turn_entry}
@@ -13,8 +12,6 @@ use Rattle.pr_model.specs.declared.calls.File.{File}
 use Rattle.pr_model.specs.declared.calls.File.TheVariants.{Lstatus, Status}
 use Rattle.pr_model.specs.declared.events.Entry.{Entry}
 use Rattle.pr_model.specs.declared.events.Turned.{Turned}
-use Rattle.pr_reached.specs.ByteHistories.{HasBytes, IsEntryOfBytes}
-use Rattle.pr_reached.specs.Reached.{IsReached}
 use Rattle.pr_truss.specs.Feeding.{fed}
 use Rattle.pr_truss.specs.NextCalls.{next_call_of}
 use Rattle.pr_truss.specs.Trusses.{TrussState, first_truss}
@@ -23,7 +20,7 @@ use Rattle.pr_truss.specs.declared.reports.Report.TheVariants.{CannotTrace}
 use Rattle.pr_truss_laws.proofs.Files.ClosesLemmas.{after-grown}
 use Rattle.pr_truss_laws.proofs.Files.HeldLemmas.{Grown}
 use Rattle.pr_truss_laws.specs.Exchanges.{Exchange, exchange_of, exchanges, truss_after, truss_at}
-use Rattle.pr_truss_laws.specs.Runs.{IsTrussRun}
+use Rattle.pr_report_laws.specs.ReachedRuns.{IsReachedTrussRun}
 use Rattle.pr_report_laws.proofs.Files.WatchHistories.{Reaches, after-append, cons-exchanges, exchanges-both, run-reaches}
 use Rattle.pr_report_laws.proofs.Invariant.HistoryLaw.{OpensAtBirth, told_along, watched-next}
 use Rattle.pr_report_laws.proofs.Invariant.HistorySteps.{picked_of, read_of}
@@ -35,6 +32,7 @@ use Rattle.pr_report_laws.proofs.SeenChildren.Splits.{Compares, WasTold, ahead, 
 use Rattle.pr_report_laws.proofs.Machine.TracedPoints.{picks-traced}
 use Rattle.pr_report_laws.proofs.UnopenedChildren.Births.{births, unfollowed-births}
 use Rattle.pr_report_laws.proofs.Watching.BeginLaws.{finished-watches-none}
+use Rattle.pr_report_laws.proofs.Watching.HistoryParts.{front-reached}
 use Rattle.pr_report_laws.specs.Attachments.{ReadsFile}
 use Rattle.pr_report_laws.specs.Births.{IsNeverFollowed, child_made}
 use Rattle.pr_report_laws.specs.Lineages.{IsLeftToTruss}
@@ -48,12 +46,6 @@ use Rattle.pr_report_laws.specs.Watching.{events_watched, fed_by_entry, watches}
 -- No child is left of a fork that came while truss watched its parent, once truss has finished.
 
 -- ---- the history up to a place
-
-bytes-before : (xs ys : List Entry) → HasBytes (xs ++ ys) → HasBytes xs
-bytes-before [] ys all = All-nil IsEntryOfBytes
-bytes-before (x ∷ xs) ys all =
-    All-cons IsEntryOfBytes x xs (All-head IsEntryOfBytes x (xs ++ ys) all)
-    (bytes-before xs ys (All-tail IsEntryOfBytes x (xs ++ ys) all))
 
 born-before : (k : ℕ) (o : Options) (pid : ℕ) (s : TracedState) (xs ys : List Entry) → OpensAtBirth k o pid s (xs ++ ys)
     → OpensAtBirth k o pid s xs
@@ -70,9 +62,7 @@ few-missing k o pid s h missing (inl none) = inl (ap (λ (xs : List LwpEvent). l
 few-missing k o pid s h missing (inr m) = inr (ap (λ (xs : List LwpEvent). length xs) m.one)
 
 module _ (n k : ℕ) (o : Options) (parent id child : ℕ) (turned : Turned) (s : TracedState) (before later : List Entry)
-    (follow : o.follow ≡ true) (reached : IsReached s)
-    (run : IsTrussRun n k o s (before ++ turn_entry parent id turned ∷ later))
-    (bytes : HasBytes (before ++ turn_entry parent id turned ∷ later))
+    (follow : o.follow ≡ true) (run : IsReachedTrussRun n k o s (before ++ turn_entry parent id turned ∷ later))
     (born : OpensAtBirth k o parent s (before ++ turn_entry parent id turned ∷ later))
     (on : watches (truss_at k o before) parent ≡ true) (made : child_made turned.did ≡ Some child)
     (finished : next_call_of (truss_at k o (before ++ turn_entry parent id turned ∷ later)) ≡ None) where
@@ -92,24 +82,23 @@ module _ (n k : ℕ) (o : Options) (parent id child : ℕ) (turned : Turned) (s 
   left_then = after (state_after s before) (turn_entry parent id turned)
 
   reaches : Reaches k then found
-  reaches = run-reaches n k o s before (run-before n k o s before (fork ∷ later) run)
+  reaches = run-reaches n k o s before (run-before n k o s before (fork ∷ later) run.of)
 
   logs : ForksTraced o parent child then found fork
   logs =
       let r = reaches in
       forks-traced n o parent id child turned then found follow r.lawful
-      (legal-rest n s before (fork ∷ later) run.legal).0 on made
+      (legal-rest n s before (fork ∷ later) run.of.legal).0 on made
 
   event : LwpEvent
   event = logs.event
 
   whole : TellsAll (traces o) k o parent s h
-  whole = truss-told (traces o) n k o parent s h (picks-traced o) reached run bytes born
+  whole = truss-told (traces o) n k o parent s h (picks-traced o) run born
 
   front : TellsAll (traces o) k o parent s before
   front =
-      truss-told (traces o) n k o parent s before (picks-traced o) reached
-      (run-before n k o s before (fork ∷ later) run) (bytes-before before (fork ∷ later) bytes)
+      truss-told (traces o) n k o parent s before (picks-traced o) (front-reached n k o s before (fork ∷ later) run)
       (born-before k o parent s before (fork ∷ later) born)
 
   -- ---- what came and was told from the fork on
@@ -185,7 +174,7 @@ module _ (n k : ℕ) (o : Options) (parent id child : ℕ) (turned : Turned) (s 
 
     done : IsDone child base (truss_at k o h).reports (exchanges k w.later)
     done =
-        read-done n k o s h past (exchanges k w.later) x child follow run.legal run.makes all-split finished reads
+        read-done n k o s h past (exchanges k w.later) x child follow run.of.legal run.of.makes all-split finished reads
 
     grown : Grown then.reports base
     grown =
@@ -345,18 +334,17 @@ module _ (n k : ℕ) (o : Options) (parent id child : ℕ) (turned : Turned) (s 
         | inr missed ↦ missed-seen missed.0 missed.1
       ]
 
-born : (n k : ℕ) (o : Options) (pid : ℕ) (s : TracedState) (h : List Entry) → IsReached s → IsTrussRun n k o s h
-    → HasBytes h → IsLeftToTruss k o pid s h ⊎ IsNeverFollowed k o pid h → OpensAtBirth k o pid s h
-born n k o pid s h reached run bytes (inl left) = births n k o pid s h reached run bytes left
-born n k o pid s h reached run bytes (inr unfollowed) = unfollowed-births k o pid s h unfollowed
+born : (n k : ℕ) (o : Options) (pid : ℕ) (s : TracedState) (h : List Entry) → IsReachedTrussRun n k o s h
+    → IsLeftToTruss k o pid s h ⊎ IsNeverFollowed k o pid h → OpensAtBirth k o pid s h
+born n k o pid s h run (inl left) = births n k o pid s h run left
+born n k o pid s h run (inr unfollowed) = unfollowed-births k o pid s h unfollowed
 
-pub none-left : (n k : ℕ) (o : Options) (s : TracedState) (h : List Entry) → o.follow ≡ true → IsReached s
-    → IsTrussRun n k o s h → HasBytes h → next_call_of (truss_at k o h) ≡ None → LeavesNoChild k o s h
-none-left n k o s h follow reached run bytes finished = record {
+pub none-left : (n k : ℕ) (o : Options) (s : TracedState) (h : List Entry) → o.follow ≡ true
+    → IsReachedTrussRun n k o s h → next_call_of (truss_at k o h) ≡ None → LeavesNoChild k o s h
+none-left n k o s h follow run finished = record {
   each = λ before later parent id child turned is of on made.
-      seen-to n k o parent id child turned s before later follow reached
-      (subst (IsTrussRun n k o s) is run) (subst HasBytes is bytes)
-      (subst (OpensAtBirth k o parent s) is (born n k o parent s h reached run bytes of)) on made
+      seen-to n k o parent id child turned s before later follow (subst (IsReachedTrussRun n k o s) is run)
+      (subst (OpensAtBirth k o parent s) is (born n k o parent s h run of)) on made
       (ap (λ (es : List Entry). next_call_of (truss_at k o es)) (sym is) ∙ finished);
 }
 

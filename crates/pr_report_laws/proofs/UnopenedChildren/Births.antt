@@ -36,6 +36,7 @@ use Rattle.pr_truss.specs.declared.stages.Stage.TheVariants.{Spawning, OpeningCo
 use Rattle.pr_truss_laws.proofs.Files.HeldLemmas.{Fits}
 use Rattle.pr_truss_laws.proofs.Files.OwnLemmas.{Owns}
 use Rattle.pr_truss_laws.specs.Exchanges.{Exchange, Makes, exchange_in, exchange_of, exchanges, truss_after, truss_at}
+use Rattle.pr_report_laws.specs.ReachedRuns.{IsReachedTrussRun}
 use Rattle.pr_truss_laws.specs.Runs.{IsTrussRun}
 use Rattle.pr_report_laws.proofs.UnopenedChildren.Claims.{Claims, KeepsChildren, IsFree, IsSet, Names, claim_of, opened, stands, watched}
 use Rattle.pr_report_laws.proofs.UnopenedChildren.Claims as claims
@@ -476,23 +477,23 @@ module _ (n k : ℕ) (o : Options) (pid : ℕ) (s : TracedState) (h : List Entry
 
 -- Where nobody got hold of a process before truss, nor of those that it descends from, truss opens it at its birth, if
 -- it opens it as the child of a fork.
-pub births : (n k : ℕ) (o : Options) (pid : ℕ) (s : TracedState) (h : List Entry) → IsReached s
-    → IsTrussRun n k o s h → HasBytes h → IsLeftToTruss k o pid s h → OpensAtBirth k o pid s h
-births n k o pid s h reached run bytes left =
+pub births : (n k : ℕ) (o : Options) (pid : ℕ) (s : TracedState) (h : List Entry)
+    → IsReachedTrussRun n k o s h → IsLeftToTruss k o pid s h → OpensAtBirth k o pid s h
+births n k o pid s h run left =
     let Line : ℕ → Type 0 = Lineage k o pid s h in
     let b =
-    history-births Line n k o h (first_truss o) s (first-going Line n k o s h reached run) run.legal run.makes
-    reached.in_range bytes (line-left n k o pid s h run left) pid itself in
+    history-births Line n k o h (first_truss o) s (first-going Line n k o s h run.reached run.of) run.of.legal
+    run.of.makes run.reached.in_range run.bytes (line-left n k o pid s h run.of left) pid itself in
     record {
       child = λ before later e x handle parent p is own stage given live. b.child before later e x handle
           parent p is own stage given live;
     }
 
 -- Then truss has shown of the process exactly the selected events that came while it watched the process.
-pub left-report : (n k : ℕ) (o : Options) (pid : ℕ) (s : TracedState) (h : List Entry) → IsReached s
-    → IsTrussRun n k o s h → HasBytes h → IsLeftToTruss k o pid s h → IsReported k o pid s h
-left-report n k o pid s h reached run bytes left =
-    truss-reports n k o pid s h reached run bytes (births n k o pid s h reached run bytes left)
+pub left-report : (n k : ℕ) (o : Options) (pid : ℕ) (s : TracedState) (h : List Entry)
+    → IsReachedTrussRun n k o s h → IsLeftToTruss k o pid s h → IsReported k o pid s h
+left-report n k o pid s h run left =
+    truss-reports n k o pid s h run (births n k o pid s h run left)
 
 -- Where fork makes none of the processes that the options name, and no other controller opens a child of a fork for
 -- writing before truss does, each process is left to truss.
@@ -536,25 +537,25 @@ module _ (k : ℕ) (o : Options) (pid : ℕ) (s : TracedState) (h : List Entry) 
         taken-not follow child parent opened taken w w.who;
   }
 
-pub births-report : (n k : ℕ) (o : Options) (pid : ℕ) (s : TracedState) (h : List Entry) → IsReached s
-    → IsTrussRun n k o s h → HasBytes h → NamesNoChild o h → LeavesForks k o h → IsReported k o pid s h
-births-report n k o pid s h reached run bytes named forks =
-    left-report n k o pid s h reached run bytes (all-left k o pid s h named forks)
+pub births-report : (n k : ℕ) (o : Options) (pid : ℕ) (s : TracedState) (h : List Entry)
+    → IsReachedTrussRun n k o s h → NamesNoChild o h → LeavesForks k o h → IsReported k o pid s h
+births-report n k o pid s h run named forks =
+    left-report n k o pid s h run (all-left k o pid s h named forks)
 
 -- So it is of a process that stands at its birth where truss gets hold of it, whoever had it before.
 pub opens-birth : (k : ℕ) (o : Options) (pid : ℕ) (s : TracedState) (h : List Entry) → IsFollowedAtBirth k o pid s h
     → OpensAtBirth k o pid s h
 opens-birth k o pid s h at = record { child = at.each }
 
-pub birth-report : (n k : ℕ) (o : Options) (pid : ℕ) (s : TracedState) (h : List Entry) → IsReached s
-    → IsTrussRun n k o s h → HasBytes h → IsFollowedAtBirth k o pid s h → IsReported k o pid s h
-birth-report n k o pid s h reached run bytes at =
-    truss-reports n k o pid s h reached run bytes (opens-birth k o pid s h at)
+pub birth-report : (n k : ℕ) (o : Options) (pid : ℕ) (s : TracedState) (h : List Entry)
+    → IsReachedTrussRun n k o s h → IsFollowedAtBirth k o pid s h → IsReported k o pid s h
+birth-report n k o pid s h run at =
+    truss-reports n k o pid s h run (opens-birth k o pid s h at)
 
-pub left-birth : (n k : ℕ) (o : Options) (pid : ℕ) (s : TracedState) (h : List Entry) → IsReached s
-    → IsTrussRun n k o s h → HasBytes h → IsLeftToTruss k o pid s h → IsFollowedAtBirth k o pid s h
-left-birth n k o pid s h reached run bytes left =
-    let b = births n k o pid s h reached run bytes left in record { each = b.child }
+pub left-birth : (n k : ℕ) (o : Options) (pid : ℕ) (s : TracedState) (h : List Entry)
+    → IsReachedTrussRun n k o s h → IsLeftToTruss k o pid s h → IsFollowedAtBirth k o pid s h
+left-birth n k o pid s h run left =
+    let b = births n k o pid s h run left in record { each = b.child }
 
 -- A process of which truss never got hold as a child asks for nothing of the kind.
 pub unfollowed-births : (k : ℕ) (o : Options) (pid : ℕ) (s : TracedState) (h : List Entry) → IsNeverFollowed k o pid h
@@ -565,10 +566,10 @@ unfollowed-births k o pid s h unfollowed =
           (unfollowed.none before later e opening handle parent is own stage given);
     }
 
-pub unfollowed-report : (n k : ℕ) (o : Options) (pid : ℕ) (s : TracedState) (h : List Entry) → IsReached s
-    → IsTrussRun n k o s h → HasBytes h → IsNeverFollowed k o pid h → IsReported k o pid s h
-unfollowed-report n k o pid s h reached run bytes unfollowed =
-    truss-reports n k o pid s h reached run bytes (unfollowed-births k o pid s h unfollowed)
+pub unfollowed-report : (n k : ℕ) (o : Options) (pid : ℕ) (s : TracedState) (h : List Entry)
+    → IsReachedTrussRun n k o s h → IsNeverFollowed k o pid h → IsReported k o pid s h
+unfollowed-report n k o pid s h run unfollowed =
+    truss-reports n k o pid s h run (unfollowed-births k o pid s h unfollowed)
 
 pub ruleset reports = (left-report, births-report, unfollowed-report, birth-report, left-birth)
 

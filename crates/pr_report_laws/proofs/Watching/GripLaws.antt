@@ -12,11 +12,10 @@ use Rattle.pr_model.specs.Lawful.{IsLawful}
 use Rattle.pr_model.specs.Legal.{IsLegal, after, state_after}
 use Rattle.pr_model.specs.State.{TracedState}
 use Rattle.pr_model.specs.declared.events.Entry.{Entry}
-use Rattle.pr_reached.specs.ByteHistories.{HasBytes, IsEntryOfBytes}
-use Rattle.pr_reached.specs.Reached.{IsReached}
 use Rattle.pr_truss.specs.Trusses.{TrussState, first_truss}
 use Rattle.pr_truss_laws.proofs.Machine.OverLemmas.{stays-made, stays-over}
 use Rattle.pr_truss_laws.specs.Exchanges.{Exchange, exchange_of, exchanges, truss_after, truss_at}
+use Rattle.pr_report_laws.specs.ReachedRuns.{IsReachedTrussRun}
 use Rattle.pr_truss_laws.specs.Runs.{IsTrussRun}
 use Rattle.pr_report_laws.proofs.Files.FileSteps.{entry-lawful}
 use Rattle.pr_report_laws.proofs.Files.WatchHistories.{cons-exchanges, exchanges-both, no-exchanges, run-reaches, truss_at-push}
@@ -24,7 +23,7 @@ use Rattle.pr_report_laws.proofs.Invariant.HistoryLaw.{after-next, picked-both}
 use Rattle.pr_report_laws.proofs.Invariant.UnreadLaws.{state_after-append}
 use Rattle.pr_report_laws.proofs.NewbornChildren.NewbornLaws.{left-silent}
 use Rattle.pr_report_laws.proofs.Watching.EndLaws.{watched-let}
-use Rattle.pr_report_laws.proofs.Watching.HistoryParts.{all-front, front-run, rest-legal, truss_at-both}
+use Rattle.pr_report_laws.proofs.Watching.HistoryParts.{front-reached, front-run, rest-legal, truss_at-both}
 use Rattle.pr_report_laws.proofs.Watching.LeavingOn.{after-leaves, interrupted-leaves}
 use Rattle.pr_report_laws.proofs.Watching.LeftReads.{left-off}
 use Rattle.pr_report_laws.proofs.Watching.OnceLaws.{HasEnded, PastAfter, held-once, hold-off, hold-on, past-after, watched-made, watched-once}
@@ -339,27 +338,25 @@ opened-whole k o pid before waiting between running w = record {
 module _ (n k : ℕ) (o : Options) (pid : ℕ) (s : TracedState) where
   -- with the entries of the opening and those after it
   parts-watched : (before : List Entry) (waiting : Entry) (between : List Entry) (running : Entry)
-      (rest later : List Entry) → IsReached s
-      → IsTrussRun n k o s ((before ++ waiting ∷ (between ++ running ∷ [])) ++ (rest ++ later))
-      → HasBytes ((before ++ waiting ∷ (between ++ running ∷ [])) ++ (rest ++ later))
+      (rest later : List Entry)
+      → IsReachedTrussRun n k o s ((before ++ waiting ∷ (between ++ running ∷ [])) ++ (rest ++ later))
       → IsOpenedFrom k o pid before waiting between running
       → IsNotLeft k pid s (before ++ waiting ∷ (between ++ running ∷ [])) rest
       → EndsThere k pid s ((before ++ waiting ∷ (between ++ running ∷ [])) ++ rest) later
       → selected o pid (events_from (state_after s before) ((waiting ∷ (between ++ running ∷ [])) ++ rest))
       ≡ selected o pid
       (events_watched k pid (first_truss o) s ((before ++ waiting ∷ (between ++ running ∷ [])) ++ (rest ++ later)))
-  parts-watched before waiting between running rest later reached run bytes w kept ends =
+  parts-watched before waiting between running rest later run w kept ends =
       let part : List Entry = waiting ∷ (between ++ running ∷ []) in
       let most : List Entry = before ++ waiting ∷ between in
       let same : most ++ running ∷ [] ≡ before ++ part = append_assoc before (waiting ∷ between) (running ∷ []) in
-      let front : IsTrussRun n k o s (before ++ part) = front-run n k o s (before ++ part) (rest ++ later) run in
+      let front = front-reached n k o s (before ++ part) (rest ++ later) run in
       let silent : selected o pid (events_from (state_after s before) part) ≡ [] =
       others-selected o pid (events_from (state_after s before) part)
-      (opening-silent n k o pid s before waiting between running reached front
-      (all-front IsEntryOfBytes (before ++ part) (rest ++ later) bytes) w) in
+      (opening-silent n k o pid s before waiting between running front w) in
       let watched =
       held-watched n k o pid s most running rest later w.run
-      (subst (λ (h : List Entry). IsTrussRun n k o s (h ++ (rest ++ later))) (sym same) run) w.runs
+      (subst (λ (h : List Entry). IsTrussRun n k o s (h ++ (rest ++ later))) (sym same) run.of) w.runs
       (inl (subst (HasOpened k o pid) (sym same) (opened-whole k o pid before waiting between running w)))
       (subst (λ (h : List Entry). IsNotLeft k pid s h rest) (sym same) kept)
       (subst (λ (h : List Entry). EndsThere k pid s (h ++ rest) later) (sym same) ends) in
@@ -375,11 +372,11 @@ module _ (n k : ℕ) (o : Options) (pid : ℕ) (s : TracedState) where
       ∙ sym there
 
   -- What is selected in the grip is what is selected while truss watches.
-  pub grip-watched : (before grip later : List Entry) → IsReached s → IsTrussRun n k o s (before ++ (grip ++ later))
-      → HasBytes (before ++ (grip ++ later)) → IsGrip k o pid s before grip later
+  pub grip-watched : (before grip later : List Entry) → IsReachedTrussRun n k o s (before ++ (grip ++ later))
+      → IsGrip k o pid s before grip later
       → selected o pid (events_from (state_after s before) grip) ≡ selected o pid
       (events_watched k pid (first_truss o) s (before ++ (grip ++ later)))
-  grip-watched before grip later reached run bytes g =
+  grip-watched before grip later run g =
       let part : List Entry = g.waiting ∷ (g.between ++ g.running ∷ []) in
       let split : grip ≡ part ++ g.rest =
       g.is ∙ ap (λ (es : List Entry). g.waiting ∷ es) (sym (append_assoc g.between (g.running ∷ []) g.rest)) in
@@ -388,31 +385,29 @@ module _ (n k : ℕ) (o : Options) (pid : ℕ) (s : TracedState) where
       ∙ ap (λ (es : List Entry). before ++ es) (append_assoc part g.rest later)
       ∙ sym (append_assoc before part (g.rest ++ later)) in
       ap (λ (es : List Entry). selected o pid (events_from (state_after s before) es)) split
-      ∙ parts-watched before g.waiting g.between g.running g.rest later reached (subst (IsTrussRun n k o s) all run)
-      (subst HasBytes all bytes) g.opened g.kept
+      ∙ parts-watched before g.waiting g.between g.running g.rest later (subst (IsReachedTrussRun n k o s) all run)
+      g.opened g.kept
       (subst (λ (h : List Entry). EndsThere k pid s h later) (ap (λ (es : List Entry). before ++ es) split
       ∙ sym (append_assoc before part g.rest)) g.ends)
       ∙ ap (λ (h : List Entry). selected o pid (events_watched k pid (first_truss o) s h)) (sym all)
 
   -- the same of the child of a fork
-  pub left-watched : (grip later : List Entry) → IsReached s → IsTrussRun n k o s (grip ++ later)
-      → HasBytes (grip ++ later) → (g : IsGripOfChild k pid s grip later)
-      → IsLeftToTruss k o pid s (g.before ++ g.running ∷ [])
+  pub left-watched : (grip later : List Entry) → IsReachedTrussRun n k o s (grip ++ later)
+      → (g : IsGripOfChild k pid s grip later) → IsLeftToTruss k o pid s (g.before ++ g.running ∷ [])
       → selected o pid (events_from s grip) ≡ selected o pid
       (events_watched k pid (first_truss o) s (grip ++ later))
-  left-watched grip later reached run bytes g its =
+  left-watched grip later run g its =
       let opened : List Entry = g.before ++ g.running ∷ [] in
       let split : grip ≡ opened ++ g.rest = g.is ∙ sym (append_assoc g.before (g.running ∷ []) g.rest) in
       let all : grip ++ later ≡ opened ++ (g.rest ++ later) =
       ap (λ (es : List Entry). es ++ later) split ∙ append_assoc opened g.rest later in
-      let whole : IsTrussRun n k o s (opened ++ (g.rest ++ later)) = subst (IsTrussRun n k o s) all run in
-      let front : IsTrussRun n k o s opened = front-run n k o s opened (g.rest ++ later) whole in
+      let whole : IsReachedTrussRun n k o s (opened ++ (g.rest ++ later)) = subst (IsReachedTrussRun n k o s) all run in
+      let front : IsReachedTrussRun n k o s opened = front-reached n k o s opened (g.rest ++ later) whole in
       let silent : selected o pid (events_from s opened) ≡ [] =
-      left-silent n k o pid s g.before g.running reached front
-      (all-front IsEntryOfBytes opened (g.rest ++ later) (subst HasBytes all bytes)) its
-      (hold-off n k o pid s g.before g.running front g.last g.runs (inr g.followed)) g.followed in
+      left-silent n k o pid s g.before g.running front its
+      (hold-off n k o pid s g.before g.running front.of g.last g.runs (inr g.followed)) g.followed in
       let watched =
-      held-watched n k o pid s g.before g.running g.rest later g.last whole g.runs (inr g.followed) g.kept
+      held-watched n k o pid s g.before g.running g.rest later g.last whole.of g.runs (inr g.followed) g.kept
       (subst (λ (h : List Entry). EndsThere k pid s h later) split g.ends) in
       ap (λ (es : List Entry). selected o pid (events_from s es)) split
       ∙ ap (selected o pid) (events_from-append s opened g.rest)
@@ -420,27 +415,24 @@ module _ (n k : ℕ) (o : Options) (pid : ℕ) (s : TracedState) where
       ∙ ap (λ (xs : List LwpEvent). xs ++ selected o pid (events_from (state_after s opened) g.rest)) silent
       ∙ sym watched ∙ ap (λ (h : List Entry). selected o pid (events_watched k pid (first_truss o) s h)) (sym all)
 
-pub grips-held : (n k : ℕ) (o : Options) (pid : ℕ) (s : TracedState) (h : List Entry) → IsReached s
-    → IsTrussRun n k o s h → HasBytes h → HasGrips k o pid s h
-grips-held n k o pid s h reached run bytes = record {
+pub grips-held : (n k : ℕ) (o : Options) (pid : ℕ) (s : TracedState) (h : List Entry)
+    → IsReachedTrussRun n k o s h → HasGrips k o pid s h
+grips-held n k o pid s h run = record {
   once = λ before between later e f is first second.
       held-once n k o pid s before between e f
       (front-run n k o s (before ++ e ∷ (between ++ f ∷ [])) later
-      (subst (IsTrussRun n k o s) (is ∙ split before between later e f) run)) first second;
+      (subst (IsTrussRun n k o s) (is ∙ split before between later e f) run.of)) first second;
   waits = λ before later e last is own opened. opening-waits k o pid before e last own opened;
   quiet = λ before between later waiting running is opened.
       let all = is ∙ split before between later waiting running in
       let part : List Entry = before ++ waiting ∷ (between ++ running ∷ []) in
-      opening-silent n k o pid s before waiting between running reached
-      (front-run n k o s part later (subst (IsTrussRun n k o s) all run))
-      (all-front IsEntryOfBytes part later (subst HasBytes all bytes)) opened;
+      opening-silent n k o pid s before waiting between running
+      (front-reached n k o s part later (subst (IsReachedTrussRun n k o s) all run)) opened;
   watched = λ before grip later is g.
-      grip-watched n k o pid s before grip later reached (subst (IsTrussRun n k o s) is run)
-      (subst HasBytes is bytes) g
+      grip-watched n k o pid s before grip later (subst (IsReachedTrussRun n k o s) is run) g
       ∙ ap (λ (es : List Entry). selected o pid (events_watched k pid (first_truss o) s es)) (sym is);
   born = λ grip later is g its.
-      left-watched n k o pid s grip later reached (subst (IsTrussRun n k o s) is run)
-      (subst HasBytes is bytes) g its
+      left-watched n k o pid s grip later (subst (IsReachedTrussRun n k o s) is run) g its
       ∙ ap (λ (es : List Entry). selected o pid (events_watched k pid (first_truss o) s es)) (sym is);
 }
   where

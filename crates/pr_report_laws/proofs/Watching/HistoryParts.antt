@@ -8,6 +8,8 @@ use Rattle.pr_model.specs.declared.events.Entry.{Entry}
 use Rattle.pr_truss.specs.Trusses.{first_truss}
 use Rattle.pr_truss_laws.specs.Exchanges.{Makes, exchanges, truss_after, truss_at}
 use Rattle.pr_truss_laws.specs.Runs.{IsTrussRun}
+use Rattle.pr_reached.specs.ByteHistories.{IsEntryOfBytes}
+use Rattle.pr_report_laws.specs.ReachedRuns.{IsReachedTrussRun}
 use Rattle.pr_report_laws.proofs.Files.WatchHistories.{after-append, exchanges-both, makes-front, makes-rest}
 
 -- A history in which truss makes its calls, in two parts.
@@ -57,3 +59,12 @@ module _ (n k : ℕ) (o : Options) (s : TracedState) (xs ys : List Entry) (run :
 
   pub rest-makes : Makes (truss_at k o xs) (exchanges k ys)
   rest-makes = makes-rest (first_truss o) (exchanges k xs) (exchanges k ys) both-make
+
+-- so it is of a run of which each state is reached
+pub front-reached : (n k : ℕ) (o : Options) (s : TracedState) (xs ys : List Entry)
+    → IsReachedTrussRun n k o s (xs ++ ys) → IsReachedTrussRun n k o s xs
+front-reached n k o s xs ys run = record {
+  of = front-run n k o s xs ys run.of;
+  reached = run.reached;
+  bytes = all-front IsEntryOfBytes xs ys run.bytes;
+}

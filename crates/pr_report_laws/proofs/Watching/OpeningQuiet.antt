@@ -10,13 +10,13 @@ use Rattle.pr_model.specs.declared.events.Entry.{Entry}
 use Rattle.pr_reached.proofs.FitStates.FitHistoryLemmas.{history-fits}
 use Rattle.pr_reached.proofs.StatesInRange.HistoryRanges.{history-range}
 use Rattle.pr_reached.specs.ByteHistories.{HasBytes, IsEntryOfBytes}
-use Rattle.pr_reached.specs.Reached.{IsReached}
 use Rattle.pr_truss.specs.Feeding.{fed}
 use Rattle.pr_truss.specs.Trusses.{TrussState, traced_at}
 use Rattle.pr_truss.specs.declared.stages.OpeningStep.{OpeningStep}
 use Rattle.pr_truss.specs.declared.stages.OpeningStep.TheVariants as opening
 use Rattle.pr_truss_laws.specs.Exchanges.{Exchange, IsGranted, Makes, exchange_of, exchanges, truss_after, truss_at}
 use Rattle.pr_truss_laws.specs.Given.{IsWholeOpening}
+use Rattle.pr_report_laws.specs.ReachedRuns.{IsReachedTrussRun}
 use Rattle.pr_truss_laws.specs.Runs.{IsTrussRun}
 use Rattle.pr_report_laws.proofs.Files.WatchHistories.{Reaches, cons-exchanges, exchanges-both, makes-front, makes-rest, no-exchanges, run-reaches, truss_at-push}
 use Rattle.pr_report_laws.proofs.FollowedChildren.FollowCalm.{tail-same}
@@ -28,7 +28,7 @@ use Rattle.pr_report_laws.specs.Reads.{traces}
 use Rattle.pr_report_laws.proofs.Invariant.UnreadLaws.{state_after-append}
 use Rattle.pr_report_laws.proofs.Watching.BeginLaws.{at-options}
 use Rattle.pr_report_laws.proofs.Watching.ExchangeEntries.{entry-of}
-use Rattle.pr_report_laws.proofs.Watching.HistoryParts.{all-front, all-rest, front-run, legal-front, legal-rest, rest-legal, rest-makes}
+use Rattle.pr_report_laws.proofs.Watching.HistoryParts.{all-front, all-rest, front-reached, legal-front, legal-rest, rest-legal, rest-makes}
 use Rattle.pr_report_laws.proofs.Watching.OnceLaws.{opening-off}
 use Rattle.pr_report_laws.proofs.Watching.OpeningPlaces.{OpensWith, opening-starts, started-opens}
 use Rattle.pr_report_laws.proofs.Watching.QuietOpenings.{Goes, goes-after, own-logs, quiet-after}
@@ -92,20 +92,19 @@ first-prepares o pid place t s same w =
       new = λ parent at step is. absurd (let e = sym i.stage ∙ is in cc);
     }
 
-first-goes : (n k : ℕ) (o : Options) (pid place : ℕ) (s : TracedState) (h : List Entry) → IsReached s
-    → IsTrussRun n k o s h → HasBytes h
+first-goes : (n k : ℕ) (o : Options) (pid place : ℕ) (s : TracedState) (h : List Entry) → IsReachedTrussRun n k o s h
     → OpensWith (truss_at k o h) pid place (steps_left o.follow opening.OpenStatus)
     → Goes k o pid place (steps_left o.follow opening.OpenStatus) (truss_at k o h) (state_after s h)
-first-goes n k o pid place s h reached run bytes w =
+first-goes n k o pid place s h run w =
     let t : TrussState = truss_at k o h in
     let now : TracedState = state_after s h in
-    let g : Reaches k t now = run-reaches n k o s h run in
+    let g : Reaches k t now = run-reaches n k o s h run.of in
     record {
       K = ⊥;
       tally = first_tally (traces o);
       holds = record {
         lawful = g.lawful;
-        fit = history-fits n s h run.lawful reached.fit run.legal;
+        fit = history-fits n s h run.of.lawful run.reached.fit run.of.legal;
         owns = g.owns;
         files = g.files;
         options = at-options o (exchanges k h);
@@ -116,15 +115,14 @@ first-goes n k o pid place s h reached run bytes w =
             (record { missing = []; is = refl; few = inl refl });
       };
       opens = w;
-      range = history-range n s h run.lawful reached.in_range bytes run.legal;
+      range = history-range n s h run.of.lawful run.reached.in_range run.bytes run.of.legal;
     }
 
 -- ---- from there on
 
-module _ (n k : ℕ) (o : Options) (pid : ℕ) (s : TracedState) (reached : IsReached s) (b0 : List Entry) (e0 : Entry)
+module _ (n k : ℕ) (o : Options) (pid : ℕ) (s : TracedState) (b0 : List Entry) (e0 : Entry)
     (b1 : List Entry) (waiting : Entry) (between : List Entry) (running : Entry)
-    (run : IsTrussRun n k o s ((b0 ++ e0 ∷ []) ++ (b1 ++ (waiting ∷ (between ++ running ∷ [])))))
-    (bytes : HasBytes ((b0 ++ e0 ∷ []) ++ (b1 ++ (waiting ∷ (between ++ running ∷ [])))))
+    (run : IsReachedTrussRun n k o s ((b0 ++ e0 ∷ []) ++ (b1 ++ (waiting ∷ (between ++ running ∷ [])))))
     (f : Exchange) (fs : List Exchange) (wait last : Exchange) (own : exchange_of k e0 ≡ Some f)
     (begun : exchanges k b1 ≡ fs) (waits : exchange_of k waiting ≡ Some wait) (runs : exchange_of k running ≡ Some last)
     (six : length fs ≡ 6)
@@ -159,7 +157,7 @@ module _ (n k : ℕ) (o : Options) (pid : ℕ) (s : TracedState) (reached : IsRe
       ∙ ap (λ (ys : List Exchange). ys ++ exchanges k part) begun
       ∙ ap (λ (ys : List Exchange). fs ++ ys) part-exchanges))
       (rest-makes n k o s b0 (e0 ∷ (b1 ++ part))
-      (subst (IsTrussRun n k o s) (append_assoc b0 (e0 ∷ []) (b1 ++ part)) run))
+      (subst (IsTrussRun n k o s) (append_assoc b0 (e0 ∷ []) (b1 ++ part)) run.of))
 
   count : length fs + length rest ≡ steps_left o.follow opening.OpenStatus
   unfolding t0
@@ -183,17 +181,13 @@ module _ (n k : ℕ) (o : Options) (pid : ℕ) (s : TracedState) (reached : IsRe
       (started-opens o pid t0 (at-options o (exchanges k b0)) f w.stage
       (granted-first f (fs ++ rest) all-granted))
 
-  front : IsTrussRun n k o s opened
-  front = front-run n k o s opened (b1 ++ part) run
-
   goes : Goes k o pid (length t0.traced) (steps_left o.follow opening.OpenStatus) (truss_at k o opened)
       (state_after s opened)
   goes =
-      first-goes n k o pid (length t0.traced) s opened reached front
-      (all-front IsEntryOfBytes opened (b1 ++ part) bytes) opens
+      first-goes n k o pid (length t0.traced) s opened (front-reached n k o s opened (b1 ++ part) run) opens
 
   rest-bytes : HasBytes (b1 ++ part)
-  rest-bytes = all-rest IsEntryOfBytes opened (b1 ++ part) bytes
+  rest-bytes = all-rest IsEntryOfBytes opened (b1 ++ part) run.bytes
 
   abbrev t1 : TrussState
   t1 = truss_after (truss_at k o opened) (exchanges k b1)
@@ -203,7 +197,7 @@ module _ (n k : ℕ) (o : Options) (pid : ℕ) (s : TracedState) (reached : IsRe
 
   both-make : Makes (truss_at k o opened) (exchanges k b1 ++ exchanges k part)
   both-make =
-      subst (Makes (truss_at k o opened)) (exchanges-both k b1 part) (rest-makes n k o s opened (b1 ++ part) run)
+      subst (Makes (truss_at k o opened)) (exchanges-both k b1 part) (rest-makes n k o s opened (b1 ++ part) run.of)
 
   -- before the wait
   waiting-goes : Goes k o pid (length t0.traced) (length rest) t1 s1
@@ -211,14 +205,14 @@ module _ (n k : ℕ) (o : Options) (pid : ℕ) (s : TracedState) (reached : IsRe
       goes-after n k o pid (length t0.traced) b1 (truss_at k o opened) (state_after s opened)
       (steps_left o.follow opening.OpenStatus) (length rest) goes
       (sym count ∙ ap (λ (ys : List Exchange). length ys + length rest) (sym begun)) (omega arith)
-      (legal-front n (state_after s opened) b1 part (rest-legal n k o s opened (b1 ++ part) run))
+      (legal-front n (state_after s opened) b1 part (rest-legal n k o s opened (b1 ++ part) run.of))
       (makes-front (truss_at k o opened) (exchanges k b1) (exchanges k part) both-make)
       (all-front IsEntryOfBytes b1 part rest-bytes)
       (subst (All IsGranted) (sym begun)
       (all-front IsGranted fs rest (All-tail IsGranted f (fs ++ rest) all-granted)))
 
   part-legal : IsLegal n s1 (waiting ∷ (between ++ running ∷ []))
-  part-legal = legal-rest n (state_after s opened) b1 part (rest-legal n k o s opened (b1 ++ part) run)
+  part-legal = legal-rest n (state_after s opened) b1 part (rest-legal n k o s opened (b1 ++ part) run.of)
 
   part-makes : Makes t1 (exchanges k (waiting ∷ between) ++ exchanges k (running ∷ []))
   part-makes =
@@ -270,11 +264,10 @@ seven-first (x ∷ xs) seven = record { first = x; others = xs; is = refl; six =
 module _ (n k : ℕ) (o : Options) (pid : ℕ) (s : TracedState) (before : List Entry) (waiting : Entry)
     (between : List Entry) (running : Entry) where
   -- From the answered wait to PCRUN no event of the process is logged.
-  pub opening-silent : IsReached s → IsTrussRun n k o s (before ++ waiting ∷ (between ++ running ∷ []))
-      → HasBytes (before ++ waiting ∷ (between ++ running ∷ []))
+  pub opening-silent : IsReachedTrussRun n k o s (before ++ waiting ∷ (between ++ running ∷ []))
       → IsOpenedFrom k o pid before waiting between running
       → All (IsOfOther pid) (events_from (state_after s before) (waiting ∷ (between ++ running ∷ [])))
-  opening-silent reached run bytes w =
+  opening-silent run w =
       let part : List Entry = waiting ∷ (between ++ running ∷ []) in
       let rest : List Exchange = w.wait ∷ (exchanges k between ++ w.run ∷ []) in
       let first =
@@ -290,7 +283,6 @@ module _ (n k : ℕ) (o : Options) (pid : ℕ) (s : TracedState) (before : List 
       ap (λ (es : List Entry). es ++ part) split ∙ append_assoc opened e.later part in
       subst (λ (u : TracedState). All (IsOfOther pid) (events_from u part))
       (sym (state_after-append s opened e.later) ∙ ap (state_after s) (sym split))
-      (part-quiet n k o pid s reached e.before e.entry e.later waiting between running
-      (subst (IsTrussRun n k o s) all run) (subst HasBytes all bytes) first.first first.others w.wait w.run e.own e.rest
-      w.waits w.runs first.six
-      (subst (λ (ys : List Exchange). IsWholeOpening o pid (ys ++ rest)) first.is w.whole))
+      (part-quiet n k o pid s e.before e.entry e.later waiting between running
+      (subst (IsReachedTrussRun n k o s) all run) first.first first.others w.wait w.run e.own e.rest w.waits w.runs
+      first.six (subst (λ (ys : List Exchange). IsWholeOpening o pid (ys ++ rest)) first.is w.whole))

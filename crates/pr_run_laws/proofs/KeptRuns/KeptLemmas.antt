@@ -34,6 +34,7 @@ use Rattle.pr_function_hides.specs.RunsOfTrusses.{IsRunOfTrusses}
 use Rattle.pr_function_hides.specs.SleptCopies.{NoneSleepsInCopy}
 use Rattle.pr_function_hides.specs.TidyWrites.{AreUndisturbed}
 use Rattle.pr_function_laws.specs.Opened.{IsFunctionRun}
+use Rattle.pr_function_laws.specs.ReachedRuns.{IsReachedFunctionRun}
 use Rattle.pr_hidden.proofs.Follows.FirstLemmas.{first-untouched}
 use Rattle.pr_hidden.proofs.Follows.HistoryFollows.{hidden-first}
 use Rattle.pr_hidden.specs.Hiders.{Hiders}
@@ -48,6 +49,7 @@ use Rattle.pr_probe_laws.proofs.Ending.ReasonLaw.{tells-why}
 use Rattle.pr_probe_laws.proofs.Ending.RunAgainLaw.{runs-at-last}
 use Rattle.pr_probe_laws.proofs.Sets.SetLaw.{sets-back}
 use Rattle.pr_probe_laws.proofs.OneState.TextLaw.{shows-one}
+use Rattle.pr_reached.proofs.Together.FirstRanges.{first-stays}
 use Rattle.pr_reached.proofs.Together.ReachedLemmas.{first-reached}
 use Rattle.pr_reached.specs.ByteHistories.{HasBytes}
 use Rattle.pr_reached.specs.Reached.{IsReached}
@@ -62,7 +64,6 @@ use Rattle.pr_tool_laws.proofs.Stages.ProtocolLemmas.{follows-own}
 use Rattle.pr_tool_laws.specs.OwnCalls.{AreOwnCalls}
 use Rattle.pr_reached.specs.HistoriesInRange.{StaysInRange}
 use Rattle.pr_tool_laws.specs.Runs.{IsRunOf}
-use Rattle.pr_tool_laws.proofs.RangeLemmas.{first-stays}
 use Rattle.pr_tool_laws.proofs.OwnFiles.NothingOpenLemmas.{tool-closes}
 use Rattle.pr_tool_laws.proofs.ProgramLemmas.{first-same}
 use Rattle.pr_tool_laws.proofs.ReadsOnlyLemmas.{tool-leaves}
@@ -180,7 +181,9 @@ functions-kept s n h range bytes legal own k o at some =
 
 -- what is read along the run is in range
 run-stays : (s : Scenario) (h : List Entry) → IsScenarioInRange s → HasBytes h → StaysInRange (first_state_of s) h
-run-stays s h range bytes = first-stays s.programs (files_of s) s.spawns h range.start range.range bytes
+run-stays s h range bytes =
+    first-stays s.programs (files_of s) s.spawns h
+    (record { start = range.start; in_range = range.range; bytes = bytes })
 
 -- the run of a tool, where it is of this kind
 tool-run : (s : Scenario) (n : ℕ) (h : List Entry) → IsLegal n (first_state_of s) h → AreOwnCalls (controllers_of s) h
@@ -380,8 +383,10 @@ module _ (s : Scenario) (n : ℕ) (h : List Entry) (range : IsScenarioInRange s)
         let named = shown-truss s range k o starts in
         let trusses = trusses-run who hide undisturbed in
         let its = its-run k o starts in
-        fetched-turns n k o (first_state_of s) h its trusses.reached bytes (all-steppable o named.1)
-        (fetches_breakpoints n k o (first_state_of s) h its trusses.reached bytes (all-patchable o named.1)
+        let whole : IsReachedFunctionRun n k o (first_state_of s) h =
+        record { of = its; reached = trusses.reached; bytes = bytes } in
+        fetched-turns n k o (first_state_of s) h whole (all-steppable o named.1)
+        (fetches_breakpoints n k o (first_state_of s) h whole (all-patchable o named.1)
         (leaves_planted n k who (controllers_of s) o (first_state_of s) h its trusses hider starts sparing)) pid;
     own_steps = λ who hide undisturbed passive.
         own-steps n who (controllers_of s) (first_state_of s) h (trusses-run who hide undisturbed) passive

@@ -50,6 +50,7 @@ use Rattle.pr_function_laws.proofs.CallTurns.ToldLaws.{tells-turns}
 use Rattle.pr_function_laws.proofs.NextCalls.TreatedLaws.{options-at, treats-its-events}
 use Rattle.pr_function_laws.specs.Opened.{IsFunctionRun, ReadsBreakpoint, functions_at}
 use Rattle.pr_function_laws.specs.PlantedByCalls.{IsNoBreakpoint}
+use Rattle.pr_function_laws.specs.ReachedRuns.{IsReachedFunctionRun}
 use Rattle.pr_function_laws.specs.Runs.{functions_after, replies_in}
 use Rattle.pr_function_laws.specs.Soon.{IsCalm}
 use Rattle.pr_function_laws.specs.Steppable.{IsSteppable}
@@ -150,6 +151,7 @@ function-kept controllers n s h k o reached awake bytes none at some named legal
     let stays = function-stays h controllers k (first_truss o) at own in
     let has = full-truss o some in
     let run = function-run controllers n s h k o reached none at some named legal own in
+    let whole : IsReachedFunctionRun n k o s h = record { of = run; reached = reached; bytes = bytes } in
     let calm = calm-exchanges h n k s legal in
     let beside = truss-beside o (exchanges k h) has run.follows_none stays.0 calm in
     record {
@@ -167,26 +169,26 @@ function-kept controllers n s h k o reached awake bytes none at some named legal
       opens = holds-what-it-opened n k o s h run;
       plants = plants-what-it-read o (exchanges k h) has run.follows_none stays.0;
       marks = marks-planted n k o s h run (all-steppable o named) (none-breaks o named);
-      events = has-one-event-each n k o s h run reached bytes;
-      reads = events-read n k o s h run reached bytes;
-      lists_events = lists-its-events n k o s h run reached bytes;
-      fetches = fetches_breakpoints n k o s h run reached bytes (all-patchable o named);
-      lists_calls = fetched-turns n k o s h run reached bytes (all-steppable o named);
-      under_way = steps-what-it-lifted n k o s h run reached bytes (all-steppable o named);
-      calls_told = tells-its-calls n k o s h run reached bytes (all-steppable o named) (none-breaks o named);
-      lifts = lifts-alone n k o s h run reached bytes;
-      left_alone = is-left-alone n k o s h run reached bytes;
-      turns = calls-are-turns n k o s h run reached bytes;
-      told = tells-turns n k o s h run reached bytes (all-steppable o named);
-      steps = steps-read n k o s h run reached bytes (all-steppable o named);
+      events = has-one-event-each n k o s h whole;
+      reads = events-read n k o s h whole;
+      lists_events = lists-its-events n k o s h whole;
+      fetches = fetches_breakpoints n k o s h whole (all-patchable o named);
+      lists_calls = fetched-turns n k o s h whole (all-steppable o named);
+      under_way = steps-what-it-lifted n k o s h whole (all-steppable o named);
+      calls_told = tells-its-calls n k o s h whole (all-steppable o named) (none-breaks o named);
+      lifts = lifts-alone n k o s h whole;
+      left_alone = is-left-alone n k o s h whole;
+      turns = calls-are-turns n k o s h whole;
+      told = tells-turns n k o s h whole (all-steppable o named);
+      steps = steps-read n k o s h whole (all-steppable o named);
       kinds = event-kinds o;
       looks_new = looks-at-each;
       messages = breakpoint-calls o;
       words = traces-its-words o;
       selects = selects-named o;
       replies = reads-replies;
-      copies = λ opens. finds-so n k o s h run reached awake bytes opens;
-      replaced = λ opens. writes-none-so n k o s h run reached awake bytes opens;
+      copies = λ opens. finds-so n k o s h whole awake opens;
+      replaced = λ opens. writes-none-so n k o s h whole awake opens;
       treats = treats-its-events o (exchanges k h) has run.follows_none stays.0 calm;
       waits = keeps-what-waits o (exchanges k h) has stays.0;
       leaves = leaves-its-processes n k o s h run;
@@ -196,16 +198,16 @@ function-kept controllers n s h k o reached awake bytes none at some named legal
       tells = tells-refusals-at-first n k o s h run;
       holds = watches-what-it-holds n k o s h run;
       keeps = keeps-its-holds n k o s h run;
-      quiet = opens-quietly n k o s h run reached bytes;
+      quiet = opens-quietly n k o s h whole;
       refusals = tells-no-refusal-of-held n k o s h run;
       shows = shows-what-it-reads n k o s h run;
       new = shows-what-is-new n k o s h run;
       once = shows-stops-once n k o s h run;
       asks = reads-for-lines n k o s h run;
-      at_once = reads-at-once n k o s h run reached bytes (all-steppable o named);
+      at_once = reads-at-once n k o s h whole (all-steppable o named);
       texts = have-their-texts n k o s h run;
-      moments = memories-stand n k o s h run reached bytes;
-      of_their_events = λ pid. are-of-their-events n k o s h pid run reached bytes (all-steppable o named);
+      moments = memories-stand n k o s h whole;
+      of_their_events = λ pid. are-of-their-events n k o s h pid whole (all-steppable o named);
       files = calls-its-files n k o s h run;
       controls_last = closes-controls-last n k o s h run;
       releases = closes-throughout n k o s h run;

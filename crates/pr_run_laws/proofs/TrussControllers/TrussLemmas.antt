@@ -46,13 +46,14 @@ use Rattle.pr_report_laws.proofs.OwnFiles.SentLater.{sends-later}
 use Rattle.pr_report_laws.proofs.OwnFiles.SoonOpens.{polls-by-files}
 use Rattle.pr_report_laws.proofs.Watching.BeginLaws.{finished-watches-none}
 use Rattle.pr_report_laws.proofs.Watching.EndLaws.{watched-let}
+use Rattle.pr_report_laws.proofs.Watching.HistoryParts.{front-reached}
 use Rattle.pr_report_laws.proofs.UnopenedChildren.LeftChildren.{left-front}
 use Rattle.pr_report_laws.proofs.FollowedChildren.FollowCalm.{never-kept, never-left}
 use Rattle.pr_report_laws.proofs.ToldForks.ToldReads.{child-followed, child-freed, file-has}
 use Rattle.pr_report_laws.proofs.Memory.MemoryReads.{read-texts}
 use Rattle.pr_report_laws.proofs.NewbornChildren.NewbornLaws.{left-forked, left-rests, left-silent, left-unstarted}
 use Rattle.pr_report_laws.proofs.Files.WatchHistories.{exchanges-both, makes-front}
-use Rattle.pr_tool_laws.proofs.Records.WholeLemmas.{front-bytes, front-legal}
+use Rattle.pr_tool_laws.proofs.Records.WholeLemmas.{front-legal}
 use Rattle.pr_report_laws.specs.Attachments.{HasFollowed, IsLetGo}
 use Rattle.pr_report_laws.specs.Watching.{watches}
 use Rattle.pr_truss.specs.Feeding.{fed}
@@ -72,6 +73,7 @@ use Rattle.pr_num.specs.Control.{rlc_mode}
 use Rattle.pr_num.specs.declared.messages.Message.TheVariants.{Set}
 use Rattle.pr_truss.specs.Messages.{message_call}
 use Rattle.pr_report_laws.specs.Lineages.{IsLeftToTruss}
+use Rattle.pr_report_laws.specs.ReachedRuns.{IsReachedTrussRun}
 use Rattle.pr_truss_laws.specs.Exchanges.{Ends, Exchange, Makes, errno_in, exchange_in, exchange_of, exchanges, truss_after, truss_at}
 use Rattle.pr_truss_laws.specs.Handles.{HasNothingOpen}
 use Rattle.pr_truss_laws.specs.Runs.{IsTrussRun}
@@ -194,23 +196,6 @@ module _ (n k : ℕ) (o : Options) (first : TracedState) (h : List Entry) (run :
   let-go before later e pid is held goes =
       lets-go-for-reason n k o pid first before e (entry-run before later e is) held goes
 
-  newborn : IsReached first → HasBytes h → (before later : List Entry) (e : Entry) (pid : ℕ)
-      → IsLeftToTruss k o pid first h → h ≡ before ++ e ∷ later → GetsHold k o pid before e
-      → HasFollowed k pid (before ++ e ∷ []) → IsNewborn o pid first (before ++ e ∷ [])
-  newborn reached bytes before later e pid left is gets followed =
-      let it = entry-run before later e is in
-      let off = gets-off n k o pid first before e it gets in
-      let split : h ≡ (before ++ e ∷ []) ++ later = is ∙ sym (append_assoc before (e ∷ []) later) in
-      let those : HasBytes (before ++ e ∷ []) = front-bytes (before ++ e ∷ []) later (subst HasBytes split bytes) in
-      let its : IsLeftToTruss k o pid first (before ++ e ∷ []) =
-      left-front k o pid first (before ++ e ∷ []) later (subst (IsLeftToTruss k o pid first) split left) in
-      record {
-        forked = left-forked n k o pid first before e reached it those its off followed;
-        unstarted = left-unstarted n k o pid first before e reached it those its off followed;
-        still = left-rests n k o pid first before e reached it those its off followed;
-        silent = left-silent n k o pid first before e reached it those its off followed;
-      }
-
   was-let : (pid : ℕ) → watches (truss_at k o h) pid ≡ false → (later before : List Entry) → h ≡ before ++ later
       → watches (truss_at k o before) pid ≡ true → WasLetGo k pid first before later
   was-let pid over [] before is on =
@@ -320,6 +305,24 @@ module _ (n k : ℕ) (o : Options) (first : TracedState) (h : List Entry) (run :
       none : (pid : ℕ) → HasHold k o pid first h → ⊥
       none pid = unwatched-hold n k o pid first h run (off pid)
 
+-- a child that it follows does nothing before it is watched
+newborn : (n k : ℕ) (o : Options) (first : TracedState) (h : List Entry) → IsReachedTrussRun n k o first h
+    → (before later : List Entry) (e : Entry) (pid : ℕ) → IsLeftToTruss k o pid first h → h ≡ before ++ e ∷ later
+    → GetsHold k o pid before e → HasFollowed k pid (before ++ e ∷ []) → IsNewborn o pid first (before ++ e ∷ [])
+newborn n k o first h run before later e pid left is gets followed =
+    let split : h ≡ (before ++ e ∷ []) ++ later = is ∙ sym (append_assoc before (e ∷ []) later) in
+    let it : IsReachedTrussRun n k o first (before ++ e ∷ []) =
+    front-reached n k o first (before ++ e ∷ []) later (subst (IsReachedTrussRun n k o first) split run) in
+    let off = gets-off n k o pid first before e it.of gets in
+    let its : IsLeftToTruss k o pid first (before ++ e ∷ []) =
+    left-front k o pid first (before ++ e ∷ []) later (subst (IsLeftToTruss k o pid first) split left) in
+    record {
+      forked = left-forked n k o pid first before e it its off followed;
+      unstarted = left-unstarted n k o pid first before e it its off followed;
+      still = left-rests n k o pid first before e it its off followed;
+      silent = left-silent n k o pid first before e it its off followed;
+    }
+
 pub truss-kept : (controllers : List ControllerState) (n : ℕ) (first : TracedState) (h : List Entry) (k : ℕ)
     (o : Options) → IsReached first → HasBytes h → slice_get controllers k ≡ Some (Truss (first_truss o))
     → HasNothingOpen k first → IsLegal n first h → AreOwnCalls controllers h → IsTrussKept controllers first h k o
@@ -331,6 +334,7 @@ truss-kept controllers n first h k o reached bytes at none legal own =
       legal = legal;
       makes = stays.0;
     } in
+    let whole : IsReachedTrussRun n k o first h = record { of = run; reached = reached; bytes = bytes } in
     record {
       makes = stays.0;
       truss = stays.1;
@@ -345,7 +349,7 @@ truss-kept controllers n first h k o reached bytes at none legal own =
       };
       opens = record {
         handled = handled-so-far o (exchanges k h) stays.0;
-        grips = λ pid. gripped-once n k o pid first h reached run bytes;
+        grips = λ pid. gripped-once n k o pid first h whole;
         places = opens-in-place n k o first h run;
         later = sends-later n k o first h run;
         calls = calls-files n k o first h run;
@@ -354,8 +358,8 @@ truss-kept controllers n first h k o reached bytes at none legal own =
         tells = tells-of-opens n k o first h run;
       };
       shows = record {
-        reads = λ pid of. read-while-held n k o pid first h reached run bytes of;
-        shows = λ pid of. shown-while-held n k o pid first h reached run bytes of;
+        reads = λ pid of. read-while-held n k o pid first h whole of;
+        shows = λ pid of. shown-while-held n k o pid first h whole of;
         answers = shows-read n k o first h run;
         once = shows-stops-once n k o first h run;
         new = shows-what-is-new n k o first h run;
@@ -363,12 +367,12 @@ truss-kept controllers n first h k o reached bytes at none legal own =
         last_looks = looks-at-left n k o first h run;
         asks = reads-lines n k o first h run;
         texts = read-texts n k o first h run;
-        moments = λ pid of. moments-while-held n k o pid first h reached run bytes of;
+        moments = λ pid of. moments-while-held n k o pid first h whole of;
       };
       follows = record {
         children = children n k o first h run;
-        newborn = newborn n k o first h run reached bytes;
-        leaves_none = λ follow finished. cares-for-children n k o first h follow reached run bytes finished;
+        newborn = newborn n k o first h whole;
+        leaves_none = λ follow finished. cares-for-children n k o first h follow whole finished;
       };
       lets_go = record {
         soon = soon-done n k o first h run;

@@ -6,5 +6,5 @@ pub returns-clause-fetched : goal.returns-clause-fetched
 returns-clause-fetched c = fetched-turns
 
 pub returns-clause-spared : goal.returns-clause-spared
-returns-clause-spared c n k o s h run reached bytes able fit spares =
-    fetched-turns n k o s h run reached bytes able (fetches_breakpoints n k o s h run reached bytes fit spares)
+returns-clause-spared c n k o s h run able fit spares =
+    fetched-turns n k o s h run able (fetches_breakpoints n k o s h run fit spares)

@@ -6,7 +6,7 @@ use Rattle.pr_reached.proofs.Together.ReachedLemmas.{first-reached}
 pub returns : goal.returns
 returns c = record {
   later = shows-one;
-  first = λ programs files spawns controllers n k pid h p start ranged bytes run ends ended accepted.
+  first = λ programs files spawns controllers n k pid h p first run ends ended accepted.
       shows-one controllers n k pid (first_state programs files spawns) h p
-      (first-reached programs files spawns start ranged) bytes run ends ended accepted;
+      (first-reached programs files spawns first.start first.in_range) first.bytes run ends ended accepted;
 }

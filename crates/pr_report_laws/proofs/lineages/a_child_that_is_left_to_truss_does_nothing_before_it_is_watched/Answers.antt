@@ -3,5 +3,4 @@ use Rattle.pr_report_laws.proofs.lineages.a_child_that_is_left_to_truss_does_not
 
 pub returns-clause-not_started : goal.returns-clause-not_started
 returns-clause-not_started c =
-    λ n k by o pid s before e reached run bytes left off followed. left-unstarted n k o pid s before e reached run bytes
-    left off followed by
+    λ n k by o pid s before e run left off followed. left-unstarted n k o pid s before e run left off followed by
