@@ -263,7 +263,7 @@ module _ (n k : ℕ) (o : Options) (s : TracedState) (h : List Entry) (run : IsR
           let has : has_functions (truss front).options ≡ true = ap has_functions w.options ∙ run.of.has in
           look-finds-none k o (HasOld t) (now front)
           (later-reached n s front run.reached (bytes-front front (e ∷ back) (subst HasBytes is run.bytes))
-          (front-legal n s front (e ∷ back) (subst (IsLegal n s) is run.legal))) (traced_at (truss front) 0)
+          (front-legal n s front (e ∷ back) (subst (IsLegal n s) is run.of.legal))) (traced_at (truss front) 0)
           (here.each 0 within) known.number known.is x.call it.answer
           (same_Some x.call _
           (sym (next-is n k o s h run awake opens front back e is x own)
