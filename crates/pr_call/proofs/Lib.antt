@@ -4,7 +4,6 @@ pub mod FileCallLemmas
 pub mod FileKeptLemmas
 pub mod FilingLemmas
 pub mod ForkLemmas
-pub mod LackLemmas
 pub mod LwpCallLemmas
 pub mod MakingLemmas
 pub mod MapLemmas

@@ -13,7 +13,7 @@ use Rattle.pr_model.specs.MemoryCalls.{can_write}
 use Rattle.pr_call.specs.Effects.{stores_bytes}
 use Rattle.pr_call.specs.FileAnswers.{lacks_memory}
 use Rattle.pr_call.specs.declared.answers.Refusal.TheVariants.{Files}
-use Rattle.pr_call.proofs.LackLemmas.{described-lacks}
+use Rattle.pr_call.proofs.FileKeptLemmas.{described-unlacking}
 
 -- What fstat does, by what the files answer.
 
@@ -40,6 +40,6 @@ module _ (t : FileTable) (fds : Descriptors) (space : Space) (fd at : ℕ) where
   -- no refusal says that memory ran out
   pub stat-refused-lacks : (why : FileNo) → Err why ≡ described t fds fd → lacks_memory (Err (Files why)) ≡ true
       → stores_bytes (fstat_effect t fds space fd at) ≡ true
-  stat-refused-lacks why is lacks = absurd (described-lacks t fds fd why is lacks)
+  stat-refused-lacks why is lacks = let told = described-unlacking t fds fd why is in absurd (cc)
 
 pub ruleset describing = (stat-refused, stat-fault, stat-stored, stat-lacks, stat-refused-lacks)

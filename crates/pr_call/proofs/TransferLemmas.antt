@@ -26,7 +26,6 @@ use Rattle.pr_call.specs.FileAnswers.{lacks_memory}
 use Rattle.pr_call.specs.Transfers.{read_meant}
 use Rattle.pr_call.specs.declared.answers.Refusal.TheVariants.{Files}
 use Rattle.pr_call.proofs.FileKeptLemmas.{read-keeps, unless-files, unless-refused, written-keeps}
-use Rattle.pr_call.proofs.LackLemmas.{read-lacks}
 
 -- What reads and writes do.
 
@@ -259,7 +258,16 @@ module _ (t : FileTable) (fds : Descriptors) (space : Space) (fd at size : ℕ) 
 
   pub fill-refused-lacks : (why : FileNo) → Err why ≡ count_of (read_fd t fds fd size).bytes
       → lacks_memory (Err (Files why)) ≡ true → gives_bytes (read_effect t fds space fd at size) ≡ true
-  fill-refused-lacks why answer lacks = absurd (read-lacks t fds fd size why answer lacks)
+  fill-refused-lacks why answer lacks = by (read_fd t fds fd size).bytes refl
+    where
+      by : (r : Result (List ℕ) FileNo) → (read_fd t fds fd size).bytes ≡ r
+          → gives_bytes (read_effect t fds space fd at size) ≡ true
+      by (Ok bytes) is = absurd (let wrong = answer ∙ ap count_of is in cc)
+      by (Err other) is =
+          let same : why ≡ other = (let e = answer ∙ ap count_of is in cc) in
+          let told : lacks_memory (Err (Files other)) ≡ false = (rw is at (read-keeps t fds fd size)).1 in
+          let lacking : lacks_memory (Err (Files other)) ≡ true = rw same at lacks in
+          absurd (cc)
 
   pub fill-files : (why : FileNo) (f : FileTable) → f ≡ (read_fd t fds fd size).files
       → Err why ≡ count_of (read_fd t fds fd size).bytes → f ≡ t
@@ -267,7 +275,7 @@ module _ (t : FileTable) (fds : Descriptors) (space : Space) (fd at size : ℕ) 
     where
       by : (r : Result (List ℕ) FileNo) → (read_fd t fds fd size).bytes ≡ r → f ≡ t
       by (Ok bytes) is = absurd (let wrong = answer ∙ ap count_of is in cc)
-      by (Err other) is = files ∙ rw is at (read-keeps t fds fd size)
+      by (Err other) is = files ∙ (rw is at (read-keeps t fds fd size)).0
 
 -- a second read of as many bytes gives as many
 pub read-again : (t : FileTable) (fds : Descriptors) (fd size again count : ℕ) (why : FileNo)

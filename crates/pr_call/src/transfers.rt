@@ -2,7 +2,7 @@
 ghost use Rattle.std.specs.Prelude.{◌≡◌, ◌≤◌, [], ◌∷◌, true, false, is_some, length, IfNone, IfOk, IfSome, IsSome, OnErr};
 ghost use Rattle.std.specs.Option.{ForSome};
 ghost use Rattle.pr_num.specs.Limits.{transfer_limit};
-ghost use Rattle.pr_call.specs.Effects.{after_effect, gives_bytes, may_lack_memory, outcome_of};
+ghost use Rattle.pr_call.specs.Effects.{after_effect, gives_bytes, is_granted, outcome_of};
 ghost use Rattle.pr_call.specs.FileAnswers.{answer_meant, lacks_memory};
 ghost use Rattle.pr_model.specs.Changes.{fails, files_are, is_over, space_is};
 ghost use Rattle.pr_model.specs.FileCallRows.{file_effect, read_effect, write_effect};
@@ -170,7 +170,7 @@ fn put(alloc: Global, files: &mut Files, fds: &Fds, fd: u64, bytes: &[u8]) -> Re
     ensures effect { lacks_memory result ≡ false
         → answer_meant result (files_are files.new fds.now ∷ [])
         ≡ file_effect (write_fd files.old fds.now fd bytes.now) }
-    ensures memory { lacks_memory result ≡ true → may_lack_memory (file_effect (write_fd files.old fds.now fd bytes.now)) ≡ true }
+    ensures memory { lacks_memory result ≡ true → is_granted (file_effect (write_fd files.old fds.now fd bytes.now)) ≡ true }
     ensures files { OnErr result (files.new ≡ files.old) }
 {
     match files.write(alloc, fds, fd, bytes) {
@@ -195,7 +195,7 @@ fn drain(
         → answer_meant result (files_are files.new fds.now ∷ [])
         ≡ write_effect files.old fds.now space.now fd at (length buffer.old) }
     ensures memory { lacks_memory result ≡ true
-        → may_lack_memory (write_effect files.old fds.now space.now fd at (length buffer.old)) ≡ true }
+        → is_granted (write_effect files.old fds.now space.now fd at (length buffer.old)) ≡ true }
     ensures files { OnErr result (files.new ≡ files.old) }
 {
     match space.read(at, buffer, PROT_READ) {
@@ -216,7 +216,7 @@ fn write_from(
 ) -> Result<u64, Refusal>
     ensures effect { lacks_memory result ≡ false
         → answer_meant result (files_are files.new fds.now ∷ []) ≡ write_effect files.old fds.now space.now fd at size }
-    ensures memory { lacks_memory result ≡ true → may_lack_memory (write_effect files.old fds.now space.now fd at size) ≡ true }
+    ensures memory { lacks_memory result ≡ true → is_granted (write_effect files.old fds.now space.now fd at size) ≡ true }
     ensures files { OnErr result (files.new ≡ files.old) }
 {
     if let Some(error) = write_refusal(files, fds, space, fd, at, size) {
@@ -311,7 +311,7 @@ pub fn write(
         (λ p. outcome ≡ outcome_of (write_effect sys.old.files p.fds p.space fd at size))) }
     ensures memory { OnErr result
         (ForSome (live_process sys.old pid)
-        (λ p. may_lack_memory (write_effect sys.old.files p.fds p.space fd at size) ≡ true)) }
+        (λ p. is_granted (write_effect sys.old.files p.fds p.space fd at size) ≡ true)) }
     ensures err { OnErr result (sys.new ≡ sys.old) }
 {
     let process = sys.processes.get_mut(pid);
