@@ -48,8 +48,8 @@ Asks clock pid id l (Performs woken call args since) =
 
 -- ---- memory
 
--- Whether a row of the turn table may take memory: that of an instruction where it stores bytes, that of a call where the
--- call may take memory.
+-- Whether a row of the turn table may take memory: that of an instruction where it stores bytes, that of a call where
+-- this may.
 unfoldable pub row_takes : Row → Bool
 row_takes row = of row.did
   where
