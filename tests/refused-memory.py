@@ -6,6 +6,9 @@ grows a table asks a second time, for no more than it needs. Runs on several thr
 own, and the system asks for their threads: there a run may be whole in both ways. Where their text depends on the order,
 what was written is judged by `check`: it is the front of a legal history.
 
+Before that it compares two runs that differ in one turn: a read that gives no bytes, into a page that its process shares,
+asks for as much memory as one that is refused, for none.
+
 Of more than 1,500 requests some are refused, the first and the last ones among them; --most tells another number. With
 --sample one input alone is run, as in the gate. PROCLAB, PHIST and PDRIVE name other programs than the proved ones, and
 WORKERS tells how many runs there are at once. It needs a C compiler. The last line is 'N passed, M failed'.
@@ -27,6 +30,26 @@ EXAMPLES = ["alone", "stop-and-look", "truss-two-calls", "truss-vfork", "truss-t
 CASES = ["cases/truss/shell", "cases/tools/pmap-of-a-reader"]
 SESSIONS = ["waits-agents-and-memory", "asleep-at-a-pipe", "lines-that-ask-for-nothing"]
 ON_ONE, IN_ANY_ORDER, IN_AN_ORDER = "on one thread", "in any order", "in an order of its own"
+
+# A read from descriptor 0, which is an empty file, or from another one, which is not open. The buffer does not begin where
+# its page begins; the process shares that page with the program that it runs.
+READS_NOTHING = """turns 40
+file e ""
+program p
+text n "e"
+space b 16
+set r1, n
+set r2, 0
+sys open
+set r1, %d
+set r2, b
+set r3, 16
+sys read
+set r1, 0
+sys exit
+end
+spawn p
+"""
 
 
 def words_of(name):
@@ -90,6 +113,15 @@ def swept(checks, name, command, data, order, room, most):
     return asked, ends
 
 
+def asks_for_nothing(checks, room):
+    """A read of no bytes asks for no memory."""
+    runs = [Sweep(PROVED, ["run"], (READS_NOTHING % fd).encode(), room).run(0, False) for fd in (0, 1)]
+    (ended, out, asked), (refused_ended, refused_out, refused_asked) = runs
+    made = ended == refused_ended == 0 and b"made read = 0\n" in out and b"made read EBADF\n" in refused_out
+    wrong = "" if made and asked == refused_asked else "%d requests, and %d where the read is refused" % (asked, refused_asked)
+    checks.check("proclab run, a read of no bytes", wrong, "%d requests, as many as where the read is refused" % asked)
+
+
 def main():
     words = argparse.ArgumentParser()
     words.add_argument("--most", type=int, default=1500)
@@ -98,6 +130,7 @@ def main():
     checks, requests, total = Checks(), 0, collections.Counter()
     with tempfile.TemporaryDirectory() as room:
         make_library(room)
+        asks_for_nothing(checks, room)
         chosen = [("many things", [PROVED, "run"], MANY_THINGS.encode(), ON_ONE)] if asked_for.sample else inputs()
         for name, command, data, order in chosen:
             asked, ends = swept(checks, name, command, data, order, room, asked_for.most)

@@ -13,8 +13,8 @@ use Rattle.pr_parts.specs.declared.files.FileNo.{FileNo}
 use Rattle.pr_model.specs.Changes.{fails, gives, files_are, space_is}
 use Rattle.pr_model.specs.FileCallRows.{file_effect, open_effect, pipe_effect, refusal_effect, word_size}
 use Rattle.pr_model.specs.MemoryCalls.{can_write, path_at}
-use Rattle.pr_call.proofs.FileKeptLemmas.{Keeps, lacking-by, lacking-file, refusal-lacks, unless-fds, unless-files, unless-refused}
-use Rattle.pr_call.specs.Effects.{may_lack_memory}
+use Rattle.pr_call.proofs.FileKeptLemmas.{Keeps, lacking-by, lacking-file, unless-fds, unless-files, unless-refused}
+use Rattle.pr_call.specs.Effects.{is_granted}
 use Rattle.pr_call.specs.FileAnswers.{lacks_memory}
 use Rattle.pr_call.specs.declared.answers.Refusal.TheVariants.{Files}
 
@@ -27,7 +27,7 @@ module _ (t : FileTable) (fds : Descriptors) where
   unfolding created_file opened_file
   created-keeps fd name flags =
       elim (cases_Bool (ltb (length t.files) 256))
-      [ inl few ↦ rw few (record { kept = tt }) | inr full ↦ rw full (record { kept = (refl, refl) }) ]
+      [ inl few ↦ rw few (record { kept = tt }) | inr full ↦ rw full (record { kept = (refl, refl, refl) }) ]
 
   pub opened-keeps : (name : List ℕ) (flags : ℕ) → Keeps t fds (opened t fds name flags)
   unfolding opened opened_file
@@ -35,17 +35,17 @@ module _ (t : FileTable) (fds : Descriptors) where
     where
       by : (o : Option ℕ) (free : Option ℕ) → file_named t name ≡ o → free_fd fds ≡ free
           → Keeps t fds (opened t fds name flags)
-      by (Some file) None e f = rw (e, f) (record { kept = (refl, refl) })
+      by (Some file) None e f = rw (e, f) (record { kept = (refl, refl, refl) })
       by (Some file) (Some fd) e f = rw (e, f) (record { kept = tt })
       by None None e f =
           elim (cases_Bool (creates flags)) [
-            | inl made ↦ rw (e, f, made) (record { kept = (refl, refl) })
-            | inr not_made ↦ rw (e, f, not_made) (record { kept = (refl, refl) })
+            | inl made ↦ rw (e, f, made) (record { kept = (refl, refl, refl) })
+            | inr not_made ↦ rw (e, f, not_made) (record { kept = (refl, refl, refl) })
           ]
       by None (Some fd) e f =
           elim (cases_Bool (creates flags)) [
             | inl made ↦ rw (e, f, made) (created-keeps fd name flags)
-            | inr not_made ↦ rw (e, f, not_made) (record { kept = (refl, refl) })
+            | inr not_made ↦ rw (e, f, not_made) (record { kept = (refl, refl, refl) })
           ]
 
   pub piped-keeps : Keeps t fds (piped t fds)
@@ -54,15 +54,15 @@ module _ (t : FileTable) (fds : Descriptors) where
     where
       ends : (reader : ℕ) (free : Option ℕ) → free_fd fds ≡ Some reader → free_fd_behind fds reader ≡ free
           → Keeps t fds (piped t fds)
-      ends reader None e f = rw (e, f) (record { kept = (refl, refl) })
+      ends reader None e f = rw (e, f) (record { kept = (refl, refl, refl) })
       ends reader (Some writer) e f =
           elim (cases_Bool (ltb (count_by is_some t.pipes) 256)) [
             | inl few ↦ rw (e, f, few) (record { kept = tt })
-            | inr full ↦ rw (e, f, full) (record { kept = (refl, refl) })
+            | inr full ↦ rw (e, f, full) (record { kept = (refl, refl, refl) })
           ]
 
       by : (free : Option ℕ) → free_fd fds ≡ free → Keeps t fds (piped t fds)
-      by None e = rw e (record { kept = (refl, refl) })
+      by None e = rw e (record { kept = (refl, refl, refl) })
       by (Some reader) e = ends reader (free_fd_behind fds reader) e refl
 
 -- ---- open
@@ -94,9 +94,11 @@ module _ (t : FileTable) (fds : Descriptors) (space : Space) (at flags : ℕ) wh
 
       pub open-lacks : (why : FileNo)
           → record { files = f; fds = d; answer = Err why } ≡ unless_no_memory t fds (Err why) (opened t fds name flags)
-          → lacks_memory (Err (Files why)) ≡ true → may_lack_memory (open_effect t fds space at flags) ≡ true
+          → lacks_memory (Err (Files why)) ≡ true → is_granted (open_effect t fds space at flags) ≡ true
       unfolding open_effect
-      open-lacks why is lacks = rw (sym named, good) (lacking-file t fds f d (opened t fds name flags) why is lacks)
+      open-lacks why is lacks =
+          rw (sym named, good)
+          (lacking-file t fds f d (opened t fds name flags) (opened-keeps t fds name flags) why is lacks)
 
 module _ (t : FileTable) (fds : Descriptors) (name : List ℕ) (flags : ℕ) (f : FileTable) (d : Descriptors)
     (why : FileNo)
@@ -136,12 +138,12 @@ module _ (t : FileTable) (fds : Descriptors) (space : Space) (at : ℕ) where
 
     pub pipe-lacks : (why : FileNo)
         → record { files = f; fds = d; answer = Err why } ≡ unless_no_memory t fds (Err why) (piped t fds)
-        → lacks_memory (Err (Files why)) ≡ true → may_lack_memory (pipe_effect t fds space at) ≡ true
+        → lacks_memory (Err (Files why)) ≡ true → is_granted (pipe_effect t fds space at) ≡ true
     unfolding pipe_effect
     pipe-lacks why is lacks =
         lacking-by t fds f d (piped t fds)
-        (λ r. (piped t fds).answer ≡ r → may_lack_memory (pipe_effect t fds space at) ≡ true)
-        (λ value e. rw (can, e) refl) (λ e. rw (can, e) refl) why is lacks refl
+        (λ r. (piped t fds).answer ≡ r → is_granted (pipe_effect t fds space at) ≡ true)
+        (λ value e. rw (can, e) refl) (piped-keeps t fds) why is lacks refl
 
     -- the descriptors that were looked up are those of the pipe
     pub pipe-made : (ends : ℕ × ℕ) (reader writer : ℕ) (new : Space) → Ok (reader, writer) ≡ (piped t fds).answer
@@ -162,12 +164,15 @@ module _ (t : FileTable) (fds : Descriptors) (space : Space) (at : ℕ) where
   unfolding pipe_effect
   pipe-unlooked why can is = rw (can, sym is) refl
 
-  pub pipe-unlooked-lacks : (why : FileNo) → can_write space at (2 * word_size) ≡ true → Err why ≡ (piped t fds).answer
-      → lacks_memory (Err (Files why)) ≡ true → may_lack_memory (pipe_effect t fds space at) ≡ true
-  pipe-unlooked-lacks why can is lacks = ap may_lack_memory (sym (pipe-unlooked why can is)) ∙ refusal-lacks why lacks
+  pub pipe-unlooked-lacks : (why : FileNo) → Err why ≡ (piped t fds).answer → lacks_memory (Err (Files why)) ≡ true
+      → is_granted (pipe_effect t fds space at) ≡ true
+  pipe-unlooked-lacks why is lacks =
+      let kept = (piped-keeps t fds).kept in
+      let told : lacks_memory (Err (Files why)) ≡ false = (rw (sym is) at kept).2 in
+      absurd (cc)
 
   pub pipe-looked-lacks : (ends : ℕ × ℕ) → can_write space at (2 * word_size) ≡ true → Ok ends ≡ (piped t fds).answer
-      → may_lack_memory (pipe_effect t fds space at) ≡ true
+      → is_granted (pipe_effect t fds space at) ≡ true
   unfolding pipe_effect
   pipe-looked-lacks ends can is = rw (can, sym is) refl
 

@@ -14,7 +14,7 @@ use Rattle.pr_model.specs.Readers.{total_has_room}
 use Rattle.pr_model.specs.State.{TracedLwp, TracedProcess, TracedSystem, with_process, with_process_if}
 use Rattle.pr_model.specs.declared.events.Res.TheVariants.{Value, Error}
 use Rattle.pr_proc.specs.Refusals.{exec_refusal}
-use Rattle.pr_call.specs.Effects.{after_effect, is_granted, may_lack_memory, outcome_of}
+use Rattle.pr_call.specs.Effects.{after_effect, is_granted, outcome_of}
 use Rattle.pr_call.specs.Processes.{exec_found, exec_of}
 use Rattle.pr_call.specs.declared.requests.Performed.TheVariants as performed
 
@@ -117,21 +117,6 @@ module _ (s : TracedSystem) (p : TracedProcess) (id : ℕ) (x : Effect) where
       → ((g : Program) → slice_get s.programs place ≡ Some g → exec_refusal s p id g ≡ Some e)
       → performed.Done (Error e) ≡ outcome_of x
   refuse-outcome place e within = refuse-told (slice_get s.programs place) e (some-at s.programs place within)
-
-  -- memory may run out where a program was found
-  lack-told : (o : Option Program) → IsSome o → exec_found s p id o ≡ x → may_lack_memory x ≡ true
-  unfolding exec_found
-  lack-told None some is = absurd (cc)
-  lack-told (Some g) some is =
-      ap may_lack_memory (sym is) ∙ by (total_has_room s (mapped_size (first_space g)) (given_up s p id))
-    where
-      by : (b : Bool) → may_lack_memory (cond b (gives 0 (becomes g ∷ [])) (fails Nomem)) ≡ true
-      by true = refl
-      by false = refl
-
-  pub run-lacks : (place : ℕ) → place < length s.programs → exec_found s p id (slice_get s.programs place) ≡ x
-      → may_lack_memory x ≡ true
-  run-lacks place within = lack-told (slice_get s.programs place) (some-at s.programs place within)
 
   -- where nothing refuses it, it is granted
   granted-told : (o : Option Program) → IsSome o → exec_found s p id o ≡ x

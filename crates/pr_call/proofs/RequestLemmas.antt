@@ -5,7 +5,7 @@ use Rattle.pr_model.specs.State.{TracedLwp, TracedProcess, TracedSystem, live_pr
 use Rattle.pr_model.specs.Statuses.{arguments_in}
 use Rattle.pr_model.specs.declared.lwps.Phase.{Phase}
 use Rattle.pr_model.specs.declared.lwps.Phase.TheVariants.{Entered, Asleep}
-use Rattle.pr_call.specs.Effects.{after_effect, effect_of, may_lack_memory, outcome_of}
+use Rattle.pr_call.specs.Effects.{after_effect, effect_of, outcome_of, takes_memory}
 use Rattle.pr_call.specs.Requests.{request_at, request_by, request_in, request_of}
 use Rattle.pr_call.specs.declared.requests.Performed.{Performed}
 use Rattle.pr_call.specs.declared.requests.Request.{Request}
@@ -94,11 +94,12 @@ module _ (s new : TracedSystem) (pid id : ℕ) (q r : Request) (asks : request_o
       ∙ ap (λ x. outcome_of (effect_of s p l x)) same
 
   pub asked-memory : ForSome (live_process s q.pid)
-      (λ p. ForSome (lwp_of p q.lwp) (λ l. may_lack_memory (effect_of s p l q) ≡ true))
-      → ForSome (live_process s pid) (λ p. ForSome (lwp_of p id) (λ l. may_lack_memory (effect_of s p l r) ≡ true))
+      (λ p. ForSome (lwp_of p q.lwp) (λ l. takes_memory q.call (effect_of s p l q) ≡ true))
+      → ForSome (live_process s pid)
+      (λ p. ForSome (lwp_of p id) (λ l. takes_memory r.call (effect_of s p l r) ≡ true))
   asked-memory h p found l stands =
       let o = own s pid id q asks in
-      ap (λ x. may_lack_memory (effect_of s p l x)) (sym same)
+      ap (λ x. takes_memory x.call (effect_of s p l x)) (sym same)
       ∙ h p (ap (live_process s) o.pid_is ∙ found) l (ap (lwp_of p) o.lwp_is ∙ stands)
 
 -- it is the one that the lwp of its ids makes

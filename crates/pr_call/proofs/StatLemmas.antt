@@ -10,10 +10,10 @@ use Rattle.pr_parts.specs.declared.files.Stat.{Stat}
 use Rattle.pr_model.specs.Changes.{fails, gives, space_is}
 use Rattle.pr_model.specs.FileCallRows.{fstat_effect, refusal_effect, word_size}
 use Rattle.pr_model.specs.MemoryCalls.{can_write}
-use Rattle.pr_call.specs.Effects.{may_lack_memory}
+use Rattle.pr_call.specs.Effects.{stores_bytes}
 use Rattle.pr_call.specs.FileAnswers.{lacks_memory}
 use Rattle.pr_call.specs.declared.answers.Refusal.TheVariants.{Files}
-use Rattle.pr_call.proofs.FileKeptLemmas.{refusal-lacks}
+use Rattle.pr_call.proofs.FileKeptLemmas.{described-unlacking}
 
 -- What fstat does, by what the files answer.
 
@@ -33,13 +33,13 @@ module _ (t : FileTable) (fds : Descriptors) (space : Space) (fd at : ℕ) where
     unfolding fstat_effect
     stat-stored new can stored = rw (sym is, can, stored) refl
 
-    pub stat-lacks : can_write space at (3 * word_size) ≡ true → may_lack_memory (fstat_effect t fds space fd at) ≡ true
+    pub stat-lacks : can_write space at (3 * word_size) ≡ true → stores_bytes (fstat_effect t fds space fd at) ≡ true
     unfolding fstat_effect
     stat-lacks can = rw (sym is, can) refl
 
-  -- no refusal but want of memory says so
+  -- no refusal says that memory ran out
   pub stat-refused-lacks : (why : FileNo) → Err why ≡ described t fds fd → lacks_memory (Err (Files why)) ≡ true
-      → may_lack_memory (fstat_effect t fds space fd at) ≡ true
-  stat-refused-lacks why is lacks = ap may_lack_memory (sym (stat-refused why is)) ∙ refusal-lacks why lacks
+      → stores_bytes (fstat_effect t fds space fd at) ≡ true
+  stat-refused-lacks why is lacks = let told = described-unlacking t fds fd why is in absurd (cc)
 
 pub ruleset describing = (stat-refused, stat-fault, stat-stored, stat-lacks, stat-refused-lacks)

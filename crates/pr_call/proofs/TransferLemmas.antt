@@ -21,11 +21,11 @@ use Rattle.pr_model.specs.Changes.{Effect, fails, files_are, gives, is_over, spa
 use Rattle.pr_model.specs.FileCallRows.{file_effect, read_effect, refusal_effect, write_effect}
 use Rattle.pr_model.specs.MemoryCalls.{can_read, can_write}
 use Rattle.pr_parts.proofs.ByteLemmas.{length-bytes_for}
-use Rattle.pr_call.specs.Effects.{may_lack_memory}
+use Rattle.pr_call.specs.Effects.{gives_bytes}
 use Rattle.pr_call.specs.FileAnswers.{lacks_memory}
 use Rattle.pr_call.specs.Transfers.{read_meant}
 use Rattle.pr_call.specs.declared.answers.Refusal.TheVariants.{Files}
-use Rattle.pr_call.proofs.FileKeptLemmas.{read-keeps, refusal-lacks, unless-files, unless-refused, written-keeps}
+use Rattle.pr_call.proofs.FileKeptLemmas.{read-keeps, unless-files, unless-refused, written-keeps}
 
 -- What reads and writes do.
 
@@ -242,22 +242,32 @@ module _ (t : FileTable) (fds : Descriptors) (space : Space) (fd at size : ℕ) 
           let same : why ≡ other = (let e = answer ∙ ap count_of is in cc) in
           rw same (sym (read-made t fds space fd at size (Err other) ready within can is))
 
-  -- memory may run out where bytes are stored, or where the files say so
-  pub fill-lacks : (count : ℕ) → is_some (open_for_reading t fds fd) ≡ true → size ≤ transfer_limit
+  -- memory may run out where bytes are stored; the files do not say so
+  pub fill-lacks : (count : ℕ) → 0 < count → is_some (open_for_reading t fds fd) ≡ true → size ≤ transfer_limit
       → can_write space at size ≡ true → Ok count ≡ count_of (read_fd t fds fd size).bytes
-      → may_lack_memory (read_effect t fds space fd at size) ≡ true
-  fill-lacks count ready within can answer = by (read_fd t fds fd size).bytes refl
+      → gives_bytes (read_effect t fds space fd at size) ≡ true
+  fill-lacks count some ready within can answer = by (read_fd t fds fd size).bytes refl
     where
       by : (r : Result (List ℕ) FileNo) → (read_fd t fds fd size).bytes ≡ r
-          → may_lack_memory (read_effect t fds space fd at size) ≡ true
-      by (Ok bytes) is = ap may_lack_memory (read-made t fds space fd at size (Ok bytes) ready within can is)
+          → gives_bytes (read_effect t fds space fd at size) ≡ true
+      by (Ok bytes) is =
+          let long : count ≡ length bytes = (let same = answer ∙ ap count_of is in cc) in
+          ap gives_bytes (read-made t fds space fd at size (Ok bytes) ready within can is)
+          ∙ lt-ltb 0 (length bytes) (omega (arith, some, long))
       by (Err why) is = absurd (let wrong = answer ∙ ap count_of is in cc)
 
-  pub fill-refused-lacks : (why : FileNo) → is_some (open_for_reading t fds fd) ≡ true → size ≤ transfer_limit
-      → can_write space at size ≡ true → Err why ≡ count_of (read_fd t fds fd size).bytes
-      → lacks_memory (Err (Files why)) ≡ true → may_lack_memory (read_effect t fds space fd at size) ≡ true
-  fill-refused-lacks why ready within can answer lacks =
-      ap may_lack_memory (sym (fill-refused why ready within can answer)) ∙ refusal-lacks why lacks
+  pub fill-refused-lacks : (why : FileNo) → Err why ≡ count_of (read_fd t fds fd size).bytes
+      → lacks_memory (Err (Files why)) ≡ true → gives_bytes (read_effect t fds space fd at size) ≡ true
+  fill-refused-lacks why answer lacks = by (read_fd t fds fd size).bytes refl
+    where
+      by : (r : Result (List ℕ) FileNo) → (read_fd t fds fd size).bytes ≡ r
+          → gives_bytes (read_effect t fds space fd at size) ≡ true
+      by (Ok bytes) is = absurd (let wrong = answer ∙ ap count_of is in cc)
+      by (Err other) is =
+          let same : why ≡ other = (let e = answer ∙ ap count_of is in cc) in
+          let told : lacks_memory (Err (Files other)) ≡ false = (rw is at (read-keeps t fds fd size)).1 in
+          let lacking : lacks_memory (Err (Files other)) ≡ true = rw same at lacks in
+          absurd (cc)
 
   pub fill-files : (why : FileNo) (f : FileTable) → f ≡ (read_fd t fds fd size).files
       → Err why ≡ count_of (read_fd t fds fd size).bytes → f ≡ t
@@ -265,7 +275,7 @@ module _ (t : FileTable) (fds : Descriptors) (space : Space) (fd at size : ℕ) 
     where
       by : (r : Result (List ℕ) FileNo) → (read_fd t fds fd size).bytes ≡ r → f ≡ t
       by (Ok bytes) is = absurd (let wrong = answer ∙ ap count_of is in cc)
-      by (Err other) is = files ∙ rw is at (read-keeps t fds fd size)
+      by (Err other) is = files ∙ (rw is at (read-keeps t fds fd size)).0
 
 -- a second read of as many bytes gives as many
 pub read-again : (t : FileTable) (fds : Descriptors) (fd size again count : ℕ) (why : FileNo)

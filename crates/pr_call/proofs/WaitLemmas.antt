@@ -15,7 +15,7 @@ use Rattle.pr_model.specs.ProcessCalls.{wait_effect}
 use Rattle.pr_model.specs.Readers.{Children, no_child, all_live, first_zombie, children_of}
 use Rattle.pr_model.specs.State.{TracedLwp, TracedProcess, TracedSystem, live_process, with_process}
 use Rattle.pr_model.specs.declared.events.Res.TheVariants.{Value, Error}
-use Rattle.pr_call.specs.Effects.{after_effect, may_lack_memory, outcome_of}
+use Rattle.pr_call.specs.Effects.{after_effect, outcome_of, stores_bytes}
 use Rattle.pr_call.specs.Waits.{reaped_by}
 use Rattle.pr_call.specs.declared.requests.Performed.TheVariants as performed
 use Rattle.pr_model.proofs.StateLemmas.{live_process-found}
@@ -124,8 +124,8 @@ gave-faulty space child status at some cannot = rw (faulty space child status at
 
 -- memory may run out where a status is stored
 pub give-lacks : (space : Space) (child status at : ℕ) → (at == 0) ≡ false → can_write space at word_size ≡ true
-    → may_lack_memory (wait_effect space (first_zombie child status) at) ≡ true
-give-lacks space child status at some can = ap may_lack_memory (stored space child status at some can)
+    → stores_bytes (wait_effect space (first_zombie child status) at) ≡ true
+give-lacks space child status at some can = ap stores_bytes (stored space child status at some can)
 
 pub ruleset giving = (give-lacks, give-unstored, give-stored, give-faulty, gave-unstored, gave-stored, gave-faulty)
 

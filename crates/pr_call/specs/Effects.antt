@@ -1,5 +1,5 @@
-use Rattle.std.specs.Prelude.{◌-◌, ℕ, Bool, true, false, List, [], ◌∷◌, Option, Some, None, length, slice_get, take}
-use Rattle.pr_num.specs.declared.errnos.Errno.TheVariants.{Nomem}
+use Rattle.std.specs.Prelude.{◌-◌, ℕ, Bool, true, false, List, [], ◌∷◌, Option, Some, None, length, nat_lt, slice_get, take}
+use Rattle.std.specs.List.{list_any}
 use Rattle.pr_num.specs.declared.syscalls.Sysno.{Sysno}
 use Rattle.pr_num.specs.declared.syscalls.Sysno.TheVariants.{Fork, Vfork, Write, Open, Exec, Pipe, Brk, Mmap, LwpCreate, Fstat, Wait, Read, Exit, Getpid, Getppid, Sigaction, Sigmask, Pause, Sigreturn, Time, Sleep, LwpExit, LwpSuspend, LwpContinue}
 use Rattle.pr_model.specs.CallEffects.{call_effect}
@@ -7,7 +7,7 @@ use Rattle.pr_model.specs.Changes as changes
 use Rattle.pr_model.specs.Changes.{all_changed, ended, with_disposition_of, with_held, with_suspended, resumed}
 use Rattle.pr_model.specs.Machines.{traced}
 use Rattle.pr_model.specs.State.{TracedSystem, TracedProcess, TracedLwp, with_lwp}
-use Rattle.pr_model.specs.declared.events.Res.TheVariants.{Value, Error}
+use Rattle.pr_model.specs.declared.events.Res.TheVariants.{Value}
 use Rattle.pr_model.specs.declared.frames.Frame.{Frame}
 use Rattle.pr_call.specs.declared.requests.Change.{Change}
 use Rattle.pr_call.specs.declared.requests.Change.TheVariants.{Held, Disposition, Resumed, Suspended}
@@ -106,24 +106,36 @@ abbrev pub is_granted : changes.Effect → Bool
 is_granted (changes.does (Value value) made) = true
 is_granted _ = false
 
--- whether memory may run out in a call: it is granted, or refused because too much would be mapped (ENOMEM)
-abbrev pub may_lack_memory : changes.Effect → Bool
-may_lack_memory (changes.does (Value value) made) = true
-may_lack_memory (changes.does (Error Nomem) made) = true
-may_lack_memory _ = false
+-- ---- memory
 
--- whether a call takes memory; one that stores bytes in memory may have to copy the pages that another process shares
-abbrev pub takes_memory : Sysno → Bool
-takes_memory Fork = true
-takes_memory Vfork = true
-takes_memory Write = true
-takes_memory Open = true
-takes_memory Exec = true
-takes_memory Pipe = true
-takes_memory Brk = true
-takes_memory Mmap = true
-takes_memory LwpCreate = true
-takes_memory Fstat = true
-takes_memory Wait = true
-takes_memory Read = true
-takes_memory _ = false
+-- whether a change stores bytes in memory: the pages where they stand are copied if another process shares them
+abbrev pub is_store : changes.Change → Bool
+is_store (changes.space_is space) = true
+is_store _ = false
+
+-- whether a call answers a value, and stores bytes in memory
+abbrev pub stores_bytes : changes.Effect → Bool
+stores_bytes (changes.does (Value value) made) = list_any is_store made
+stores_bytes _ = false
+
+-- whether a read gives bytes; one that gives none, as at the end of a file, stores none
+abbrev pub gives_bytes : changes.Effect → Bool
+gives_bytes (changes.does (Value count) made) = nat_lt 0 count
+gives_bytes _ = false
+
+-- Whether a call may take memory, by its effect: one that makes a process, an lwp, an open file, a pipe or a mapping,
+-- runs another program or writes, where it is granted; one that only stores bytes in memory, where it stores some.
+abbrev pub takes_memory : Sysno → changes.Effect → Bool
+takes_memory Fork effect = is_granted effect
+takes_memory Vfork effect = is_granted effect
+takes_memory Exec effect = is_granted effect
+takes_memory LwpCreate effect = is_granted effect
+takes_memory Brk effect = is_granted effect
+takes_memory Mmap effect = is_granted effect
+takes_memory Open effect = is_granted effect
+takes_memory Pipe effect = is_granted effect
+takes_memory Write effect = is_granted effect
+takes_memory Read effect = gives_bytes effect
+takes_memory Fstat effect = stores_bytes effect
+takes_memory Wait effect = stores_bytes effect
+takes_memory _ effect = false

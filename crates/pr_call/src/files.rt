@@ -1,6 +1,6 @@
 //! The system calls on files and pipes, of the files, of the descriptors and of the space of a process.
 ghost use Rattle.std.specs.Prelude.{◌≡◌, [], ◌∷◌, true, false, OnErr};
-ghost use Rattle.pr_call.specs.Effects.{may_lack_memory};
+ghost use Rattle.pr_call.specs.Effects.{is_granted, stores_bytes};
 ghost use Rattle.pr_call.specs.FileAnswers.{answer_meant, lacks_memory};
 ghost use Rattle.pr_model.specs.Changes.{files_are, space_is};
 ghost use Rattle.pr_model.specs.FileCallRows.{close_effect, dup_effect, fstat_effect, lseek_effect, open_effect, pipe_effect};
@@ -77,7 +77,7 @@ pub fn open(
 ) -> Result<u64, Refusal>
     ensures effect { lacks_memory result ≡ false
         → answer_meant result (files_are files.new fds.new ∷ []) ≡ open_effect files.old fds.old space.now at flags }
-    ensures memory { lacks_memory result ≡ true → may_lack_memory (open_effect files.old fds.old space.now at flags) ≡ true }
+    ensures memory { lacks_memory result ≡ true → is_granted (open_effect files.old fds.old space.now at flags) ≡ true }
     ensures files { OnErr result (files.new ≡ files.old) }
     ensures fds { OnErr result (fds.new ≡ fds.old) }
 {
@@ -107,7 +107,7 @@ pub fn pipe(
     ensures effect { lacks_memory result ≡ false
         → answer_meant result (files_are files.new fds.new ∷ space_is space.new ∷ [])
         ≡ pipe_effect files.old fds.old space.old at }
-    ensures memory { lacks_memory result ≡ true → may_lack_memory (pipe_effect files.old fds.old space.old at) ≡ true }
+    ensures memory { lacks_memory result ≡ true → is_granted (pipe_effect files.old fds.old space.old at) ≡ true }
     ensures files { OnErr result (files.new ≡ files.old) }
     ensures fds { OnErr result (fds.new ≡ fds.old) }
     ensures space { OnErr result (space.new ≡ space.old) }
@@ -134,7 +134,7 @@ pub fn pipe(
 pub fn fstat(files: &Files, fds: &Fds, space: &mut Space, fd: u64, at: u64) -> Result<u64, Refusal>
     ensures effect { lacks_memory result ≡ false
         → answer_meant result (space_is space.new ∷ []) ≡ fstat_effect files.now fds.now space.old fd at }
-    ensures memory { lacks_memory result ≡ true → may_lack_memory (fstat_effect files.now fds.now space.old fd at) ≡ true }
+    ensures memory { lacks_memory result ≡ true → stores_bytes (fstat_effect files.now fds.now space.old fd at) ≡ true }
     ensures space { OnErr result (space.new ≡ space.old) }
 {
     let stat = match files.stat(fds, fd) {

@@ -1,7 +1,7 @@
 //! The system calls on files and pipes as an lwp of a live process makes them.
 ghost use Rattle.std.specs.Prelude.{◌≡◌, true, IfOk, IsSome, OnErr};
 ghost use Rattle.std.specs.Option.{ForSome};
-ghost use Rattle.pr_call.specs.Effects.{after_effect, may_lack_memory, outcome_of};
+ghost use Rattle.pr_call.specs.Effects.{after_effect, is_granted, outcome_of, stores_bytes};
 ghost use Rattle.pr_model.specs.FileCallRows.{close_effect, dup_effect, fstat_effect, lseek_effect, open_effect, pipe_effect};
 ghost use Rattle.pr_model.specs.Lawful.{IsLawfulSystem};
 ghost use Rattle.pr_model.specs.State.{TracedLwp, live_process};
@@ -69,7 +69,7 @@ pub fn fstat(sys: &mut Sys, pid: u32, id: u32, fd: u64, at: u64) -> Result<Perfo
         (λ p. outcome ≡ outcome_of (fstat_effect sys.old.files p.fds p.space fd at))) }
     ensures memory { OnErr result
         (ForSome (live_process sys.old pid)
-        (λ p. may_lack_memory (fstat_effect sys.old.files p.fds p.space fd at) ≡ true)) }
+        (λ p. stores_bytes (fstat_effect sys.old.files p.fds p.space fd at) ≡ true)) }
     ensures err { OnErr result (sys.new ≡ sys.old) }
 {
     let process = sys.processes.get_mut(pid);
@@ -101,7 +101,7 @@ pub fn open(
         (λ p. outcome ≡ outcome_of (open_effect sys.old.files p.fds p.space at flags))) }
     ensures memory { OnErr result
         (ForSome (live_process sys.old pid)
-        (λ p. may_lack_memory (open_effect sys.old.files p.fds p.space at flags) ≡ true)) }
+        (λ p. is_granted (open_effect sys.old.files p.fds p.space at flags) ≡ true)) }
     ensures err { OnErr result (sys.new ≡ sys.old) }
 {
     let process = sys.processes.get_mut(pid);
@@ -131,7 +131,7 @@ pub fn pipe(alloc: Global, sys: &mut Sys, pid: u32, id: u32, at: u64) -> Result<
         ForSome (live_process sys.old pid) (λ p. outcome ≡ outcome_of (pipe_effect sys.old.files p.fds p.space at))) }
     ensures memory { OnErr result
         (ForSome (live_process sys.old pid)
-        (λ p. may_lack_memory (pipe_effect sys.old.files p.fds p.space at) ≡ true)) }
+        (λ p. is_granted (pipe_effect sys.old.files p.fds p.space at) ≡ true)) }
     ensures err { OnErr result (sys.new ≡ sys.old) }
 {
     let process = sys.processes.get_mut(pid);

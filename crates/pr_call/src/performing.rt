@@ -1,7 +1,7 @@
 //! A system call performed.
-ghost use Rattle.std.specs.Prelude.{◌≡◌, true, false, Some, IsSome, IsOk, IfOk, OnErr};
+ghost use Rattle.std.specs.Prelude.{◌≡◌, true, Some, IsSome, IfOk, OnErr};
 ghost use Rattle.std.specs.Option.{ForSome};
-ghost use Rattle.pr_call.specs.Effects.{after_effect, effect_meant, effect_of, is_plain, may_lack_memory, outcome_of, takes_memory};
+ghost use Rattle.pr_call.specs.Effects.{after_effect, effect_meant, effect_of, is_plain, outcome_of, takes_memory};
 ghost use Rattle.pr_call.specs.Requests.{request_of};
 ghost use Rattle.pr_model.specs.Lawful.{IsLawfulSystem};
 ghost use Rattle.pr_model.specs.State.{live_process, lwp_of};
@@ -68,10 +68,10 @@ fn perform_request(alloc: Global, sys: &mut Sys, request: &Request) -> Result<Pe
         (λ outcome.
         ForSome (live_process sys.old request.now.pid)
         (λ p. ForSome (lwp_of p request.now.lwp) (λ l. outcome ≡ outcome_of (effect_of sys.old p l request.now)))) }
-    ensures sure { takes_memory request.now.call ≡ false → IsOk result }
     ensures memory { OnErr result
         (ForSome (live_process sys.old request.now.pid)
-        (λ p. ForSome (lwp_of p request.now.lwp) (λ l. may_lack_memory (effect_of sys.old p l request.now) ≡ true))) }
+        (λ p. ForSome (lwp_of p request.now.lwp)
+        (λ l. takes_memory request.now.call (effect_of sys.old p l request.now) ≡ true))) }
     ensures err { OnErr result (sys.new ≡ sys.old) }
 {
     if is_plain(request.call) {
@@ -124,8 +124,8 @@ fn perform_request(alloc: Global, sys: &mut Sys, request: &Request) -> Result<Pe
 
 /// Performs the call at whose entry an lwp of a live process is, or in which it sleeps: the system is as the effect of
 /// the call leaves it, and the answer is what comes of it. The result is not stored yet, and the lwp stays where it
-/// was. Memory runs out only in some calls, and there only where the call is granted or too much would be mapped; the
-/// system then stays as it is.
+/// was. Memory runs out only in some calls, and there only where the call is granted; in one that only stores bytes, only
+/// where it stores some. The system then stays as it is.
 pub fn perform(alloc: Global, sys: &mut Sys, pid: u32, lwp: u32) -> Result<Performed, NoMemory>
     requires lawful { IsLawfulSystem sys.old }
     requires call { IsSome (request_of sys.old pid lwp) }
@@ -142,12 +142,11 @@ pub fn perform(alloc: Global, sys: &mut Sys, pid: u32, lwp: u32) -> Result<Perfo
         (λ request.
         ForSome (live_process sys.old pid)
         (λ p. ForSome (lwp_of p lwp) (λ l. outcome ≡ outcome_of (effect_of sys.old p l request))))) }
-    ensures sure { ForSome (request_of sys.old pid lwp) (λ request. takes_memory request.call ≡ false → IsOk result) }
     ensures memory { OnErr result
         (ForSome (request_of sys.old pid lwp)
         (λ request.
         ForSome (live_process sys.old pid)
-        (λ p. ForSome (lwp_of p lwp) (λ l. may_lack_memory (effect_of sys.old p l request) ≡ true)))) }
+        (λ p. ForSome (lwp_of p lwp) (λ l. takes_memory request.call (effect_of sys.old p l request) ≡ true)))) }
     ensures err { OnErr result (sys.new ≡ sys.old) }
 {
     let request = request_of(sys, pid, lwp).unwrap();

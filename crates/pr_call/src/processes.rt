@@ -2,7 +2,7 @@
 ghost use Rattle.std.specs.Prelude.{◌≡◌, ◌==◌, ◌||◌, ◌<◌, Some, true, not, IfOk, IsSome, OnErr, length};
 ghost use Rattle.std.specs.Option.{ForSome};
 ghost use Rattle.pr_num.specs.Agents.{agent_id};
-ghost use Rattle.pr_call.specs.Effects.{after_effect, is_granted, may_lack_memory, outcome_of};
+ghost use Rattle.pr_call.specs.Effects.{after_effect, is_granted, outcome_of};
 ghost use Rattle.pr_call.specs.Processes.{target_effect};
 ghost use Rattle.pr_call.specs.Requests.{request_of};
 ghost use Rattle.pr_model.specs.Lawful.{IsLawfulSystem};
@@ -141,9 +141,7 @@ pub fn exec_by(
         (λ p. ForSome (lwp_of p id) (λ l. sys.new ≡ after_effect pid p id l (exec_effect sys.old p id at) sys.old))) }
     ensures outcome { IfOk result
         (λ outcome. ForSome (live_process sys.old pid) (λ p. outcome ≡ outcome_of (exec_effect sys.old p id at))) }
-    ensures memory { OnErr result
-        (ForSome (live_process sys.old pid) (λ p. may_lack_memory (exec_effect sys.old p id at) ≡ true)) }
-    ensures granted { OnErr result (ForSome (live_process sys.old pid) (λ p. is_granted (exec_effect sys.old p id at) ≡ true)) }
+    ensures memory { OnErr result (ForSome (live_process sys.old pid) (λ p. is_granted (exec_effect sys.old p id at) ≡ true)) }
     ensures err { OnErr result (sys.new ≡ sys.old) }
 {
     let place = match target(sys, pid, id, at) {

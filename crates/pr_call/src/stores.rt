@@ -1,5 +1,5 @@
 //! What calls store in memory: words, one after another.
-ghost use Rattle.std.specs.Prelude.{◌≡◌, ◌*◌, ◌++◌, true, length, IfOk, OnOk, OnErr};
+ghost use Rattle.std.specs.Prelude.{◌≡◌, ◌<◌, ◌*◌, ◌++◌, true, length, IfOk, OnOk, OnErr};
 ghost use Rattle.pr_model.specs.FileCallRows.{word_size};
 ghost use Rattle.pr_model.specs.MemoryCalls.{can_write};
 ghost use Rattle.pr_num.specs.Words.{word_bytes};
@@ -17,12 +17,18 @@ pub fn can_write(space: &Space, at: u64, size: usize) -> bool
     space.can_access(at, size, PROT_WRITE)
 }
 
-/// Stores bytes, all of which can be written, so that only memory can run out; the space then stays as it is.
+/// Stores bytes, all of which can be written, so that only memory can run out; the space then stays as it is. No bytes
+/// take no memory: their address may be in a page that another process shares, which would be copied.
+#[tactic(auto, using(crate::proofs::StoreLemmas::storing))]
 pub fn store(space: &mut Space, at: u64, bytes: &[u8]) -> Result<(), NoMemory>
     requires { can_write space.old at (length bytes.now) ≡ true }
     ensures ok { OnOk result (space.new ≡ with_bytes at bytes.now space.old) }
+    ensures some { OnErr result (0 < length bytes.now) }
     ensures err { OnErr result (space.new ≡ space.old) }
 {
+    if bytes.is_empty() {
+        return Ok(());
+    }
     match space.write(at, bytes, PROT_WRITE) {
         Ok(()) => Ok(()),
         Err(_) => Err(NoMemory),

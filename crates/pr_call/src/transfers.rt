@@ -2,7 +2,7 @@
 ghost use Rattle.std.specs.Prelude.{◌≡◌, ◌≤◌, [], ◌∷◌, true, false, is_some, length, IfNone, IfOk, IfSome, IsSome, OnErr};
 ghost use Rattle.std.specs.Option.{ForSome};
 ghost use Rattle.pr_num.specs.Limits.{transfer_limit};
-ghost use Rattle.pr_call.specs.Effects.{after_effect, may_lack_memory, outcome_of};
+ghost use Rattle.pr_call.specs.Effects.{after_effect, gives_bytes, is_granted, outcome_of};
 ghost use Rattle.pr_call.specs.FileAnswers.{answer_meant, lacks_memory};
 ghost use Rattle.pr_model.specs.Changes.{fails, files_are, is_over, space_is};
 ghost use Rattle.pr_model.specs.FileCallRows.{file_effect, read_effect, write_effect};
@@ -105,7 +105,7 @@ pub fn is_written(files: &Files, fds: &Fds, space: &Space, fd: u64, at: u64, siz
 
 /// Reads through a descriptor that is open for reading, at most so many bytes as the buffer has, and stores them;
 /// memory can take as many. They are looked at and stored first, since memory can run out then: nothing is read in that
-/// case.
+/// case. No bytes take no memory.
 #[tactic(auto, using(crate::proofs::TransferLemmas::filling))]
 fn fill(
     files: &mut Files,
@@ -122,7 +122,7 @@ fn fill(
         → answer_meant result (files_are files.new fds.now ∷ space_is space.new ∷ [])
         ≡ read_effect files.old fds.now space.old fd at (length buffer.old) }
     ensures memory { lacks_memory result ≡ true
-        → may_lack_memory (read_effect files.old fds.now space.old fd at (length buffer.old)) ≡ true }
+        → gives_bytes (read_effect files.old fds.now space.old fd at (length buffer.old)) ≡ true }
     ensures files { OnErr result (files.new ≡ files.old) }
     ensures space { OnErr result (space.new ≡ space.old) }
 {
@@ -149,7 +149,7 @@ fn read_into(
     ensures effect { lacks_memory result ≡ false
         → answer_meant result (files_are files.new fds.now ∷ space_is space.new ∷ [])
         ≡ read_effect files.old fds.now space.old fd at size }
-    ensures memory { lacks_memory result ≡ true → may_lack_memory (read_effect files.old fds.now space.old fd at size) ≡ true }
+    ensures memory { lacks_memory result ≡ true → gives_bytes (read_effect files.old fds.now space.old fd at size) ≡ true }
     ensures files { OnErr result (files.new ≡ files.old) }
     ensures space { OnErr result (space.new ≡ space.old) }
 {
@@ -170,7 +170,7 @@ fn put(alloc: Global, files: &mut Files, fds: &Fds, fd: u64, bytes: &[u8]) -> Re
     ensures effect { lacks_memory result ≡ false
         → answer_meant result (files_are files.new fds.now ∷ [])
         ≡ file_effect (write_fd files.old fds.now fd bytes.now) }
-    ensures memory { lacks_memory result ≡ true → may_lack_memory (file_effect (write_fd files.old fds.now fd bytes.now)) ≡ true }
+    ensures memory { lacks_memory result ≡ true → is_granted (file_effect (write_fd files.old fds.now fd bytes.now)) ≡ true }
     ensures files { OnErr result (files.new ≡ files.old) }
 {
     match files.write(alloc, fds, fd, bytes) {
@@ -195,7 +195,7 @@ fn drain(
         → answer_meant result (files_are files.new fds.now ∷ [])
         ≡ write_effect files.old fds.now space.now fd at (length buffer.old) }
     ensures memory { lacks_memory result ≡ true
-        → may_lack_memory (write_effect files.old fds.now space.now fd at (length buffer.old)) ≡ true }
+        → is_granted (write_effect files.old fds.now space.now fd at (length buffer.old)) ≡ true }
     ensures files { OnErr result (files.new ≡ files.old) }
 {
     match space.read(at, buffer, PROT_READ) {
@@ -216,7 +216,7 @@ fn write_from(
 ) -> Result<u64, Refusal>
     ensures effect { lacks_memory result ≡ false
         → answer_meant result (files_are files.new fds.now ∷ []) ≡ write_effect files.old fds.now space.now fd at size }
-    ensures memory { lacks_memory result ≡ true → may_lack_memory (write_effect files.old fds.now space.now fd at size) ≡ true }
+    ensures memory { lacks_memory result ≡ true → is_granted (write_effect files.old fds.now space.now fd at size) ≡ true }
     ensures files { OnErr result (files.new ≡ files.old) }
 {
     if let Some(error) = write_refusal(files, fds, space, fd, at, size) {
@@ -248,7 +248,7 @@ fn write_from(
 
 /// read(2) by an lwp of the process of an id, with these arguments: a descriptor, the address of the buffer, and its
 /// length. EBADF, EINVAL, EFAULT; it sleeps where a pipe is empty that can still be written. Memory runs out only where
-/// none of these comes, and the system then stays as it is.
+/// bytes are read, and the system then stays as it is.
 #[tactic(auto, using(pr_proc::proofs::LifeLemmas::life_laws))]
 pub fn read(
     sys: &mut Sys,
@@ -270,7 +270,7 @@ pub fn read(
         (λ p. outcome ≡ outcome_of (read_effect sys.old.files p.fds p.space fd at size))) }
     ensures memory { OnErr result
         (ForSome (live_process sys.old pid)
-        (λ p. may_lack_memory (read_effect sys.old.files p.fds p.space fd at size) ≡ true)) }
+        (λ p. gives_bytes (read_effect sys.old.files p.fds p.space fd at size) ≡ true)) }
     ensures err { OnErr result (sys.new ≡ sys.old) }
 {
     let process = sys.processes.get_mut(pid);
@@ -311,7 +311,7 @@ pub fn write(
         (λ p. outcome ≡ outcome_of (write_effect sys.old.files p.fds p.space fd at size))) }
     ensures memory { OnErr result
         (ForSome (live_process sys.old pid)
-        (λ p. may_lack_memory (write_effect sys.old.files p.fds p.space fd at size) ≡ true)) }
+        (λ p. is_granted (write_effect sys.old.files p.fds p.space fd at size) ≡ true)) }
     ensures err { OnErr result (sys.new ≡ sys.old) }
 {
     let process = sys.processes.get_mut(pid);

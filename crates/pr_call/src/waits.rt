@@ -4,7 +4,7 @@ ghost use Rattle.std.specs.Option.{ForSome};
 ghost use Rattle.pr_num.specs.Spaces.{Space as AnySpace};
 ghost use Rattle.pr_num.specs.Words.{word_bytes};
 ghost use Rattle.pr_parts.specs.AddressSpaces.{with_bytes};
-ghost use Rattle.pr_call.specs.Effects.{after_effect, may_lack_memory, outcome_of};
+ghost use Rattle.pr_call.specs.Effects.{after_effect, outcome_of, stores_bytes};
 ghost use Rattle.pr_call.specs.Waits.{reaped_by};
 ghost use Rattle.pr_model.specs.Changes.{is_over, with_space};
 ghost use Rattle.pr_model.specs.FileCallRows.{word_size};
@@ -80,7 +80,7 @@ fn give(sys: &mut Sys, pid: u32, child: u32, status: u64, at: u64) -> Result<Per
         (λ p. outcome ≡ outcome_of (wait_effect p.space (first_zombie child status) at))) }
     ensures memory { OnErr result
         (ForSome (live_process sys.old pid)
-        (λ p. may_lack_memory (wait_effect p.space (first_zombie child status) at) ≡ true)) }
+        (λ p. stores_bytes (wait_effect p.space (first_zombie child status) at) ≡ true)) }
     ensures err { OnErr result (sys.new ≡ sys.old) }
 {
     if at != 0 && !store_in(sys, pid, at, status)? {
@@ -106,7 +106,7 @@ pub fn wait(sys: &mut Sys, pid: u32, at: u64) -> Result<Performed, NoMemory>
         (λ p. outcome ≡ outcome_of (wait_effect p.space (children_of sys.old pid) at))) }
     ensures memory { OnErr result
         (ForSome (live_process sys.old pid)
-        (λ p. may_lack_memory (wait_effect p.space (children_of sys.old pid) at) ≡ true)) }
+        (λ p. stores_bytes (wait_effect p.space (children_of sys.old pid) at) ≡ true)) }
     ensures err { OnErr result (sys.new ≡ sys.old) }
 {
     match children(sys, pid) {

@@ -17,6 +17,7 @@ use pr_mem::Space;
 use pr_model::Control;
 use pr_num::limits::SIGNAL_COUNT;
 use pr_num::{ById, FltSet, Info, Modes, Sig, SigSet, SysSet};
+use pr_post::post;
 use pr_watch::Areas;
 use std::alloc::Global;
 use std::mem;

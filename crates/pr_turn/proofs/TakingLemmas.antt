@@ -3,14 +3,15 @@ use Rattle.std.proofs.lemmas.Bool.{cases_Bool}
 use Rattle.std.proofs.lemmas.Option.{same_Some}
 use Rattle.pr_num.specs.ById.{under}
 use Rattle.pr_num.specs.declared.syscalls.Sysno.{Sysno}
-use Rattle.pr_model.specs.Changes.{Effect, does, sleeps, ends}
+use Rattle.pr_num.specs.declared.syscalls.Sysno.TheVariants.{Fork}
+use Rattle.pr_model.specs.Changes.{Effect, Ending, does, sleeps, ends}
 use Rattle.pr_model.specs.InstructionEffects.{InstructionEffect, instruction_effect, runs, calls, faults, runs_into_watch}
 use Rattle.pr_model.specs.Rows.{executed_row, performed_row, ran_row, watched_row}
 use Rattle.pr_model.specs.State.{TracedLwp, TracedProcess, TracedSystem, live_process, lwp_of}
 use Rattle.pr_model.specs.Transitions.{performed, ran, stored_in, trapped}
 use Rattle.pr_model.proofs.StateLemmas.{live_process-found}
 use Rattle.pr_lwp.specs.Plain.{stores_bytes}
-use Rattle.pr_call.specs.Effects.{effect_of, may_lack_memory, takes_memory}
+use Rattle.pr_call.specs.Effects.{effect_of, takes_memory}
 use Rattle.pr_call.specs.declared.requests.Request.{Request}
 use Rattle.pr_turn.specs.CallTurns.{may_take_memory, row_takes}
 use Rattle.pr_turn.specs.NextRows.{row_of, row_of_turn}
@@ -44,13 +45,22 @@ pub ruleset taking = (instruction-takes)
 
 -- ---- a call
 
-performed-takes : (woken : Bool) (sysno : Sysno) (args : List ℕ) (since : ℕ) (e : Effect) → takes_memory sysno ≡ true
-    → may_lack_memory e ≡ true → row_takes (performed_row woken sysno args since e) ≡ true
+-- one that sleeps, or ends its lwp or its process, takes none
+sleeping-takes : (sysno : Sysno) → takes_memory sysno sleeps ≡ true → ⊥
+sleeping-takes Fork takes = absurd (cc)
+sleeping-takes _ takes = absurd (cc)
+
+ending-takes : (sysno : Sysno) (how : Ending) → takes_memory sysno (ends how) ≡ true → ⊥
+ending-takes Fork how takes = absurd (cc)
+ending-takes _ how takes = absurd (cc)
+
+performed-takes : (woken : Bool) (sysno : Sysno) (args : List ℕ) (since : ℕ) (e : Effect) → takes_memory sysno e ≡ true
+    → row_takes (performed_row woken sysno args since e) ≡ true
 unfolding row_takes performed_row performed
-performed-takes true sysno args since (does result changes) takes lacks = rw (takes, lacks) refl
-performed-takes false sysno args since (does result changes) takes lacks = rw (takes, lacks) refl
-performed-takes woken sysno args since sleeps takes lacks = absurd (cc)
-performed-takes woken sysno args since (ends how) takes lacks = absurd (cc)
+performed-takes true sysno args since (does result changes) takes = takes
+performed-takes false sysno args since (does result changes) takes = takes
+performed-takes woken sysno args since sleeps takes = absurd (sleeping-takes sysno takes)
+performed-takes woken sysno args since (ends how) takes = absurd (ending-takes sysno how takes)
 
 -- ---- the turn
 
@@ -67,15 +77,12 @@ row-takes s pid id next p is there takes =
     let stands : lwp_of p id ≡ Some is.lwp = ap (λ q. lwp_of q id) same ∙ is.stands in
     next-takes s pid id (ThisRow next) is (ap (λ q. row_takes (row_of q is.lwp next)) (sym same) ∙ takes is.lwp stands)
 
--- a call in which memory ran out, as that of no call that takes none does
+-- a call in which memory ran out
 pub call-takes : (s : TracedSystem) (woken : Bool) (r : Request)
-    → IsNext s r.pid r.lwp (Performs woken r.call r.args r.since) → (takes_memory r.call ≡ false → ⊥)
+    → IsNext s r.pid r.lwp (Performs woken r.call r.args r.since)
     → ((p : TracedProcess) → live_process s r.pid ≡ Some p → (l : TracedLwp) → lwp_of p r.lwp ≡ Some l
-    → may_lack_memory (effect_of s p l r) ≡ true) → may_take_memory s r.pid r.lwp ≡ true
-call-takes s woken r is sure lacks =
-    elim (cases_Bool (takes_memory r.call)) [
-      | inl takes ↦ next-takes s r.pid r.lwp (Performs woken r.call r.args r.since) is
-          (performed-takes woken r.call r.args r.since (effect_of s is.process is.lwp r) takes
-          (lacks is.process is.found is.lwp is.stands))
-      | inr none ↦ absurd (sure none)
-    ]
+    → takes_memory r.call (effect_of s p l r) ≡ true) → may_take_memory s r.pid r.lwp ≡ true
+call-takes s woken r is takes =
+    next-takes s r.pid r.lwp (Performs woken r.call r.args r.since) is
+    (performed-takes woken r.call r.args r.since (effect_of s is.process is.lwp r)
+    (takes is.process is.found is.lwp is.stands))

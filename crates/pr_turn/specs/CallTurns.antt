@@ -1,11 +1,11 @@
-use Rattle.std.specs.Prelude.{◌≡◌, ◌&&◌, ℕ, Bool, true, false, Option, Some, None}
+use Rattle.std.specs.Prelude.{◌≡◌, ℕ, Bool, true, false, Option, Some, None}
 use Rattle.std.specs.List.{list_any}
-use Rattle.pr_call.specs.Effects.{may_lack_memory, takes_memory}
+use Rattle.pr_call.specs.Effects.{is_store, takes_memory}
 use Rattle.pr_call.specs.Requests.{request_in}
 use Rattle.pr_call.specs.declared.requests.Performed.{Performed}
 use Rattle.pr_call.specs.declared.requests.Request.{Request}
 use Rattle.pr_call.specs.declared.requests.Performed.TheVariants.{Done, Sleep, Ended}
-use Rattle.pr_model.specs.Changes.{Change, space_is, does}
+use Rattle.pr_model.specs.Changes.{does}
 use Rattle.pr_model.specs.Machines.{traced}
 use Rattle.pr_model.specs.Moves.{moved, leaves, sleeps}
 use Rattle.pr_model.specs.Rows.{Row, finished, row_for}
@@ -48,18 +48,13 @@ Asks clock pid id l (Performs woken call args since) =
 
 -- ---- memory
 
--- whether changes store bytes
-abbrev pub is_store : Change → Bool
-is_store (space_is space) = true
-is_store _ = false
-
--- Whether a row of the turn table may take memory. That of an instruction does where it stores bytes; that of a call
--- where the call is one that takes memory, and is granted or refused because too much would be mapped.
+-- Whether a row of the turn table may take memory: that of an instruction where it stores bytes, that of a call where
+-- this may.
 unfoldable pub row_takes : Row → Bool
 row_takes row = of row.did
   where
     of_call : Sysno → Res → Bool
-    of_call call result = takes_memory call && may_lack_memory (does result row.transition.changes)
+    of_call call result = takes_memory call (does result row.transition.changes)
 
     of : Did → Bool
     of Ran = list_any is_store row.transition.changes

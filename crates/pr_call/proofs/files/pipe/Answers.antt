@@ -14,7 +14,7 @@ returns-in-Err-clause-effect c lacks =
 
 pub returns-in-Err-clause-memory : goal.returns-in-Err-clause-memory
 returns-in-Err-clause-memory c lacks =
-    pipe-unlooked-lacks _ _ _ _ c.in-Err.why (sym c.can_write.ensures ∙ c.if-not-can_write.false) c.in-Err.ensures lacks
+    pipe-unlooked-lacks _ _ _ _ c.in-Err.why c.in-Err.ensures lacks
 
 pub returns-in-Err-pipe-clause-effect : goal.returns-in-Err-pipe-clause-effect
 returns-in-Err-pipe-clause-effect c lacks =

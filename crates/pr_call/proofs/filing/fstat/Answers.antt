@@ -5,7 +5,7 @@ use Rattle.pr_num.specs.Spaces.{Space}
 use Rattle.pr_model.specs.Changes.{space_is}
 use Rattle.pr_model.specs.FileCallRows.{fstat_effect}
 use Rattle.pr_model.specs.State.{TracedProcess, live_process}
-use Rattle.pr_call.specs.Effects.{may_lack_memory, outcome_of}
+use Rattle.pr_call.specs.Effects.{outcome_of, stores_bytes}
 use Rattle.pr_call.specs.FileAnswers.{answer_meant}
 use Rattle.pr_call.specs.declared.answers.Refusal.{Refusal}
 use Rattle.pr_call.proofs.FilingLemmas.{done-outcome, found-live, lacking-kept, live-put, on_err, on_err_refl, space-done}
@@ -53,10 +53,10 @@ returns-in_err-answer-clause-err c =
 pub returns-in_err-answer-clause-memory : goal.returns-in_err-answer-clause-memory
 returns-in_err-answer-clause-memory c =
     let told : ForSome (live_process c.args.sys.now c.args.pid)
-    (λ p. may_lack_memory (fstat_effect c.args.sys.now.files p.fds p.space c.args.fd c.args.at) ≡ true) =
+    (λ p. stores_bytes (fstat_effect c.args.sys.now.files p.fds p.space c.args.fd c.args.at) ≡ true) =
     λ p found.
     subst (λ (x : TracedProcess).
-    may_lack_memory (fstat_effect c.args.sys.now.files x.fds x.space c.args.fd c.args.at) ≡ true)
+    stores_bytes (fstat_effect c.args.sys.now.files x.fds x.space c.args.fd c.args.at) ≡ true)
     (found-live c.args.sys.now c.args.pid _ p c.get_mut-process.ensures.value found)
     (c.fstat-answer.ensures.memory (sym c.in_err-answer.ensures.lacks)) in
     on_err _ told

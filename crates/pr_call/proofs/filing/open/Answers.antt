@@ -5,7 +5,7 @@ use Rattle.pr_num.specs.Spaces.{Space}
 use Rattle.pr_model.specs.Changes.{files_are}
 use Rattle.pr_model.specs.FileCallRows.{open_effect}
 use Rattle.pr_call.proofs.FilingLemmas.{done-outcome, files-done, found-live, lacking-kept, live-put, on_err, on_err_refl}
-use Rattle.pr_call.specs.Effects.{may_lack_memory, outcome_of}
+use Rattle.pr_call.specs.Effects.{is_granted, outcome_of}
 use Rattle.pr_call.specs.FileAnswers.{answer_meant}
 use Rattle.pr_model.specs.State.{TracedProcess, live_process}
 use Rattle.pr_call.specs.declared.answers.Refusal.{Refusal}
@@ -55,10 +55,10 @@ returns-in_err-answer-clause-err c =
 pub returns-in_err-answer-clause-memory : goal.returns-in_err-answer-clause-memory
 returns-in_err-answer-clause-memory c =
     let told : ForSome (live_process c.args.sys.now c.args.pid)
-    (λ p. may_lack_memory (open_effect c.args.sys.now.files p.fds p.space c.args.at c.args.flags) ≡ true) =
+    (λ p. is_granted (open_effect c.args.sys.now.files p.fds p.space c.args.at c.args.flags) ≡ true) =
     λ p found.
     subst (λ (x : TracedProcess).
-    may_lack_memory (open_effect c.args.sys.now.files x.fds x.space c.args.at c.args.flags) ≡ true)
+    is_granted (open_effect c.args.sys.now.files x.fds x.space c.args.at c.args.flags) ≡ true)
     (found-live c.args.sys.now c.args.pid _ p c.get_mut-process.ensures.value found)
     (c.open-answer.ensures.memory (sym c.in_err-answer.ensures.lacks)) in
     on_err _ told

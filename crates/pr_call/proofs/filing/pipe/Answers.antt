@@ -5,7 +5,7 @@ use Rattle.pr_num.specs.Spaces.{Space}
 use Rattle.pr_model.specs.Changes.{files_are, space_is}
 use Rattle.pr_model.specs.FileCallRows.{pipe_effect}
 use Rattle.pr_call.proofs.FilingLemmas.{both-done, done-outcome, found-live, lacking-kept, live-put, on_err}
-use Rattle.pr_call.specs.Effects.{may_lack_memory, outcome_of}
+use Rattle.pr_call.specs.Effects.{is_granted, outcome_of}
 use Rattle.pr_call.specs.FileAnswers.{answer_meant}
 use Rattle.pr_model.specs.State.{TracedProcess, live_process}
 use Rattle.pr_call.specs.declared.answers.Refusal.{Refusal}
@@ -57,9 +57,9 @@ returns-in_err-answer-clause-err c =
 pub returns-in_err-answer-clause-memory : goal.returns-in_err-answer-clause-memory
 returns-in_err-answer-clause-memory c =
     let told : ForSome (live_process c.args.sys.now c.args.pid)
-    (λ p. may_lack_memory (pipe_effect c.args.sys.now.files p.fds p.space c.args.at) ≡ true) =
+    (λ p. is_granted (pipe_effect c.args.sys.now.files p.fds p.space c.args.at) ≡ true) =
     λ p found.
-    subst (λ (x : TracedProcess). may_lack_memory (pipe_effect c.args.sys.now.files x.fds x.space c.args.at) ≡ true)
+    subst (λ (x : TracedProcess). is_granted (pipe_effect c.args.sys.now.files x.fds x.space c.args.at) ≡ true)
     (found-live c.args.sys.now c.args.pid _ p c.get_mut-process.ensures.value found)
     (c.pipe-answer.ensures.memory (sym c.in_err-answer.ensures.lacks)) in
     on_err _ told

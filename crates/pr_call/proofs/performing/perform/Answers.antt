@@ -1,7 +1,7 @@
 use Rattle.std.proofs.Common.{◌≡◌, true, sym, ◌∙◌}
 use Rattle.std.specs.Option.{ForSome}
 use Rattle.pr_model.specs.State.{live_process, lwp_of}
-use Rattle.pr_call.specs.Effects.{effect_of, may_lack_memory}
+use Rattle.pr_call.specs.Effects.{effect_of, takes_memory}
 use Rattle.pr_call.specs.Requests.{request_of}
 use Rattle.pr_call.proofs.FilingLemmas.{on_err}
 use Rattle.pr_call.proofs.RequestLemmas.{asked-live, asked-lwp, asked-memory, asked-outcome, asked-own, asked-system}
@@ -36,7 +36,7 @@ pub returns-in_err-outcome-clause-memory : goal.returns-in_err-outcome-clause-me
 returns-in_err-outcome-clause-memory c =
     let told : ForSome (request_of c.args.sys.now c.args.pid c.args.lwp)
     (λ r. ForSome (live_process c.args.sys.now c.args.pid)
-    (λ p. ForSome (lwp_of p c.args.lwp) (λ l. may_lack_memory (effect_of c.args.sys.now p l r) ≡ true))) =
+    (λ p. ForSome (lwp_of p c.args.lwp) (λ l. takes_memory r.call (effect_of c.args.sys.now p l r) ≡ true))) =
     λ r made.
     asked-memory c.args.sys.now c.perform_request.new.sys c.args.pid c.args.lwp c.unwrap-request.result r
     (sym c.request_of.ensures ∙ c.unwrap-request.ensures) made c.in_err-outcome.ensures.memory in

@@ -1,11 +1,11 @@
 use Rattle.std.proofs.Common.{◌≡◌, true, rules}
 use Rattle.std.specs.Option.{ForSome}
 use Rattle.pr_model.specs.State.{live_process}
-use Rattle.pr_call.specs.Effects.{is_granted, may_lack_memory}
+use Rattle.pr_call.specs.Effects.{is_granted}
 use Rattle.pr_model.specs.ProcessCalls.{exec_effect}
 use Rattle.pr_proc.specs.Refusals.{exec_refusal}
 use Rattle.pr_call.proofs.FilingLemmas.{on_err}
-use Rattle.pr_call.proofs.ProgramLemmas.{run-granted, run-lacks, run-system, run-outcome, refuse-system, refuse-outcome}
+use Rattle.pr_call.proofs.ProgramLemmas.{run-granted, run-system, run-outcome, refuse-system, refuse-outcome}
 use Rattle.pr_call.proofs.processes.exec_by.Goals as goal
 
 pub returns-in-Ok-exec-clause-system : goal.returns-in-Ok-exec-clause-system
@@ -39,15 +39,6 @@ returns-in_ok-error-in-Err-exec-clause-outcome c p found =
 
 pub returns-in_err-error-in-Err-exec-clause-memory : goal.returns-in_err-error-in-Err-exec-clause-memory
 returns-in_err-error-in-Err-exec-clause-memory c =
-    let s = c.args.sys.now in
-    let told : ForSome (live_process s c.args.pid) (λ p. may_lack_memory (exec_effect s p c.args.id c.args.at) ≡ true) =
-    λ p found. run-lacks s p c.args.id (exec_effect s p c.args.id c.args.at) c.in-Ok.place c.in-Ok.ensures.within
-    (c.in-Ok.ensures.effect p found)
-    in
-    on_err _ told
-
-pub returns-in_err-error-in-Err-exec-clause-granted : goal.returns-in_err-error-in-Err-exec-clause-granted
-returns-in_err-error-in-Err-exec-clause-granted c =
     let s = c.args.sys.now in
     let told : ForSome (live_process s c.args.pid) (λ p. is_granted (exec_effect s p c.args.id c.args.at) ≡ true) =
     λ p found. run-granted s p c.args.id (exec_effect s p c.args.id c.args.at) c.in-Ok.place c.in-Ok.ensures.within

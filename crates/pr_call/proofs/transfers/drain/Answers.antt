@@ -1,6 +1,6 @@
 use Rattle.std.proofs.Common.{ap, sym, ◌∙◌}
 use Rattle.pr_call.proofs.TransferLemmas.{write-made, write-unread}
-use Rattle.pr_call.specs.Effects.{may_lack_memory}
+use Rattle.pr_call.specs.Effects.{is_granted}
 use Rattle.pr_call.proofs.transfers.drain.Goals as goal
 
 pub returns-in-Ok-clause-effect : goal.returns-in-Ok-clause-effect
@@ -16,7 +16,7 @@ returns-in-Err-clause-effect c some =
 
 pub returns-in-Ok-clause-memory : goal.returns-in-Ok-clause-memory
 returns-in-Ok-clause-memory c lacks =
-    ap may_lack_memory
+    ap is_granted
     (write-made c.args.files.now c.args.fds.now c.args.space.now c.args.fd c.args.at _ c.read.new.out
     c.requires.writable c.requires.within c.in-Ok.ensures.ok)
     ∙ c.put.ensures.memory lacks

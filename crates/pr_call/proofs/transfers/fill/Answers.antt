@@ -1,5 +1,6 @@
 use Rattle.std.proofs.Common.{◌≡◌, ◌∙◌, ℕ, Ok, Result, ap, arith, length, sym}
 use Rattle.pr_num.specs.Files.{FileTable}
+use Rattle.std.proofs.lemmas.List.{length-take}
 use Rattle.pr_model.specs.Changes.{files_are, gives, space_is}
 use Rattle.pr_parts.specs.FileTransfers.{count_of, read_fd}
 use Rattle.pr_parts.specs.declared.files.FileNo.{FileNo}
@@ -15,12 +16,14 @@ store-requires c =
 pub returns-in-Err-clause-memory : goal.returns-in-Err-clause-memory
 returns-in-Err-clause-memory c lacks =
     fill-refused-lacks c.args.files.now c.args.fds.now c.args.space.now c.args.fd c.args.at _ c.in-Err.why
-    c.requires.readable c.requires.within c.requires.can c.in-Err.ensures.answer lacks
+    c.in-Err.ensures.answer lacks
 
 pub returns-in_err-store-clause-memory : goal.returns-in_err-store-clause-memory
 returns-in_err-store-clause-memory c lacks =
-    fill-lacks c.args.files.now c.args.fds.now c.args.space.now c.args.fd c.args.at _ c.in-Ok.count c.requires.readable
-    c.requires.within c.requires.can c.in-Ok.ensures.answer
+    let taken = length-take c.in-Ok.count c.look.new.out in
+    fill-lacks c.args.files.now c.args.fds.now c.args.space.now c.args.fd c.args.at _ c.in-Ok.count
+    (omega (arith, taken, c.in_err-store.ensures.some)) c.requires.readable c.requires.within c.requires.can
+    c.in-Ok.ensures.answer
 
 same_count : (r : Result ℕ FileNo) (a b : ℕ) → Ok a ≡ r → Ok b ≡ r → a ≡ b
 same_count r a b p q = cc

@@ -1,4 +1,4 @@
-use Rattle.pr_call.proofs.FileKeptLemmas.{lacking-file}
+use Rattle.pr_call.proofs.FileKeptLemmas.{lacking-file, written-keeps}
 use Rattle.pr_call.proofs.TransferLemmas.{put-done, put-files, put-refused}
 use Rattle.pr_call.proofs.transfers.put.Goals as goal
 
@@ -16,4 +16,5 @@ returns-in-Err-clause-files c =
 
 pub returns-in-Err-clause-memory : goal.returns-in-Err-clause-memory
 returns-in-Err-clause-memory c lacks =
-    lacking-file c.args.files.now c.args.fds.now c.write.new.self c.args.fds.now _ c.in-Err.why c.in-Err.ensures lacks
+    lacking-file c.args.files.now c.args.fds.now c.write.new.self c.args.fds.now _
+    (written-keeps c.args.files.now c.args.fds.now c.args.fd c.args.bytes.now) c.in-Err.why c.in-Err.ensures lacks

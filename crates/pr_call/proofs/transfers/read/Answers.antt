@@ -3,7 +3,7 @@ use Rattle.std.specs.Option.{ForSome}
 use Rattle.pr_model.specs.Changes.{files_are, space_is}
 use Rattle.pr_model.specs.FileCallRows.{read_effect}
 use Rattle.pr_model.specs.State.{TracedProcess, live_process}
-use Rattle.pr_call.specs.Effects.{may_lack_memory, outcome_of}
+use Rattle.pr_call.specs.Effects.{gives_bytes, outcome_of}
 use Rattle.pr_call.specs.FileAnswers.{answer_meant}
 use Rattle.pr_call.specs.declared.answers.Refusal.{Refusal}
 use Rattle.pr_call.proofs.FilingLemmas.{both-done, done-outcome, found-live, lacking-kept, live-put, on_err, on_err_refl}
@@ -50,10 +50,10 @@ returns-in_err-answer-clause-err c =
 pub returns-in_err-answer-clause-memory : goal.returns-in_err-answer-clause-memory
 returns-in_err-answer-clause-memory c =
     let told : ForSome (live_process c.args.sys.now c.args.pid)
-    (λ p. may_lack_memory (read_effect c.args.sys.now.files p.fds p.space c.args.fd c.args.at c.args.size) ≡ true) =
+    (λ p. gives_bytes (read_effect c.args.sys.now.files p.fds p.space c.args.fd c.args.at c.args.size) ≡ true) =
     λ p found.
     subst (λ (x : TracedProcess).
-    may_lack_memory (read_effect c.args.sys.now.files x.fds x.space c.args.fd c.args.at c.args.size) ≡ true)
+    gives_bytes (read_effect c.args.sys.now.files x.fds x.space c.args.fd c.args.at c.args.size) ≡ true)
     (found-live c.args.sys.now c.args.pid _ p c.get_mut-process.ensures.value found)
     (c.read_into-answer.ensures.memory (sym c.in_err-answer.ensures.lacks)) in
     on_err _ told

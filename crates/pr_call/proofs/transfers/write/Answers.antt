@@ -3,7 +3,7 @@ use Rattle.std.specs.Option.{ForSome}
 use Rattle.pr_model.specs.Changes.{files_are}
 use Rattle.pr_model.specs.FileCallRows.{write_effect}
 use Rattle.pr_model.specs.State.{TracedProcess, live_process}
-use Rattle.pr_call.specs.Effects.{may_lack_memory}
+use Rattle.pr_call.specs.Effects.{is_granted}
 use Rattle.pr_call.proofs.FilingLemmas.{done-outcome, files-done, files-kept, found-live, live-put, on_err, on_err_refl}
 use Rattle.pr_call.proofs.transfers.write.Goals as goal
 
@@ -42,11 +42,11 @@ returns-in_err-answer-clause-err c =
 pub returns-in_err-answer-clause-memory : goal.returns-in_err-answer-clause-memory
 returns-in_err-answer-clause-memory c =
     let told : ForSome (live_process c.args.sys.now c.args.pid)
-    (λ p. may_lack_memory (write_effect c.args.sys.now.files p.fds p.space c.args.fd c.args.at c.args.size)
+    (λ p. is_granted (write_effect c.args.sys.now.files p.fds p.space c.args.fd c.args.at c.args.size)
     ≡ true) =
     λ p found.
     subst (λ (x : TracedProcess).
-    may_lack_memory (write_effect c.args.sys.now.files x.fds x.space c.args.fd c.args.at c.args.size) ≡ true)
+    is_granted (write_effect c.args.sys.now.files x.fds x.space c.args.fd c.args.at c.args.size) ≡ true)
     (found-live c.args.sys.now c.args.pid _ p c.get_mut-process.ensures.value found)
     (c.write_from-answer.ensures.memory (sym c.in_err-answer.ensures.lacks)) in
     on_err _ told

@@ -32,5 +32,4 @@ returns-in_err-outcome-clause-memory c =
     next-asks c.args.sys.now c.args.woken request c.requires.next in
     on_err _
     (call-takes c.args.sys.now c.args.woken request c.requires.next
-    (λ none. absurd (let wrong = c.in_err-outcome.ensures.sure request asks none in cc))
     (λ p found l stands. c.in_err-outcome.ensures.memory request asks p found l stands))
