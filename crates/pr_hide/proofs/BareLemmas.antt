@@ -1,5 +1,5 @@
 -- Covers but for the lwps at a fault of a controller's: what entries leave of them, and that no step depends on more.
-use Rattle.std.proofs.Common.{◌≡◌, ◌==◌, ◌&&◌, ℕ, Bool, true, false, cond, not, List, [], ◌∷◌, Option, Some, None, Result, Ok, Err, refl, sym, ◌∙◌, ap}
+use Rattle.std.proofs.Common.{◌≡◌, ◌==◌, ◌&&◌, ℕ, Bool, true, false, cond, not, List, [], Option, Some, None, Result, Ok, Err, refl, sym, ◌∙◌, ap}
 use Rattle.std.proofs.Math.Path.{fun_ext}
 use Rattle.std.specs.BTreeMap.{BTreeMap}
 use Rattle.std.specs.BTreeSet.{BTreeSet}
@@ -18,12 +18,12 @@ use Rattle.pr_model.specs.declared.calls.Reply.TheVariants as reply
 use Rattle.pr_model.specs.declared.events.Act.{Act}
 use Rattle.pr_model.specs.declared.events.Act.TheVariants as act
 use Rattle.pr_model.specs.declared.events.Actor.{Actor}
-use Rattle.pr_model.specs.declared.events.Actor.TheVariants.{Controller, Lwp, Clock}
+use Rattle.pr_model.specs.declared.events.Actor.TheVariants.{Controller, Lwp}
 use Rattle.pr_model.specs.declared.events.Did.{Did}
 use Rattle.pr_model.specs.declared.handles.Held.{Held}
 use Rattle.pr_hidden.specs.Covers.{Cover, Covers, Patch, keeps_lwp, no_cover, with_cover}
 use Rattle.pr_hidden.specs.HiddenSteps.{hidden_steps_of, turn_seen}
-use Rattle.pr_hidden.specs.Hiders.{Hiders, cover_sent, cover_turned, covers_after, covers_called, covers_closed, covers_controlled, covers_sent, covers_targeted, covers_turned, exits, finished, hides, is_ctl, is_directed, is_own, lwp_at, replaces_memory, without_replaced}
+use Rattle.pr_hidden.specs.Hiders.{Hiders, cover_sent, covers_after, covers_called, covers_closed, covers_controlled, covers_sent, covers_targeted, covers_turned, exits, finished, hides, is_ctl, is_directed, is_own, lwp_at, replaces_memory, without_replaced}
 use Rattle.pr_hidden.specs.Hiding.{with_fault, with_own_agent, with_patches}
 use Rattle.pr_hide.specs.Bare.{bare, bare_cover}
 use Rattle.pr_hide.specs.CoverTables.{covers_in}
