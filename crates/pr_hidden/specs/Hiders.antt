@@ -147,7 +147,7 @@ covers_controlled who k s None bytes covers = covers
 covers_controlled who k s (Some h) bytes covers = covers_targeted who k h (target_of s h) bytes covers
 
 -- A hider that closes "ctl" has finished: no patch of its process and no fault is hidden from then on. A probe's agent
--- that stands there still is hidden until it ends.
+-- that stands there still is hidden until it ends, by its own lwp_exit or by another lwp's exec.
 abbrev pub finished : Cover → Cover
 finished c = with_own_agent c.agent no_cover
 
@@ -213,13 +213,15 @@ replaces_memory did = false
 
 -- After that a child has the memory too, or the memory is another: no breakpoint counts as planted in the process any
 -- more, and FLTBPT where one stood is a fault like others. Who plants traces the exits of these calls, so that the
--- process goes no further before that exit was read.
+-- process goes no further before that exit was read. No agent is hidden after it either: an exec ends the other lwps of
+-- its process, and a vfork is granted only where there is no other. An agent that comes later has the same id.
 abbrev pub without_replaced : Did → Cover → Cover
-without_replaced did c = if replaces_memory did then with_patches [] c else c
+without_replaced did c = if replaces_memory did then with_own_agent false (with_patches [] c) else c
 
 -- What the turn of an lwp leaves hidden of its process. A probe's agent that ends is there no more. Another lwp that
 -- stops as it was directed stays where it was, and any other turn says whether it stands at a fault of a controller's,
--- and leaves no patch if it was a vfork or an exec that was granted.
+-- and leaves no patch and no agent if it was a vfork or an exec that was granted. An agent ends with its process too,
+-- and needs no row for that: no other process has its id.
 abbrev pub cover_turned : Hiders → Covers → TracedState → ℕ → ℕ → Did → Cover → Cover
 cover_turned who covers s pid id did c =
     if not (keeps_lwp c id) then (if exits did then with_own_agent false c else c)

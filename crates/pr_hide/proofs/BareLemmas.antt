@@ -1,5 +1,5 @@
 -- Covers but for the lwps at a fault of a controller's: what entries leave of them, and that no step depends on more.
-use Rattle.std.proofs.Common.{◌≡◌, ◌==◌, ◌&&◌, ℕ, Bool, true, false, cond, not, List, [], ◌∷◌, Option, Some, None, Result, Ok, Err, refl, sym, ◌∙◌, ap}
+use Rattle.std.proofs.Common.{◌≡◌, ◌==◌, ◌&&◌, ℕ, Bool, true, false, cond, not, List, [], Option, Some, None, Result, Ok, Err, refl, sym, ◌∙◌, ap}
 use Rattle.std.proofs.Math.Path.{fun_ext}
 use Rattle.std.specs.BTreeMap.{BTreeMap}
 use Rattle.std.specs.BTreeSet.{BTreeSet}
@@ -18,12 +18,12 @@ use Rattle.pr_model.specs.declared.calls.Reply.TheVariants as reply
 use Rattle.pr_model.specs.declared.events.Act.{Act}
 use Rattle.pr_model.specs.declared.events.Act.TheVariants as act
 use Rattle.pr_model.specs.declared.events.Actor.{Actor}
-use Rattle.pr_model.specs.declared.events.Actor.TheVariants.{Controller, Lwp, Clock}
+use Rattle.pr_model.specs.declared.events.Actor.TheVariants.{Controller, Lwp}
 use Rattle.pr_model.specs.declared.events.Did.{Did}
 use Rattle.pr_model.specs.declared.handles.Held.{Held}
-use Rattle.pr_hidden.specs.Covers.{Cover, Covers, Patch, keeps_lwp, with_cover}
+use Rattle.pr_hidden.specs.Covers.{Cover, Covers, Patch, keeps_lwp, no_cover, with_cover}
 use Rattle.pr_hidden.specs.HiddenSteps.{hidden_steps_of, turn_seen}
-use Rattle.pr_hidden.specs.Hiders.{Hiders, cover_sent, cover_turned, covers_after, covers_called, covers_closed, covers_controlled, covers_sent, covers_targeted, covers_turned, exits, finished, hides, is_ctl, is_directed, is_own, lwp_at, replaces_memory, without_replaced}
+use Rattle.pr_hidden.specs.Hiders.{Hiders, cover_sent, covers_after, covers_called, covers_closed, covers_controlled, covers_sent, covers_targeted, covers_turned, exits, finished, hides, is_ctl, is_directed, is_own, lwp_at, replaces_memory, without_replaced}
 use Rattle.pr_hidden.specs.Hiding.{with_fault, with_own_agent, with_patches}
 use Rattle.pr_hide.specs.Bare.{bare, bare_cover}
 use Rattle.pr_hide.specs.CoverTables.{covers_in}
@@ -65,19 +65,23 @@ module _ (agents : BTreeSet ℕ) (patches : BTreeMap ℕ (List Patch)) where
         ≡ bare_cover
         (cond (not kept) (cond out (with_own_agent false c) c)
         (without_replaced did (cond directed c (with_fault id own c))))
-    stays-so c true out true own k r = ap (λ b. bare_cover (cond b (with_patches [] c) c)) (sym r)
+    stays-so c true out true own k r =
+        ap (λ b. bare_cover (cond b (with_own_agent false (with_patches [] c)) c)) (sym r)
     stays-so c true out false own k r =
-        ap (λ b. bare_cover (cond b (with_patches [] (with_fault id own c)) (with_fault id own c))) (sym r)
+        ap (λ b. bare_cover (cond b (with_own_agent false (with_patches [] (with_fault id own c)))
+        (with_fault id own c))) (sym r)
     stays-so c false out directed own k r = cc
 
     replaced-so : (c : Cover) (kept out directed own : Bool) → kept ≡ true → replaces_memory did ≡ true
-        → finished c
+        → no_cover
         ≡ bare_cover
         (cond (not kept) (cond out (with_own_agent false c) c)
         (without_replaced did (cond directed c (with_fault id own c))))
-    replaced-so c true out true own k r = ap (λ b. bare_cover (cond b (with_patches [] c) c)) (sym r)
+    replaced-so c true out true own k r =
+        ap (λ b. bare_cover (cond b (with_own_agent false (with_patches [] c)) c)) (sym r)
     replaced-so c true out false own k r =
-        ap (λ b. bare_cover (cond b (with_patches [] (with_fault id own c)) (with_fault id own c))) (sym r)
+        ap (λ b. bare_cover (cond b (with_own_agent false (with_patches [] (with_fault id own c)))
+        (with_fault id own c))) (sym r)
     replaced-so c false out directed own k r = cc
 
     goes-on : (c : Cover) (kept out directed own : Bool) → kept ≡ false → out ≡ false
@@ -111,9 +115,9 @@ module _ (agents : BTreeSet ℕ) (patches : BTreeMap ℕ (List Patch)) where
         ∙ alike _ _ (goes-on (covers_in agents patches pid) (keeps_lwp (covers_in agents patches pid) id) (exits did)
         (is_directed (lwp_at s.system pid id)) (is_own who (covers_in agents patches) s pid id did) hidden goes)
 
-    -- any other lwp: after a vfork or an exec that was granted no breakpoint is planted
+    -- any other lwp: after a vfork or an exec that was granted no breakpoint is planted, and no agent is left
     pub memory-replaced : keeps_lwp (covers_in agents patches pid) id ≡ true → replaces_memory did ≡ true
-        → with_cover pid (finished (covers_in agents patches pid)) (covers_in agents patches)
+        → with_cover pid no_cover (covers_in agents patches)
         ≡ bare (covers_turned who (covers_in agents patches) s pid id did)
     unfolding covers_turned covers_in
     memory-replaced kept replaced =
@@ -196,8 +200,9 @@ module _ (who : Hiders) (covers : Covers) (s : TracedState) where
   called-bare k _ _ = refl
 
   replaced-alike : (b : Bool) (x y : Cover) → bare_cover x ≡ bare_cover y
-      → bare_cover (cond b (with_patches [] x) x) ≡ bare_cover (cond b (with_patches [] y) y)
-  replaced-alike true x y e = ap (λ (c : Cover). with_patches [] c) e
+      → bare_cover (cond b (with_own_agent false (with_patches [] x)) x)
+      ≡ bare_cover (cond b (with_own_agent false (with_patches [] y)) y)
+  replaced-alike true x y e = refl
   replaced-alike false x y e = e
 
   turned-alike : (id : ℕ) (did : Did) (c : Cover) (kept out directed own : Bool)

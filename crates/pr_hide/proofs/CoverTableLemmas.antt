@@ -11,7 +11,7 @@ use Rattle.std.specs.Map.{lookup}
 use Rattle.std.specs.Option.{unwrap_or}
 use Rattle.std.specs.Ordering.{nat_cmp}
 use Rattle.pr_strip.proofs.PastLemmas.{same_number}
-use Rattle.pr_hidden.specs.Covers.{Cover, Covers, Patch, with_cover}
+use Rattle.pr_hidden.specs.Covers.{Cover, Covers, Patch, no_cover, with_cover}
 use Rattle.pr_hidden.specs.Hiders.{finished, no_covers}
 use Rattle.pr_hidden.specs.Hiding.{with_own_agent, with_patches}
 use Rattle.pr_hide.specs.CoverTables.{covers_in}
@@ -106,8 +106,14 @@ patches-gone agents old new pid gone =
     [] (set.contains nat_cmp agents pid) (patches-at old new pid None gone)
     (apart (set.contains nat_cmp agents) pid)
 
+pub all-gone : (old new : BTreeSet ℕ) (before after : BTreeMap ℕ (List Patch)) (pid : ℕ)
+    → set.Updates nat_cmp old new pid false → map.Updates nat_cmp before after pid None
+    → covers_in new after ≡ with_cover pid no_cover (covers_in old before)
+all-gone old new before after pid left gone =
+    changed old new before after pid [] false (patches-at before after pid None gone) (agent-at old new pid false left)
+
 -- the cover that it has is no other
 pub same-cover : (covers : Covers) (pid : ℕ) → with_cover pid (covers pid) covers ≡ covers
 same-cover covers pid = fun_ext (λ q. sym (apart covers pid q))
 
-pub ruleset covers = (nothing-hidden, agent-changed, patches-changed, patches-gone, same-cover)
+pub ruleset covers = (nothing-hidden, agent-changed, patches-changed, patches-gone, all-gone, same-cover)

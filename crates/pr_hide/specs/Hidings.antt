@@ -1,4 +1,4 @@
-use Rattle.std.specs.Prelude.{Bool, true, false, not, List, [], Option, Some, None, slice_get}
+use Rattle.std.specs.Prelude.{Bool, true, false, not, List, [], Option, Some, slice_get}
 use Rattle.pr_hidden.specs.Covers.{Patch}
 use Rattle.pr_hidden.specs.Hiders.{Hiders, are_some}
 use Rattle.pr_hide.specs.declared.hiders.Hider.{Hider}

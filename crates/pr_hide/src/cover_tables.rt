@@ -1,6 +1,6 @@
 //! What is hidden of each process.
 ghost use Rattle.std.specs.Prelude.{◌≡◌, [], true, false, OnOk, unwrap_or};
-ghost use Rattle.pr_hidden.specs.Covers.{keeps_lwp, with_cover};
+ghost use Rattle.pr_hidden.specs.Covers.{keeps_lwp, no_cover, with_cover};
 ghost use Rattle.pr_hidden.specs.Hiders.{finished, no_covers, patches_written};
 ghost use Rattle.pr_hidden.specs.Hiding.{with_own_agent, with_patches};
 ghost use Rattle.pr_hide.specs.CoverTables.{covers_of};
@@ -89,6 +89,15 @@ impl CoverTable {
     pub(crate) fn finish(&mut self, pid: u32)
         ensures { covers_of self.new ≡ with_cover pid (finished (covers_of self.old pid)) (covers_of self.old) }
     {
+        self.patches.remove(&pid);
+    }
+
+    /// Nothing is hidden of a process. Takes no memory.
+    #[tactic(auto, using(crate::proofs::CoverTableLemmas::covers))]
+    pub(crate) fn forget(&mut self, pid: u32)
+        ensures { covers_of self.new ≡ with_cover pid no_cover (covers_of self.old) }
+    {
+        self.agents.remove(&pid);
         self.patches.remove(&pid);
     }
 

@@ -145,8 +145,8 @@ fn replaces_memory(did: Did) -> bool
     }
 }
 
-/// What a turn of an lwp leaves hidden: an agent of a controller's that ends is there no more, and no breakpoint is
-/// planted after a vfork or an exec that was granted.
+/// What a turn of an lwp leaves hidden: an agent of a controller's that ends is there no more, and after a vfork or an
+/// exec that was granted no breakpoint is planted and no agent is left.
 fn follow_turn(
     table: &mut CoverTable,
     who: &[Hider],
@@ -160,7 +160,7 @@ fn follow_turn(
 {
     if table.keeps_lwp(pid, lwp) {
         if replaces_memory(did) {
-            table.finish(pid);
+            table.forget(pid);
         }
         return;
     }

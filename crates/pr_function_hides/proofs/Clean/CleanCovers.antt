@@ -134,7 +134,9 @@ module _ (who : Hiders) (covers : Covers) (s : TracedState) (acting id : ℕ) (d
     directed = either (λ (x : Cover). IsClean x) (is_directed (lwp_at s.system acting id)) c _ clean at-none
 
     replaced : IsClean (without_replaced did d)
-    replaced = either (λ (x : Cover). IsClean x) (replaces_memory did) (with_patches [] d) d directed directed
+    replaced =
+        either (λ (x : Cover). IsClean x) (replaces_memory did) (with_own_agent false (with_patches [] d)) d directed
+        directed
 
     left : IsClean (cond (exits did) (with_own_agent false c) c)
     left = either (λ (x : Cover). IsClean x) (exits did) (with_own_agent false c) c clean clean

@@ -162,7 +162,8 @@ module _ (who : Hiders) (covers : Covers) (s : TracedState) (acting id : ℕ) (d
     own-counts n =
         subst (λ (b : Bool). Counts n (cond (not b) (cond (exits did) (with_own_agent false c) c)
         (without_replaced did turned))) (sym kept)
-        (either (Counts n) (replaces_memory did) (with_patches [] turned) turned (turned-counts n) (turned-counts n))
+        (either (Counts n) (replaces_memory did) (with_own_agent false (with_patches [] turned)) turned
+        (turned-counts n) (turned-counts n))
 
     pub turned-count : (pid n : ℕ) → (covers_turned who covers s acting id did pid).faulted n ≡ true → CountsNow pid n
     unfolding covers_turned
@@ -187,8 +188,8 @@ module _ (who : Hiders) (covers : Covers) (s : TracedState) (acting id : ℕ) (d
     turned-is n =
         ap (λ (b : Bool). (cond (not b) (cond (exits did) (with_own_agent false c) c)
         (without_replaced did turned)).faulted n) kept
-        ∙ either (λ (d : Cover). d.faulted n ≡ turned.faulted n) (replaces_memory did) (with_patches [] turned) turned
-        refl refl
+        ∙ either (λ (d : Cover). d.faulted n ≡ turned.faulted n) (replaces_memory did)
+        (with_own_agent false (with_patches [] turned)) turned refl refl
 
     turned-other : (n : ℕ) → n ≢ id → turned.faulted n ≡ c.faulted n
     turned-other n apart =

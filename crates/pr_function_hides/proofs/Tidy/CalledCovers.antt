@@ -282,10 +282,11 @@ module _ (who : Hiders) (none : (k : ℕ) → who.probes k ≡ false) where
           either (IsAsPatched c) (is_directed (lwp_at s.system acting id)) c _ (patched-self c)
           (record { patches = refl; no_agent = λ it. it })
 
-      replaced : (b : Bool) → replaces_memory did ≡ b → IsAsPatched c (cond b (with_patches [] d) d)
+      replaced : (b : Bool) → replaces_memory did ≡ b
+          → IsAsPatched c (cond b (with_own_agent false (with_patches [] d)) d)
       replaced true is = record {
         patches = sym (bare is);
-        no_agent = λ it. faulted.no_agent it;
+        no_agent = λ it. refl;
       }
       replaced false is = faulted
 

@@ -26,11 +26,12 @@ use Rattle.pr_model.specs.Transitions.{performed}
 use Rattle.pr_model.specs.declared.events.Did.{Did}
 use Rattle.pr_hidden.specs.Covers.{Cover, Covers, Patch}
 use Rattle.pr_hidden.specs.Hiders.{is_value, replaces, replaces_memory, without_replaced}
-use Rattle.pr_hidden.specs.Hiding.{with_patches}
+use Rattle.pr_hidden.specs.Hiding.{with_own_agent, with_patches}
 use Rattle.pr_hidden.specs.Tidiness.{AreTidyChanges}
 use Rattle.pr_hidden.proofs.Follows.FaultRows.{no-way}
 
--- A vfork or an exec that is granted finds no patches where its changes are tidy, so that none is dropped after it.
+-- A vfork or an exec that is granted finds no patches where its changes are tidy, so that none is dropped after it; nor
+-- is an agent, where none is hidden beside it.
 
 -- which calls these are
 which : (call : Sysno) → replaces call ≡ true → (call ≡ Vfork) ⊎ (call ≡ Exec)
@@ -160,15 +161,18 @@ module _ (covers : Covers) (s : TracedSystem) (pid : ℕ) (p : TracedProcess) (i
 
   -- ---- what is dropped
 
+  -- beside a hidden agent no such call is granted
   pub none-dropped : (did : Did) → did ≡ (row_for s pid p id l).did
       → AreTidyChanges covers pid p id l (row_for s pid p id l).transition.changes s
-      → (c : Cover) → c.patches ≡ (covers pid).patches → without_replaced did c ≡ c
-  none-dropped did is tidy c same =
+      → (c : Cover) → c.patches ≡ (covers pid).patches → (replaces_memory did ≡ true → c.agent ≡ false)
+      → without_replaced did c ≡ c
+  none-dropped did is tidy c same alone =
       elim (cases_Bool (replaces_memory did)) [
         | inl replaced ↦
-            ap (λ b. cond b (with_patches [] c) c) replaced
-            ∙ ap (λ (ps : List Patch). with_patches ps c)
+            ap (λ b. cond b (with_own_agent false (with_patches [] c)) c) replaced
+            ∙ ap (λ (ps : List Patch). with_own_agent false (with_patches ps c))
             (sym (same
             ∙ kind-finds (row_for s pid p id l) (row-kind s pid p id l) (ap replaces_memory (sym is) ∙ replaced) tidy))
-        | inr other ↦ ap (λ b. cond b (with_patches [] c) c) other
+            ∙ ap (λ b. with_own_agent b c) (sym (alone replaced))
+        | inr other ↦ ap (λ b. cond b (with_own_agent false (with_patches [] c)) c) other
       ]

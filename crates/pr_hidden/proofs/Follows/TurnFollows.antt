@@ -44,7 +44,7 @@ use Rattle.pr_erasure.proofs.SeenTurns.TransitionLemmas.{requested-bare}
 use Rattle.pr_erasure.proofs.SeenTurns.UntouchedLemmas.{settled-keeps}
 use Rattle.pr_hidden.specs.Covers.{Cover, Covers, Patch, keeps_lwp, no_cover, seen, uncovered, uncovered_lwp, uncovered_process, with_cover}
 use Rattle.pr_hidden.specs.Following.{IsOpenTurn, RunsInstruction, SparesPatches}
-use Rattle.pr_hidden.specs.Hiders.{Hiders, cover_turned, covers_turned, exits, has_hold, is_at_patch, is_directed, is_own, is_own_fault, lwp_at, lwp_in, without_replaced}
+use Rattle.pr_hidden.specs.Hiders.{Hiders, cover_turned, covers_turned, exits, has_hold, is_at_patch, is_directed, is_own, is_own_fault, lwp_at, lwp_in, replaces_memory, without_replaced}
 use Rattle.pr_hidden.specs.HiddenSteps.{is_leaving, is_way_out, steps_of_own, turn_seen}
 use Rattle.pr_hidden.specs.Hiding.{AreCovered, ChangesOwn, GoesBack, IsUnhampered, Stands, nothing, stores, with_fault, with_own_agent}
 use Rattle.pr_hidden.specs.Sparing.{AreWithin, spares_instruction}
@@ -246,21 +246,27 @@ module _ (who : Hiders) (covers : Covers) (s : TracedState) (pid id : ℕ) (t : 
   -- ---- another lwp
 
   module _ (kept : keeps_lwp c id ≡ true) (tidy : IsTidyMove who covers s pid p id l did) where
-    kept-cover : (b : Bool) → l.control.directed ≡ b → new ≡ with_cover pid (cond b c (with_fault id own c)) covers
+    kept-cover : (b : Bool) → l.control.directed ≡ b → (replaces_memory did ≡ true → c.agent ≡ false)
+        → new ≡ with_cover pid (cond b c (with_fault id own c)) covers
     unfolding covers_turned
-    kept-cover b is =
+    kept-cover b is alone =
         ap (λ k. with_cover pid (cond (not k) (cond (exits did) (with_own_agent false c) c)
         (without_replaced did (cond (is_directed (lwp_at s.system pid id)) c (with_fault id own c)))) covers) kept
         ∙ ap (λ o. with_cover pid (without_replaced did (cond (is_directed o) c (with_fault id own c))) covers) at
         ∙ ap (λ d. with_cover pid (without_replaced did (cond d c (with_fault id own c))) covers) is
-        ∙ ap (λ (d : Cover). with_cover pid d covers) (dropped (cond b c (with_fault id own c)) same)
+        ∙ ap (λ (d : Cover). with_cover pid d covers) (dropped (cond b c (with_fault id own c)) same alone-there)
       where
-        -- a vfork or an exec that is granted finds no patches
-        dropped : (d : Cover) → d.patches ≡ c.patches → without_replaced did d ≡ d
+        -- a vfork or an exec that is granted finds no patches, and no agent
+        dropped : (d : Cover) → d.patches ≡ c.patches → (replaces_memory did ≡ true → d.agent ≡ false)
+            → without_replaced did d ≡ d
         dropped = none-dropped covers s.system pid p id l did did-is tidy.changes
 
         same : (cond b c (with_fault id own c)).patches ≡ c.patches
         same = either (λ (d : Cover). d.patches ≡ c.patches) b c (with_fault id own c) refl refl
+
+        alone-there : replaces_memory did ≡ true → (cond b c (with_fault id own c)).agent ≡ false
+        alone-there granted =
+            either (λ (d : Cover). d.agent ≡ false) b c (with_fault id own c) (alone granted) (alone granted)
 
     kept-seen : (m : Memory) (b : Bool) → own ≡ b
         → turn_seen who covers s m pid id did
@@ -295,6 +301,9 @@ module _ (who : Hiders) (covers : Covers) (s : TracedState) (pid id : ℕ) (t : 
           (tame-process covers pid (with_lwp id (moved traced move.stops))
           (λ x it. tame-lwp covers pid id (moved traced move.stops) (λ k. refl) x it) s.system tame)
 
+      not-replaced : replaces_memory did ≡ true → c.agent ≡ false
+      not-replaced granted = no-way (sym (ap replaces_memory stopped-did) ∙ granted)
+
       not-own : own ≡ false
       unfolding is_own
       not-own =
@@ -309,7 +318,7 @@ module _ (who : Hiders) (covers : Covers) (s : TracedState) (pid id : ℕ) (t : 
           let h = here in
           subst (λ (steps : List Step). Follows covers new s.system t.system steps) (sym (stop-seen m))
           (subst (λ (n : Covers). Follows covers n s.system t.system [])
-          (sym (kept-cover true directed ∙ cover-same pid covers))
+          (sym (kept-cover true directed not-replaced ∙ cover-same pid covers))
           (subst (λ (x : LwpTurn). Follows covers covers s.system x.system [])
           (sym (h.is ∙ ap (settled s.system pid p id l) stop-row))
           (follows-unseen covers covers s.system (settled s.system pid p id l requested_row).system
@@ -374,7 +383,8 @@ module _ (who : Hiders) (covers : Covers) (s : TracedState) (pid id : ℕ) (t : 
           ∙ cover-twice pid (with_fault id b c) (with_fault id false c) covers
 
       goes-cover : (b : Bool) → own ≡ b → new ≡ with_cover pid (with_fault id b c) covers
-      goes-cover b is = kept-cover false goes ∙ ap (λ o. with_cover pid (with_fault id o c) covers) is
+      goes-cover b is =
+          kept-cover false goes (λ granted. no_agent) ∙ ap (λ o. with_cover pid (with_fault id o c) covers) is
 
       tame-cleared : IsTame cleared s.system
       tame-cleared = agents-same covers cleared cleared-agents s.system tame

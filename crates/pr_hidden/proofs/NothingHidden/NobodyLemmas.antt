@@ -91,8 +91,9 @@ module _ (covers : Covers) (none : NoAgents covers) where
       (either (λ (d : Cover). d.agent ≡ false) (is_directed (lwp_at s.system pid id)) c (with_fault id own c) (none pid)
       (none pid))))
     where
-      left : (b : Bool) (d : Cover) → d.agent ≡ false → (cond b (with_patches [] d) d).agent ≡ false
-      left true d is = is
+      left : (b : Bool) (d : Cover) → d.agent ≡ false
+          → (cond b (with_own_agent false (with_patches [] d)) d).agent ≡ false
+      left true d is = refl
       left false d is = is
 
   after-all : (s : TracedState) (actor : Actor) (it : Act)

@@ -229,7 +229,8 @@ module _ (who : Hiders) (none : (k : ℕ) → who.functions k ≡ []) where
         (with_fault id (is_own who covers s pid id did) c))
         (either HasNoFault (is_directed (lwp_at s.system pid id)) c _ clean faultless))
       where
-        of : (b : Bool) (d : Cover) → HasNoFault d → HasNoFault (cond b (with_patches [] d) d)
+        of : (b : Bool) (d : Cover) → HasNoFault d
+            → HasNoFault (cond b (with_own_agent false (with_patches [] d)) d)
         of true d it = it
         of false d it = it
 
@@ -256,8 +257,9 @@ module _ (who : Hiders) (none : (k : ℕ) → who.functions k ≡ []) where
         (with_fault id own c) (bare, agent) (bare, agent)))
       where
         of : (b : Bool) (d : Cover) → (d.patches ≡ []) × (d.agent ≡ false)
-            → ((cond b (with_patches [] d) d).patches ≡ []) × ((cond b (with_patches [] d) d).agent ≡ false)
-        of true d it = (refl, it.1)
+            → ((cond b (with_own_agent false (with_patches [] d)) d).patches ≡ [])
+            × ((cond b (with_own_agent false (with_patches [] d)) d).agent ≡ false)
+        of true d it = (refl, refl)
         of false d it = it
 
     -- an lwp that only stops as it was directed to

@@ -5,7 +5,7 @@ use Rattle.pr_hide.proofs.following.follow_turn.Goals as goal
 
 pub returns-then-replaces_memory : goal.returns-then-replaces_memory
 returns-then-replaces_memory c =
-    c.finish.ensures
+    c.forget.ensures
     ∙ memory-replaced c.args.table.now.agents c.args.table.now.patches
     (hiders_of c.args.who.now) c.args.machine.now c.args.pid c.args.lwp c.args.did
     (sym c.if-keeps_lwp.ensures) (sym c.if-replaces_memory.ensures)

@@ -1,11 +1,10 @@
-use Rattle.std.proofs.Common.{rules, ◌≡◌, ◌+◌, ◌<◌, ℕ, zero, suc, Some, None, IsSome, List, [], ◌∷◌, length, take, refl, sym, subst, ◌∙◌, ap, arith}
+use Rattle.std.proofs.Common.{rules, ◌≡◌, ◌<◌, ℕ, zero, suc, Some, IsSome, List, [], ◌∷◌, length, refl, sym, subst, ◌∙◌, ap, arith}
 use Rattle.std.specs.List.{slice_get}
 use Rattle.std.specs.Option.{option_copied}
 use Rattle.std.proofs.lemmas.Grind.{common_steps}
 use Rattle.pr_model.specs.Legal.{IsLegalEntry}
 use Rattle.pr_model.specs.State.{TracedState}
 use Rattle.pr_model.specs.declared.events.Entry.{Entry}
-use Rattle.pr_hidden.specs.HiddenSteps.{hidden_steps}
 use Rattle.pr_hide.specs.Hidings.{hiders_of}
 use Rattle.pr_hide.proofs.HistoryLemmas.{legal-at, walk-begins, walk-on}
 use Rattle.pr_hide.proofs.hiding.strip_hidden.Goals as goal

@@ -1,4 +1,4 @@
-use Rattle.std.proofs.Common.{◌≡◌, ◌∙◌, ℕ, List, [], Option, unwrap_or, ap}
+use Rattle.std.proofs.Common.{◌≡◌, ◌∙◌, List, [], Option, unwrap_or, ap}
 use Rattle.pr_hidden.specs.Covers.{Patch, with_cover}
 use Rattle.pr_hidden.specs.Hiders.{patches_written}
 use Rattle.pr_hidden.specs.Hiding.{with_patches}
