@@ -7,5 +7,3 @@ pub mod CopyRuns
 pub mod CopySets
 pub mod CopyTurns
 pub mod RefusedCopies
-pub mod SleptHistories
-pub mod SleptTurns

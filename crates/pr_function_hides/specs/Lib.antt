@@ -9,7 +9,6 @@ pub mod PassiveOthers
 pub mod PlantedBreakpoints
 pub mod Replacing
 pub mod RunsOfTrusses
-pub mod SleptCopies
 pub mod SteppedByCalls
 pub mod TidyCloses
 pub mod TidyFaults

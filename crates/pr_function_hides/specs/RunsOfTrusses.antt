@@ -1,7 +1,6 @@
 -- Runs of trusses that are undisturbed: what is asked of a history in which those who hide are trusses.
 use Rattle.std.specs.Prelude.{ℕ, List}
 use Rattle.pr_function_hides.specs.FunctionHiders.{AreTrusses}
-use Rattle.pr_function_hides.specs.SleptCopies.{NoneSleepsInCopy}
 use Rattle.pr_function_hides.specs.TidyWrites.{AreUndisturbed}
 use Rattle.pr_hidden.specs.Hiders.{Hiders}
 use Rattle.pr_model.specs.Legal.{IsLegal}
@@ -18,8 +17,6 @@ pub record IsRunOfTrusses (n : ℕ) (who : Hiders) (controllers : List Controlle
     (h : List Entry) : Type 0 where
   -- the machine reaches the state in which it begins
   pub reached : IsReached first
-  -- no lwp is asleep there in a fork, a vfork or an exec
-  pub awake : NoneSleepsInCopy first.system
   -- what controllers write is bytes
   pub bytes : HasBytes h
   -- each entry is a step of the machine

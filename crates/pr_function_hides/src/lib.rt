@@ -5,9 +5,9 @@
 //! replies tell. Each public function carries one law in its contract, and does nothing.
 //!
 //! Most of them are of a run of trusses that are undisturbed (`IsRunOfTrusses`): a legal history from a state that the
-//! machine reaches, with no lwp asleep in a fork, a vfork or an exec, in which controllers write bytes and these make
-//! their own calls, and where those who hide are each a truss that shows calls of functions and that is undisturbed
-//! (`AreUndisturbed`). Whether it is interrupted is left open. What else a law asks it says itself.
+//! machine reaches, in which controllers write bytes and these make their own calls, and where those who hide are each
+//! a truss that shows calls of functions and that is undisturbed (`AreUndisturbed`). Whether it is interrupted is left
+//! open. What else a law asks it says itself.
 #![tactic(auto)]
 
 mod clears;
@@ -19,7 +19,6 @@ mod lifted;
 mod lists;
 mod planted;
 mod replaced;
-mod slept;
 mod stepped;
 mod steps;
 mod treats;
@@ -41,7 +40,6 @@ pub use planted::{
     who_spares_breakpoints_leaves_planted_functions_alone,
 };
 pub use replaced::after_a_replacement_truss_writes_nothing;
-pub use slept::no_lwp_sleeps_in_a_copy;
 pub use stepped::{its_calls_tell_which_turns_are_calls, what_truss_steps_it_has_lifted};
 pub use steps::truss_alone_steps;
 pub use treats::what_truss_does_at_an_event_comes_before_its_run;

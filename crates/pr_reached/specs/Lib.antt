@@ -5,4 +5,5 @@ pub mod HistoriesInRange
 pub mod InRange
 pub mod Mapped
 pub mod Reached
+pub mod SleptCopies
 pub mod Used

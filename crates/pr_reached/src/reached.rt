@@ -12,7 +12,7 @@ ghost use Rattle.pr_reached.specs.Reached.{IsReached};
 
 /// The first state is reached, where its programs and its files are in range; and a legal history in which controllers
 /// write bytes leads from a reached state to a reached one. So each state of a run is lawful, lends memory in order,
-/// and is fit and in range.
+/// is fit and in range, and no lwp is asleep in a fork, a vfork or an exec in it.
 pub fn legal_histories_reach_states()
     ensures first { (programs : List Program) (files : List StoredFile) (spawns : List ℕ)
         → IsStart programs files spawns → IsStartInRange programs files

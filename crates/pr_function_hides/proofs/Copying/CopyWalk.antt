@@ -20,6 +20,8 @@ use Rattle.pr_model.specs.declared.events.Turned.{Turned}
 use Rattle.pr_num.specs.declared.errnos.Errno.TheVariants.{Intr}
 use Rattle.pr_rec.specs.declared.lwps.LwpStatus.{LwpStatus}
 use Rattle.pr_reached.specs.ByteHistories.{HasBytes}
+use Rattle.pr_reached.proofs.Sleepers.SleptHistories.{history-awake}
+use Rattle.pr_reached.specs.SleptCopies.{NoneSleepsInCopy}
 use Rattle.pr_report_laws.proofs.Files.WatchHistories.{cons-exchanges, exchanges-both, no-exchanges}
 use Rattle.pr_report_laws.proofs.Invariant.StandLemmas.{Each}
 use Rattle.pr_tool_laws.proofs.Records.WholeLemmas.{front-legal}
@@ -55,18 +57,16 @@ use Rattle.pr_function_hides.proofs.Copying.CopyOwn.{OwnCall}
 use Rattle.pr_function_hides.proofs.Copying.CopyPlaces.{CopiesSo}
 use Rattle.pr_function_hides.proofs.StoppedCopies.CopyOuts.{none-begun}
 use Rattle.pr_function_hides.proofs.Copying.CopyReading.{read-lives, replaced-lifted}
-use Rattle.pr_function_hides.proofs.StoppedCopies.SleptHistories.{history-awake}
 use Rattle.pr_function_hides.proofs.Files.YoungOpenings.{Young, young-fed, young-first}
 use Rattle.pr_function_laws.proofs.Pending.KnownFiles.{Knows, known-fed, known-first}
 use Rattle.pr_function_hides.specs.Copying.{IsEmpty, IsLifted, makes_copy}
 use Rattle.pr_function_hides.specs.LiftedCopies.{OpensOutOfCopies}
-use Rattle.pr_function_hides.specs.SleptCopies.{NoneSleepsInCopy}
 
 -- Along each history of truss with functions the forks, vforks and execs of its processes stand as they are to with
 -- what is planted there: so one that is granted finds no breakpoint.
 
 module _ (n k : ℕ) (o : Options) (s : TracedState) (h : List Entry) (run : IsReachedFunctionRun n k o s h)
-    (awake : NoneSleepsInCopy s.system) (opens : OpensOutOfCopies k o s h) where
+    (opens : OpensOutOfCopies k o s h) where
   abbrev truss : List Entry → TrussState
   truss front = functions_at k o front
 
@@ -131,7 +131,7 @@ module _ (n k : ℕ) (o : Options) (s : TracedState) (h : List Entry) (run : IsR
     lawful-now = history-state n s front run.of.lawful (front-legal n s front (e ∷ back) legal-all)
 
     awake-now : NoneSleepsInCopy (now front).system
-    awake-now = history-awake n s front awake (front-legal n s front (e ∷ back) legal-all)
+    awake-now = history-awake n s front run.reached.awake (front-legal n s front (e ∷ back) legal-all)
 
     pub next-is : (x : Exchange) → exchange_of k e ≡ Some x → next_function_call_of (truss front) ≡ Some x.call
     next-is x own =

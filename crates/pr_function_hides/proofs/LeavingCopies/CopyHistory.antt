@@ -54,7 +54,6 @@ use Rattle.pr_function_hides.proofs.Replies.LeavingStages.{is_looked}
 use Rattle.pr_function_hides.proofs.Copying.CopyWalk.{exchanges-then, finds-none, goes, lawful-now, legal-now, next-is, own-answer, own-over, reads-lifted, stands-after, told-lives, truss-then}
 use Rattle.pr_function_hides.specs.Copying.{IsEmpty, makes_copy}
 use Rattle.pr_function_hides.specs.LiftedCopies.{CopiesFindNone, OpensOutOfCopies}
-use Rattle.pr_function_hides.specs.SleptCopies.{NoneSleepsInCopy}
 
 -- Along a whole history of truss with functions, also once it was interrupted: a fork, a vfork and an exec that is
 -- granted finds no breakpoint in a process that truss traces.
@@ -66,7 +65,7 @@ is-interrupt (reply.Fail _) = inr (λ e. cc)
 is-interrupt _ = inr (λ e. cc)
 
 module _ (n k : ℕ) (o : Options) (s : TracedState) (h : List Entry) (run : IsReachedFunctionRun n k o s h)
-    (awake : NoneSleepsInCopy s.system) (opens : OpensOutOfCopies k o s h) where
+    (opens : OpensOutOfCopies k o s h) where
   abbrev truss : List Entry → TrussState
   truss front = functions_at k o front
 
@@ -85,10 +84,10 @@ module _ (n k : ℕ) (o : Options) (s : TracedState) (h : List Entry) (run : IsR
 
   module _ (front back : List Entry) (e : Entry) (is : h ≡ front ++ e ∷ back) where
     legal : IsLegalEntry n (now front) e
-    legal = legal-now n k o s h run awake opens front back e is
+    legal = legal-now n k o s h run opens front back e is
 
     abbrev answered : (x : Exchange) → exchange_of k e ≡ Some x → IsOwnEntry k (now front) e x
-    answered x own = own-answer n k o s h run awake opens front back e is x own
+    answered x own = own-answer n k o s h run opens front back e is x own
 
     -- the state and truss with this entry
     later-state : after (now front) e ≡ now (front ++ e ∷ [])
@@ -96,7 +95,7 @@ module _ (n k : ℕ) (o : Options) (s : TracedState) (h : List Entry) (run : IsR
 
     then-is : (x : Option Exchange) → exchange_of k e ≡ x
         → truss (front ++ e ∷ []) ≡ functions_after (truss front) (cons_option x [])
-    then-is x own = truss-then n k o s h run awake opens front back e is x own
+    then-is x own = truss-then n k o s h run opens front back e is x own
 
     own-later : (x : Exchange) → (own : exchange_of k e ≡ Some x) → (t : TrussState)
         → (let it = answered x own in Leaves k o t (fed_functions (truss front) it.answer.reply) it.answer.state)
@@ -114,7 +113,7 @@ module _ (n k : ℕ) (o : Options) (s : TracedState) (h : List Entry) (run : IsR
           → ((y : Exchange) → x ≡ Some y → WasNotInterrupted y) → Calm (front ++ e ∷ [])
       then-calm x own was =
           subst (All WasNotInterrupted)
-          (sym (exchanges-then n k o s h run awake opens front back e is x own))
+          (sym (exchanges-then n k o s h run opens front back e is x own))
           (All-append WasNotInterrupted (exchanges k front) (cons_option x []) calm (by x was))
         where
           by : (x : Option Exchange) → ((y : Exchange) → x ≡ Some y → WasNotInterrupted y)
@@ -127,15 +126,15 @@ module _ (n k : ℕ) (o : Options) (s : TracedState) (h : List Entry) (run : IsR
       unfolding answer_of
       begins x own broken =
           let it = answered x own in
-          let st = stands-after n k o s h run awake opens front (e ∷ back) is calm in
+          let st = stands-after n k o s h run opens front (e ∷ back) is calm in
           let waits = entry-calm n k (now front) e x legal own in
-          let g = goes n k o s h run awake opens front back e is calm in
+          let g = goes n k o s h run opens front back e is calm in
           own-later x own (truss front)
           (begins-to-leave (truss front) st.known x.call it.answer.reply (ap has_functions g.options ∙ run.of.has)
-          (next-is n k o s h run awake opens front back e is x own) (waits.waits broken)
+          (next-is n k o s h run opens front back e is x own) (waits.waits broken)
           (ap answer_of (it.replied ∙ broken)) k o it.answer.state g.options
           (all-now n k o (truss front) (now front) g st.copies x.call it.answer it.is
-          (own-over n k o s h run awake opens front back e is x own) (waits.waits broken)))
+          (own-over n k o s h run opens front back e is x own) (waits.waits broken)))
 
       calm-next : ComesTo (front ++ e ∷ [])
       calm-next = by (exchange_of k e) refl
@@ -156,7 +155,7 @@ module _ (n k : ℕ) (o : Options) (s : TracedState) (h : List Entry) (run : IsR
     left-next t w = by (exchange_of k e) refl
       where
         lawful : IsLawful (now front)
-        lawful = lawful-now n k o s h run awake opens front back e is
+        lawful = lawful-now n k o s h run opens front back e is
 
         by : (x : Option Exchange) → exchange_of k e ≡ x → ComesTo (front ++ e ∷ [])
         by None own =
@@ -168,8 +167,8 @@ module _ (n k : ℕ) (o : Options) (s : TracedState) (h : List Entry) (run : IsR
             let it = answered x own in
             own-later x own t
             (call-leaves n k o t (now front) lawful x.call it.answer it.is
-            (own-over n k o s h run awake opens front back e is x own) (truss front) w run.of.has
-            run.of.follows_none (next-is n k o s h run awake opens front back e is x own))
+            (own-over n k o s h run opens front back e is x own) (truss front) w run.of.has
+            run.of.follows_none (next-is n k o s h run opens front back e is x own))
 
     entry-comes : ComesTo front → ComesTo (front ++ e ∷ [])
     entry-comes (is_calm calm) = calm-next calm
@@ -214,10 +213,10 @@ module _ (n k : ℕ) (o : Options) (s : TracedState) (h : List Entry) (run : IsR
 
       by : ComesTo front → IsEmpty (marks_at (truss front) place).planted
       by (is_calm calm) =
-          finds-none n k o s h run awake opens front back place id turned is calm within makes
+          finds-none n k o s h run opens front back place id turned is calm within makes
       by (leaves t w) =
           leaving-finds-none k o t (truss front) (now front)
-          (lawful-now n k o s h run awake opens front back e is) w place within id
+          (lawful-now n k o s h run opens front back e is) w place within id
           (record { system = its.0; turned = turned }) its.1 makes
 
   -- truss that leaves reads no status
@@ -235,7 +234,7 @@ module _ (n k : ℕ) (o : Options) (s : TracedState) (h : List Entry) (run : IsR
       → (truss front).aside ≡ Nothing → answer_of x.reply ≡ Accepted
       → (p : TracedProcess) × (live_process (now front).system (traced_at (truss front) place).pid ≡ Some p)
   status-lives front back e x place is own within reads idle accepted =
-      told-lives n k o s h run awake opens front back e x place is
+      told-lives n k o s h run opens front back e x place is
       (reads-calm front (e ∷ back) place is reads) own within reads idle accepted
 
   -- the look at the lwps of a process, by which truss leaves it
@@ -251,7 +250,7 @@ module _ (n k : ℕ) (o : Options) (s : TracedState) (h : List Entry) (run : IsR
     where
       by : ComesTo front → IsEmpty (marks_at (truss front) 0).planted
       by (is_calm calm) =
-          let g = goes n k o s h run awake opens front back e is calm in
+          let g = goes n k o s h run opens front back e is calm in
           let kept = g.kept in
           absurd
           (subst (AtStage (IsSo (Unit {0}) k (truss front).options (now front)) (truss front).traced) reads kept.stage)
@@ -266,7 +265,7 @@ module _ (n k : ℕ) (o : Options) (s : TracedState) (h : List Entry) (run : IsR
           (front-legal n s front (e ∷ back) (subst (IsLegal n s) is run.of.legal))) (traced_at (truss front) 0)
           (here.each 0 within) known.number known.is x.call it.answer
           (same_Some x.call _
-          (sym (next-is n k o s h run awake opens front back e is x own)
+          (sym (next-is n k o s h run opens front back e is x own)
           ∙ next-staged (truss front).options has (truss front) ReadingLwps refl idle reads)) it.is
           (ap answer_of it.replied ∙ accepted) l
           (ap (λ (y : Reply). slice_get (event_stops (bytes_in y)) 0) it.replied ∙ told) event fresh replaced old.old
@@ -275,7 +274,7 @@ module _ (n k : ℕ) (o : Options) (s : TracedState) (h : List Entry) (run : IsR
   finds-so = record {
     copies = λ front back place id turned is within makes. granted front back place id turned is within makes;
     replaced = λ front back e x place l event is own within reads idle accepted told fresh replaced.
-        reads-lifted n k o s h run awake opens front back e x place l event is
+        reads-lifted n k o s h run opens front back e x place l event is
         (reads-calm front (e ∷ back) place is reads) own within reads idle accepted told fresh replaced;
     last = λ front back e x l event is own within reads idle accepted told fresh replaced.
         looked front back e x l event is own within reads idle accepted told fresh replaced;

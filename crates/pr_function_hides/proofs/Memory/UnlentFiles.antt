@@ -195,7 +195,7 @@ module _ {n : ℕ} {who : Hiders} {controllers : List ControllerState} {first : 
 
       next-call : next_function_call_of (functions_at k o front) ≡ Some x.call
       next-call =
-          next-is n k o first h (reached-run run k hider) run.awake (opens-out run k hider) front back e place x own
+          next-is n k o first h (reached-run run k hider) (opens-out run k hider) front back e place x own
 
       -- one that it opens
       opened-one : (pid id : ℕ) (f : File) (mode : Mode) → x.call ≡ call.Open pid id f mode → is_control f ≡ true

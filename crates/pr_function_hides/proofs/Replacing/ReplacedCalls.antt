@@ -59,7 +59,6 @@ use Rattle.pr_function_hides.proofs.Replies.PlacesStay.{IsIn, LosesLast, places-
 use Rattle.pr_function_hides.proofs.Replacing.ReplacedReads.{IsOther, read-spends}
 use Rattle.pr_function_hides.proofs.Replacing.ReplacedTurns.{TellsReplacement}
 use Rattle.pr_function_hides.specs.LiftedCopies.{OpensOutOfCopies}
-use Rattle.pr_function_hides.specs.SleptCopies.{NoneSleepsInCopy}
 
 -- Once a vfork or an exec of a process was granted that truss has opened, its lwp stands at the exit of the call until
 -- truss reads it; and from that read on truss has nothing planted there, and is to plant nothing.
@@ -109,7 +108,7 @@ module _ (own : ℕ) where
 -- ---- along a history
 
 module _ (n k : ℕ) (o : Options) (s : TracedState) (h : List Entry) (run : IsReachedFunctionRun n k o s h)
-    (awake : NoneSleepsInCopy s.system) (opens : OpensOutOfCopies k o s h) (was : Traced) (id : ℕ)
+    (opens : OpensOutOfCopies k o s h) (was : Traced) (id : ℕ)
     (event : Event) (tells : TellsReplacement event) where
   abbrev own : ℕ
   own = was.pid
@@ -150,10 +149,10 @@ module _ (n k : ℕ) (o : Options) (s : TracedState) (h : List Entry) (run : IsR
     t = truss front
 
     goes : Goes (Unit {0}) k o t (now front)
-    goes = Copies.goes n k o s h run awake opens front back e is calm
+    goes = Copies.goes n k o s h run opens front back e is calm
 
     legal : IsLegalEntry n (now front) e
-    legal = Copies.legal-now n k o s h run awake opens front back e is
+    legal = Copies.legal-now n k o s h run opens front back e is
 
     abbrev next_front : List Entry
     next_front = front ++ e ∷ []
@@ -199,12 +198,12 @@ module _ (n k : ℕ) (o : Options) (s : TracedState) (h : List Entry) (run : IsR
       r = x.reply
 
       abbrev it : IsOwnEntry k (now front) e x
-      it = Copies.own-answer n k o s h run awake opens front back e is x mine
+      it = Copies.own-answer n k o s h run opens front back e is x mine
 
       w : OwnCall n k o t (now front) x.call it.answer
       w =
-          Copies.its-call n k o s h run awake opens front back e is calm
-          (Copies.stands-after n k o s h run awake opens front (e ∷ back) is calm) x mine unbroken
+          Copies.its-call n k o s h run opens front back e is calm
+          (Copies.stands-after n k o s h run opens front (e ∷ back) is calm) x mine unbroken
 
       kept : Kept (IsSo (Unit {0}) k t.options (now front)) t
       kept = let g = goes in g.kept
@@ -213,7 +212,7 @@ module _ (n k : ℕ) (o : Options) (s : TracedState) (h : List Entry) (run : IsR
       has = let c = w in c.has
 
       next : next_function_call_of t ≡ Some x.call
-      next = Copies.next-is n k o s h run awake opens front back e is x mine
+      next = Copies.next-is n k o s h run opens front back e is x mine
 
       quiet : answer_of r ≢ Interrupted
       quiet = calm-answer x unbroken
@@ -474,9 +473,9 @@ module _ (n k : ℕ) (o : Options) (s : TracedState) (h : List Entry) (run : IsR
       let parts = sym (append_assoc front (e ∷ []) middle) in
       let more : Calm ((front ++ e ∷ []) ++ middle) = subst Calm parts calm in
       let here : Calm (front ++ e ∷ []) =
-      Copies.calm-front n k o s h run awake opens (front ++ e ∷ []) middle more in
+      Copies.calm-front n k o s h run opens (front ++ e ∷ []) middle more in
       subst FollowsOn (append_assoc front (e ∷ []) middle)
       (walk middle (front ++ e ∷ []) back (is ∙ sym (append_assoc front (e ∷ []) (middle ++ back))) more
       (entry-follows front (middle ++ back) e is
-      (Copies.calm-front n k o s h run awake opens front (e ∷ []) here)
+      (Copies.calm-front n k o s h run opens front (e ∷ []) here)
       (λ x mine. fronts.all-entry WasNotInterrupted k front [] e x here mine) so))

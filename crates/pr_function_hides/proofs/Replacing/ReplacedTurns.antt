@@ -71,7 +71,6 @@ use Rattle.pr_function_hides.proofs.StoppedCopies.CopySets.{copying-has}
 use Rattle.pr_function_hides.proofs.Copying.CopyWalk as Copies
 use Rattle.pr_function_hides.specs.CountedFunctions.{takes_memory}
 use Rattle.pr_function_hides.specs.LiftedCopies.{OpensOutOfCopies}
-use Rattle.pr_function_hides.specs.SleptCopies.{NoneSleepsInCopy}
 
 -- An lwp whose vfork or exec was granted, in a process that truss has opened, stands at the exit of the call, which
 -- says so; and truss does not look at the process then.
@@ -343,7 +342,6 @@ module _ (o : Options) (s : TracedState) (lawful : IsLawfulSystem s.system) (fit
 -- ---- stops that stood before truss came
 
 module _ (n k : ℕ) (o : Options) (s : TracedState) (h : List Entry) (run : IsReachedFunctionRun n k o s h)
-    (awake : NoneSleepsInCopy s.system)
     (opens : OpensOutOfCopies k o s h) (front back : List Entry) (place id : ℕ) (turned : Turned)
     (is : h
     ≡ front ++ record { actor = Lwp (traced_at (functions_at k o front) place).pid id; act = Turn turned } ∷ back)
@@ -378,7 +376,7 @@ module _ (n k : ℕ) (o : Options) (s : TracedState) (h : List Entry) (run : IsR
   -- no stop is left that stood before truss came
   pub none-old : was_then.old ≡ 0
   none-old =
-      let st = Copies.stands-after n k o s h run awake opens front (e_then ∷ back) is calm in
+      let st = Copies.stands-after n k o s h run opens front (e_then ∷ back) is calm in
       let c = st.copies in by (c.each place within turn-then.process turn-then.live)
     where
       not-opened : not (place == place) ≡ true → ⊥
@@ -397,5 +395,5 @@ module _ (n k : ℕ) (o : Options) (s : TracedState) (h : List Entry) (run : IsR
       by (runs_so soon w) =
           no-turn-then
           (soon-still n k o t_then now_then
-          (Copies.goes n k o s h run awake opens front back e_then is calm) place soon turn-then.process
+          (Copies.goes n k o s h run opens front back e_then is calm) place soon turn-then.process
           turn-then.live)

@@ -54,14 +54,13 @@ use Rattle.pr_function_hides.proofs.Replacing.ReplacedTurns as Turns
 use Rattle.pr_function_hides.proofs.Replacing.ReplacedTurns.{TellsReplacement}
 use Rattle.pr_function_hides.proofs.Tidy.StillMessages.{BeginStill, cfault-still, is_still, read-still}
 use Rattle.pr_function_hides.specs.LiftedCopies.{OpensOutOfCopies}
-use Rattle.pr_function_hides.specs.SleptCopies.{NoneSleepsInCopy}
 use Rattle.pr_function_hides.specs.Replacing.{WasReplaced, WritesNoneOnceReplaced}
 use Rattle.pr_function_hides.proofs.Replacing.ReplacedCalls.{Follows, FollowsOn, IsApart, OpensApart, Spares, closing-apart, fits-looks, opening-apart, walk}
 
 -- Once a vfork or an exec of a process was granted that truss has opened, it sends no PCWRITE to the process.
 
 module _ (n k : ℕ) (o : Options) (s : TracedState) (h : List Entry) (run : IsReachedFunctionRun n k o s h)
-    (awake : NoneSleepsInCopy s.system) (opens : OpensOutOfCopies k o s h) (was : Traced) (id : ℕ)
+    (opens : OpensOutOfCopies k o s h) (was : Traced) (id : ℕ)
     (event : Event) (tells : TellsReplacement event) where
   abbrev own : ℕ
   own = was.pid
@@ -80,7 +79,7 @@ module _ (n k : ℕ) (o : Options) (s : TracedState) (h : List Entry) (run : IsR
   module _ (front back : List Entry) (handle : ℕ) (sent : List ℕ) (r : Reply)
       (is : h ≡ front ++ call_entry k (call.Ctl handle sent) r ∷ back) (calm : Calm front) (held : Held)
       (there : handle_of (now front).opens k handle ≡ Some held) (its : held.pid ≡ own)
-      (follows : Follows n k o s h run awake opens was id event tells front)
+      (follows : Follows n k o s h run opens was id event tells front)
       (at size len : ℕ) (read : first_message sent ≡ Ok (message.Write at size, len)) where
     abbrev t : TrussState
     t = truss front
@@ -95,7 +94,7 @@ module _ (n k : ℕ) (o : Options) (s : TracedState) (h : List Entry) (run : IsR
     own-entry-is = ap (λ b. cond b (Some x) None) (eq-eqb k k refl)
 
     g : Goes (Unit {0}) k o t (now front)
-    g = Copies.goes n k o s h run awake opens front back (call_entry k c r) is calm
+    g = Copies.goes n k o s h run opens front back (call_entry k c r) is calm
 
     has : has_functions t.options ≡ true
     has = fronts.has n k o s h run.of front (call_entry k c r) back is calm
@@ -146,7 +145,7 @@ module _ (n k : ℕ) (o : Options) (s : TracedState) (h : List Entry) (run : IsR
         fits : FitsSo (Patching q plants lifts clear) t.stage
         fits =
             let st =
-            Copies.stands-after n k o s h run awake opens front (call_entry k c r ∷ back) is calm in
+            Copies.stands-after n k o s h run opens front (call_entry k c r ∷ back) is calm in
             let so = st.copies in subst (λ y. FitsSo y t.stage) beside so.fits
 
         soon : Pending k o s was (On (record { id = id; event = event })) front → (stage : Stage) → t.stage ≡ stage
@@ -212,7 +211,7 @@ module _ (n k : ℕ) (o : Options) (s : TracedState) (h : List Entry) (run : IsR
 -- ---- the law
 
 module _ (n k : ℕ) (o : Options) (s : TracedState) (h : List Entry) (run : IsReachedFunctionRun n k o s h)
-    (awake : NoneSleepsInCopy s.system) (opens : OpensOutOfCopies k o s h) where
+    (opens : OpensOutOfCopies k o s h) where
   abbrev state_then : List Entry → TracedState
   state_then front = state_after s front
 
@@ -246,11 +245,11 @@ module _ (n k : ℕ) (o : Options) (s : TracedState) (h : List Entry) (run : IsR
     calm-all = subst (λ es. All WasNotInterrupted (exchanges k es)) front-is calm
 
     calm-before : All WasNotInterrupted (exchanges k w.before)
-    calm-before = Copies.calm-front n k o s h run awake opens w.before (e ∷ w.later) calm-all
+    calm-before = Copies.calm-front n k o s h run opens w.before (e ∷ w.later) calm-all
 
     new-then : was.old ≡ 0
     new-then =
-        Turns.none-old n k o s h run awake opens w.before rest w.place w.id w.t whole calm-before w.within
+        Turns.none-old n k o s h run opens w.before rest w.place w.id w.t whole calm-before w.within
         w.opened
 
     abbrev event : Event
@@ -264,7 +263,7 @@ module _ (n k : ℕ) (o : Options) (s : TracedState) (h : List Entry) (run : IsR
         w.within w.opened w.takes new-then
 
     abbrev Follows-on : List Entry → Type 0
-    Follows-on = FollowsOn n k o s h run awake opens was w.id event tells
+    Follows-on = FollowsOn n k o s h run opens was w.id event tells
 
     first-there : Goes ⊥ k o truss_then (state_then w.before)
     first-there = fronts.here n k o s h run.of w.before e rest whole calm-before
@@ -277,7 +276,7 @@ module _ (n k : ℕ) (o : Options) (s : TracedState) (h : List Entry) (run : IsR
           let m = g.kept in
           by truss_then.stage w.opened m.stage;
       looks =
-          let st = Copies.stands-after n k o s h run awake opens w.before (e ∷ rest) whole calm-before in
+          let st = Copies.stands-after n k o s h run opens w.before (e ∷ rest) whole calm-before in
           let so = st.copies in fits-looks truss_then.aside truss_then.stage so.fits;
     }
       where
@@ -324,7 +323,7 @@ module _ (n k : ℕ) (o : Options) (s : TracedState) (h : List Entry) (run : IsR
     at-front : Follows-on front
     at-front =
         subst Follows-on parts
-        (walk n k o s h run awake opens was w.id event tells w.later (w.before ++ e ∷ [])
+        (walk n k o s h run opens was w.id event tells w.later (w.before ++ e ∷ [])
         (call_entry k (call.Ctl handle sent) r ∷ back)
         (whole ∙ sym (append_assoc w.before (e ∷ []) rest))
         (subst (λ es. All WasNotInterrupted (exchanges k es)) (sym parts) calm) first-follows)
@@ -332,7 +331,7 @@ module _ (n k : ℕ) (o : Options) (s : TracedState) (h : List Entry) (run : IsR
     pub none-written : ⊥
     none-written =
         let so = at-front in
-        never-writes n k o s h run awake opens was w.id event tells front back handle sent r is calm held
+        never-writes n k o s h run opens was w.id event tells front back handle sent r is calm held
         there (sym w.own)
         (so.lives p (ap (live_process (state_then front).system) w.own ∙ live)) at size len read
 

@@ -167,10 +167,10 @@ module _ (n k : ℕ) (o : Options) (s : TracedState) (h : List Entry) (run : IsR
         fed-left Long long-alike Any any-old t x.reply g.on
         (follow-there (Unit {0}) n k o s h run.of (λ r. run.reached) (λ r. run.bytes) f e later is) has
         (λ i j one two other.
-         its-apart k t (S f) (files-at (Unit {0}) n k o s h run.of (λ r. run.reached) (λ r. run.bytes) f (e ∷ later) is)
-         i j one two other) (λ q within still. tt) g.at
-         (after-all Long long-alike Any any-old t x.reply
-         (λ v. fewer-long v.marks.planted (first_function v.marks.planted)) (λ v long. refl) lost-long was g.at) in
+        its-apart k t (S f) (files-at (Unit {0}) n k o s h run.of (λ r. run.reached) (λ r. run.bytes) f (e ∷ later) is)
+        i j one two other) (λ q within still. tt) g.at
+        (after-all Long long-alike Any any-old t x.reply
+        (λ v. fewer-long v.marks.planted (first_function v.marks.planted)) (λ v long. refl) lost-long was g.at) in
         l.each
 
     own-long : (x : Exchange) → exchange_of k e ≡ Some x → Each Long (fed_functions t x.reply).traced

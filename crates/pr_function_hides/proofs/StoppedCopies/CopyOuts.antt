@@ -15,15 +15,19 @@ use Rattle.pr_model.specs.declared.stops.Stop.{Stop}
 use Rattle.pr_model.specs.declared.stops.Stop.TheVariants as stop
 use Rattle.pr_num.proofs.ByIdLaws.{under-change_under, under-change_under_other, under-map_each}
 use Rattle.pr_num.specs.ById.{change_under, map_each, under}
+use Rattle.pr_num.specs.Syscalls.{is_fork_call}
+use Rattle.pr_num.specs.declared.syscalls.Sysno.{Sysno}
+use Rattle.pr_num.specs.declared.syscalls.Sysno.TheVariants as sys
+use Rattle.pr_reached.proofs.Sleepers.SleptTurns.{awake-lwp}
+use Rattle.pr_reached.specs.SleptCopies.{NoneSleepsInCopy, is_fork_or_exec, sleeps_in_copy}
 use Rattle.pr_report_laws.specs.AtBirth.{is_met_if}
+use Rattle.pr_truss.specs.FunctionEvents.{copies_memory}
 use Rattle.pr_truss_laws.proofs.EventStops.BridgeLemmas.{mapped-some}
 use Rattle.pr_truss_laws.proofs.Machine.StillLemmas.{halting-did, halting-leaves}
 use Rattle.pr_truss_laws.specs.Stills.{IsHalting, IsUndisturbed, stopped_lwp, with_lwp_stopped}
 use Rattle.pr_function_laws.specs.OneEvent.{HasMetNothing}
 use Rattle.pr_function_hides.proofs.StoppedCopies.CopyRuns.{IsOut, aborted-so, cleared-so, out-kept, run-so}
-use Rattle.pr_function_hides.proofs.StoppedCopies.SleptTurns.{awake-lwp}
 use Rattle.pr_function_hides.specs.Copying.{AreOutOfCopies, HaveNoCopyGoing, is_at_copy, is_in_copy, leaves_copy, makes_copy}
-use Rattle.pr_function_hides.specs.SleptCopies.{NoneSleepsInCopy, sleeps_in_copy}
 
 -- Where no lwp of a process is at a fork, a vfork or an exec, it stays so as long as the process halts, and PCRUN
 -- leaves it so; and none of these calls goes on where no lwp stands on an event then.
@@ -31,6 +35,14 @@ use Rattle.pr_function_hides.specs.SleptCopies.{NoneSleepsInCopy, sleeps_in_copy
 -- no lwp of a process is at such a call, or asleep in one
 pub record HaveNoCopyBegun (p : TracedProcess) : Type 0 where
   pub each : (id : ℕ) (l : TracedLwp) → lwp_of p id ≡ Some l → is_in_copy l.phase ≡ false
+
+-- what copies or replaces the memory of its process is a fork, a vfork or an exec
+copies-known : (call : Sysno) → copies_memory call ≡ is_fork_or_exec call
+unfolding copies_memory is_fork_call
+copies-known sys.Fork = refl
+copies-known sys.Vfork = refl
+copies-known sys.Exec = refl
+copies-known _ = refl
 
 -- so it is where none is at one, as none is asleep in one
 pub none-begun : (s : TracedSystem) (pid : ℕ) (p : TracedProcess) → NoneSleepsInCopy s
@@ -43,7 +55,7 @@ none-begun s pid p awake live out = record {
     by : (phase : Phase) → is_at_copy phase ≡ false → sleeps_in_copy phase ≡ false → is_in_copy phase ≡ false
     by User at sleeps = refl
     by (Entered call) at sleeps = at
-    by (Asleep call args since) at sleeps = sleeps
+    by (Asleep call args since) at sleeps = copies-known call ∙ sleeps
     by (Exiting call args result) at sleeps = refl
     by (Faulted f address) at sleeps = refl
 

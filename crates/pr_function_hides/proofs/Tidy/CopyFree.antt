@@ -194,14 +194,14 @@ module _ {n : ℕ} {who : Hiders} {controllers : List ControllerState} {first : 
     }
 
     finds : CopiesFindNone k (run-options k hider) first h
-    finds = finds-so n k (run-options k hider) first h reached-run run.awake opens-out
+    finds = finds-so n k (run-options k hider) first h reached-run opens-out
 
     -- as long as it does not leave its processes it was not interrupted
     pub calm-on : (front back : List Entry) → h ≡ front ++ back → (t : TrussState)
         → IsTrussAfter who controllers first h front k t → t.leaving ≡ false
         → All WasNotInterrupted (exchanges k front)
     calm-on front back place t is off =
-        stays-calm n k (run-options k hider) first h reached-run run.awake opens-out front back place
+        stays-calm n k (run-options k hider) first h reached-run opens-out front back place
         (subst (λ (u : TrussState). u.leaving ≡ false) (truss-is run.own_calls run.are k hider front back place t is)
         off)
 
@@ -232,7 +232,7 @@ module _ {n : ℕ} {who : Hiders} {controllers : List ControllerState} {first : 
         → IsTrussAfter who controllers first h front k t → t.leaving ≡ false → CopiesSo t (now front).system
     copies-on front back place t is off =
         let st =
-        stands-after n k (run-options k hider) first h reached-run run.awake opens-out front back place
+        stands-after n k (run-options k hider) first h reached-run opens-out front back place
         (calm-on front back place t is off) in
         subst (λ (u : TrussState). CopiesSo u (now front).system)
         (sym (truss-is run.own_calls run.are k hider front back place t is)) st.copies
@@ -242,7 +242,7 @@ module _ {n : ℕ} {who : Hiders} {controllers : List ControllerState} {first : 
         → IsTrussAfter who controllers first h front k t → t.leaving ≡ false → KeptPlaces Knows t
     known-on front back place t is off =
         let st =
-        stands-after n k (run-options k hider) first h reached-run run.awake opens-out front back place
+        stands-after n k (run-options k hider) first h reached-run opens-out front back place
         (calm-on front back place t is off) in
         subst (KeptPlaces Knows) (sym (truss-is run.own_calls run.are k hider front back place t is)) st.known
 
@@ -251,7 +251,7 @@ module _ {n : ℕ} {who : Hiders} {controllers : List ControllerState} {first : 
         → IsTrussAfter who controllers first h front k t → t.leaving ≡ false → KeptPlaces Young t
     young-on front back place t is off =
         let st =
-        stands-after n k (run-options k hider) first h reached-run run.awake opens-out front back place
+        stands-after n k (run-options k hider) first h reached-run opens-out front back place
         (calm-on front back place t is off) in
         subst (KeptPlaces Young) (sym (truss-is run.own_calls run.are k hider front back place t is)) st.young
 

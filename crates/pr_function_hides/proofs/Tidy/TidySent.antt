@@ -234,7 +234,7 @@ module _ {n : ℕ} {who : Hiders} {controllers : List ControllerState} {first : 
             by goes g same (inl (inr replaced)) =
                 let w = truss_here in
                 let law =
-                writes-none-so n j (run-options run j hider) first h (reached-run run j hider) run.awake
+                writes-none-so n j (run-options run j hider) first h (reached-run run j hider)
                 (opens-out run j hider) in
                 absurd
                 (law.none front back (traced_at tw m).control (spelling (message.Write f.at 16) code) r theld p f.at 16

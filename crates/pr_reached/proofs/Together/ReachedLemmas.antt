@@ -11,6 +11,7 @@ use Rattle.pr_model.specs.Legal.{IsLegal, state_after}
 use Rattle.pr_model.specs.State.{TracedState}
 use Rattle.pr_model.specs.declared.events.Entry.{Entry}
 use Rattle.pr_reached.proofs.FitStates.FitHistoryLemmas.{first-fits, history-fits}
+use Rattle.pr_reached.proofs.Sleepers.SleptHistories.{first-awake, history-awake}
 use Rattle.pr_reached.proofs.StatesInRange.HistoryRanges.{first-state-range, history-range}
 use Rattle.pr_reached.specs.ByteHistories.{HasBytes}
 use Rattle.pr_reached.specs.InRange.{IsStartInRange}
@@ -25,6 +26,7 @@ first-reached programs files spawns start ranged = record {
   lending = first-lends programs files spawns;
   fit = first-fits programs files spawns;
   in_range = first-state-range programs files spawns ranged;
+  awake = first-awake programs files spawns;
 }
 
 pub later-reached : (n : ℕ) (s : TracedState) (h : List Entry) → IsReached s → HasBytes h → IsLegal n s h
@@ -34,4 +36,5 @@ later-reached n s h reached bytes legal = record {
   lending = history-lends n s h reached.lawful reached.lending legal;
   fit = history-fits n s h reached.lawful reached.fit legal;
   in_range = history-range n s h reached.lawful reached.in_range bytes legal;
+  awake = history-awake n s h reached.awake legal;
 }

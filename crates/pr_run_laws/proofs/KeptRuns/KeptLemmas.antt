@@ -27,11 +27,9 @@ use Rattle.pr_function_hides.proofs.PlantedFetches.SparedLaw.{leaves_planted}
 use Rattle.pr_function_hides.proofs.LeavingFaults.ClearedLaw.{clears-alone}
 use Rattle.pr_function_hides.proofs.FaultStops.PostedLaw.{posts-none}
 use Rattle.pr_function_hides.proofs.HiddenTruss.{truss-hidden, truss-tidy}
-use Rattle.pr_function_hides.proofs.StoppedCopies.SleptHistories.{first-awake}
 use Rattle.pr_function_hides.proofs.StepMarks.StepLaw.{own-steps}
 use Rattle.pr_function_hides.proofs.Tidy.WritesLaw.{writes-tidily}
 use Rattle.pr_function_hides.specs.RunsOfTrusses.{IsRunOfTrusses}
-use Rattle.pr_function_hides.specs.SleptCopies.{NoneSleepsInCopy}
 use Rattle.pr_function_hides.specs.TidyWrites.{AreUndisturbed}
 use Rattle.pr_function_laws.specs.Opened.{IsFunctionRun}
 use Rattle.pr_function_laws.specs.ReachedRuns.{IsReachedFunctionRun}
@@ -149,9 +147,6 @@ transparent-tracers s h legal follows none quiet bare =
 state-reached : (s : Scenario) → IsScenarioInRange s → IsReached (first_state_of s)
 state-reached s range = first-reached s.programs (files_of s) s.spawns range.start range.range
 
-none-asleep : (s : Scenario) → NoneSleepsInCopy (first_state_of s).system
-none-asleep s = first-awake s.programs (files_of s) s.spawns
-
 -- ---- trusses
 
 -- the controller of a truss, which shows calls of functions or does not
@@ -174,7 +169,7 @@ pub functions-kept : (s : Scenario) (n : ℕ) (h : List Entry) → IsScenarioInR
     (o : Options) → slice_get s.controllers k ≡ Some (plan.Truss o) → o.functions ≢ []
     → IsFunctionTrussKept (controllers_of s) (first_state_of s) h k o
 functions-kept s n h range bytes legal own k o at some =
-    function-kept (controllers_of s) n (first_state_of s) h k o (state-reached s range) (none-asleep s) bytes
+    function-kept (controllers_of s) n (first_state_of s) h k o (state-reached s range) bytes
     (first-held s k) (truss-plan s k o true at (full-truss o some)) some (plan-named s range k o at) legal own
 
 -- ---- tools
@@ -363,7 +358,6 @@ module _ (s : Scenario) (n : ℕ) (h : List Entry) (range : IsScenarioInRange s)
       → IsRunOfTrusses n who (controllers_of s) (first_state_of s) h
   trusses-run who hide undisturbed = record {
     reached = state-reached s range;
-    awake = none-asleep s;
     bytes = bytes;
     legal = legal;
     own_calls = own;

@@ -73,7 +73,6 @@ use Rattle.pr_function_hides.proofs.PlantedFetches.FetchesLaw.{fetches_breakpoin
 use Rattle.pr_function_hides.proofs.Replacing.ReplacedWalk.{writes-none-so}
 use Rattle.pr_function_hides.proofs.Replies.WaitingWalk.{keeps-what-waits}
 use Rattle.pr_function_hides.proofs.Files.OwnRuns.{function-stays}
-use Rattle.pr_function_hides.specs.SleptCopies.{NoneSleepsInCopy}
 use Rattle.pr_function_laws.proofs.NextCalls.KindLemmas.{event-kinds, looks-at-each}
 use Rattle.pr_function_laws.proofs.NextCalls.BreakpointCallLemmas.{breakpoint-calls}
 use Rattle.pr_function_laws.proofs.NextCalls.TracedWords.{traces-its-words}
@@ -144,10 +143,10 @@ function-run controllers n s h k o reached none at some named legal own =
     }
 
 pub function-kept : (controllers : List ControllerState) (n : ℕ) (s : TracedState) (h : List Entry) (k : ℕ)
-    (o : Options) → IsReached s → NoneSleepsInCopy s.system → HasBytes h → HasNothingOpen k s
+    (o : Options) → IsReached s → HasBytes h → HasNothingOpen k s
     → slice_get controllers k ≡ Some (FnTruss (first_truss o)) → o.functions ≢ [] → AreShowable o → IsLegal n s h
     → AreOwnCalls controllers h → IsFunctionTrussKept controllers s h k o
-function-kept controllers n s h k o reached awake bytes none at some named legal own =
+function-kept controllers n s h k o reached bytes none at some named legal own =
     let stays = function-stays h controllers k (first_truss o) at own in
     let has = full-truss o some in
     let run = function-run controllers n s h k o reached none at some named legal own in
@@ -187,8 +186,8 @@ function-kept controllers n s h k o reached awake bytes none at some named legal
       words = traces-its-words o;
       selects = selects-named o;
       replies = reads-replies;
-      copies = λ opens. finds-so n k o s h whole awake opens;
-      replaced = λ opens. writes-none-so n k o s h whole awake opens;
+      copies = λ opens. finds-so n k o s h whole opens;
+      replaced = λ opens. writes-none-so n k o s h whole opens;
       treats = treats-its-events o (exchanges k h) has run.follows_none stays.0 calm;
       waits = keeps-what-waits o (exchanges k h) has stays.0;
       leaves = leaves-its-processes n k o s h run;

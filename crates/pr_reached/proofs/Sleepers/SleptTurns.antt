@@ -35,8 +35,7 @@ use Rattle.pr_num.specs.declared.signals.Sig.{Sig}
 use Rattle.pr_num.specs.declared.syscalls.Sysno.{Sysno}
 use Rattle.pr_num.specs.declared.syscalls.Sysno.TheVariants as sys
 use Rattle.pr_parts.specs.SignalRules.{deleted_by}
-use Rattle.pr_truss.specs.FunctionEvents.{copies_memory}
-use Rattle.pr_function_hides.specs.SleptCopies.{HasNoCopySleeper, NoneSleepsInCopy, SleepsInNoCopy, sleeps_in_copy}
+use Rattle.pr_reached.specs.SleptCopies.{HasNoCopySleeper, NoneSleepsInCopy, SleepsInNoCopy, is_fork_or_exec, sleeps_in_copy}
 use Rattle.pr_keeps.proofs.KeptSystems as step
 use Rattle.pr_keeps.proofs.KeptSystems.{Newborn, ProcessStep, TurnStep}
 use Rattle.pr_model.specs.Handles.{released, released_lwp}
@@ -49,16 +48,16 @@ use Rattle.pr_model.specs.Lives.{first_lwp, new_process}
 
 -- a move puts its lwp to sleep in another call, if in one
 abbrev SleepsElsewhere : Move → Type 0
-SleepsElsewhere (move.sleeps call args since) = copies_memory call ≡ false
+SleepsElsewhere (move.sleeps call args since) = is_fork_or_exec call ≡ false
 SleepsElsewhere _ = Unit {0}
 
 abbrev RowSleepsElsewhere : Row → Type 0
 RowSleepsElsewhere row = SleepsElsewhere row.transition.move
 
 module _ (s : TracedSystem) (pid : ℕ) (p : TracedProcess) (id : ℕ) (l : TracedLwp) where
-  ready-copying : (since : ℕ) (c : Sysno) (args : List ℕ) → copies_memory c ≡ true
+  ready-copying : (since : ℕ) (c : Sysno) (args : List ℕ) → is_fork_or_exec c ≡ true
       → is_ready s pid p id l since c args ≡ true
-  unfolding is_ready copies_memory is_fork_call
+  unfolding is_ready is_fork_call
   ready-copying since sys.Fork args copying = refl
   ready-copying since sys.Vfork args copying = refl
   ready-copying since sys.Exec args copying = refl
@@ -70,9 +69,9 @@ module _ (s : TracedSystem) (pid : ℕ) (p : TracedProcess) (id : ℕ) (l : Trac
   unfolding performed_row performed
   performed-elsewhere woken call args since (does result changes) is = tt
   performed-elsewhere woken call args since (ends how) is = tt
-  performed-elsewhere woken call args since sleeps is = by (copies_memory call) refl
+  performed-elsewhere woken call args since sleeps is = by (is_fork_or_exec call) refl
     where
-      by : (b : Bool) → copies_memory call ≡ b → copies_memory call ≡ false
+      by : (b : Bool) → is_fork_or_exec call ≡ b → is_fork_or_exec call ≡ false
       by false other = other
       by true copying =
           let known = call-known s pid p id l since call args in

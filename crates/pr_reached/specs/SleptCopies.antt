@@ -1,13 +1,20 @@
 -- Lwps that are asleep in a fork(2), a vfork(2) or an exec(2). There are none, as no such call sleeps.
-use Rattle.std.specs.Prelude.{◌≡◌, ℕ, Bool, false, All}
+use Rattle.std.specs.Prelude.{◌≡◌, ℕ, Bool, true, false, All}
 use Rattle.pr_model.specs.State.{TracedLwp, TracedProcess, TracedSystem}
 use Rattle.pr_model.specs.declared.lwps.Phase.{Phase}
 use Rattle.pr_model.specs.declared.lwps.Phase.TheVariants.{Asleep}
-use Rattle.pr_truss.specs.FunctionEvents.{copies_memory}
+use Rattle.pr_num.specs.Syscalls.{is_fork_call}
+use Rattle.pr_num.specs.declared.syscalls.Sysno.{Sysno}
+use Rattle.pr_num.specs.declared.syscalls.Sysno.TheVariants.{Exec}
 
--- an lwp is asleep in a call that copies or replaces the memory of its process
+-- a call that copies or replaces the memory of its process
+abbrev pub is_fork_or_exec : Sysno → Bool
+is_fork_or_exec Exec = true
+is_fork_or_exec call = is_fork_call call
+
+-- an lwp is asleep in such a call
 abbrev pub sleeps_in_copy : Phase → Bool
-sleeps_in_copy (Asleep call args since) = copies_memory call
+sleeps_in_copy (Asleep call args since) = is_fork_or_exec call
 sleeps_in_copy phase = false
 
 pub record SleepsInNoCopy (e : ℕ × TracedLwp) : Type 0 where

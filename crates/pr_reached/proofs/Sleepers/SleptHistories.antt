@@ -22,8 +22,8 @@ use Rattle.pr_num.specs.Agents.{agent_id}
 use Rattle.pr_num.specs.Programs.{Program}
 use Rattle.pr_num.specs.declared.files.StoredFile.{StoredFile}
 use Rattle.pr_num.specs.declared.messages.Message.{Message}
-use Rattle.pr_function_hides.proofs.StoppedCopies.SleptTurns.{IsOwnAwake, KeepsAwake, awake-lwp, kind-elsewhere, lwp-keeps, lwps-keep, newborn-awake, own-awake, step-awake}
-use Rattle.pr_function_hides.specs.SleptCopies.{HasNoCopySleeper, NoneSleepsInCopy, SleepsInNoCopy, sleeps_in_copy}
+use Rattle.pr_reached.proofs.Sleepers.SleptTurns.{IsOwnAwake, KeepsAwake, awake-lwp, kind-elsewhere, lwp-keeps, lwps-keep, newborn-awake, own-awake, step-awake}
+use Rattle.pr_reached.specs.SleptCopies.{HasNoCopySleeper, NoneSleepsInCopy, SleepsInNoCopy, sleeps_in_copy}
 use Rattle.pr_keeps.proofs.KeptHistories.{any-history}
 use Rattle.pr_keeps.proofs.KeptProcesses.{AnyMade, KeepsProcesses, processes-keep, turns-keep}
 use Rattle.pr_keeps.proofs.KeptSystems.{KeepsSystem, KeepsTurns, keeps-each, spawned-keeps}

@@ -1,5 +1,0 @@
-use Rattle.pr_function_hides.proofs.StoppedCopies.SleptHistories.{first-awake}
-use Rattle.pr_function_hides.proofs.slept.no_lwp_sleeps_in_a_copy.Goals as goal
-
-pub returns-clause-first : goal.returns-clause-first
-returns-clause-first c = first-awake
