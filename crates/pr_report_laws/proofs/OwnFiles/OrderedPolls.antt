@@ -1,4 +1,4 @@
-use Rattle.std.proofs.Common.{◌≡◌, ◌<◌, ◌++◌, ℕ, Bool, true, false, filter, Option, Some, None, List, [], ◌∷◌, length, map, position, refl, sym, subst, ap, ◌∙◌, inl, inr}
+use Rattle.std.proofs.Common.{◌≡◌, ◌<◌, ◌++◌, ℕ, Bool, true, false, filter, Option, Some, None, List, [], ◌∷◌, length, position, refl, sym, subst, ap, ◌∙◌, inl, inr}
 use Rattle.std.proofs.lemmas.Bool.{cases_Bool, false≢true}
 use Rattle.std.proofs.lemmas.Option.{none-some, same_Some}
 use Rattle.std.specs.List.{cons_option}
@@ -141,16 +141,22 @@ module _ (k : ℕ) (t : TrussState) (s : TracedState) (r : Reply) (files : HasFi
   unfolding fed with_reply call_of with_control_answered with_control
   control-follows pid at =
       open-by (OpeningControl pid) pid at refl
-      (λ accepted. (pid, ap (λ (u : TrussState). u.traced) (ap (with_reply t r) at
-      ∙ ap (with_control_answered t pid r) accepted)))
+      (λ accepted. (
+        pid,
+        ap (λ (u : TrussState). u.traced) (ap (with_reply t r) at
+            ∙ ap (with_control_answered t pid r) accepted),
+      ))
       (errno_in r) refl
 
   child-follows : (parent pid : ℕ) → t.stage ≡ OpeningChildControl parent pid → Follows (open_control pid)
   unfolding fed with_reply call_of with_child_control_answered with_child_control
   child-follows parent pid at =
       open-by (OpeningChildControl parent pid) pid at refl
-      (λ accepted. (pid, ap (λ (u : TrussState). u.traced) (ap (with_reply t r) at
-      ∙ ap (with_child_control_answered t parent pid r) accepted)))
+      (λ accepted. (
+        pid,
+        ap (λ (u : TrussState). u.traced) (ap (with_reply t r) at
+            ∙ ap (with_child_control_answered t parent pid r) accepted),
+      ))
       (errno_in r) refl
 
   -- ---- a close
