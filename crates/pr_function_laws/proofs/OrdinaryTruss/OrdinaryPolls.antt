@@ -30,7 +30,7 @@ use Rattle.pr_function_laws.proofs.OrdinaryTruss.OrdinaryFiles.{Follows, MakesOw
 use Rattle.pr_function_laws.proofs.OrdinaryTruss.OrdinaryLaws.{plain-next}
 use Rattle.pr_function_laws.proofs.OrdinaryTruss.OrdinaryReplies.{first-ordinary}
 use Rattle.pr_function_laws.specs.Opened.{IsFunctionRun, functions_at}
-use Rattle.pr_function_laws.specs.Ordinary.{IsLike, IsTakenUp, SeesTo, in_place, ordinary, own_fault, refused, same}
+use Rattle.pr_function_laws.specs.Ordinary.{IsLike, IsTakenUp, in_place, ordinary, own_fault, refused, same}
 use Rattle.pr_function_laws.specs.Runs.{MakesFunctionCalls}
 
 -- Truss with calls of functions polls its processes in the order in which it opened them, as any truss does: what it
@@ -107,9 +107,9 @@ module _ (k : ℕ) (o : Options) (t : TrussState) (v : TracedState) (f : Follows
   own-polled (goes_on y like next now) hs is = by (like-still like)
     where
       by : (x ≡ y) ⊎ AreStill x y → hs ≡ handles
-      by (inl same) =
+      by (inl one) =
           next-polled k (ordinary t) v reached handles has y.call next hs
-          (ap (λ (z : Exchange). z.call) (sym same) ∙ is)
+          (ap (λ (z : Exchange). z.call) (sym one) ∙ is)
       by (inr w) = absurd (false≢true (ap is_still (sym is) ∙ w.one))
 
 -- ---- all exchanges
