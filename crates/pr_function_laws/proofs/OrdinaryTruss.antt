@@ -8,6 +8,7 @@ pub mod OrdinaryFiles
 pub mod OrdinaryLaws
 pub mod OrdinaryLines
 pub mod OrdinaryPatches
+pub mod OrdinaryPolls
 pub mod OrdinaryReplies
 pub mod OrdinaryRows
 pub mod OrdinaryShown

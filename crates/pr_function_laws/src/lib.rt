@@ -18,6 +18,7 @@ mod once;
 mod opened;
 mod ordinary;
 mod planted;
+mod polls;
 mod refusals;
 mod returns;
 mod soon;
@@ -60,6 +61,7 @@ pub use ordinary::{
     it_shows_what_is_new, it_shows_what_it_reads_right_then,
 };
 pub use planted::{it_has_marked_what_its_calls_planted, what_truss_plants_it_has_read};
+pub use polls::it_polls_its_processes_in_the_order_of_its_opens;
 pub use refusals::{
     it_tells_no_refusal_of_what_it_has_hold_of, it_tells_refusals_before_its_first_poll_alone,
 };

@@ -22,6 +22,7 @@ pub mod Named
 pub mod Newborn
 pub mod OwnFiles
 pub mod OwnOpens
+pub mod PollOrder
 pub mod Positions
 pub mod ReachedRuns
 pub mod Reads

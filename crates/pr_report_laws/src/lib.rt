@@ -12,6 +12,7 @@ mod lineages;
 mod memories;
 mod named;
 mod newborns;
+mod polls;
 mod positions;
 mod reads;
 mod releases;
@@ -64,6 +65,7 @@ pub use named::{
     what_a_poll_named_is_run_or_closed_within_twelve_calls,
 };
 pub use newborns::{a_followed_child_does_nothing_before_it_is_watched, no_process_is_made_twice};
+pub use polls::truss_polls_its_processes_in_the_order_of_its_opens;
 pub use positions::a_process_stands_in_one_of_four_ways_with_truss;
 pub use reads::{
     truss_reads_the_traced_events, truss_reads_the_traced_events_of_what_it_never_followed,

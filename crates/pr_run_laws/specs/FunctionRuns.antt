@@ -52,7 +52,8 @@ use Rattle.pr_model.specs.State.{TracedState}
 use Rattle.pr_model.specs.declared.events.Entry.{Entry}
 use Rattle.pr_run_laws.specs.NamedFunctions.{AreShowable}
 use Rattle.pr_report_laws.specs.Asked.{ReadsItsReplies, SelectsWhatIsNamed}
-use Rattle.pr_report_laws.specs.OwnFiles.{CallsItsFiles, ClosesControlsLast}
+use Rattle.pr_report_laws.specs.OwnFiles.{CallsItsFiles, ClosesControlsLast, PollsEachOnce}
+use Rattle.pr_report_laws.specs.PollOrder.{PollsInOrder}
 use Rattle.pr_truss.specs.FunctionCalls.{next_function_call_of}
 use Rattle.pr_truss.specs.Trusses.{first_truss, traced_at}
 use Rattle.pr_truss.specs.declared.marks.Marks.{Marks}
@@ -195,10 +196,13 @@ pub record IsFunctionTrussKept (controllers : List ControllerState) (first : Tra
   -- before truss read.
   pub of_their_events : (pid : ℕ)
       → AreOfTheirEventsIn k o pid first h (ordinary_among (functions_at k o h).reports)
-  -- It calls no file but those that it has open. Of the files of a process it closes the control file last, and nobody
-  -- has the process open for writing then; and where PR_RLC is set without PR_KLC, nothing is traced in it any more,
-  -- and none of its lwps stands. Once it has finished it has nothing open.
+  -- It calls no file but those that it has open; each poll lists the control files that it has open, in the order in
+  -- which it opened them, and none twice. Of the files of a process it closes the control file last, and nobody has the
+  -- process open for writing then; and where PR_RLC is set without PR_KLC, nothing is traced in it any more, and none
+  -- of its lwps stands. Once it has finished it has nothing open.
   pub files : CallsItsFiles k first h
+  pub order : PollsInOrder (exchanges k h)
+  pub polls : PollsEachOnce k h
   pub controls_last : ClosesControlsLast k first h
   pub releases : ClosesFreelyThroughout k first h
   pub done : next_function_call_of (functions_at k o h) ≡ None → HasNothingOpen k (state_after first h)

@@ -29,6 +29,7 @@ use Rattle.pr_report_laws.specs.Looks.{LooksAtWhatItLeaves, LooksInPlace}
 use Rattle.pr_report_laws.specs.OwnFiles.{CallsItsFiles, ClosesAllThatEnded, ClosesControlsLast, ClosesNothingHeld, ClosesWhatItLeaves, PollsEachOnce}
 use Rattle.pr_report_laws.specs.LaterSends.{SendsLittleLater}
 use Rattle.pr_report_laws.specs.OwnOpens.{OpensInPlace}
+use Rattle.pr_report_laws.specs.PollOrder.{PollsInOrder}
 use Rattle.pr_report_laws.specs.ShownOnce.{ShowsStopsOnce, ShowsWhatIsNew, ShowsWhatItReads}
 use Rattle.pr_report_laws.specs.Lineages.{IsLeftToTruss}
 use Rattle.pr_report_laws.specs.Follows.{IsLeftChild}
@@ -143,9 +144,10 @@ pub record Releases (k : ℕ) (o : Options) (first : TracedState) (h : List Entr
 -- the process does nothing until truss has hold of it. It opens each file in its place: those of what it was given
 -- before it polls, those of a child right after the read that told of it, and each behind the one before it. Once it
 -- has polled, or was interrupted, it sends nothing but PCRUN, PR_RLC of a child just opened, and that it follows no
--- more children of what it leaves. It calls no file but those that it has open, and polls each once. That it cannot
--- trace a process it says while it is to open what it was given, or where it opens a file of the process or a child:
--- not of what it has hold of, or has let go.
+-- more children of what it leaves. It calls no file but those that it has open; each poll lists the control files that
+-- it has open, in the order in which it opened them, and none twice. That it cannot trace a process it says while it is
+-- to open what it was given, or where it opens a file of the process or a child: not of what it has hold of, or has let
+-- go.
 pub record OpensItsOwn (k : ℕ) (o : Options) (first : TracedState) (h : List Entry) : Type 0 where
   pub handled : IsHandledSoFar o (next_call_of (truss_at k o h)) o.program (truss_at k o h).reports (exchanges k h)
   pub grips : (pid : ℕ) → HasOneGrip k o pid first h
@@ -153,6 +155,7 @@ pub record OpensItsOwn (k : ℕ) (o : Options) (first : TracedState) (h : List E
   pub later : SendsLittleLater k o first h
   pub calls : CallsItsFiles k first h
   pub polls : PollsEachOnce k h
+  pub order : PollsInOrder (exchanges k h)
   pub refusals : TellsNoRefusalOfWhatItHolds k o first h
   pub tells : TellsRefusalsOfOpens k o h
 

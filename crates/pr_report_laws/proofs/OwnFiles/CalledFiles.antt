@@ -147,7 +147,7 @@ module _ (k : ℕ) (t : TrussState) (s : TracedState) (g : Reaches k t s) (handl
       (ap (λ (x : Held). x.pid) (same_Some (held_by k (traced_at t one).pid 0 file.Ctl WriteExcl)
       (held_by k (traced_at t two).pid 0 file.Ctl WriteExcl) (sym a.is ∙ b.is)))
 
-  poll-once : (handles : List ℕ) → next_call_of t ≡ Some (call.Poll handles) → (one two : ℕ)
+  pub poll-once : (handles : List ℕ) → next_call_of t ≡ Some (call.Poll handles) → (one two : ℕ)
       → slice_get handles one ≡ Some handle → slice_get handles two ≡ Some handle → one ≡ two
   unfolding next_call_of
   poll-once handles next one two first second =

@@ -37,6 +37,7 @@ use Rattle.pr_function_laws.proofs.Holding.HoldOnce.{keeps-its-holds}
 use Rattle.pr_function_laws.proofs.Holding.HoldQuiet.{opens-quietly}
 use Rattle.pr_function_laws.proofs.LeavingProcesses.LeavingLaws.{calm-exchanges, leaves-its-processes}
 use Rattle.pr_function_laws.proofs.OrdinaryTruss.OrdinaryLaws.{calls-its-files, closes-controls-last, closes-throughout, nothing-left}
+use Rattle.pr_function_laws.proofs.OrdinaryTruss.OrdinaryPolls.{polls-in-order, polls-once}
 use Rattle.pr_function_laws.proofs.ShownOnce.OrdinaryNew.{shows-what-is-new}
 use Rattle.pr_function_laws.proofs.ShownOnce.OrdinaryOnce.{shows-stops-once}
 use Rattle.pr_function_laws.proofs.OrdinaryTruss.OrdinaryShown.{shows-what-it-reads}
@@ -208,6 +209,8 @@ function-kept controllers n s h k o reached bytes none at some named legal own =
       moments = memories-stand n k o s h whole;
       of_their_events = λ pid. are-of-their-events n k o s h pid whole (all-steppable o named);
       files = calls-its-files n k o s h run;
+      order = polls-in-order n k o s h run;
+      polls = polls-once n k o s h run;
       controls_last = closes-controls-last n k o s h run;
       releases = closes-throughout n k o s h run;
       done = λ finished. nothing-left n k o s h run finished;

@@ -41,6 +41,7 @@ use Rattle.pr_report_laws.proofs.OwnFiles.ControlsLast.{closes-controls-last}
 use Rattle.pr_report_laws.proofs.OwnFiles.EndedFiles.{closes-ended}
 use Rattle.pr_report_laws.proofs.OwnFiles.KeptOpen.{closes-nothing-held}
 use Rattle.pr_report_laws.proofs.OwnFiles.LeftFiles.{closes-left}
+use Rattle.pr_report_laws.proofs.OwnFiles.OrderedPolls.{polls-in-order}
 use Rattle.pr_report_laws.proofs.OwnFiles.PlacedOpens.{opens-in-place}
 use Rattle.pr_report_laws.proofs.OwnFiles.SentLater.{sends-later}
 use Rattle.pr_report_laws.proofs.OwnFiles.SoonOpens.{polls-by-files}
@@ -354,6 +355,7 @@ truss-kept controllers n first h k o reached bytes at none legal own =
         later = sends-later n k o first h run;
         calls = calls-files n k o first h run;
         polls = polls-once n k o first h run;
+        order = polls-in-order n k o first h run;
         refusals = tells-no-refusal n k o first h run;
         tells = tells-of-opens n k o first h run;
       };
