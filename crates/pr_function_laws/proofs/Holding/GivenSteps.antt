@@ -309,9 +309,13 @@ pub data IsRefusing (u : TrussState) (r : Reply) (pid : ℕ) (errno : Errno) : S
   at_opening : {place : ℕ} {now : OpeningStep} → (traced_at u place).pid ≡ pid → Refuses r errno
       → IsRefusing u r pid errno (Opening place now)
 
-pub last-same : {X : Type 0} (xs : List X) (a b : X) → xs ++ a ∷ [] ≡ xs ++ b ∷ [] → a ≡ b
-last-same [] a b is = cc
-last-same (x ∷ xs) a b is = let rest : xs ++ a ∷ [] ≡ xs ++ b ∷ [] = cc in last-same xs a b rest
+pub last-same : {X : Type 0} (xs ys : List X) (a b : X) → xs ++ a ∷ [] ≡ ys ++ b ∷ [] → a ≡ b
+last-same [] [] a b is = cc
+last-same {X} [] (y ∷ ys) a b is =
+    absurd (omega (arith, ap (λ (zs : List X). length zs) is, length-append ys (b ∷ [])))
+last-same {X} (x ∷ xs) [] a b is =
+    absurd (omega (arith, ap (λ (zs : List X). length zs) is, length-append xs (a ∷ [])))
+last-same (x ∷ xs) (y ∷ ys) a b is = let rest : xs ++ a ∷ [] ≡ ys ++ b ∷ [] = cc in last-same xs ys a b rest
 
 pub not-longer : {A : Type 0} (xs : List Report) (a : Report) → xs ≡ xs ++ a ∷ [] → A
 not-longer xs a is =

@@ -43,7 +43,7 @@ use Rattle.pr_function_laws.specs.Soon.{IsNamed, calls_until_end}
 
 module _ (n k : ℕ) (o : Options) (pid handle : ℕ) (s : TracedState) (before between : List Entry) (e : Entry)
     (run : IsFunctionRun n k o s (before ++ e ∷ between)) (names : IsNamedIn k pid handle (state_after s before) e)
-    (waits : IsAwaited k pid handle (after (state_after s before) e) between) where
+    where
   abbrev t : TrussState
   t = functions_at k o before
 
@@ -99,46 +99,60 @@ module _ (n k : ℕ) (o : Options) (pid handle : ℕ) (s : TracedState) (before 
       (same_Some _ names.held (sym f.is ∙ ap (λ m. handle_of now.opens k m) at.1.1 ∙ names.there))
       ∙ names.of
 
+  -- where the process stands that the poll named
+  pub record IsAtPlace : Type 0 where
+    pub place : ℕ
+    pub within : place < length (ordinary (functions_at k o before)).traced
+    pub own : (traced_at (ordinary (functions_at k o before)) place).pid ≡ pid
+    pub polls : (functions_at k o before).stage ≡ Polling
+    pub there : position (has_control handle) (ordinary (functions_at k o before)).traced ≡ Some place
+
+  there-so : position (has_control handle) (ordinary t).traced ≡ Some place
+  there-so =
+      subst (λ m. position (has_control m) (ordinary t).traced ≡ Some place) at.1.1
+      (polled-place k (ordinary t) now files place at.1.0)
+
+  pub named-place : IsAtPlace
+  named-place = record { place = place; within = at.1.0; own = its-pid; polls = polls.0; there = there-so }
+
   named : IsNamed t polled place
   named = record {
     handles = names.handles;
     polls = refl;
     handle = handle;
     ready = refl;
-    there =
-        sym (position-unmarked (has_control handle) (λ u. refl) t.traced)
-        ∙ subst (λ m. position (has_control m) (ordinary t).traced ≡ Some place) at.1.1
-        (polled-place k (ordinary t) now files place at.1.0);
+    there = sym (position-unmarked (has_control handle) (λ u. refl) t.traced) ∙ there-so;
   }
 
-  -- its files are open before the poll and behind it
-  open-then : AreOpen k pid p (after now e)
-  open-then =
-      stay-open n k pid p now e legal.0 (files-open k pid t now files place at.1.0 its-pid)
-      (λ x f m own mine is. not-poll m
-      (sym is ∙ ap (λ (y : Exchange). y.call) (same_Some x polled (sym own ∙ names.is))))
-    where
-      not-poll : (m : ℕ) → call.Close m ≡ call.Poll names.handles → ⊥
-      not-poll m is = cc
+  module _ (waits : IsAwaited k pid handle (after (state_after s before) e) between) where
+    -- its files are open before the poll and behind it
+    open-then : AreOpen k pid p (after now e)
+    open-then =
+        stay-open n k pid p now e legal.0 (files-open k pid t now files place at.1.0 its-pid)
+        (λ x f m own mine is. not-poll m
+        (sym is ∙ ap (λ (y : Exchange). y.call) (same_Some x polled (sym own ∙ names.is))))
+      where
+        not-poll : (m : ℕ) → call.Close m ≡ call.Poll names.handles → ⊥
+        not-poll m is = cc
 
-  ends-nowhere : EndsNowhere n k pid p (after now e) between
-  ends-nowhere = record {
-    none = λ first rest f is opens ends.
-        waits.none first rest f is
-        (subst (λ m. RunsOrClosesIn k pid m (state_after (after now e) first) f) its-control ends);
-  }
+    ends-nowhere : EndsNowhere n k pid p (after now e) between
+    ends-nowhere = record {
+      none = λ first rest f is opens ends.
+          waits.none first rest f is
+          (subst (λ m. RunsOrClosesIn k pid m (state_after (after now e) first) f) its-control ends);
+    }
 
-  pub named-soon : length (exchanges k between) ≤ calls_until_end o
-  named-soon =
-      let made : MakesFunctionCalls (first_truss o) (exchanges k before ++ polled ∷ exchanges k between) =
-      subst (MakesFunctionCalls (first_truss o))
-      (exchanges-both k before (e ∷ between)
-      ∙ ap (λ xs. exchanges k before ++ xs)
-      (cons-exchanges k e between ∙ ap (λ x. cons_option x (exchanges k between)) names.is))
-      run.makes in
-      polled-soon o (exchanges k before) (exchanges k between) polled place run.has made named
-      (no-ends n k pid p between (after now e) legal.1 open-then ends-nowhere)
-      (calm-exchanges between n k (after now e) legal.1)
+    pub named-soon : length (exchanges k between) ≤ calls_until_end o
+    named-soon =
+        let made : MakesFunctionCalls (first_truss o) (exchanges k before ++ polled ∷ exchanges k between) =
+        subst (MakesFunctionCalls (first_truss o))
+        (exchanges-both k before (e ∷ between)
+        ∙ ap (λ xs. exchanges k before ++ xs)
+        (cons-exchanges k e between ∙ ap (λ x. cons_option x (exchanges k between)) names.is))
+        run.makes in
+        polled-soon o (exchanges k before) (exchanges k between) polled place run.has made named
+        (no-ends n k pid p between (after now e) legal.1 open-then ends-nowhere)
+        (calm-exchanges between n k (after now e) legal.1)
 
 pub soon-run-or-closed : (n k : ℕ) (o : Options) (s : TracedState) (h : List Entry) → IsFunctionRun n k o s h
     → IsSoonRunOrClosed k o s h
