@@ -326,7 +326,7 @@ module _ (done : List Exchange) (u : TrussState) (r : Reply) (pid : ℕ) (errno 
   told = u.reports ++ CannotTrace pid errno ∷ []
 
   other-told : {A : Type 0} (a : Report) → u.reports ++ a ∷ [] ≡ told → (a ≡ CannotTrace pid errno → ⊥) → A
-  other-told a is differs = absurd (differs (last-same u.reports a (CannotTrace pid errno) is))
+  other-told a is differs = absurd (differs (last-same u.reports u.reports a (CannotTrace pid errno) is))
 
   shown-told : {A : Type 0} (of : ℕ) (l : LwpStatus) (text : Option (List ℕ × Bool))
       → u.reports ++ Shown of l text ∷ [] ≡ told → A
@@ -336,7 +336,7 @@ module _ (done : List Exchange) (u : TrussState) (r : Reply) (pid : ℕ) (errno 
   control-told : (of : ℕ) (e : Errno) → Refuses r e → u.reports ++ CannotTrace of e ∷ [] ≡ told
       → IsRefusing u r pid errno (OpeningControl of)
   control-told of e refuses is =
-      let same : CannotTrace of e ≡ CannotTrace pid errno = last-same u.reports _ _ is in
+      let same : CannotTrace of e ≡ CannotTrace pid errno = last-same u.reports u.reports _ _ is in
       let same_pid : of ≡ pid = cc in
       let same_errno : e ≡ errno = cc in
       subst (λ p. IsRefusing u r pid errno (OpeningControl p)) (sym same_pid)
@@ -346,7 +346,7 @@ module _ (done : List Exchange) (u : TrussState) (r : Reply) (pid : ℕ) (errno 
       → u.reports ++ CannotTrace (traced_at u place).pid e ∷ [] ≡ told
       → IsRefusing u r pid errno (Opening place now)
   opening-told place now e refuses is =
-      let same : CannotTrace (traced_at u place).pid e ≡ CannotTrace pid errno = last-same u.reports _ _ is in
+      let same : CannotTrace (traced_at u place).pid e ≡ CannotTrace pid errno = last-same u.reports u.reports _ _ is in
       let same_pid : (traced_at u place).pid ≡ pid = cc in
       let same_errno : e ≡ errno = cc in at_opening same_pid (subst (Refuses r) same_errno refuses)
 

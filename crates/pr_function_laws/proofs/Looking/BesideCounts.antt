@@ -1,4 +1,4 @@
-use Rattle.std.proofs.Common.{◌≡◌, ◌≢◌, ◌≤◌, ◌<◌, ◌||◌, ◌+◌, ◌*◌, ◌-◌, ◌++◌, ℕ, Bool, true, false, cond, is_some, nat_lt, Option, Some, None, List, [], ◌∷◌, length, refl, sym, subst, ap, ◌∙◌, arith}
+use Rattle.std.proofs.Common.{◌≡◌, ◌≢◌, ◌≤◌, ◌<◌, ◌||◌, ◌+◌, ◌*◌, ◌-◌, ◌++◌, ℕ, suc, Bool, true, false, cond, is_some, nat_lt, Option, Some, None, List, [], ◌∷◌, length, refl, sym, subst, ap, ◌∙◌, arith}
 use Rattle.std.proofs.lemmas.Bool.{false≢true, ltb-true}
 use Rattle.std.proofs.lemmas.List.Elements.{All-cons, All-head, All-nil, All-tail}
 use Rattle.std.proofs.lemmas.Nat.{column_fits}
@@ -71,7 +71,7 @@ left-most n (AwaitingAgain until) some below = omega arith
 patch-left : (n place : ℕ) (plants lifts : List Bool) (clear : Bool)
     → left_beside n (patching place plants lifts clear) ≤ members plants + members lifts + 1
 unfolding patching
-patch-left_beside n place plants lifts clear =
+patch-left n place plants lifts clear =
     elim (is_some (first_function plants) || is_some (first_function lifts) || clear)
     as (λ b. left_beside n (cond b (Patching place plants lifts clear) Nothing) ≤ members plants + members lifts + 1)
     [ true ↦ omega arith | false ↦ omega arith ]
@@ -180,7 +180,7 @@ module _ (n : ℕ) (t : TrussState) (r : Reply) where
         arith,
         after-left (planted_if at_once place function (answer_of r)) rest place t.stage (answer_of r)
             (planted-idle place function (answer_of r)) looked,
-        patch-left_beside n place (without_function plants function) lifts clear,
+        patch-left n place (without_function plants function) lifts clear,
         without-first plants function first,
       )
   first-falls place plants lifts clear looked None (Some function) first second =
@@ -188,7 +188,7 @@ module _ (n : ℕ) (t : TrussState) (r : Reply) where
       omega (
         arith,
         after-left (without_planted at_once place function) rest place t.stage (answer_of r) refl looked,
-        patch-left_beside n place plants (without_function lifts function) clear,
+        patch-left n place plants (without_function lifts function) clear,
         without-first lifts function second,
       )
   first-falls place plants lifts clear looked None None first second =
@@ -230,11 +230,11 @@ module _ (n : ℕ) (t : TrussState) (r : Reply) where
 -- ---- all exchanges
 
 -- sums of counts
-out-few : (n p l m i j : ℕ) → n ≤ p + l + 2 * j → l + 1 ≤ m + 2 * i → n + 1 ≤ p + m + 2 * (i + j)
+out-few : (n p l m i j : ℕ) → n ≤ p + l + 2 * j → l + 1 ≤ m + 2 * i → suc n ≤ p + m + 2 * (i + j)
 out-few n p l m i j few falls = omega (arith, few, falls)
 
 on-few : (n p q l m i j times : ℕ) → n ≤ p + l + 2 * j → l + 1 ≤ times → p + times ≤ q
-    → n + 1 ≤ q + m + 2 * (i + j)
+    → suc n ≤ q + m + 2 * (i + j)
 on-few n p q l m i j times few most row = omega (arith, few, most, row)
 
 all-few : (n p q l i times : ℕ) → n ≤ p + l + 2 * i → l + 1 ≤ times → p + times ≤ q → n ≤ q + 2 * i

@@ -3,6 +3,7 @@ use Rattle.std.proofs.lemmas.Bool.{false≢true}
 use Rattle.std.proofs.lemmas.Option.{none-some, same_Some}
 use Rattle.std.specs.List.{cons_option, slice_get}
 use Rattle.pr_line.specs.declared.options.Options.{Options}
+use Rattle.pr_model.specs.Legal.{state_after}
 use Rattle.pr_model.specs.State.{TracedState}
 use Rattle.pr_model.specs.declared.calls.Call.{Call}
 use Rattle.pr_model.specs.declared.calls.Call.TheVariants as call
@@ -194,7 +195,7 @@ module _ (n k : ℕ) (o : Options) (s : TracedState) (before later : List Entry)
   front : IsFunctionRun n k o s before
   front = front-run n k o s before (e ∷ later) run
 
-  follows : Follows k o t _
+  follows : Follows k o t (state_after s before)
   follows = entries.follows n k o s before later e run
 
   fit : IsFit o t
@@ -279,7 +280,6 @@ module _ (n k : ℕ) (o : Options) (s : TracedState) (before later : List Entry)
 
       named : (control : ℕ) → WasNamedNow control whole → WasNamedNow control then
       named control w =
-          let z : Exchange = record { call = call.Poll w.handles; reply = _ } in
           let is = last-is w.earlier _ w.is in
           let alike : x ≡ y = like-poll t x y w.handles like (ap (λ (q : Exchange). q.call) is) in
           record {

@@ -15,7 +15,7 @@ use Rattle.pr_truss_laws.specs.Sent.{sends}
 use Rattle.pr_truss_laws.specs.Soon.{IsNoPoll, PollsSoon, calls_without_poll}
 use Rattle.pr_report_laws.proofs.Files.FileLaws.{HasFiles}
 use Rattle.pr_report_laws.proofs.Files.WatchHistories.{Reaches, exchanges-both}
-use Rattle.pr_report_laws.proofs.OwnFiles.SoonOpens.{controls-most}
+use Rattle.pr_report_laws.proofs.OwnFiles.SoonOpens.{controls-most, polled-done}
 use Rattle.pr_report_laws.proofs.Watching.HistoryParts.{legal-front}
 use Rattle.pr_report_laws.specs.SoonOpen.{HasPolled, controls_open}
 use Rattle.pr_function_laws.proofs.LeavingProcesses.LeavingLaws.{calm-exchanges}
@@ -45,12 +45,12 @@ polls-later y ys p = record {
   is = ap (λ (zs : List Exchange). y ∷ zs) p.is;
 }
 
-like-polled : (t : TrussState) (xs ys : List Exchange) → AreLike t xs ys → (before after : List Exchange)
+like-polled : {t : TrussState} {xs ys : List Exchange} → AreLike t xs ys → (before after : List Exchange)
     → (handles : List ℕ) (r : Reply) → xs ≡ before ++ record { call = call.Poll handles; reply = r } ∷ after
     → HasPolled ys
-like-polled t [] [] none [] after handles r is = cc
-like-polled t [] [] none (b ∷ before) after handles r is = cc
-like-polled t (x ∷ xs) (y ∷ ys) (one like rest) [] after handles r is =
+like-polled none [] after handles r is = cc
+like-polled none (b ∷ before) after handles r is = cc
+like-polled (one {x = x} {y = y} {ys = ys} like rest) [] after handles r is =
     let polls : x ≡ record { call = call.Poll handles; reply = r } = cc in
     let alike : x ≡ y = like-same like (ap (λ (z : Exchange). is_plain z.call) polls) in
     record {
@@ -60,15 +60,15 @@ like-polled t (x ∷ xs) (y ∷ ys) (one like rest) [] after handles r is =
       after = ys;
       is = ap (λ (z : Exchange). z ∷ ys) (sym alike ∙ polls);
     }
-like-polled t (x ∷ xs) (y ∷ ys) (one like rest) (b ∷ before) after handles r is =
+like-polled (one {y = y} {xs = xs} {ys = ys} like rest) (b ∷ before) after handles r is =
     let more : xs ≡ before ++ record { call = call.Poll handles; reply = r } ∷ after = cc in
-    polls-later y ys (like-polled (fed_functions t x.reply) xs ys rest before after handles r more)
-like-polled t (x ∷ xs) ys (left_out sees passes rest) [] after handles r is =
+    polls-later y ys (like-polled rest before after handles r more)
+like-polled {t} (left_out {x = x} sees passes rest) [] after handles r is =
     let polls : x ≡ record { call = call.Poll handles; reply = r } = cc in
     absurd (false≢true (sym (ap (λ (z : Exchange). sends z.call) polls) ∙ sees-sends t t.stage x.call sees))
-like-polled t (x ∷ xs) ys (left_out sees passes rest) (b ∷ before) after handles r is =
+like-polled (left_out {xs = xs} sees passes rest) (b ∷ before) after handles r is =
     let more : xs ≡ before ++ record { call = call.Poll handles; reply = r } ∷ after = cc in
-    like-polled (fed_functions t x.reply) xs ys rest before after handles r more
+    like-polled rest before after handles r more
 
 -- ---- the law
 
@@ -136,7 +136,7 @@ module _ (n k : ℕ) (o : Options) (s : TracedState) (before between later : Lis
   polled-at p =
       let b = beside in
       let those_polled : HasPolled b.others =
-      like-polled (first_truss o) (exchanges k before) b.others b.like p.before p.after p.handles p.reply p.is in
+      like-polled b.like p.before p.after p.handles p.reply p.is in
       let done : length (ordinary t).options.pids ≤ (ordinary t).begun =
       subst (λ (z : TrussState). length z.options.pids ≤ z.begun) b.is (polled-done o b.others b.makes those_polled) in
       counted-most o run.has run.follows_none t (exchanges k between) (39 + 12 * controls_open k now) fit those
