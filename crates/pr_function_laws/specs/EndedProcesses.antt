@@ -9,7 +9,7 @@ use Rattle.pr_report_laws.specs.Attachments.{WasInterrupted}
 use Rattle.pr_report_laws.specs.Holds.{IsToldOfEnd}
 use Rattle.pr_report_laws.specs.OwnFiles.{CloseAllOf}
 use Rattle.pr_truss.specs.FunctionCalls.{lift_call}
-use Rattle.pr_truss_laws.specs.Exchanges.{Exchange, exchange_of, exchanges}
+use Rattle.pr_truss_laws.specs.Exchanges.{exchange_of, exchanges}
 use Rattle.pr_function_laws.specs.Holds.{HasHoldWithFunctions}
 
 -- In this entry truss, which was not interrupted before, lifts a breakpoint of a process of which it has no hold. So it

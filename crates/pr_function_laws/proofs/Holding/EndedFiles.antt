@@ -1,4 +1,4 @@
-use Rattle.std.proofs.Common.{◌≡◌, ◌<◌, ◌||◌, ◌++◌, ℕ, Bool, true, false, cond, is_some, Option, Some, None, List, [], ◌∷◌, length, append_assoc, refl, sym, subst, ap, ◌∙◌, arith}
+use Rattle.std.proofs.Common.{◌≡◌, ◌<◌, ◌||◌, ◌++◌, ℕ, Bool, true, false, is_some, Option, Some, None, List, [], ◌∷◌, length, append_assoc, refl, sym, subst, ap, ◌∙◌, arith}
 use Rattle.std.proofs.lemmas.Bool.{eq-eqb, false≢true}
 use Rattle.std.proofs.lemmas.List.{length-map, length-set}
 use Rattle.std.proofs.lemmas.Option.{none-some, same_Some}
@@ -13,7 +13,7 @@ use Rattle.pr_num.specs.declared.errnos.Errno.TheVariants.{Noent}
 use Rattle.pr_truss.specs.Asides.{patching, with_aside}
 use Rattle.pr_truss.specs.Closings.{closed_or_removed, with_closed}
 use Rattle.pr_truss.specs.Feeding.{fed, with_reply}
-use Rattle.pr_truss.specs.FunctionCalls.{call_beside, function_call_of, lift_call, next_function_call_of, patch_call}
+use Rattle.pr_truss.specs.FunctionCalls.{call_beside, function_call_of, next_function_call_of, patch_call}
 use Rattle.pr_truss.specs.FunctionFeeding.{after_first, after_patch, fed_functions, with_asking_answered, with_aside_answered, with_code_answered, with_function_reply, with_function_step_answered, with_halt_answered, with_patch_answered, with_pending_told, with_plant_answered, with_wait_answered}
 use Rattle.pr_truss.specs.FunctionStops.{with_function_lwps_answered, with_function_run_answered, with_function_status_answered, with_function_text_answered}
 use Rattle.pr_truss.specs.Marks.{first_function, has_functions, without_function}
@@ -29,16 +29,15 @@ use Rattle.pr_truss.specs.declared.processes.Traced.{Traced}
 use Rattle.pr_truss.specs.declared.replies.Answer.TheVariants.{Gone}
 use Rattle.pr_truss.specs.declared.stages.AfterClosing.{AfterClosing}
 use Rattle.pr_truss.specs.declared.stages.AfterClosing.TheVariants.{OpenNext, GoOn}
-use Rattle.pr_truss.specs.declared.stages.FreeingStep.TheVariants as freeing
 use Rattle.pr_truss.specs.declared.stages.OpeningStep.TheVariants.{Start}
 use Rattle.pr_truss.specs.declared.stages.Stage.{Stage}
-use Rattle.pr_truss.specs.declared.stages.Stage.TheVariants.{Opening, ReadingStatus, ReadingText, Running, Closing, Unfollowing, ReadingLwps, FreeingChild}
+use Rattle.pr_truss.specs.declared.stages.Stage.TheVariants.{Opening, ReadingStatus, ReadingText, Running, Closing, Unfollowing, ReadingLwps}
 use Rattle.pr_truss_laws.proofs.Files.HeldLemmas.{ClosesFirst, Fits, at_place, closes-first, closes-next, of_stage, set-at}
 use Rattle.pr_truss_laws.proofs.Files.OwnLemmas.{Owns}
 use Rattle.pr_truss_laws.proofs.Replies.FunctionOptionLemmas.{fed_functions-options}
 use Rattle.pr_truss_laws.proofs.Replies.GoneLemmas.{WhenGone, ended, frees, gone-closes, shuts}
 use Rattle.pr_truss_laws.specs.Business.{goes_to}
-use Rattle.pr_truss_laws.specs.Exchanges.{Exchange, exchange_of, exchanges}
+use Rattle.pr_truss_laws.specs.Exchanges.{Exchange, exchanges}
 use Rattle.pr_truss_laws.specs.Handles.{handles_of}
 use Rattle.pr_report_laws.proofs.Files.FileLaws.{HasFiles}
 use Rattle.pr_report_laws.proofs.Files.FileUses.{file-owner, named-file, stage-control, stage_place}
@@ -48,7 +47,7 @@ use Rattle.pr_report_laws.proofs.OwnFiles.EndedFiles.{all-of}
 use Rattle.pr_report_laws.proofs.Replies.Places.{unwatched-away}
 use Rattle.pr_report_laws.specs.Attachments.{WasInterrupted}
 use Rattle.pr_report_laws.specs.Holds.{IsToldOfEnd}
-use Rattle.pr_report_laws.specs.OwnFiles.{AreAllOf, CloseAllOf, CloseFirst}
+use Rattle.pr_report_laws.specs.OwnFiles.{CloseAllOf, CloseFirst}
 use Rattle.pr_report_laws.specs.Watching.{is_away, place_of, watches}
 use Rattle.pr_function_laws.proofs.Holding.HoldEnds.{GoesToIt, interrupted-leaves, like-goes, owner-here}
 use Rattle.pr_function_laws.proofs.Holding.HoldLaws.{hold-watched}
@@ -59,13 +58,13 @@ use Rattle.pr_function_laws.proofs.OrdinaryTruss.OrdinaryEntries.{front-run, wat
 use Rattle.pr_function_laws.proofs.OrdinaryTruss.OrdinaryExchanges.{IsFit, Turn, goes_on, goes_out}
 use Rattle.pr_function_laws.proofs.OrdinaryTruss.OrdinaryFiles.{Follows, Halfway, run-halfway}
 use Rattle.pr_function_laws.proofs.OrdinaryTruss.OrdinaryReplies.{at-ordinary}
-use Rattle.pr_function_laws.proofs.OrdinaryTruss.OrdinaryStops.{FitsAside, IsLookedAt, IsToDo, PatchFits, patch-looked}
+use Rattle.pr_function_laws.proofs.OrdinaryTruss.OrdinaryStops.{FitsAside, IsLookedAt, IsToDo, patch-looked}
 use Rattle.pr_function_laws.proofs.ShownOnce.GoingOn.{Going}
 use Rattle.pr_function_laws.specs.EndedProcesses.{ClosesAllThatEndedOf, LiftsUnheld}
 use Rattle.pr_function_laws.specs.Holds.{HasHoldWithFunctions}
 use Rattle.pr_function_laws.specs.Opened.{IsFunctionRun, functions_at}
 use Rattle.pr_function_laws.specs.Ordinary.{PassesOver, SeesTo, ordinary, unmarked}
-use Rattle.pr_function_laws.specs.Runs.{MakesFunctionCalls, functions_after}
+use Rattle.pr_function_laws.specs.Runs.{MakesFunctionCalls}
 
 -- Where truss with calls of functions is told that a process has ended it closes all files of it that it has open.
 

@@ -1,17 +1,15 @@
-use Rattle.std.proofs.Common.{◌≡◌, ◌≢◌, ◌≤◌, ◌<◌, ◌||◌, ◌+◌, ◌*◌, ◌-◌, ◌++◌, ℕ, suc, Bool, true, false, cond, is_some, nat_lt, Option, Some, None, List, [], ◌∷◌, length, refl, sym, subst, ap, ◌∙◌, arith}
-use Rattle.std.proofs.lemmas.Bool.{false≢true, ltb-true}
+use Rattle.std.proofs.Common.{◌≡◌, ◌≤◌, ◌<◌, ◌||◌, ◌+◌, ◌*◌, ◌-◌, ℕ, suc, Bool, true, false, cond, is_some, nat_lt, Option, Some, None, List, [], ◌∷◌, length, refl, sym, subst, ap, ◌∙◌, arith}
+use Rattle.std.proofs.lemmas.Bool.{false≢true}
 use Rattle.std.proofs.lemmas.List.Elements.{All-cons, All-head, All-nil, All-tail}
 use Rattle.std.proofs.lemmas.Nat.{column_fits}
 use Rattle.std.proofs.lemmas.Option.{none-some}
 use Rattle.std.specs.List.{All, slice_get}
 use Rattle.pr_line.specs.declared.options.Options.{Options}
-use Rattle.pr_model.specs.Replies.{bytes_in, until_in}
+use Rattle.pr_model.specs.Replies.{bytes_in}
 use Rattle.pr_model.specs.declared.calls.Reply.{Reply}
 use Rattle.pr_model.specs.declared.calls.Reply.TheVariants as reply
-use Rattle.pr_num.specs.declared.errnos.Errno.TheVariants.{Intr}
 use Rattle.pr_truss.specs.Asides.{patching, with_aside}
 use Rattle.pr_truss.specs.Closings.{left_or_finished, with_interrupt, with_next_left}
-use Rattle.pr_truss.specs.Feeding.{fed}
 use Rattle.pr_truss.specs.FunctionFeeding.{after_first, after_patch, fed_functions, is_to_plant, planted_if, with_asking_answered, with_aside_answered, with_code_answered, with_code_read, with_next_function, with_patch_answered, with_pending_told, with_plant_answered, with_planted, with_wait_answered, without_planted}
 use Rattle.pr_truss.specs.Marks.{first_function, has_functions, without_function}
 use Rattle.pr_truss.specs.Openings.{with_stop_seen}
@@ -33,7 +31,7 @@ use Rattle.pr_function_laws.proofs.Marks.MarkLemmas.{members, members-most, with
 use Rattle.pr_function_laws.proofs.Marks.SoundLemmas.{AsideIsBelow}
 use Rattle.pr_function_laws.proofs.NextCalls.LookReads.{some-functions}
 use Rattle.pr_function_laws.proofs.NextCalls.PatchCalls.{fed-beside}
-use Rattle.pr_function_laws.proofs.OrdinaryTruss.OrdinaryExchanges.{IsFit, IsLikeOne, Move, beside_stage, move, next-fit, on_stage}
+use Rattle.pr_function_laws.proofs.OrdinaryTruss.OrdinaryExchanges.{IsFit, Move, beside_stage, move, next-fit, on_stage}
 use Rattle.pr_function_laws.proofs.OrdinaryTruss.OrdinaryRows.{is_beside}
 use Rattle.pr_function_laws.proofs.OrdinaryTruss.OrdinaryStops.{FitsAside, IsLookedAt, IsOpenedAt, patch-looked}
 use Rattle.pr_function_laws.proofs.ShownOnce.GoingOn.{like-polls}

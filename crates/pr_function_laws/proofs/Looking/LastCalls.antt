@@ -1,4 +1,4 @@
-use Rattle.std.proofs.Common.{◌≡◌, ◌++◌, ℕ, Bool, true, false, Option, Some, None, List, [], ◌∷◌, append-nil, refl, sym, subst, ap, ◌∙◌}
+use Rattle.std.proofs.Common.{◌≡◌, ◌++◌, ℕ, Bool, true, Option, Some, None, List, [], ◌∷◌, append-nil, refl, sym, subst, ap, ◌∙◌}
 use Rattle.std.proofs.lemmas.Bool.{false≢true}
 use Rattle.std.proofs.lemmas.Option.{none-some, same_Some}
 use Rattle.std.specs.List.{cons_option, slice_get}
@@ -9,11 +9,9 @@ use Rattle.pr_model.specs.declared.calls.Call.{Call}
 use Rattle.pr_model.specs.declared.calls.Call.TheVariants as call
 use Rattle.pr_model.specs.declared.calls.Reply.{Reply}
 use Rattle.pr_model.specs.declared.events.Entry.{Entry}
-use Rattle.pr_num.specs.Messages.{spelling}
 use Rattle.pr_num.specs.declared.messages.Message.TheVariants as message
 use Rattle.pr_truss.specs.Feeding.{fed, with_reply}
-use Rattle.pr_truss.specs.FunctionCalls.{call_beside, function_call_of, next_function_call_of, wait_call}
-use Rattle.pr_truss.specs.FunctionFeeding.{fed_functions}
+use Rattle.pr_truss.specs.FunctionCalls.{function_call_of, next_function_call_of, wait_call}
 use Rattle.pr_truss.specs.Messages.{message_call}
 use Rattle.pr_truss.specs.NextCalls.{next_call_of}
 use Rattle.pr_truss.specs.Replies.{answer_of}
@@ -26,7 +24,7 @@ use Rattle.pr_truss.specs.declared.replies.Answer.TheVariants.{Accepted, Interru
 use Rattle.pr_truss.specs.declared.stages.OpeningStep.{OpeningStep}
 use Rattle.pr_truss.specs.declared.stages.OpeningStep.TheVariants as opening
 use Rattle.pr_truss.specs.declared.stages.Stage.{Stage}
-use Rattle.pr_truss.specs.declared.stages.Stage.TheVariants.{Spawning, OpeningControl, Opening, Polling, ReadingStatus, ReadingText, OpeningChildControl, OpeningChild, Running, Closing, Unfollowing, ReadingLwps, FreeingChild, Finished}
+use Rattle.pr_truss.specs.declared.stages.Stage.TheVariants.{OpeningControl, Opening, Polling, ReadingStatus, ReadingText, OpeningChildControl, OpeningChild, Running, Closing, Unfollowing, ReadingLwps, FreeingChild, Finished}
 use Rattle.pr_truss_laws.proofs.Files.HeldLemmas.{at_place}
 use Rattle.pr_truss_laws.proofs.Replies.FedSteps.{fed-step}
 use Rattle.pr_truss_laws.proofs.Replies.ReplySteps as step
@@ -41,7 +39,7 @@ use Rattle.pr_report_laws.specs.Looks.{WasNamedNow}
 use Rattle.pr_function_laws.proofs.Holding.GivenSteps.{last-same}
 use Rattle.pr_function_laws.proofs.LeavingProcesses.LeavingLaws.{calm-exchanges}
 use Rattle.pr_function_laws.proofs.NextCalls.PatchCalls.{next-staged}
-use Rattle.pr_function_laws.proofs.OrdinaryTruss.OrdinaryCalls.{sees-sends, stands-sends}
+use Rattle.pr_function_laws.proofs.OrdinaryTruss.OrdinaryCalls.{stands-sends}
 use Rattle.pr_function_laws.proofs.OrdinaryTruss.OrdinaryEntries as entries
 use Rattle.pr_function_laws.proofs.OrdinaryTruss.OrdinaryEntries.{along, front-run}
 use Rattle.pr_function_laws.proofs.OrdinaryTruss.OrdinaryExchanges.{IsFit, Turn, goes_on, goes_out, truss-beside}

@@ -4,7 +4,6 @@ use Rattle.std.proofs.lemmas.Option.{same_Some}
 use Rattle.pr_line.specs.declared.options.Options.{Options}
 use Rattle.pr_model.specs.Handles.{handle_of}
 use Rattle.pr_model.specs.Legal.{state_after}
-use Rattle.pr_model.specs.Replies.{number_of}
 use Rattle.pr_model.specs.State.{TracedState}
 use Rattle.pr_model.specs.declared.calls.Call.TheVariants as call
 use Rattle.pr_model.specs.declared.calls.File.{File}
@@ -17,7 +16,6 @@ use Rattle.pr_model.specs.declared.handles.Held.{Held}
 use Rattle.pr_num.specs.Limits.{read_limit}
 use Rattle.pr_truss.specs.NextCalls.{call_of, next_call_of, opening_call, read_record}
 use Rattle.pr_truss.specs.Trusses.{TrussState, traced_at}
-use Rattle.pr_truss.specs.declared.processes.Traced.{Traced}
 use Rattle.pr_truss.specs.declared.stages.OpeningStep.TheVariants as opening
 use Rattle.pr_truss.specs.declared.stages.Stage.TheVariants.{Opening, ReadingStatus, ReadingLwps}
 use Rattle.pr_truss_laws.proofs.Files.HeldLemmas.{Fits}

@@ -1,4 +1,4 @@
-use Rattle.std.proofs.Common.{◌≡◌, ◌≤◌, ◌<◌, ◌+◌, ◌*◌, ◌-◌, ◌++◌, ℕ, List, [], ◌∷◌, length, append-nil, refl, sym, subst, ap, ◌∙◌, arith}
+use Rattle.std.proofs.Common.{◌≡◌, ◌≤◌, ◌+◌, ◌*◌, ◌++◌, ℕ, List, [], ◌∷◌, length, append-nil, sym, subst, ap, ◌∙◌, arith}
 use Rattle.std.proofs.lemmas.Bool.{false≢true}
 use Rattle.std.specs.List.{All}
 use Rattle.pr_line.specs.declared.options.Options.{Options}
@@ -7,13 +7,11 @@ use Rattle.pr_model.specs.State.{TracedState}
 use Rattle.pr_model.specs.declared.calls.Call.TheVariants as call
 use Rattle.pr_model.specs.declared.calls.Reply.{Reply}
 use Rattle.pr_model.specs.declared.events.Entry.{Entry}
-use Rattle.pr_truss.specs.FunctionFeeding.{fed_functions}
 use Rattle.pr_truss.specs.Trusses.{TrussState, first_truss}
 use Rattle.pr_truss_laws.proofs.Soon.SoonLemmas.{polls-soon}
-use Rattle.pr_truss_laws.specs.Exchanges.{Exchange, Makes, exchanges, truss_after}
+use Rattle.pr_truss_laws.specs.Exchanges.{Exchange, Makes, exchanges}
 use Rattle.pr_truss_laws.specs.Sent.{sends}
 use Rattle.pr_truss_laws.specs.Soon.{IsNoPoll, PollsSoon, calls_without_poll}
-use Rattle.pr_report_laws.proofs.Files.FileLaws.{HasFiles}
 use Rattle.pr_report_laws.proofs.Files.WatchHistories.{Reaches, exchanges-both}
 use Rattle.pr_report_laws.proofs.OwnFiles.SoonOpens.{controls-most, polled-done}
 use Rattle.pr_report_laws.proofs.Watching.HistoryParts.{legal-front}

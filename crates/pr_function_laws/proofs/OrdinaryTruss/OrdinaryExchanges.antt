@@ -21,6 +21,7 @@ use Rattle.pr_truss_laws.proofs.Replies.AnswerLemmas.{IsAnswer, answer-is}
 use Rattle.pr_truss_laws.proofs.OwnBusiness.BusinessLemmas.{does-business}
 use Rattle.pr_truss_laws.proofs.Replies.FunctionOptionLemmas.{fed_functions-options}
 use Rattle.pr_truss_laws.proofs.Files.HeldLemmas.{Grown, grown-all, grown-same}
+use Rattle.pr_truss_laws.proofs.Soon.SoonLemmas.{polls-soon}
 use Rattle.pr_truss_laws.proofs.OwnBusiness.KnownLemmas.{Knows, first-knows}
 use Rattle.pr_truss_laws.specs.Exchanges.{Exchange, Makes, truss_after}
 use Rattle.pr_function_laws.proofs.Marks.MarkLemmas.{AreRunFlags}
@@ -234,6 +235,7 @@ module _ (o : Options) (has : has_functions o ≡ true) (off : o.follow ≡ fals
         makes = own;
         is = ap (λ u. truss_after u w.others) (sym (first-ordinary o)) ∙ w.is;
         business = does-business o w.others own;
+        polls_soon = polls-soon o w.others own;
         runs = runs-named o w.others own;
         prints = prints-in-order xs makes calm;
       }
