@@ -54,7 +54,10 @@ pub use messages::{
     the_calls_that_truss_traces_are_words_of_its_options, what_truss_reads_plants_and_lifts,
 };
 pub use met::{each_call_told_was_met_at_its_breakpoint, the_calls_reported_were_met};
-pub use named::what_a_poll_named_by_its_handle_is_soon_run_or_closed;
+pub use named::{
+    it_runs_or_closes_what_a_poll_named_before_it_polls_again,
+    what_a_poll_named_by_its_handle_is_soon_run_or_closed,
+};
 pub use once::it_shows_no_stop_twice;
 pub use opened::{
     an_interrupt_leaves_one_lwp_alone, each_breakpoint_is_lifted_for_one_lwp_alone,

@@ -31,7 +31,7 @@ use Rattle.pr_function_laws.specs.ListedEvents.{ListsItsEvents}
 use Rattle.pr_function_laws.specs.Looks.{LooksInPlaceOf}
 use Rattle.pr_function_laws.specs.Met.{TellsItsCalls}
 use Rattle.pr_function_laws.specs.OneEvent.{HasOneEventEach}
-use Rattle.pr_function_laws.specs.Named.{IsSoonRunOrClosed}
+use Rattle.pr_function_laws.specs.Named.{IsSoonRunOrClosed, RunsBeforeItPollsOf}
 use Rattle.pr_function_laws.specs.Opened.{HoldsWhatItOpened, LiftsForOneAlone, ReadsBreakpoint, functions_at}
 use Rattle.pr_function_laws.specs.Ordinary.{IsTrussBeside, ordinary_among}
 use Rattle.pr_function_laws.specs.OrdinaryRuns.{ClosesFreelyThroughout, ShowsWhatIsNewOf, ShowsWhatItReadsOf}
@@ -90,8 +90,10 @@ pub record IsFunctionTrussKept (controllers : List ControllerState) (first : Tra
   -- after a poll that named a process at most twelve of its calls, and two more for each function, come before it runs
   -- that process or closes a file of it
   pub soon : IsSoonDone o (exchanges k h)
-  -- the same of the process whose control file the poll named, by the handles that the kernel has open for truss
+  -- the same of the process whose control file the poll named, by the handles that the kernel has open for truss; and
+  -- that comes before it polls again
   pub named_soon : IsSoonRunOrClosed k o first h
+  pub before_polls : RunsBeforeItPollsOf k first h
   -- Right after a poll has named a process it reads the status of that process, and it reads a status nowhere else; the
   -- statuses of the lwps of a process it reads right behind the wait of its opening, and, once truss was interrupted,
   -- right behind the stop to which it brought a process of which it has hold. How many calls come at most before it

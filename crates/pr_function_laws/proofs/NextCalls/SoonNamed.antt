@@ -1,6 +1,6 @@
 use Rattle.std.proofs.Common.{◌≡◌, ◌<◌, ◌≤◌, ◌++◌, ℕ, Some, List, ◌∷◌, length, map, position, refl, sym, subst, ap, ◌∙◌, append_assoc}
 use Rattle.std.proofs.lemmas.Option.{same_Some}
-use Rattle.std.specs.List.{cons_option, slice_get}
+use Rattle.std.specs.List.{All, cons_option, slice_get}
 use Rattle.pr_line.specs.declared.options.Options.{Options}
 use Rattle.pr_model.specs.Handles.{handle_of}
 use Rattle.pr_model.specs.Legal.{IsLegal, after, state_after}
@@ -18,24 +18,26 @@ use Rattle.pr_report_laws.proofs.Machine.PollLaws.{poll-named}
 use Rattle.pr_report_laws.proofs.Watching.HistoryParts.{legal-rest}
 use Rattle.pr_report_laws.proofs.Watching.NamedSoon.{control-at, poll-stage}
 use Rattle.pr_report_laws.specs.Named.{IsNamedIn}
+use Rattle.pr_truss.specs.FunctionCalls.{next_function_call_of}
 use Rattle.pr_truss.specs.NextCalls.{next_call_of}
 use Rattle.pr_truss.specs.Stops.{has_control}
 use Rattle.pr_truss.specs.Trusses.{TrussState, first_truss, traced_at}
 use Rattle.pr_truss.specs.declared.processes.Traced.{Traced}
 use Rattle.pr_truss.specs.declared.stages.Stage.TheVariants.{Polling}
 use Rattle.pr_truss_laws.specs.Exchanges.{Exchange, exchanges}
+use Rattle.pr_function_laws.proofs.CallTurns.CalledLaws.{functions-both}
 use Rattle.pr_function_laws.proofs.LeavingProcesses.LeavingLaws.{calm-exchanges}
 use Rattle.pr_function_laws.proofs.ShownOnce.OpenFiles.{AreOpen, EndsNowhere, files-open, no-ends, stay-open}
 use Rattle.pr_function_laws.proofs.OrdinaryTruss.OrdinaryEntries as entries
 use Rattle.pr_function_laws.proofs.OrdinaryTruss.OrdinaryEntries.{front-run}
 use Rattle.pr_function_laws.proofs.OrdinaryTruss.OrdinaryLaws.{plain-next}
 use Rattle.pr_function_laws.proofs.OrdinaryTruss.OrdinaryReplies.{at-ordinary, position-unmarked}
-use Rattle.pr_function_laws.proofs.NextCalls.SoonLemmas.{polled-soon}
-use Rattle.pr_function_laws.specs.Named.{IsAwaited, IsSoonRunOrClosed, RunsOrClosesIn}
+use Rattle.pr_function_laws.proofs.NextCalls.SoonLemmas.{polled-soon, polls-not}
+use Rattle.pr_function_laws.specs.Named.{IsAwaited, IsSoonRunOrClosed, RunsBeforeItPollsOf, RunsOrClosesIn}
 use Rattle.pr_function_laws.specs.Opened.{IsFunctionRun, functions_at}
 use Rattle.pr_function_laws.specs.Ordinary.{ordinary, unmarked}
-use Rattle.pr_function_laws.specs.Runs.{MakesFunctionCalls}
-use Rattle.pr_function_laws.specs.Soon.{IsNamed, calls_until_end}
+use Rattle.pr_function_laws.specs.Runs.{MakesFunctionCalls, functions_after}
+use Rattle.pr_function_laws.specs.Soon.{IsCalm, IsNamed, IsNoEndOf, calls_until_end}
 
 -- In a history truss with calls of functions soon runs the process that a poll named, or closes a file of it.
 
@@ -142,17 +144,33 @@ module _ (n k : ℕ) (o : Options) (pid handle : ℕ) (s : TracedState) (before 
           (subst (λ m. RunsOrClosesIn k pid m (state_after (after now e) first) f) its-control ends);
     }
 
+    parts : exchanges k (before ++ e ∷ between) ≡ exchanges k before ++ polled ∷ exchanges k between
+    parts =
+        exchanges-both k before (e ∷ between)
+        ∙ ap (λ xs. exchanges k before ++ xs)
+        (cons-exchanges k e between ∙ ap (λ x. cons_option x (exchanges k between)) names.is)
+
+    made : MakesFunctionCalls (first_truss o) (exchanges k before ++ polled ∷ exchanges k between)
+    made = subst (MakesFunctionCalls (first_truss o)) parts run.makes
+
+    ends-not : All (IsNoEndOf p) (exchanges k between)
+    ends-not = no-ends n k pid p between (after now e) legal.1 open-then ends-nowhere
+
+    calm : All IsCalm (exchanges k between)
+    calm = calm-exchanges between n k (after now e) legal.1
+
     pub named-soon : length (exchanges k between) ≤ calls_until_end o
     named-soon =
-        let made : MakesFunctionCalls (first_truss o) (exchanges k before ++ polled ∷ exchanges k between) =
-        subst (MakesFunctionCalls (first_truss o))
-        (exchanges-both k before (e ∷ between)
-        ∙ ap (λ xs. exchanges k before ++ xs)
-        (cons-exchanges k e between ∙ ap (λ x. cons_option x (exchanges k between)) names.is))
-        run.makes in
-        polled-soon o (exchanges k before) (exchanges k between) polled place run.has made named
-        (no-ends n k pid p between (after now e) legal.1 open-then ends-nowhere)
-        (calm-exchanges between n k (after now e) legal.1)
+        polled-soon o (exchanges k before) (exchanges k between) polled place run.has made named ends-not calm
+
+    pub named-quiet : (handles : List ℕ)
+        → next_function_call_of (functions_at k o (before ++ e ∷ between)) ≡ Some (call.Poll handles) → ⊥
+    named-quiet handles is =
+        let both : functions_at k o (before ++ e ∷ between) ≡ functions_after t (polled ∷ exchanges k between) =
+        ap (functions_after (first_truss o)) parts
+        ∙ functions-both (first_truss o) (exchanges k before) (polled ∷ exchanges k between) in
+        polls-not o (exchanges k before) (exchanges k between) polled place run.has made named ends-not calm handles
+        (sym (ap next_function_call_of both) ∙ is)
 
 pub soon-run-or-closed : (n k : ℕ) (o : Options) (s : TracedState) (h : List Entry) → IsFunctionRun n k o s h
     → IsSoonRunOrClosed k o s h
@@ -163,4 +181,18 @@ soon-run-or-closed n k o s h run = record {
       (subst (IsFunctionRun n k o s) (is ∙ sym (append_assoc before (e ∷ between) later)) run)) names waits;
 }
 
-pub ruleset named_soon = (soon-run-or-closed)
+pub runs-before-it-polls : (n k : ℕ) (o : Options) (s : TracedState) (h : List Entry) → IsFunctionRun n k o s h
+    → RunsBeforeItPollsOf k s h
+runs-before-it-polls n k o s h run = record {
+  each = λ before between later e f pid handle handles r is names waits own.
+      let joined : (before ++ e ∷ between) ++ f ∷ later ≡ before ++ e ∷ (between ++ f ∷ later) =
+      append_assoc before (e ∷ between) (f ∷ later) in
+      let whole : IsFunctionRun n k o s ((before ++ e ∷ between) ++ f ∷ later) =
+      subst (IsFunctionRun n k o s) (is ∙ sym joined) run in
+      named-quiet n k o pid handle s before between e (front-run n k o s (before ++ e ∷ between) (f ∷ later) whole)
+      names waits handles
+      (entries.made n k o s (before ++ e ∷ between) later f whole
+      (record { call = call.Poll handles; reply = r }) own);
+}
+
+pub ruleset named_soon = (soon-run-or-closed, runs-before-it-polls)

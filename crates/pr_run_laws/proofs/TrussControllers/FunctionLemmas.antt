@@ -49,7 +49,7 @@ use Rattle.pr_function_laws.proofs.NextCalls.PlantedLaws.{plants-what-it-read}
 use Rattle.pr_function_laws.proofs.PlantedCalls.PlantedHolds.{marks-planted}
 use Rattle.pr_function_laws.proofs.OrdinaryTruss.RefusalLaws.{tells-no-refusal-of-held, tells-refusals-at-first}
 use Rattle.pr_function_laws.proofs.NextCalls.SoonLemmas.{soon-done}
-use Rattle.pr_function_laws.proofs.NextCalls.SoonNamed.{soon-run-or-closed}
+use Rattle.pr_function_laws.proofs.NextCalls.SoonNamed.{runs-before-it-polls, soon-run-or-closed}
 use Rattle.pr_function_laws.proofs.CallTurns.ToldLaws.{tells-turns}
 use Rattle.pr_function_laws.proofs.NextCalls.TreatedLaws.{options-at, treats-its-events}
 use Rattle.pr_function_laws.specs.Opened.{IsFunctionRun, ReadsBreakpoint, functions_at}
@@ -162,6 +162,7 @@ function-kept controllers n s h k o reached awake bytes none at some named legal
       calls = tells-calls o (replies_in (exchanges k h)) has;
       soon = soon-done o (exchanges k h) has stays.0 calm;
       named_soon = soon-run-or-closed n k o s h run;
+      before_polls = runs-before-it-polls n k o s h run;
       named_looks = looks-at-named n k o s h run;
       looks = looks-in-place n k o s h run;
       polls = polls-by-files n k o s h run;
