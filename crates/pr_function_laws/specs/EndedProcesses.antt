@@ -16,13 +16,13 @@ use Rattle.pr_function_laws.specs.Holds.{HasHoldWithFunctions}
 -- is where the opening of the process was refused: then truss lifts all that it has planted there, whatever the replies
 -- are.
 pub record LiftsUnheld (k : ℕ) (o : Options) (pid : ℕ) (first : TracedState) (before : List Entry) (e : Entry) : Type 0
-    where
-  pub control : ℕ
-  pub function : ℕ
-  pub reply : Reply
-  pub is : exchange_of k e ≡ Some (record { call = lift_call o control function; reply = reply })
-  pub unheld : HasHoldWithFunctions k o pid first before → ⊥
-  pub unbroken : WasInterrupted k before → ⊥
+  where
+    pub control : ℕ
+    pub function : ℕ
+    pub reply : Reply
+    pub is : exchange_of k e ≡ Some (record { call = lift_call o control function; reply = reply })
+    pub unheld : HasHoldWithFunctions k o pid first before → ⊥
+    pub unbroken : WasInterrupted k before → ⊥
 
 -- Where truss is told that a process has ended, by whatever call to a handle of the process, it closes each file of it
 -- that it has open, before it calls anything else; but for that lift.

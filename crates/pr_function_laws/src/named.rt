@@ -14,8 +14,8 @@ pub fn what_a_poll_named_by_its_handle_is_soon_run_or_closed()
         → IsSoonRunOrClosed k o s h }
 {}
 
-/// In each such history: before it polls again it sends PCRUN to the process that a poll has named, with whatever flags,
-/// or closes a handle that it has of it.
+/// In each such history: before it polls again it sends PCRUN to the process that a poll has named, with whatever
+/// flags, or closes a handle that it has of it.
 #[tactic(auto, using(crate::proofs::NextCalls::SoonNamed::named_soon))]
 pub fn it_runs_or_closes_what_a_poll_named_before_it_polls_again()
     ensures { (n k : ℕ) (o : Options) (s : TracedState) (h : List Entry) → IsFunctionRun n k o s h

@@ -172,7 +172,8 @@ pub record IsFunctionTrussKept (controllers : List ControllerState) (first : Tra
   pub handled : HandlesItsGiven o (exchanges k h) ordinary
   pub given : HoldsOrRefusesItsGiven k o h
   -- Where it is told that a process has ended, by whatever call to a handle of it, it closes each file of the process
-  -- that it has open before it calls anything else; but that it lifts what it has planted where the opening was refused.
+  -- that it has open before it calls anything else; but that it lifts what it has planted first, where the opening was
+  -- refused.
   pub ended : ClosesAllThatEndedOf k o first h
   -- It watches a process just while it has hold of it, which its calls and their replies alone tell: from the PCRUN of
   -- a whole opening of the process, to the call to a handle of the process that is refused with ENOENT, or to its read

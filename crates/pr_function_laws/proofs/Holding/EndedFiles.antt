@@ -135,7 +135,8 @@ record IsGivenUp (t : TrussState) : Type 0 where
   stage : t.stage ≡ Closing at OpenNext
 
 module _ (t : TrussState) (never : IsGivenUp t → ⊥) where
-  staged-idle : t.aside ≡ Nothing → (stage : Stage) → t.stage ≡ stage → (with_function_reply t ended stage).aside ≡ Nothing
+  staged-idle : t.aside ≡ Nothing → (stage : Stage) → t.stage ≡ stage
+      → (with_function_reply t ended stage).aside ≡ Nothing
   unfolding with_function_reply with_function_step_answered with_function_status_answered with_function_text_answered
       with_function_run_answered with_halt_answered with_function_lwps_answered with_refused_step with_status_answered
       with_text_answered after_text with_event_shown with_run_answered answer_of fed
@@ -298,7 +299,8 @@ module _ (n k : ℕ) (o : Options) (pid : ℕ) (s : TracedState) (before later :
       by : WhenGone u g.number → CloseAllOf k pid now (exchanges k later)
       by (shuts place next within named alone at same) =
           closes-these place next within
-          (file-owner k now pid _ g.number g.held g.there g.of (named-file k u now files fits g.number place within named))
+          (file-owner k now pid _ g.number g.held g.there g.of
+          (named-file k u now files fits g.number place within named))
           (λ h. alone pid h) (ap (λ (z : TrussState). z.stage) so ∙ at)
           (ap (λ (z : TrussState). z.traced) so ∙ same)
           (λ given. not-close y.call g.number given.at OpenNext g.goes given.stage called)
@@ -376,7 +378,8 @@ module _ (n k : ℕ) (o : Options) (pid : ℕ) (s : TracedState) (before later :
     out-closes ReadingLwps at sees passes stay = absurd (passes refl)
     out-closes (Closing place next) at sees passes stay =
         let c = stage-control k u now files fits place (ap stage_place at) in
-        closes-these place next c.0 (owner-here n k o pid s before later e run w (Closing place next) place at refl sees)
+        closes-these place next c.0
+        (owner-here n k o pid s before later e run w (Closing place next) place at refl sees)
         (λ h. ap (of_stage pid h) at) (ap (λ (z : TrussState). z.stage) stay ∙ at)
         (ap (λ (z : TrussState). z.traced) stay)
         (λ given. gives-up given.at given.stage (subst (λ st. SeesTo t st w.call) (sym at) sees) given)

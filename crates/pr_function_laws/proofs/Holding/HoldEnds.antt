@@ -460,8 +460,9 @@ module _ (n k : ℕ) (o : Options) (pid : ℕ) (s : TracedState) (before later :
         ∙ w.of
 
     -- the process of the stage beside which the call comes
-    pub owner-here : (stage : Stage) (place : ℕ) → (functions_at k o before).stage ≡ stage → stage_place stage ≡ Some place
-        → SeesTo (functions_at k o before) stage w.call → (traced_at (ordinary (functions_at k o before)) place).pid ≡ pid
+    pub owner-here : (stage : Stage) (place : ℕ) → (functions_at k o before).stage ≡ stage
+        → stage_place stage ≡ Some place → SeesTo (functions_at k o before) stage w.call
+        → (traced_at (ordinary (functions_at k o before)) place).pid ≡ pid
     owner-here stage place at is sees =
         its-own (traced_at u place).pid (traced_at u place).control file.Ctl WriteExcl
         (control-here place (ap stage_place at ∙ is)) (sees-goes stage w.call place is sees)

@@ -486,7 +486,8 @@ module _ (n k : ℕ) (o : Options) (s : TracedState) (before later : List Entry)
       only-refused pid errno was told q (gets_hold g) = granted-not errno (held-granted q g) was
       only-refused pid errno was told q (says_not w) =
           let same : CannotTrace q w.errno ≡ CannotTrace pid errno =
-          last-same (ordinary_among t.reports) (ordinary_among t.reports) (CannotTrace q w.errno) (CannotTrace pid errno)
+          last-same (ordinary_among t.reports) (ordinary_among t.reports) (CannotTrace q w.errno)
+          (CannotTrace pid errno)
           (sym (told-so q w) ∙ ap (λ (z : TrussState). z.reports) comes ∙ told) in cc
 
       only-held : (place : ℕ) → t.stage ≡ Opening place opening.Start → answer_of x.reply ≡ Accepted → (q : ℕ)

@@ -194,7 +194,8 @@ module _ (n : ℕ) (t : TrussState) (r : Reply) where
 
   -- ---- the wait for a stop
 
-  wait-falls : (was : Aside) (a : Answer) → left_beside n was ≡ 1 → answer_of r ≡ a → Falls was (with_wait_answered at_once a)
+  wait-falls : (was : Aside) (a : Answer) → left_beside n was ≡ 1 → answer_of r ≡ a
+      → Falls was (with_wait_answered at_once a)
   unfolding with_wait_answered
   wait-falls was Accepted one is = omega (arith, one)
   wait-falls was Interrupted one is = omega (arith, one, broken is)
@@ -285,7 +286,8 @@ module _ (o : Options) (has : has_functions o ≡ true) (off : o.follow ≡ fals
       makes = (one.called, subst (λ (z : TrussState). Makes z c.ys) one.comes c.makes);
       none = All-cons IsNoPoll one.y c.ys (like-polls s x one.y one.like no_poll) c.none;
       few = on-few (length xs) (times_as_many o * length c.ys) (times_as_many o * length (one.y ∷ c.ys))
-          (left_beside F v.aside) (left_beside F s.aside) (interrupts_in x.reply) (interrupts xs) (times_as_many o) c.few
+          (left_beside F v.aside) (left_beside F s.aside) (interrupts_in x.reply) (interrupts xs) (times_as_many o)
+          c.few
           (most v fit_then)
           (row-fits (times_as_many o) (length c.ys) (length (one.y ∷ c.ys)) (omega arith));
     }
@@ -304,5 +306,6 @@ module _ (o : Options) (has : has_functions o ≡ true) (off : o.follow ≡ fals
   pub counted-most : (s : TrussState) (xs : List Exchange) (bound : ℕ) → IsFit o s → (c : Counted s xs)
       → length c.ys < bound → length xs ≤ times_as_many o * bound + 2 * interrupts xs
   counted-most s xs bound fit c less =
-      all-few (length xs) (times_as_many o * length c.ys) (times_as_many o * bound) (left_beside F s.aside) (interrupts xs)
+      all-few (length xs) (times_as_many o * length c.ys) (times_as_many o * bound) (left_beside F s.aside)
+      (interrupts xs)
       (times_as_many o) c.few (most s fit) (row-fits (times_as_many o) (length c.ys) bound less)

@@ -292,7 +292,8 @@ module _ (n k : ℕ) (o : Options) (s : TracedState) (before later : List Entry)
           let f = fit in
           let stage : t.stage ≡ Unfollowing =
           fed-lwps u y.reply (sym (ap (λ (z : TrussState). z.stage) comes) ∙ at) in
-          let idle_so : t.aside ≡ Nothing = none-beside Unfollowing t.aside (λ place it. it) (λ place plants clear it. it) (λ e. cc)
+          let idle_so : t.aside ≡ Nothing =
+          none-beside Unfollowing t.aside (λ place it. it) (λ place plants clear it. it) (λ e. cc)
           (subst (FitsAside t.aside) stage f.fits) in
           let call_is : x.call ≡ message_call (traced_at t 0).control message.Stop =
           same_Some x.call _

@@ -125,10 +125,12 @@ module _ (n k : ℕ) (o : Options) (s : TracedState) (before later : List Entry)
     where
       by : ReadsBy u handle u.stage → IsWhole from len × IsNamedNowOf k o pid s before
       by (look place is alike) =
-          let w = same-file file.Status mine _ _ file.Lstatus _ (uses.opening-read k u now files fitting place is) alike in
+          let w =
+          same-file file.Status mine _ _ file.Lstatus _ (uses.opening-read k u now files fitting place is) alike in
           absurd (let clash : file.Lstatus ≡ file.Status = w.0 in cc)
       by (status place is alike) =
-          let w = same-file file.Status mine _ _ file.Status _ (uses.status-read k u now files fitting place is) alike in
+          let w =
+          same-file file.Status mine _ _ file.Status _ (uses.status-read k u now files fitting place is) alike in
           let within : place < length u.traced = subst (Fits u.traced) is fitting in (
             whole _
                 (sym
@@ -171,7 +173,8 @@ module _ (n k : ℕ) (o : Options) (s : TracedState) (before later : List Entry)
             in_opening (traced_at u place).control waited.until (has-control place f.0 w.1) waited.waited,
           )
       by (status place is alike) =
-          let w = same-file file.Lstatus mine _ _ file.Status _ (uses.status-read k u now files fitting place is) alike in
+          let w =
+          same-file file.Lstatus mine _ _ file.Status _ (uses.status-read k u now files fitting place is) alike in
           absurd (let clash : file.Status ≡ file.Lstatus = w.0 in cc)
       by (text place l at size is alike) =
           let w =

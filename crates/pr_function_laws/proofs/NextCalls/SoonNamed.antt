@@ -45,132 +45,132 @@ use Rattle.pr_function_laws.specs.Soon.{IsCalm, IsNamed, IsNoEndOf, calls_until_
 
 module _ (n k : ℕ) (o : Options) (pid handle : ℕ) (s : TracedState) (before between : List Entry) (e : Entry)
     (run : IsFunctionRun n k o s (before ++ e ∷ between)) (names : IsNamedIn k pid handle (state_after s before) e)
-    where
-  abbrev t : TrussState
-  t = functions_at k o before
+  where
+    abbrev t : TrussState
+    t = functions_at k o before
 
-  abbrev now : TracedState
-  now = state_after s before
+    abbrev now : TracedState
+    now = state_after s before
 
-  abbrev polled : Exchange
-  polled = record { call = call.Poll names.handles; reply = reply.Ready handle }
+    abbrev polled : Exchange
+    polled = record { call = call.Poll names.handles; reply = reply.Ready handle }
 
-  legal : IsLegal n now (e ∷ between)
-  legal = legal-rest n s before (e ∷ between) run.legal
+    legal : IsLegal n now (e ∷ between)
+    legal = legal-rest n s before (e ∷ between) run.legal
 
-  reached : Reaches k (ordinary t) now
-  reached = let f = entries.follows n k o s before between e run in f.reaches
+    reached : Reaches k (ordinary t) now
+    reached = let f = entries.follows n k o s before between e run in f.reaches
 
-  files : HasFiles k (ordinary t) now
-  files = let g = reached in g.files
+    files : HasFiles k (ordinary t) now
+    files = let g = reached in g.files
 
-  polls : (t.stage ≡ Polling) × (map (λ (u : Traced). u.control) (ordinary t).traced ≡ names.handles)
-  unfolding next_call_of
-  polls =
-      poll-stage (ordinary t) names.handles t.stage (plain-next n k o s before between e polled run names.is refl)
+    polls : (t.stage ≡ Polling) × (map (λ (u : Traced). u.control) (ordinary t).traced ≡ names.handles)
+    unfolding next_call_of
+    polls =
+        poll-stage (ordinary t) names.handles t.stage (plain-next n k o s before between e polled run names.is refl)
 
-  -- the handle is that of the process at this place
-  at : (place : ℕ) × ((place < length (ordinary t).traced) × ((traced_at (ordinary t) place).control ≡ handle))
-  at =
-      let y : IsAnswered k now polled = exchange-answered n k now e polled legal.0 names.is in
-      let it = poll-named now k names.handles y.answer handle y.is y.reply in (
-        it.place,
-        control-at (ordinary t).traced it.place handle
-            (ap (λ (ms : List ℕ). slice_get ms it.place) polls.1 ∙ it.named),
-      )
+    -- the handle is that of the process at this place
+    at : (place : ℕ) × ((place < length (ordinary t).traced) × ((traced_at (ordinary t) place).control ≡ handle))
+    at =
+        let y : IsAnswered k now polled = exchange-answered n k now e polled legal.0 names.is in
+        let it = poll-named now k names.handles y.answer handle y.is y.reply in (
+          it.place,
+          control-at (ordinary t).traced it.place handle
+              (ap (λ (ms : List ℕ). slice_get ms it.place) polls.1 ∙ it.named),
+        )
 
-  abbrev place : ℕ
-  place = at.0
+    abbrev place : ℕ
+    place = at.0
 
-  abbrev p : Traced
-  p = traced_at t place
+    abbrev p : Traced
+    p = traced_at t place
 
-  abbrev q : Traced
-  q = traced_at (ordinary t) place
+    abbrev q : Traced
+    q = traced_at (ordinary t) place
 
-  as-unmarked : q ≡ unmarked p
-  as-unmarked = at-ordinary t place
+    as-unmarked : q ≡ unmarked p
+    as-unmarked = at-ordinary t place
 
-  its-control : p.control ≡ handle
-  its-control = sym (ap (λ (u : Traced). u.control) as-unmarked) ∙ at.1.1
+    its-control : p.control ≡ handle
+    its-control = sym (ap (λ (u : Traced). u.control) as-unmarked) ∙ at.1.1
 
-  its-pid : q.pid ≡ pid
-  its-pid =
-      let f : IsFileOf k now q.pid q.control file.Ctl WriteExcl = files.control place at.1.0 in
-      ap (λ (h : Held). h.pid)
-      (same_Some _ names.held (sym f.is ∙ ap (λ m. handle_of now.opens k m) at.1.1 ∙ names.there))
-      ∙ names.of
+    its-pid : q.pid ≡ pid
+    its-pid =
+        let f : IsFileOf k now q.pid q.control file.Ctl WriteExcl = files.control place at.1.0 in
+        ap (λ (h : Held). h.pid)
+        (same_Some _ names.held (sym f.is ∙ ap (λ m. handle_of now.opens k m) at.1.1 ∙ names.there))
+        ∙ names.of
 
-  -- where the process stands that the poll named
-  pub record IsAtPlace : Type 0 where
-    pub place : ℕ
-    pub within : place < length (ordinary (functions_at k o before)).traced
-    pub own : (traced_at (ordinary (functions_at k o before)) place).pid ≡ pid
-    pub polls : (functions_at k o before).stage ≡ Polling
-    pub there : position (has_control handle) (ordinary (functions_at k o before)).traced ≡ Some place
+    -- where the process stands that the poll named
+    pub record IsAtPlace : Type 0 where
+      pub place : ℕ
+      pub within : place < length (ordinary (functions_at k o before)).traced
+      pub own : (traced_at (ordinary (functions_at k o before)) place).pid ≡ pid
+      pub polls : (functions_at k o before).stage ≡ Polling
+      pub there : position (has_control handle) (ordinary (functions_at k o before)).traced ≡ Some place
 
-  there-so : position (has_control handle) (ordinary t).traced ≡ Some place
-  there-so =
-      subst (λ m. position (has_control m) (ordinary t).traced ≡ Some place) at.1.1
-      (polled-place k (ordinary t) now files place at.1.0)
+    there-so : position (has_control handle) (ordinary t).traced ≡ Some place
+    there-so =
+        subst (λ m. position (has_control m) (ordinary t).traced ≡ Some place) at.1.1
+        (polled-place k (ordinary t) now files place at.1.0)
 
-  pub named-place : IsAtPlace
-  named-place = record { place = place; within = at.1.0; own = its-pid; polls = polls.0; there = there-so }
+    pub named-place : IsAtPlace
+    named-place = record { place = place; within = at.1.0; own = its-pid; polls = polls.0; there = there-so }
 
-  named : IsNamed t polled place
-  named = record {
-    handles = names.handles;
-    polls = refl;
-    handle = handle;
-    ready = refl;
-    there = sym (position-unmarked (has_control handle) (λ u. refl) t.traced) ∙ there-so;
-  }
-
-  module _ (waits : IsAwaited k pid handle (after (state_after s before) e) between) where
-    -- its files are open before the poll and behind it
-    open-then : AreOpen k pid p (after now e)
-    open-then =
-        stay-open n k pid p now e legal.0 (files-open k pid t now files place at.1.0 its-pid)
-        (λ x f m own mine is. not-poll m
-        (sym is ∙ ap (λ (y : Exchange). y.call) (same_Some x polled (sym own ∙ names.is))))
-      where
-        not-poll : (m : ℕ) → call.Close m ≡ call.Poll names.handles → ⊥
-        not-poll m is = cc
-
-    ends-nowhere : EndsNowhere n k pid p (after now e) between
-    ends-nowhere = record {
-      none = λ first rest f is opens ends.
-          waits.none first rest f is
-          (subst (λ m. RunsOrClosesIn k pid m (state_after (after now e) first) f) its-control ends);
+    named : IsNamed t polled place
+    named = record {
+      handles = names.handles;
+      polls = refl;
+      handle = handle;
+      ready = refl;
+      there = sym (position-unmarked (has_control handle) (λ u. refl) t.traced) ∙ there-so;
     }
 
-    parts : exchanges k (before ++ e ∷ between) ≡ exchanges k before ++ polled ∷ exchanges k between
-    parts =
-        exchanges-both k before (e ∷ between)
-        ∙ ap (λ xs. exchanges k before ++ xs)
-        (cons-exchanges k e between ∙ ap (λ x. cons_option x (exchanges k between)) names.is)
+    module _ (waits : IsAwaited k pid handle (after (state_after s before) e) between) where
+      -- its files are open before the poll and behind it
+      open-then : AreOpen k pid p (after now e)
+      open-then =
+          stay-open n k pid p now e legal.0 (files-open k pid t now files place at.1.0 its-pid)
+          (λ x f m own mine is. not-poll m
+          (sym is ∙ ap (λ (y : Exchange). y.call) (same_Some x polled (sym own ∙ names.is))))
+        where
+          not-poll : (m : ℕ) → call.Close m ≡ call.Poll names.handles → ⊥
+          not-poll m is = cc
 
-    made : MakesFunctionCalls (first_truss o) (exchanges k before ++ polled ∷ exchanges k between)
-    made = subst (MakesFunctionCalls (first_truss o)) parts run.makes
+      ends-nowhere : EndsNowhere n k pid p (after now e) between
+      ends-nowhere = record {
+        none = λ first rest f is opens ends.
+            waits.none first rest f is
+            (subst (λ m. RunsOrClosesIn k pid m (state_after (after now e) first) f) its-control ends);
+      }
 
-    ends-not : All (IsNoEndOf p) (exchanges k between)
-    ends-not = no-ends n k pid p between (after now e) legal.1 open-then ends-nowhere
+      parts : exchanges k (before ++ e ∷ between) ≡ exchanges k before ++ polled ∷ exchanges k between
+      parts =
+          exchanges-both k before (e ∷ between)
+          ∙ ap (λ xs. exchanges k before ++ xs)
+          (cons-exchanges k e between ∙ ap (λ x. cons_option x (exchanges k between)) names.is)
 
-    calm : All IsCalm (exchanges k between)
-    calm = calm-exchanges between n k (after now e) legal.1
+      made : MakesFunctionCalls (first_truss o) (exchanges k before ++ polled ∷ exchanges k between)
+      made = subst (MakesFunctionCalls (first_truss o)) parts run.makes
 
-    pub named-soon : length (exchanges k between) ≤ calls_until_end o
-    named-soon =
-        polled-soon o (exchanges k before) (exchanges k between) polled place run.has made named ends-not calm
+      ends-not : All (IsNoEndOf p) (exchanges k between)
+      ends-not = no-ends n k pid p between (after now e) legal.1 open-then ends-nowhere
 
-    pub named-quiet : (handles : List ℕ)
-        → next_function_call_of (functions_at k o (before ++ e ∷ between)) ≡ Some (call.Poll handles) → ⊥
-    named-quiet handles is =
-        let both : functions_at k o (before ++ e ∷ between) ≡ functions_after t (polled ∷ exchanges k between) =
-        ap (functions_after (first_truss o)) parts
-        ∙ functions-both (first_truss o) (exchanges k before) (polled ∷ exchanges k between) in
-        polls-not o (exchanges k before) (exchanges k between) polled place run.has made named ends-not calm handles
-        (sym (ap next_function_call_of both) ∙ is)
+      calm : All IsCalm (exchanges k between)
+      calm = calm-exchanges between n k (after now e) legal.1
+
+      pub named-soon : length (exchanges k between) ≤ calls_until_end o
+      named-soon =
+          polled-soon o (exchanges k before) (exchanges k between) polled place run.has made named ends-not calm
+
+      pub named-quiet : (handles : List ℕ)
+          → next_function_call_of (functions_at k o (before ++ e ∷ between)) ≡ Some (call.Poll handles) → ⊥
+      named-quiet handles is =
+          let both : functions_at k o (before ++ e ∷ between) ≡ functions_after t (polled ∷ exchanges k between) =
+          ap (functions_after (first_truss o)) parts
+          ∙ functions-both (first_truss o) (exchanges k before) (polled ∷ exchanges k between) in
+          polls-not o (exchanges k before) (exchanges k between) polled place run.has made named ends-not calm handles
+          (sym (ap next_function_call_of both) ∙ is)
 
 pub soon-run-or-closed : (n k : ℕ) (o : Options) (s : TracedState) (h : List Entry) → IsFunctionRun n k o s h
     → IsSoonRunOrClosed k o s h
