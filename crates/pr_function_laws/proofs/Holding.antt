@@ -1,6 +1,8 @@
 -- When truss with calls of functions has hold of a process, by its calls and their replies: that this is when it
 -- watches the process, that it gets hold of it once, that no event comes before from the wait on, and why it lets it
--- go; and that of each process that it was given it gets hold, or says that it cannot trace it.
+-- go; that it closes all files of what has ended; and that of each process that it was given it gets hold, or says that
+-- it cannot trace it.
+pub mod EndedFiles
 pub mod GivenSteps
 pub mod GoneCalls
 pub mod HoldBegins

@@ -3,6 +3,7 @@ pub mod Holding
 pub mod LeavingProcesses
 pub mod LineMemory
 pub mod Listing
+pub mod Looking
 pub mod Marks
 pub mod NextCalls
 pub mod OpenedProcesses

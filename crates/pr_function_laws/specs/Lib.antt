@@ -4,6 +4,7 @@ pub mod Calls
 pub mod EventKinds
 pub mod EventsRead
 pub mod Coming
+pub mod EndedProcesses
 pub mod FunctionTurns
 pub mod Handled
 pub mod Holds
@@ -14,6 +15,7 @@ pub mod LineEvents
 pub mod LineMoments
 pub mod LineTexts
 pub mod ListedEvents
+pub mod Looks
 pub mod Met
 pub mod Named
 pub mod OneEvent
@@ -29,6 +31,7 @@ pub mod Runs
 pub mod SentSets
 pub mod ShownOnce
 pub mod Soon
+pub mod SoonPolls
 pub mod Steppable
 pub mod Steps
 pub mod Stretches

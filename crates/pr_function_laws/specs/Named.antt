@@ -37,3 +37,10 @@ pub record IsSoonRunOrClosed (k : ℕ) (o : Options) (s : TracedState) (h : List
       → IsNamedIn k pid handle (state_after s before) e
       → IsAwaited k pid handle (after (state_after s before) e) between
       → length (exchanges k between) ≤ calls_until_end o
+
+-- Before it polls again the controller runs the process that a poll of it has named, or closes a handle of it.
+pub record RunsBeforeItPollsOf (k : ℕ) (s : TracedState) (h : List Entry) : Type 0 where
+  pub each : (before between later : List Entry) (e f : Entry) (pid handle : ℕ) (handles : List ℕ) (r : Reply)
+      → h ≡ before ++ e ∷ (between ++ f ∷ later) → IsNamedIn k pid handle (state_after s before) e
+      → IsAwaited k pid handle (after (state_after s before) e) between
+      → exchange_of k f ≡ Some (record { call = call.Poll handles; reply = r }) → ⊥

@@ -41,6 +41,7 @@ use Rattle.pr_truss_laws.specs.Business.{DoesItsBusiness}
 use Rattle.pr_truss_laws.specs.Exchanges.{Exchange, Makes, errno_in, truss_after}
 use Rattle.pr_truss_laws.specs.Lines.{line_of}
 use Rattle.pr_truss_laws.specs.Sent.{sends}
+use Rattle.pr_truss_laws.specs.Soon.{PollsSoon}
 use Rattle.pr_function_laws.specs.Calls.{is_call}
 use Rattle.pr_function_laws.specs.Runs.{functions_after}
 
@@ -214,14 +215,15 @@ pub record PrintsInOrder (o : Options) (xs : List Exchange) : Type 0 where
       ≡ flat_map (line_of o) (all_reports (functions_after (first_truss o) xs))
 
 -- There are exchanges of a truss without calls of functions, like those of this one, by which that truss does its own
--- business, and runs just what a poll has named last, once for each poll, but where it ends an opening; and it has
--- reported what this one has reported, but for the calls. All reports of this one, of calls too, stand in the order in
--- which it learnt them.
+-- business, polls soon, and runs just what a poll has named last, once for each poll, but where it ends an opening; and
+-- it has reported what this one has reported, but for the calls. All reports of this one, of calls too, stand in the
+-- order in which it learnt them.
 pub record IsTrussBeside (o : Options) (xs : List Exchange) : Type 0 where
   pub others : List Exchange
   pub like : AreLike (first_truss o) xs others
   pub makes : Makes (first_truss o) others
   pub is : truss_after (first_truss o) others ≡ ordinary (functions_after (first_truss o) xs)
   pub business : DoesItsBusiness o others
+  pub polls_soon : PollsSoon o others
   pub runs : RunsWhatWasNamed o others
   pub prints : PrintsInOrder o xs

@@ -3,6 +3,7 @@
 #![tactic(auto)]
 
 mod called;
+mod ended;
 mod events;
 mod handled;
 mod holds;
@@ -11,6 +12,7 @@ mod leaving;
 mod lifted;
 mod lines;
 mod listed;
+mod looks;
 mod messages;
 mod met;
 mod named;
@@ -30,6 +32,7 @@ mod treated;
 mod turns;
 
 pub use called::in_each_history_calls_are_turns;
+pub use ended::it_closes_all_files_of_what_has_ended;
 pub use events::{at_most_one_event_is_unread, each_event_is_told_by_the_next_read};
 pub use handled::{
     beside_its_breakpoints_it_handles_what_it_was_given, each_given_process_is_held_or_refused,
@@ -46,11 +49,15 @@ pub use lines::{each_reply_tells_at_most_one_call, the_calls_reported_are_those_
 pub use listed::{
     a_process_stands_still_while_old_stops_are_left, in_each_history_events_are_shown,
 };
+pub use looks::{it_looks_at_a_process_in_place, it_looks_at_what_a_poll_named};
 pub use messages::{
     the_calls_that_truss_traces_are_words_of_its_options, what_truss_reads_plants_and_lifts,
 };
 pub use met::{each_call_told_was_met_at_its_breakpoint, the_calls_reported_were_met};
-pub use named::what_a_poll_named_by_its_handle_is_soon_run_or_closed;
+pub use named::{
+    it_runs_or_closes_what_a_poll_named_before_it_polls_again,
+    what_a_poll_named_by_its_handle_is_soon_run_or_closed,
+};
 pub use once::it_shows_no_stop_twice;
 pub use opened::{
     an_interrupt_leaves_one_lwp_alone, each_breakpoint_is_lifted_for_one_lwp_alone,
@@ -61,7 +68,9 @@ pub use ordinary::{
     it_shows_what_is_new, it_shows_what_it_reads_right_then,
 };
 pub use planted::{it_has_marked_what_its_calls_planted, what_truss_plants_it_has_read};
-pub use polls::it_polls_its_processes_in_the_order_of_its_opens;
+pub use polls::{
+    it_polls_its_processes_in_the_order_of_its_opens, it_polls_soon_by_its_functions_and_files,
+};
 pub use refusals::{
     it_tells_no_refusal_of_what_it_has_hold_of, it_tells_refusals_before_its_first_poll_alone,
 };

@@ -16,6 +16,7 @@ use Rattle.pr_function_hides.specs.ToldCalls.{TellsItsCallsByCalls}
 use Rattle.pr_function_hides.specs.Waiting.{KeepsWhatWaits}
 use Rattle.pr_function_laws.specs.BreakpointCalls.{AreBreakpointCalls}
 use Rattle.pr_function_laws.specs.CalledTurns.{CallsAreTurns}
+use Rattle.pr_function_laws.specs.EndedProcesses.{ClosesAllThatEndedOf}
 use Rattle.pr_function_laws.specs.EventKinds.{AreEventKinds, LooksAtEachEvent}
 use Rattle.pr_function_laws.specs.EventsRead.{EventsAreRead}
 use Rattle.pr_function_laws.specs.Handled.{HandlesItsGiven, HoldsOrRefusesItsGiven}
@@ -27,9 +28,10 @@ use Rattle.pr_function_laws.specs.LineEvents.{AreOfTheirEventsIn}
 use Rattle.pr_function_laws.specs.LineMoments.{MemoriesStand}
 use Rattle.pr_function_laws.specs.LineTexts.{HaveTheirTextsIn, ReadsAtOnceOf, ReadsForItsLinesOf}
 use Rattle.pr_function_laws.specs.ListedEvents.{ListsItsEvents}
+use Rattle.pr_function_laws.specs.Looks.{LooksInPlaceOf}
 use Rattle.pr_function_laws.specs.Met.{TellsItsCalls}
 use Rattle.pr_function_laws.specs.OneEvent.{HasOneEventEach}
-use Rattle.pr_function_laws.specs.Named.{IsSoonRunOrClosed}
+use Rattle.pr_function_laws.specs.Named.{IsSoonRunOrClosed, RunsBeforeItPollsOf}
 use Rattle.pr_function_laws.specs.Opened.{HoldsWhatItOpened, LiftsForOneAlone, ReadsBreakpoint, functions_at}
 use Rattle.pr_function_laws.specs.Ordinary.{IsTrussBeside, ordinary_among}
 use Rattle.pr_function_laws.specs.OrdinaryRuns.{ClosesFreelyThroughout, ShowsWhatIsNewOf, ShowsWhatItReadsOf}
@@ -40,6 +42,7 @@ use Rattle.pr_function_laws.specs.Runs.{MakesFunctionCalls, functions_after, rep
 use Rattle.pr_function_laws.specs.SentSets.{TracesItsWords}
 use Rattle.pr_function_laws.specs.ShownOnce.{ShowsStopsOnceOf}
 use Rattle.pr_function_laws.specs.Soon.{IsSoonDone}
+use Rattle.pr_function_laws.specs.SoonPolls.{PollsByItsFilesOf}
 use Rattle.pr_function_laws.specs.ToldTurns.{StepsAreRead, TellsTurnsAlone}
 use Rattle.pr_function_laws.specs.Treated.{TreatsItsEvents}
 use Rattle.pr_hidden.specs.HiddenSteps.{IsHidden}
@@ -52,6 +55,7 @@ use Rattle.pr_model.specs.State.{TracedState}
 use Rattle.pr_model.specs.declared.events.Entry.{Entry}
 use Rattle.pr_run_laws.specs.NamedFunctions.{AreShowable}
 use Rattle.pr_report_laws.specs.Asked.{ReadsItsReplies, SelectsWhatIsNamed}
+use Rattle.pr_report_laws.specs.Named.{LooksAtWhatIsNamed}
 use Rattle.pr_report_laws.specs.OwnFiles.{CallsItsFiles, ClosesControlsLast, PollsEachOnce}
 use Rattle.pr_report_laws.specs.PollOrder.{PollsInOrder}
 use Rattle.pr_truss.specs.FunctionCalls.{next_function_call_of}
@@ -87,8 +91,17 @@ pub record IsFunctionTrussKept (controllers : List ControllerState) (first : Tra
   -- after a poll that named a process at most twelve of its calls, and two more for each function, come before it runs
   -- that process or closes a file of it
   pub soon : IsSoonDone o (exchanges k h)
-  -- the same of the process whose control file the poll named, by the handles that the kernel has open for truss
+  -- the same of the process whose control file the poll named, by the handles that the kernel has open for truss; and
+  -- that comes before it polls again
   pub named_soon : IsSoonRunOrClosed k o first h
+  pub before_polls : RunsBeforeItPollsOf k first h
+  -- Right after a poll has named a process it reads the status of that process, and it reads a status nowhere else; the
+  -- statuses of the lwps of a process it reads right behind the wait of its opening, and, once truss was interrupted,
+  -- right behind the stop to which it brought a process of which it has hold. How many calls come at most before it
+  -- polls is told by its functions, the control files that it has open, and the interrupts.
+  pub named_looks : LooksAtWhatIsNamed k first h
+  pub looks : LooksInPlaceOf k o first h
+  pub polls : PollsByItsFilesOf k o first h
   -- its functions are as a scenario names them, and each breakpoint that it meets is that of one of them
   pub names : AreShowable o
   pub meets : MeetsWhatWasNamed k o first
@@ -159,6 +172,10 @@ pub record IsFunctionTrussKept (controllers : List ControllerState) (first : Tra
   pub ordinary : IsTrussBeside o (exchanges k h)
   pub handled : HandlesItsGiven o (exchanges k h) ordinary
   pub given : HoldsOrRefusesItsGiven k o h
+  -- Where it is told that a process has ended, by whatever call to a handle of it, it closes each file of the process
+  -- that it has open before it calls anything else; but that it lifts what it has planted first, where the opening was
+  -- refused.
+  pub ended : ClosesAllThatEndedOf k o first h
   -- It watches a process just while it has hold of it, which its calls and their replies alone tell: from the PCRUN of
   -- a whole opening of the process, to the call to a handle of the process that is refused with ENOENT, or to its read
   -- of the statuses of the lwps once it was interrupted. It gets hold of a process at most once, and closes no file of

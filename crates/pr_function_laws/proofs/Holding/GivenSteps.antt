@@ -309,9 +309,13 @@ pub data IsRefusing (u : TrussState) (r : Reply) (pid : ℕ) (errno : Errno) : S
   at_opening : {place : ℕ} {now : OpeningStep} → (traced_at u place).pid ≡ pid → Refuses r errno
       → IsRefusing u r pid errno (Opening place now)
 
-pub last-same : {X : Type 0} (xs : List X) (a b : X) → xs ++ a ∷ [] ≡ xs ++ b ∷ [] → a ≡ b
-last-same [] a b is = cc
-last-same (x ∷ xs) a b is = let rest : xs ++ a ∷ [] ≡ xs ++ b ∷ [] = cc in last-same xs a b rest
+pub last-same : {X : Type 0} (xs ys : List X) (a b : X) → xs ++ a ∷ [] ≡ ys ++ b ∷ [] → a ≡ b
+last-same [] [] a b is = cc
+last-same {X} [] (y ∷ ys) a b is =
+    absurd (omega (arith, ap (λ (zs : List X). length zs) is, length-append ys (b ∷ [])))
+last-same {X} (x ∷ xs) [] a b is =
+    absurd (omega (arith, ap (λ (zs : List X). length zs) is, length-append xs (a ∷ [])))
+last-same (x ∷ xs) (y ∷ ys) a b is = let rest : xs ++ a ∷ [] ≡ ys ++ b ∷ [] = cc in last-same xs ys a b rest
 
 pub not-longer : {A : Type 0} (xs : List Report) (a : Report) → xs ≡ xs ++ a ∷ [] → A
 not-longer xs a is =
@@ -322,7 +326,7 @@ module _ (done : List Exchange) (u : TrussState) (r : Reply) (pid : ℕ) (errno 
   told = u.reports ++ CannotTrace pid errno ∷ []
 
   other-told : {A : Type 0} (a : Report) → u.reports ++ a ∷ [] ≡ told → (a ≡ CannotTrace pid errno → ⊥) → A
-  other-told a is differs = absurd (differs (last-same u.reports a (CannotTrace pid errno) is))
+  other-told a is differs = absurd (differs (last-same u.reports u.reports a (CannotTrace pid errno) is))
 
   shown-told : {A : Type 0} (of : ℕ) (l : LwpStatus) (text : Option (List ℕ × Bool))
       → u.reports ++ Shown of l text ∷ [] ≡ told → A
@@ -332,7 +336,7 @@ module _ (done : List Exchange) (u : TrussState) (r : Reply) (pid : ℕ) (errno 
   control-told : (of : ℕ) (e : Errno) → Refuses r e → u.reports ++ CannotTrace of e ∷ [] ≡ told
       → IsRefusing u r pid errno (OpeningControl of)
   control-told of e refuses is =
-      let same : CannotTrace of e ≡ CannotTrace pid errno = last-same u.reports _ _ is in
+      let same : CannotTrace of e ≡ CannotTrace pid errno = last-same u.reports u.reports _ _ is in
       let same_pid : of ≡ pid = cc in
       let same_errno : e ≡ errno = cc in
       subst (λ p. IsRefusing u r pid errno (OpeningControl p)) (sym same_pid)
@@ -342,7 +346,7 @@ module _ (done : List Exchange) (u : TrussState) (r : Reply) (pid : ℕ) (errno 
       → u.reports ++ CannotTrace (traced_at u place).pid e ∷ [] ≡ told
       → IsRefusing u r pid errno (Opening place now)
   opening-told place now e refuses is =
-      let same : CannotTrace (traced_at u place).pid e ≡ CannotTrace pid errno = last-same u.reports _ _ is in
+      let same : CannotTrace (traced_at u place).pid e ≡ CannotTrace pid errno = last-same u.reports u.reports _ _ is in
       let same_pid : (traced_at u place).pid ≡ pid = cc in
       let same_errno : e ≡ errno = cc in at_opening same_pid (subst (Refuses r) same_errno refuses)
 

@@ -180,7 +180,7 @@ module _ (n k : ℕ) (o : Options) (pid : ℕ) (s : TracedState) (before later :
 
   -- ---- it leaves its processes just where it was interrupted
 
-  interrupted-leaves : WasInterrupted k before → t.leaving ≡ true
+  pub interrupted-leaves : WasInterrupted k before → (functions_at k o before).leaving ≡ true
   interrupted-leaves w = elim (cases_Bool t.leaving) [
     | inl on ↦ on
     | inr off ↦ absurd (by off)
@@ -439,6 +439,100 @@ module _ (n k : ℕ) (o : Options) (pid : ℕ) (s : TracedState) (before later :
       ∙ unwatched-away (ordinary v) pid place
       (subst (λ p. place_of (ordinary v) p ≡ Some place) its (after_files.one place within)) away
 
+  -- ---- where it is told that the process has ended
+
+  -- the call goes to a handle that truss has of the process
+  pub record GoesToIt (d : Call) : Type 0 where
+    pub number : ℕ
+    pub held : Held
+    pub goes : goes_to d ≡ Some number
+    pub there : handle_of (state_after s before).opens k number ≡ Some held
+    pub of : held.pid ≡ pid
+
+  module _ (w : IsToldOfEnd k pid now e) where
+    -- whose the file is to which the call goes
+    its-own : (owner number : ℕ) (f : File) (mode : Mode) → IsFileOf k now owner number f mode
+        → goes_to w.call ≡ Some number → owner ≡ pid
+    its-own owner number f mode its is =
+        ap (λ (h : Held). h.pid)
+        (same_Some (held_by k owner 0 f mode) w.held
+        (sym its.is ∙ ap (λ m. handle_of now.opens k m) (same_Some number w.handle (sym is ∙ w.goes)) ∙ w.there))
+        ∙ w.of
+
+    -- the process of the stage beside which the call comes
+    pub owner-here : (stage : Stage) (place : ℕ) → (functions_at k o before).stage ≡ stage
+        → stage_place stage ≡ Some place → SeesTo (functions_at k o before) stage w.call
+        → (traced_at (ordinary (functions_at k o before)) place).pid ≡ pid
+    owner-here stage place at is sees =
+        its-own (traced_at u place).pid (traced_at u place).control file.Ctl WriteExcl
+        (control-here place (ap stage_place at ∙ is)) (sees-goes stage w.call place is sees)
+
+    goes-by : (d : Call) (owner number : ℕ) (f : File) (mode : Mode) → IsFileOf k now owner number f mode → owner ≡ pid
+        → goes_to d ≡ Some number → GoesToIt d
+    goes-by d owner number f mode is its goes = record {
+      number = number;
+      held = held_by k owner 0 f mode;
+      goes = goes;
+      there = is.is;
+      of = its;
+    }
+
+    -- the call that was not made goes to a file of the same process
+    taken-goes : (stage : Stage) (d : Call) (errno : Errno) → t.stage ≡ stage → SeesTo t stage w.call
+        → IsTakenUp stage errno → next_call_of u ≡ Some d → GoesToIt d
+    unfolding call_of opening_call
+    taken-goes (Opening place Start) d errno at sees may called =
+        goes-by d (traced_at u place).pid (traced_at u place).control file.Ctl WriteExcl
+        (control-here place (ap stage_place at)) (owner-here (Opening place Start) place at refl sees)
+        (ap goes_to
+        (stage-called u (record { call = d; reply = ended }) (Opening place Start)
+        (run_call (traced_at u place).control) called at refl))
+    taken-goes (Running place) d errno at sees may called =
+        goes-by d (traced_at u place).pid (traced_at u place).control file.Ctl WriteExcl
+        (control-here place (ap stage_place at)) (owner-here (Running place) place at refl sees)
+        (ap goes_to
+        (stage-called u (record { call = d; reply = ended }) (Running place) (run_call (traced_at u place).control)
+        called at refl))
+    taken-goes (ReadingText place l from len) d errno at sees may called =
+        goes-by d (traced_at u place).pid (number_of (traced_at u place).memory) file.Mem Read
+        (memory-read k u now files fits place l from len at)
+        (owner-here (ReadingText place l from len) place at refl sees)
+        (ap goes_to
+        (stage-called u (record { call = d; reply = ended }) (ReadingText place l from len)
+        (call.Read (number_of (traced_at u place).memory) from len) called at refl))
+    taken-goes ReadingLwps d errno at sees may called =
+        goes-by d (traced_at u 0).pid (number_of (traced_at u 0).lstatus) file.Lstatus Read
+        (lwps-read k u now files fits at) (owner-here ReadingLwps 0 at refl sees)
+        (ap goes_to
+        (stage-called u (record { call = d; reply = ended }) ReadingLwps
+        (call.Read (number_of (traced_at u 0).lstatus) 0 read_limit) called at refl))
+    taken-goes _ d errno at sees may called = absurd may
+
+    -- So does the call of truss that this one is like, and it is told the same.
+    pub like-goes : (a y : Exchange) → a.call ≡ w.call → a.reply ≡ reply.Fail Noent
+        → IsLike (functions_at k o before) a y → next_call_of (ordinary (functions_at k o before)) ≡ Some y.call
+        → (y.reply ≡ reply.Fail Noent) × GoesToIt y.call
+    like-goes a y made ended_so (same unsent none_own) called = (
+      ended_so,
+      record { number = w.handle; held = w.held; goes = ap goes_to made ∙ w.goes; there = w.there; of = w.of },
+    )
+    like-goes a y made ended_so (in_place {d = d} stands) called = (
+      ended_so,
+      record {
+        number = w.handle;
+        held = w.held;
+        goes = sym (stands-goes stands) ∙ ap goes_to made ∙ w.goes;
+        there = w.there;
+        of = w.of;
+      },
+    )
+    like-goes a y made ended_so (refused {d = d} {errno = errno} sees may is) called = (
+      ended_so,
+      taken-goes t.stage d errno refl (subst (SeesTo t t.stage) made sees) may called,
+    )
+    like-goes a y made ended_so (own_fault tells) called =
+        absurd (fault-not t t.stage (subst (λ q. OwnFaultRead t q t.stage) ended_so tells))
+
   module _ (on : watches t pid ≡ true) where
     on-before : watches u pid ≡ true
     on-before = watches-ordinary t pid ∙ on
@@ -446,15 +540,6 @@ module _ (n k : ℕ) (o : Options) (pid : ℕ) (s : TracedState) (before later :
     module _ (w : IsToldOfEnd k pid now e) where
       abbrev x : Exchange
       x = record { call = w.call; reply = reply.Fail Noent }
-
-      -- whose the file is to which the call goes
-      its-own : (owner number : ℕ) (f : File) (mode : Mode) → IsFileOf k now owner number f mode
-          → goes_to w.call ≡ Some number → owner ≡ pid
-      its-own owner number f mode its is =
-          ap (λ (h : Held). h.pid)
-          (same_Some (held_by k owner 0 f mode) w.held
-          (sym its.is ∙ ap (λ m. handle_of now.opens k m) (same_Some number w.handle (sym is ∙ w.goes)) ∙ w.there))
-          ∙ w.of
 
       -- The call is left out: the files of the process are being closed, which is not watched then.
       out-not : (stage : Stage) → t.stage ≡ stage → SeesTo t stage w.call → PassesOver stage (reply.Fail Noent) → ⊥
@@ -464,75 +549,20 @@ module _ (n k : ℕ) (o : Options) (pid : ℕ) (s : TracedState) (before later :
       out-not ReadingLwps at sees passes = passes refl
       out-not (Closing place next) at sees passes =
           let c = stage-control k u now files fits place (ap stage_place at) in
-          let its =
-          its-own (traced_at u place).pid (traced_at u place).control file.Ctl WriteExcl c.1
-          (sees-goes (Closing place next) w.call place refl sees) in
           let off : watches u pid ≡ false =
-          unwatched-away u pid place (subst (λ p. place_of u p ≡ Some place) its (files.one place c.0))
+          unwatched-away u pid place
+          (subst (λ p. place_of u p ≡ Some place) (owner-here w (Closing place next) place at refl sees)
+          (files.one place c.0))
           (ap (λ z. is_away u.leaving z place) at ∙ eq-eqb place place refl) in
           false≢true (sym off ∙ on-before)
       out-not _ at sees passes = absurd sees
 
-      -- the process of the stage beside which the call comes
-      owner-here : (stage : Stage) (place : ℕ) → t.stage ≡ stage → stage_place stage ≡ Some place
-          → SeesTo t stage w.call → (traced_at u place).pid ≡ pid
-      owner-here stage place at is sees =
-          its-own (traced_at u place).pid (traced_at u place).control file.Ctl WriteExcl
-          (control-here place (ap stage_place at ∙ is)) (sees-goes stage w.call place is sees)
-
-      closes-by : (d : Call) (owner number : ℕ) (f : File) (mode : Mode) → IsFileOf k now owner number f mode
-          → owner ≡ pid → next_call_of u ≡ Some d → goes_to d ≡ Some number → ClosesIt u pid
-      closes-by d owner number f mode is its called goes =
-          next-closes k u now reached pid number (held_by k owner 0 f mode) is.is its on-before d called goes
-
-      -- the call that was not made goes to a file of the same process
-      taken-closes : (stage : Stage) (d : Call) (errno : Errno) → t.stage ≡ stage → SeesTo t stage w.call
-          → IsTakenUp stage errno → next_call_of u ≡ Some d → ClosesIt u pid
-      unfolding call_of opening_call
-      taken-closes (Opening place Start) d errno at sees may called =
-          closes-by d (traced_at u place).pid (traced_at u place).control file.Ctl WriteExcl
-          (control-here place (ap stage_place at)) (owner-here (Opening place Start) place at refl sees) called
-          (ap goes_to
-          (stage-called u (record { call = d; reply = ended }) (Opening place Start)
-          (run_call (traced_at u place).control) called at refl))
-      taken-closes (Running place) d errno at sees may called =
-          closes-by d (traced_at u place).pid (traced_at u place).control file.Ctl WriteExcl
-          (control-here place (ap stage_place at)) (owner-here (Running place) place at refl sees) called
-          (ap goes_to
-          (stage-called u (record { call = d; reply = ended }) (Running place) (run_call (traced_at u place).control)
-          called at refl))
-      taken-closes (ReadingText place l from len) d errno at sees may called =
-          closes-by d (traced_at u place).pid (number_of (traced_at u place).memory) file.Mem Read
-          (memory-read k u now files fits place l from len at)
-          (owner-here (ReadingText place l from len) place at refl sees) called
-          (ap goes_to
-          (stage-called u (record { call = d; reply = ended }) (ReadingText place l from len)
-          (call.Read (number_of (traced_at u place).memory) from len) called at refl))
-      taken-closes ReadingLwps d errno at sees may called =
-          closes-by d (traced_at u 0).pid (number_of (traced_at u 0).lstatus) file.Lstatus Read
-          (lwps-read k u now files fits at) (owner-here ReadingLwps 0 at refl sees) called
-          (ap goes_to
-          (stage-called u (record { call = d; reply = ended }) ReadingLwps
-          (call.Read (number_of (traced_at u 0).lstatus) 0 read_limit) called at refl))
-      taken-closes _ d errno at sees may called = absurd may
-
-      like-closes : (a y : Exchange) → a.call ≡ w.call → a.reply ≡ reply.Fail Noent → IsLike t a y
-          → next_call_of u ≡ Some y.call → (y.reply ≡ reply.Fail Noent) × ClosesIt u pid
-      like-closes a y made ended_so (same unsent none_own) called = (
-        ended_so,
-        next-closes k u now reached pid w.handle w.held w.there w.of on-before a.call called (ap goes_to made ∙ w.goes),
-      )
-      like-closes a y made ended_so (in_place {d = d} stands) called = (
-        ended_so,
-        next-closes k u now reached pid w.handle w.held w.there w.of on-before d called
-            (sym (stands-goes stands) ∙ ap goes_to made ∙ w.goes),
-      )
-      like-closes a y made ended_so (refused {d = d} {errno = errno} sees may is) called = (
-        ended_so,
-        taken-closes t.stage d errno refl (subst (SeesTo t t.stage) made sees) may called,
-      )
-      like-closes a y made ended_so (own_fault tells) called =
-          absurd (fault-not t t.stage (subst (λ q. OwnFaultRead t q t.stage) ended_so tells))
+      like-closes : (y : Exchange) → IsLike t x y → next_call_of u ≡ Some y.call
+          → (y.reply ≡ reply.Fail Noent) × ClosesIt u pid
+      like-closes y like called =
+          let g = like-goes w x y refl refl like called in
+          let it : GoesToIt y.call = g.1 in
+          (g.0, next-closes k u now reached pid it.number it.held it.there it.of on-before y.call called it.goes)
 
       told-off : watches v pid ≡ false
       told-off = from (turned x w.is)
@@ -540,7 +570,7 @@ module _ (n k : ℕ) (o : Options) (pid : ℕ) (s : TracedState) (before later :
           from : Turn t x → watches v pid ≡ false
           from (goes_out sees passes stay) = absurd (out-not t.stage refl sees passes)
           from (goes_on y like called comes) =
-              let both = like-closes x y refl refl like called in
+              let both = like-closes y like called in
               let c : ClosesIt u pid = both.1 in
               let then : ordinary v ≡ fed u ended =
               ap ordinary (pushed x w.is) ∙ comes ∙ ap (fed u) both.0 in

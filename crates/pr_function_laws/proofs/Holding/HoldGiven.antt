@@ -365,7 +365,7 @@ module _ (n k : ℕ) (o : Options) (s : TracedState) (before later : List Entry)
         let w = ends-so n k o pid s before e one-run g in
         let whole : IsWholeFunctionOpening o pid g.opening = g.whole in
         let same : x ≡ w.last =
-        last-same (g.earlier ++ w.front) x w.last
+        last-same (g.earlier ++ w.front) (g.earlier ++ w.front) x w.last
         (ap (λ (ys : List Exchange). ys ++ x ∷ []) (sym (before-is n k o pid s before e one-run g))
         ∙ sym one-more ∙ g.is ∙ ap (λ (ys : List Exchange). g.earlier ++ ys) w.is
         ∙ sym (append_assoc g.earlier w.front (w.last ∷ []))) in
@@ -486,7 +486,8 @@ module _ (n k : ℕ) (o : Options) (s : TracedState) (before later : List Entry)
       only-refused pid errno was told q (gets_hold g) = granted-not errno (held-granted q g) was
       only-refused pid errno was told q (says_not w) =
           let same : CannotTrace q w.errno ≡ CannotTrace pid errno =
-          last-same (ordinary_among t.reports) (CannotTrace q w.errno) (CannotTrace pid errno)
+          last-same (ordinary_among t.reports) (ordinary_among t.reports) (CannotTrace q w.errno)
+          (CannotTrace pid errno)
           (sym (told-so q w) ∙ ap (λ (z : TrussState). z.reports) comes ∙ told) in cc
 
       only-held : (place : ℕ) → t.stage ≡ Opening place opening.Start → answer_of x.reply ≡ Accepted → (q : ℕ)

@@ -66,7 +66,7 @@ IsBeside k Nothing = Unit {0}
 IsBeside k (Patching place plants lifts clear) = place ≡ k
 IsBeside k _ = ⊥
 
-some-functions : (o : Options) → has_functions o ≡ true → 1 ≤ length o.functions
+pub some-functions : (o : Options) → has_functions o ≡ true → 1 ≤ length o.functions
 some-functions o has = by (length o.functions) has
   where
     by : (n : ℕ) → not (n == 0) ≡ true → 1 ≤ n

@@ -243,30 +243,57 @@ makes-from : (xs ys : List Exchange) (s : TrussState) → MakesFunctionCalls s (
 makes-from [] ys s makes = makes
 makes-from (x ∷ xs) ys s makes = makes-from xs ys (fed_functions s x.reply) makes.1
 
-pub polled-soon : (o : Options) (before between : List Exchange) (x : Exchange) (place : ℕ) → has_functions o ≡ true
-    → MakesFunctionCalls (first_truss o) (before ++ x ∷ between)
-    → IsNamed (functions_after (first_truss o) before) x place
-    → All (IsNoEndOf (traced_at (functions_after (first_truss o) before) place)) between → All IsCalm between
-    → length between ≤ calls_until_end o
-polled-soon o before between x place has makes names none calm =
-    let s = functions_after (first_truss o) before in
-    let w : IsSound o any_step s = after-sound o before (first_truss o) (first-sound o any_step) in
-    let sure = w.names in
-    let on : has_functions s.options ≡ true = ap has_functions sure.options ∙ has in
-    let here : MakesFunctionCalls s (x ∷ between) = makes-from before (x ∷ between) (first_truss o) makes in
-    let at = next-polls s on names.handles (here.0 ∙ ap (λ c. Some c) names.polls) in
-    let is = named-is s x place on at.0 at.1 names in
-    let within : place < length s.traced = position-within (has_control names.handle) s.traced place names.there in
-    let off : s.leaving ≡ false = w.polls (ap is_polling at.1) in
-    let u : TrussState = with_stage s (ReadingStatus place) in
-    let look : Look o has (traced_at s place) place (calls_until_end o) u =
-    status-look o has (traced_at s place) place u (record { within = within; same = same-files (traced_at s place) })
-    off at.0 refl in
-    let on =
-    looks-on o has (traced_at s place) place between (fed_functions s x.reply) (calls_until_end o)
-    (subst (Look o has (traced_at s place) place (calls_until_end o)) (sym is) look)
-    (any-sound o s x.reply w) here.1 none calm in
-    omega (arith, on.few)
+module _ (o : Options) (before between : List Exchange) (x : Exchange) (place : ℕ) (has : has_functions o ≡ true)
+    (makes : MakesFunctionCalls (first_truss o) (before ++ x ∷ between))
+    (names : IsNamed (functions_after (first_truss o) before) x place)
+    (none : All (IsNoEndOf (traced_at (functions_after (first_truss o) before) place)) between)
+    (calm : All IsCalm between) where
+  abbrev polling : TrussState
+  polling = functions_after (first_truss o) before
+
+  abbrev then : TrussState
+  then = functions_after (fed_functions polling x.reply) between
+
+  abbrev p : Traced
+  p = traced_at polling place
+
+  sound : IsSound o any_step polling
+  sound = after-sound o before (first_truss o) (first-sound o any_step)
+
+  polled-on : On o has p place (calls_until_end o) (length between) then
+  polled-on =
+      let w = sound in
+      let sure = w.names in
+      let on : has_functions polling.options ≡ true = ap has_functions sure.options ∙ has in
+      let here : MakesFunctionCalls polling (x ∷ between) = makes-from before (x ∷ between) (first_truss o) makes in
+      let at = next-polls polling on names.handles (here.0 ∙ ap (λ c. Some c) names.polls) in
+      let is = named-is polling x place on at.0 at.1 names in
+      let within : place < length polling.traced =
+      position-within (has_control names.handle) polling.traced place names.there in
+      let off : polling.leaving ≡ false = w.polls (ap is_polling at.1) in
+      let u : TrussState = with_stage polling (ReadingStatus place) in
+      let look : Look o has p place (calls_until_end o) u =
+      status-look o has p place u (record { within = within; same = same-files p }) off at.0 refl in
+      looks-on o has p place between (fed_functions polling x.reply) (calls_until_end o)
+      (subst (Look o has p place (calls_until_end o)) (sym is) look) (any-sound o polling x.reply w) here.1 none calm
+
+  pub polled-soon : length between ≤ calls_until_end o
+  polled-soon = let on = polled-on in omega (arith, on.few)
+
+  -- and so long it does not poll again
+  pub polls-not : (handles : List ℕ)
+      → next_function_call_of (functions_after (fed_functions (functions_after (first_truss o) before) x.reply) between)
+      ≡ Some (call.Poll handles)
+      → ⊥
+  polls-not handles is =
+      let w : IsSound o any_step then =
+      after-sound o between (fed_functions polling x.reply) (any-sound o polling x.reply sound) in
+      let sure = w.names in
+      let on = polled-on in
+      let l : Look o has p place on.left then = on.look in
+      let near : Near p place l.left then = l.near in
+      let at = next-polls then (ap has_functions sure.options ∙ has) handles is in
+      subst (Nears then.traced place l.left) at.1 near.soon
 
 calls-front : (xs ys : List Exchange) (s : TrussState) → MakesFunctionCalls s (xs ++ ys) → MakesFunctionCalls s xs
 calls-front [] ys s makes = tt

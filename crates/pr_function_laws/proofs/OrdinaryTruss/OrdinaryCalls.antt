@@ -145,7 +145,7 @@ module _ (s : TrussState) where
     patch-here (ReadingText at l from len) fits todo =
         subst (λ q. SeesTo s (ReadingText at l from len) (patch q)) fits.0 (later-here at fits.1 todo)
     patch-here (Closing at OpenNext) fits todo =
-        subst (λ q. SeesTo s (Closing at OpenNext) (patch q)) fits.0 (last-here at fits.1)
+        subst (λ q. SeesTo s (Closing at OpenNext) (patch q)) fits.0 (last-here at fits.1.0)
     patch-here (Closing at GoOn) fits todo =
         subst (λ q. SeesTo s (Closing at GoOn) (patch q)) fits.0 (last-here at fits.1)
     patch-here _ fits todo = absurd fits

@@ -21,6 +21,7 @@ use Rattle.pr_truss_laws.proofs.Replies.AnswerLemmas.{IsAnswer, answer-is}
 use Rattle.pr_truss_laws.proofs.OwnBusiness.BusinessLemmas.{does-business}
 use Rattle.pr_truss_laws.proofs.Replies.FunctionOptionLemmas.{fed_functions-options}
 use Rattle.pr_truss_laws.proofs.Files.HeldLemmas.{Grown, grown-all, grown-same}
+use Rattle.pr_truss_laws.proofs.Soon.SoonLemmas.{polls-soon}
 use Rattle.pr_truss_laws.proofs.OwnBusiness.KnownLemmas.{Knows, first-knows}
 use Rattle.pr_truss_laws.specs.Exchanges.{Exchange, Makes, truss_after}
 use Rattle.pr_function_laws.proofs.Marks.MarkLemmas.{AreRunFlags}
@@ -46,6 +47,19 @@ pub data Turn (s : TrussState) (x : Exchange) : Type 0 where
       → Turn s x
   goes_on : (y : Exchange) → IsLike s x y → next_call_of (ordinary s) ≡ Some y.call
       → ordinary (fed_functions s x.reply) ≡ fed (ordinary s) y.reply → Turn s x
+
+-- an exchange that is like one of a truss
+pub record IsLikeOne (s : TrussState) (x : Exchange) : Type 0 where
+  pub y : Exchange
+  pub like : IsLike s x y
+  pub called : next_call_of (ordinary s) ≡ Some y.call
+  pub comes : ordinary (fed_functions s x.reply) ≡ fed (ordinary s) y.reply
+
+-- it is so; or the exchange comes beside the call of the stage, and is left out
+pub data Move (s : TrussState) (x : Exchange) : Type 0 where
+  beside_stage : is_beside s.aside ≡ true → PassesOver s.stage x.reply
+      → ordinary (fed_functions s x.reply) ≡ ordinary s → Move s x
+  on_stage : IsLikeOne s x → Move s x
 
 -- what truss does beside its stage fits to that, and its marks are sound
 pub record IsFit (o : Options) (s : TrussState) : Type 0 where
@@ -100,9 +114,15 @@ module _ (o : Options) (has : has_functions o ≡ true) (off : o.follow ≡ fals
     unfolding call_beside
     stage-is free = ap (call_beside s s.stage) (sym free) ∙ beside-is
 
-    turned : (r : Reply) → Likes s x s.stage r → ordinary (fed_functions s x.reply) ≡ fed (ordinary s) r → Turn s x
+    moved : (r : Reply) → Likes s x s.stage r → ordinary (fed_functions s x.reply) ≡ fed (ordinary s) r → Move s x
     unfolding next_call_of
-    turned r likes is = goes_on (record { call = likes.called; reply = r }) likes.like likes.is is
+    moved r likes is =
+        on_stage (record {
+          y = record { call = likes.called; reply = r };
+          like = likes.like;
+          called = likes.is;
+          comes = is;
+        })
 
     names : Names o any_step s
     names = let sound = fit.sound in sound.names
@@ -117,15 +137,22 @@ module _ (o : Options) (has : has_functions o ≡ true) (off : o.follow ≡ fals
     flags : (place : ℕ) → AreRunFlags (marks_at s place).flags
     flags place = let w = names in let m = w.marks place in m.flags
 
-    by : Step s x.reply (fed_functions s x.reply) → Turn s x
-    by (stays beside over is) = goes_out (sees beside) over is
-    by (feeds free none_own is) = turned x.reply (stage-likes s x none_own flags s.stage (stage-is free)) is
-    by (refuses errno beside was may is) = turned x.reply (refused-likes s x errno may (sees beside) was) is
+    by : Step s x.reply (fed_functions s x.reply) → Move s x
+    by (stays beside over is) = beside_stage beside over is
+    by (feeds free none_own is) = moved x.reply (stage-likes s x none_own flags s.stage (stage-is free)) is
+    by (refuses errno beside was may is) = moved x.reply (refused-likes s x errno may (sees beside) was) is
     by (passes free reads own is) =
-        turned (reply.Bytes []) (own-likes s x s.stage reads own (stage-is free)) is
+        moved (reply.Bytes []) (own-likes s x s.stage reads own (stage-is free)) is
+
+    pub move : Move s x
+    move = let row = own-row in by row.step
 
     pub turn : Turn s x
-    turn = let row = own-row in by row.step
+    turn = turned move
+      where
+        turned : Move s x → Turn s x
+        turned (beside_stage beside over is) = goes_out (sees beside) over is
+        turned (on_stage it) = goes_on it.y it.like it.called it.comes
 
   -- ---- all exchanges
 
@@ -208,6 +235,7 @@ module _ (o : Options) (has : has_functions o ≡ true) (off : o.follow ≡ fals
         makes = own;
         is = ap (λ u. truss_after u w.others) (sym (first-ordinary o)) ∙ w.is;
         business = does-business o w.others own;
+        polls_soon = polls-soon o w.others own;
         runs = runs-named o w.others own;
         prints = prints-in-order xs makes calm;
       }

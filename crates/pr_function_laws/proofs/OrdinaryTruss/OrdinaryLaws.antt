@@ -57,7 +57,7 @@ use Rattle.pr_function_laws.specs.Soon.{IsCalm}
 -- ---- closes and polls
 
 -- they are the same in a truss without calls of functions
-abbrev is_plain : Call → Bool
+abbrev pub is_plain : Call → Bool
 is_plain (call.Close handle) = true
 is_plain (call.Poll handles) = true
 is_plain _ = false
@@ -67,7 +67,7 @@ plain-unsent (call.Close handle) sent plain = false≢true sent
 plain-unsent (call.Poll handles) sent plain = false≢true sent
 plain-unsent _ sent plain = false≢true plain
 
-like-same : {s : TrussState} {x y : Exchange} → IsLike s x y → is_plain x.call ≡ true → x ≡ y
+pub like-same : {s : TrussState} {x y : Exchange} → IsLike s x y → is_plain x.call ≡ true → x ≡ y
 like-same (same unsent none_own) plain = refl
 like-same (in_place {c = c} stands) plain = absurd (let it = stands-sends stands in plain-unsent c it.0 plain)
 like-same {s} (refused {c = c} sees may is) plain = absurd (plain-unsent c (sees-sends s s.stage c sees) plain)

@@ -51,11 +51,13 @@ IsLookedAt place (Closing at OpenNext) = at ≡ place
 IsLookedAt place (Closing at GoOn) = at ≡ place
 IsLookedAt place _ = ⊥
 
--- Before a process is run, or its memory is read, no fault is cleared; before its files are closed nothing is planted.
+-- Before a process is run, or its memory is read, no fault is cleared; before its files are closed nothing is planted,
+-- and where its opening was refused no fault is cleared.
 abbrev pub PatchFits : ℕ → List Bool → Bool → Stage → Type 0
 PatchFits place plants clear (Running at) = (at ≡ place) × (clear ≡ false)
 PatchFits place plants clear (ReadingText at l from len) = (at ≡ place) × (clear ≡ false)
-PatchFits place plants clear (Closing at OpenNext) = (at ≡ place) × (first_function plants ≡ None)
+PatchFits place plants clear (Closing at OpenNext) =
+    (at ≡ place) × ((first_function plants ≡ None) × (clear ≡ false))
 PatchFits place plants clear (Closing at GoOn) = (at ≡ place) × (first_function plants ≡ None)
 PatchFits place plants clear _ = ⊥
 
@@ -98,7 +100,7 @@ pub next-fits : (place function : ℕ) (plants : List Bool) (clear : Bool) (stag
 next-fits place function plants clear (Running at) fits first = fits
 next-fits place function plants clear (ReadingText at l from len) fits first = fits
 next-fits place function plants clear (Closing at OpenNext) fits first =
-    absurd (none-some function (sym fits.1 ∙ first))
+    absurd (none-some function (sym fits.1.0 ∙ first))
 next-fits place function plants clear (Closing at GoOn) fits first =
     absurd (none-some function (sym fits.1 ∙ first))
 next-fits place function plants clear _ fits first = absurd fits
@@ -110,12 +112,23 @@ nothing-first = refl
 pub lift-fits : (place : ℕ) (stage : Stage) → IsLookedAt place stage → PatchFits place no_functions false stage
 lift-fits place (Running at) looked = (looked, refl)
 lift-fits place (ReadingText at l from len) looked = (looked, refl)
-lift-fits place (Closing at OpenNext) looked = (looked, nothing-first)
+lift-fits place (Closing at OpenNext) looked = (looked, (nothing-first, refl))
 lift-fits place (Closing at GoOn) looked = (looked, nothing-first)
 lift-fits place _ looked = absurd looked
 
 pub none-fits : (v : TrussState) → v.aside ≡ Nothing → FitsAside v.aside v.stage
 none-fits v none = subst (λ a. FitsAside a v.stage) (sym none) tt
+
+-- nothing comes beside a stage where none of this fits
+pub none-beside : (stage : Stage) (aside : Aside) → ((place : ℕ) → IsOpenedAt place stage → ⊥)
+    → ((place : ℕ) (plants : List Bool) (clear : Bool) → PatchFits place plants clear stage → ⊥)
+    → (stage ≡ ReadingLwps → ⊥) → FitsAside aside stage → aside ≡ Nothing
+none-beside stage Nothing opened patched looks fits = refl
+none-beside stage (Reading place function) opened patched looks fits = absurd (opened place fits)
+none-beside stage (Planting place function) opened patched looks fits = absurd (opened place fits)
+none-beside stage (Patching place plants lifts clear) opened patched looks fits =
+    absurd (patched place plants clear fits.0)
+none-beside stage _ opened patched looks fits = absurd (looks fits)
 
 -- ---- a stop that was looked at
 

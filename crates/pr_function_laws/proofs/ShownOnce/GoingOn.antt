@@ -310,7 +310,7 @@ module _ (t : TrussState) where
     goes_on = λ waiting. absurd (false≢true waiting);
   }
 
-  like-polls : (x y : Exchange) → IsLike t x y → IsNoPoll x → IsNoPoll y
+  pub like-polls : (x y : Exchange) → IsLike t x y → IsNoPoll x → IsNoPoll y
   unfolding next_call_of
   like-polls x y (same unsent none_own) none = none
   like-polls x y (in_place {d = d} stands) none =

@@ -450,7 +450,7 @@ module _ (o : Options) (xs : List Exchange) (makes : Makes (first_truss o) xs) (
   unfolding next_call_of
   polled-stage t is = (poll-stage t p.handles t.stage is).0
 
-  polled-done : Done (truss_after (first_truss o) xs)
+  pub polled-done : length (truss_after (first_truss o) xs).options.pids ≤ (truss_after (first_truss o) xs).begun
   unfolding poll-call
   polled-done =
       let t : TrussState = truss_after (first_truss o) p.before in

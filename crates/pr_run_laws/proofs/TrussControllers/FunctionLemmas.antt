@@ -31,6 +31,7 @@ use Rattle.pr_function_laws.proofs.LineMemory.TextsAtOnce.{reads-at-once}
 use Rattle.pr_function_laws.proofs.LineMemory.LineTexts.{have-their-texts}
 use Rattle.pr_function_laws.proofs.OrdinaryTruss.OrdinaryExchanges.{truss-beside}
 use Rattle.pr_function_laws.proofs.OrdinaryTruss.HandledLaws.{handles-its-given}
+use Rattle.pr_function_laws.proofs.Holding.EndedFiles.{closes-all-ended}
 use Rattle.pr_function_laws.proofs.Holding.HoldGiven.{holds-or-refuses}
 use Rattle.pr_function_laws.proofs.Holding.HoldLaws.{watches-what-it-holds}
 use Rattle.pr_function_laws.proofs.Holding.HoldOnce.{keeps-its-holds}
@@ -38,6 +39,9 @@ use Rattle.pr_function_laws.proofs.Holding.HoldQuiet.{opens-quietly}
 use Rattle.pr_function_laws.proofs.LeavingProcesses.LeavingLaws.{calm-exchanges, leaves-its-processes}
 use Rattle.pr_function_laws.proofs.OrdinaryTruss.OrdinaryLaws.{calls-its-files, closes-controls-last, closes-throughout, nothing-left}
 use Rattle.pr_function_laws.proofs.OrdinaryTruss.OrdinaryPolls.{polls-in-order, polls-once}
+use Rattle.pr_function_laws.proofs.Looking.LookPlaces.{looks-in-place}
+use Rattle.pr_function_laws.proofs.Looking.NamedLooks.{looks-at-named}
+use Rattle.pr_function_laws.proofs.Looking.SoonPolls.{polls-by-files}
 use Rattle.pr_function_laws.proofs.ShownOnce.OrdinaryNew.{shows-what-is-new}
 use Rattle.pr_function_laws.proofs.ShownOnce.OrdinaryOnce.{shows-stops-once}
 use Rattle.pr_function_laws.proofs.OrdinaryTruss.OrdinaryShown.{shows-what-it-reads}
@@ -46,7 +50,7 @@ use Rattle.pr_function_laws.proofs.NextCalls.PlantedLaws.{plants-what-it-read}
 use Rattle.pr_function_laws.proofs.PlantedCalls.PlantedHolds.{marks-planted}
 use Rattle.pr_function_laws.proofs.OrdinaryTruss.RefusalLaws.{tells-no-refusal-of-held, tells-refusals-at-first}
 use Rattle.pr_function_laws.proofs.NextCalls.SoonLemmas.{soon-done}
-use Rattle.pr_function_laws.proofs.NextCalls.SoonNamed.{soon-run-or-closed}
+use Rattle.pr_function_laws.proofs.NextCalls.SoonNamed.{runs-before-it-polls, soon-run-or-closed}
 use Rattle.pr_function_laws.proofs.CallTurns.ToldLaws.{tells-turns}
 use Rattle.pr_function_laws.proofs.NextCalls.TreatedLaws.{options-at, treats-its-events}
 use Rattle.pr_function_laws.specs.Opened.{IsFunctionRun, ReadsBreakpoint, functions_at}
@@ -160,6 +164,10 @@ function-kept controllers n s h k o reached bytes none at some named legal own =
       calls = tells-calls o (replies_in (exchanges k h)) has;
       soon = soon-done o (exchanges k h) has stays.0 calm;
       named_soon = soon-run-or-closed n k o s h run;
+      before_polls = runs-before-it-polls n k o s h run;
+      named_looks = looks-at-named n k o s h run;
+      looks = looks-in-place n k o s h run;
+      polls = polls-by-files n k o s h run;
       names = named;
       meets = record {
         each = λ before between e x place id.
@@ -198,6 +206,7 @@ function-kept controllers n s h k o reached bytes none at some named legal own =
       tells = tells-refusals-at-first n k o s h run;
       holds = watches-what-it-holds n k o s h run;
       keeps = keeps-its-holds n k o s h run;
+      ended = closes-all-ended n k o s h run;
       quiet = opens-quietly n k o s h whole;
       refusals = tells-no-refusal-of-held n k o s h run;
       shows = shows-what-it-reads n k o s h run;

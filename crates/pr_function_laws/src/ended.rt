@@ -1,0 +1,15 @@
+ghost use Rattle.std.specs.Prelude.{ℕ, List};
+ghost use Rattle.pr_line.specs.declared.options.Options.{Options};
+ghost use Rattle.pr_model.specs.State.{TracedState};
+ghost use Rattle.pr_model.specs.declared.events.Entry.{Entry};
+ghost use Rattle.pr_function_laws.specs.EndedProcesses.{ClosesAllThatEndedOf};
+ghost use Rattle.pr_function_laws.specs.Opened.{IsFunctionRun};
+
+/// In each legal history of truss with functions: where it is told that a process has ended, by whatever call to a
+/// handle of the process, it closes each file of it that it has open, before it calls anything else. But where the
+/// opening of the process was refused it lifts all that it has planted there before, whatever the replies are.
+#[tactic(auto, using(crate::proofs::Holding::EndedFiles::ended_files))]
+pub fn it_closes_all_files_of_what_has_ended()
+    ensures { (n k : ℕ) (o : Options) (s : TracedState) (h : List Entry) → IsFunctionRun n k o s h
+        → ClosesAllThatEndedOf k o s h }
+{}
