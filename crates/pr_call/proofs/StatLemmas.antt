@@ -1,4 +1,4 @@
-use Rattle.std.proofs.Common.{◌≡◌, ◌*◌, ◌∙◌, ℕ, true, false, Ok, Err, [], ◌∷◌, ◌++◌, refl, sym, ap}
+use Rattle.std.proofs.Common.{◌≡◌, ◌*◌, ℕ, true, false, Ok, Err, [], ◌∷◌, ◌++◌, refl, sym}
 use Rattle.pr_num.specs.Files.{FileTable, Descriptors}
 use Rattle.pr_num.specs.Spaces.{Space}
 use Rattle.pr_num.specs.Words.{word_bytes}

@@ -1,4 +1,4 @@
-use Rattle.std.specs.Prelude.{◌≡◌, ℕ, Bool, true, false, Option, Some, None}
+use Rattle.std.specs.Prelude.{◌≡◌, ℕ, Bool, false, Option, Some, None}
 use Rattle.std.specs.List.{list_any}
 use Rattle.pr_call.specs.Effects.{is_store, takes_memory}
 use Rattle.pr_call.specs.Requests.{request_in}

@@ -1,5 +1,4 @@
-use Rattle.std.proofs.Common.{◌≡◌, ◌∙◌, ℕ, Ok, Result, ap, arith, length, sym}
-use Rattle.pr_num.specs.Files.{FileTable}
+use Rattle.std.proofs.Common.{◌≡◌, ◌∙◌, ℕ, Ok, Result, ap, arith, length}
 use Rattle.std.proofs.lemmas.List.{length-take}
 use Rattle.pr_model.specs.Changes.{files_are, gives, space_is}
 use Rattle.pr_parts.specs.FileTransfers.{count_of, read_fd}

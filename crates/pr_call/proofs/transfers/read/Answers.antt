@@ -1,10 +1,9 @@
-use Rattle.std.proofs.Common.{◌≡◌, ℕ, true, Result, OnErr, [], ◌∷◌, refl, ap, subst, sym, ◌∙◌}
+use Rattle.std.proofs.Common.{◌≡◌, ℕ, true, Result, OnErr, [], ◌∷◌, refl, subst, sym, ◌∙◌}
 use Rattle.std.specs.Option.{ForSome}
 use Rattle.pr_model.specs.Changes.{files_are, space_is}
 use Rattle.pr_model.specs.FileCallRows.{read_effect}
 use Rattle.pr_model.specs.State.{TracedProcess, live_process}
-use Rattle.pr_call.specs.Effects.{gives_bytes, outcome_of}
-use Rattle.pr_call.specs.FileAnswers.{answer_meant}
+use Rattle.pr_call.specs.Effects.{gives_bytes}
 use Rattle.pr_call.specs.declared.answers.Refusal.{Refusal}
 use Rattle.pr_call.proofs.FilingLemmas.{both-done, done-outcome, found-live, lacking-kept, live-put, on_err, on_err_refl}
 use Rattle.pr_call.proofs.transfers.read.Goals as goal
