@@ -9,8 +9,8 @@ ghost use Rattle.own_tracer.specs.Telling.{EndsAs, CameOf, IsUnread, WasRead, en
 use crate::faults::Faults;
 use crate::running::run;
 use crate::statuses::Status;
+use pr_actors::kern_of;
 use pr_io::{ReadEnd, Sink, Source, read_all};
-use pr_kern::Kern;
 use pr_model::History;
 use pr_num::limits::SCENARIO_LIMIT;
 use pr_num::{Bytes, NoMemory};
@@ -22,19 +22,12 @@ use std::alloc::Global;
 const PID: u32 = 1;
 
 /// The history of a scenario's programs, which run beside the injector. Its controllers and its schedule are left out.
-#[tactic(auto, using(crate::proofs::ScenarioLemmas::scenarios))]
 fn history_of(alloc: Global, scenario: Scenario) -> Result<History, NoMemory>
     requires limits { IsWithinLimits scenario }
     ensures { IfOk result (λ history. IsHistoryOf scenario history.entries) }
 {
-    let Scenario {
-        turns,
-        programs,
-        files,
-        spawns,
-        ..
-    } = scenario;
-    let mut kern = Kern::new(alloc, programs, files, spawns.as_slice(), turns)?;
+    let turns = scenario.turns;
+    let mut kern = kern_of(alloc, scenario, turns)?;
     run(&mut kern, alloc, PID, Faults::new(2, 2))?;
     Ok(kern.into_history())
 }

@@ -19,7 +19,7 @@ use Rattle.pr_drive.specs.Alone.{IsPartOfRun, OnlyLetOthers}
 use Rattle.pr_drive.specs.Beside.{IsKeptBeside}
 use Rattle.pr_drive.specs.Going.{SeatsState}
 use Rattle.pr_drive.specs.Inputs.{Asked, AskedInVain, FoundEnd, Input, Took, from_start}
-use Rattle.pr_drive.specs.Reports.{reports_from}
+use Rattle.pr_actors.specs.Reports.{reports_from}
 use Rattle.pr_drive.specs.Rounds.{FinishesRound, GoesBySchedule, RoundsState, first_controllers}
 use Rattle.pr_drive.specs.Sessions.{AnsweredAll, AnsweredSome, AnsweredUnread, IsHistoryFrom, Stand}
 use Rattle.pr_drive.specs.Starts.{first_seats}

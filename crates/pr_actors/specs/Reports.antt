@@ -6,7 +6,7 @@ use Rattle.pr_output.specs.declared.reports.Report.{Report}
 use Rattle.pr_world.specs.Controllers.{printed}
 use Rattle.pr_world.specs.ControllerStates.{ControllerState, Script, Truss, FnTruss, Tool, Gcore, Probe}
 
--- What the controllers of a scenario print at the end of a session.
+-- What controllers print.
 
 -- who prints, if it is no script
 unfoldable pub printer_of : ControllerState → Option Printer

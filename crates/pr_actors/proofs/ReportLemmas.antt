@@ -10,7 +10,7 @@ use Rattle.pr_output.specs.declared.reports.Printer.{Printer}
 use Rattle.pr_output.specs.declared.reports.Report.{Report}
 use Rattle.pr_world.specs.Controllers.{printed}
 use Rattle.pr_world.specs.ControllerStates.{ControllerState}
-use Rattle.pr_drive.specs.Reports.{printer_of, report_by, report_of, reports_from}
+use Rattle.pr_actors.specs.Reports.{printer_of, report_by, report_of, reports_from}
 
 -- one controller more
 reports-push : (programs : List Program) (n : ℕ) (cores : List ControllerState) (core : ControllerState)

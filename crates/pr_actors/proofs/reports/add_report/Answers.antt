@@ -1,5 +1,5 @@
-use Rattle.pr_drive.proofs.ReportLemmas.{report-none, report-some}
-use Rattle.pr_drive.proofs.reports.add_report.Goals as goal
+use Rattle.pr_actors.proofs.ReportLemmas.{report-none, report-some}
+use Rattle.pr_actors.proofs.reports.add_report.Goals as goal
 
 pub returns-in_default : goal.returns-in_default
 returns-in_default c = report-none c.args.programs.now c.args.number _ c.args.reports.now.items c.in_default.ensures

@@ -1,4 +1,4 @@
-//! The controllers of a scenario, before their first calls.
+//! The controllers of plans, before their first calls.
 ghost use Rattle.std.specs.Prelude.{◌≡◌, map, IfOk};
 ghost use Rattle.pr_run_laws.specs.ScenarioRuns.{controller_of, truss_of};
 ghost use Rattle.pr_truss.specs.Marks.{has_functions};
@@ -20,11 +20,10 @@ use std::alloc::Global;
 fn truss_of(alloc: Global, options: Options) -> Result<Controller, NoMemory>
     ensures { IfOk result (λ controller. state_of controller ≡ truss_of options (has_functions options)) }
 {
-    Ok(if options.functions.is_empty() {
-        Controller::Truss(Truss::new(alloc, options)?)
-    } else {
-        Controller::FnTruss(FnTruss::new(alloc, options)?)
-    })
+    if options.functions.is_empty() {
+        return Ok(Controller::Truss(Truss::new(alloc, options)?));
+    }
+    Ok(Controller::FnTruss(FnTruss::new(alloc, options)?))
 }
 
 /// The controller of a plan before its first call.
@@ -41,7 +40,7 @@ fn controller_of(alloc: Global, plan: Plan) -> Result<Controller, NoMemory>
     })
 }
 
-/// The controllers of plans before their first calls.
+/// The controllers of plans before their first calls, in order.
 pub fn controllers_of(alloc: Global, plans: Vec<Plan>) -> Result<Vec<Controller>, NoMemory>
     ensures { IfOk result (λ controllers. map state_of controllers.items ≡ map controller_of plans.items) }
 {

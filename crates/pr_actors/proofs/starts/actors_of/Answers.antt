@@ -1,10 +1,10 @@
-use Rattle.std.proofs.Common.{rules, ◌≤◌, List, ℕ, sym, subst}
+use Rattle.std.proofs.Common.{◌≤◌, List, ℕ, sym, subst}
 use Rattle.std.specs.List.{slice_get, sum_by}
 use Rattle.pr_model.specs.FirstState.{size_at_start}
 use Rattle.pr_num.specs.Limits.{all_mappings_limit}
 use Rattle.pr_scen.specs.Scenarios.{IsWithinLimits}
-use Rattle.pr_commands.proofs.RunLemmas.{spawns-map}
-use Rattle.pr_commands.proofs.hidings.kern_of.Goals as goal
+use Rattle.pr_actors.proofs.ScenarioLemmas.{spawns-map}
+use Rattle.pr_actors.proofs.starts.actors_of.Goals as goal
 
 pub new-requires-clause-mapped : goal.new-requires-clause-mapped
 new-requires-clause-mapped c =
