@@ -1,4 +1,5 @@
 use Rattle.std.specs.Prelude.{◌≡◌, ◌≤◌, ◌⊎◌, ℕ, false, List, [], Option, Ok, Err, length}
+use Rattle.pr_ends.specs.Ends.{Ends}
 use Rattle.pr_io.specs.Faults.{Rose}
 use Rattle.pr_io.specs.Known.{with_end}
 use Rattle.pr_io.specs.Reading.{Came, CameAbove, CameWithin, ReadsAll}
@@ -68,22 +69,6 @@ CameOf WriteFailed s old new before after = TellsSo s (AppendsFront old new) × 
 CameOf OutOfMemory s old new before after = ((new ≡ old) ⊎ TellsSo s (AppendsSome old new)) × (after ≡ before)
 
 -- ---- the program
-
--- What the source and the sink tell at one moment.
-pub record Ends : Type 0 where
-  pub left : Option (List ℕ)
-  pub read_faults : ℕ
-  pub written : Option (List ℕ)
-  pub write_faults : ℕ
-
--- what a source and a sink tell, by what each of them tells
-abbrev pub ends_of : {S K : Type 0} → (S → Option (List ℕ)) → (S → ℕ) → (K → Option (List ℕ)) → (K → ℕ) → S → K → Ends
-ends_of left read_faults written write_faults source sink = record {
-  left = left source;
-  read_faults = read_faults source;
-  written = written sink;
-  write_faults = write_faults sink;
-}
 
 -- No scenario was read, and nothing was written.
 pub record IsRefusal (status : Status) (old new : Ends) : Type 0 where

@@ -1,10 +1,11 @@
 //! The program: a scenario is read, and the history of its run beside the injector is written.
 ghost use Rattle.std.specs.Prelude.{◌≡◌, ◌≤◌, length, IfErr, IfOk, OnOk};
+ghost use Rattle.pr_ends.specs.Ends.{ends_of};
 ghost use Rattle.pr_io.specs.Reading.{ReadsAll};
 ghost use Rattle.pr_num.specs.Limits.{scenario_limit};
 ghost use Rattle.pr_scen.specs.Scenarios.{IsWithinLimits};
 ghost use Rattle.own_tracer.specs.Running.{IsHistoryOf};
-ghost use Rattle.own_tracer.specs.Telling.{EndsAs, CameOf, IsUnread, WasRead, ends_of};
+ghost use Rattle.own_tracer.specs.Telling.{EndsAs, CameOf, IsUnread, WasRead};
 
 use crate::faults::Faults;
 use crate::running::run;

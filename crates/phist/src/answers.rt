@@ -5,10 +5,10 @@ ghost use Rattle.pr_output.specs.Output.{refusal_text};
 ghost use Rattle.pr_plain.specs.EntryReading.{history_of};
 ghost use Rattle.phist.specs.Answers.{IsAnswerStatus, answer_alone, answer_at, answer_of, answer_to, answer_to_text, begins_history, drawn_or, in_words, refused_at, shown, shown_text, spelled, spelled_or};
 
-use crate::inputs::Unread;
 use crate::sources::names_of;
 use crate::statuses::Status;
 use crate::words::Work;
+use pr_ends::Unread;
 use pr_hist::{Names, bytes_of_line, chart_of, selected_text, text_of, write_hex_bytes};
 use pr_input::{Mark, kind_name, lines_above};
 use pr_model::History;

@@ -1,16 +1,18 @@
 //! A history, told from the source to the sink.
 ghost use Rattle.std.specs.Prelude.{◌≡◌, ◌≢◌, Err, IfOk};
+ghost use Rattle.pr_ends.specs.Ends.{ends_of};
 ghost use Rattle.pr_io.specs.Faults.{Rose};
 ghost use Rattle.pr_io.specs.Reading.{CameWithin};
 ghost use Rattle.pr_num.specs.Limits.{checked_limit};
 ghost use Rattle.phist.specs.Answers.{Answers, IsAnswerStatus, usage_line};
-ghost use Rattle.phist.specs.Telling.{EndsAs, Gives, IsExplained, SpellsLine, TellsHistory, ends_of};
+ghost use Rattle.phist.specs.Telling.{EndsAs, Gives, IsExplained, SpellsLine, TellsHistory};
 
 use crate::answers::{Answer, answer_to, spelled};
-use crate::inputs::{Unread, take_input};
 use crate::statuses::Status;
 use crate::words::Work;
+use pr_ends::{Unread, take_input};
 use pr_io::{Sink, Source, write_all};
+use pr_num::limits::CHECKED_LIMIT;
 use std::alloc::Global;
 
 /// How the program is called.
@@ -44,7 +46,7 @@ fn answer_source<S: Source>(alloc: Global, work: &Work, source: &mut S) -> Resul
         → CameWithin checked_limit (S.left source.old) (S.left source.new) }
     ensures no_fault { result ≢ Err Unread.Failed → S.faults source.new ≡ S.faults source.old }
 {
-    let input = take_input(alloc, source)?;
+    let input = take_input(alloc, source, CHECKED_LIMIT)?;
     answer_to(alloc, work, input)
 }
 

@@ -2,6 +2,8 @@
 use Rattle.std.proofs.Common.{◌≡◌, ◌≤◌, ◌⊎◌, inl, inr, ⊎_elim, ℕ, Bool, true, false, ◌&&◌, List, [], Option, Some, None, is_some, Result, Ok, Err, IfOk, IfSome, OnErr, OnOk, length, nat_lt, refl, sym, ◌∙◌, ap, subst, arith}
 use borrow.Author.Tests.{ltb-false}
 use Rattle.pr_api.specs.Views.{IsLawful}
+use Rattle.pr_ends.specs.Ends.{Ends}
+use Rattle.pr_ends.specs.Inputs.{Took}
 use Rattle.pr_model.specs.declared.events.Actor.{Actor}
 use Rattle.pr_model.specs.declared.events.Entry.{Entry}
 use Rattle.pr_num.specs.Limits.{scenario_limit}
@@ -26,9 +28,9 @@ use Rattle.pr_commands.specs.Answers.{Answer, IsEndOf, MayAnswer, MayAnswerRead,
 use Rattle.pr_commands.specs.Ends.{EndsAs}
 use Rattle.pr_commands.specs.Giving.{IsCutShort, RanOutLate, Responds, RespondsOne, StopsEarly}
 use Rattle.pr_commands.specs.Histories.{HistoryIsKept, IsLedTo, IsMadeByThreads, RanOutEarly, by_threads}
-use Rattle.pr_commands.specs.Inputs.{Took, scenario_of_input, taken_of}
+use Rattle.pr_commands.specs.Inputs.{scenario_of_input, taken_of}
 use Rattle.pr_commands.specs.Made.{LeftWith, StoppedThreads}
-use Rattle.pr_commands.specs.Rows.{Ends, EndsRun, EndsUnsaid, GivesOne, OneRanOut, RanOutAfter, RanOutReading, Reads, TellsEndOfOne, WouldEnd}
+use Rattle.pr_commands.specs.Rows.{EndsRun, EndsUnsaid, GivesOne, OneRanOut, RanOutAfter, RanOutReading, Reads, TellsEndOfOne, WouldEnd}
 use Rattle.pr_commands.specs.Statuses.{IsWhole}
 use Rattle.pr_commands.specs.declared.commands.Showing.{Showing}
 use Rattle.pr_commands.specs.declared.outcomes.Status.{Status}

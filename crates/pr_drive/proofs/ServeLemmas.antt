@@ -1,6 +1,7 @@
 use Rattle.std.proofs.Common.{◌≡◌, ◌≢◌, ◌⊎◌, inl, inr, ℕ, Bool, List, [], Option, Result, Ok, Err}
 use Rattle.std.proofs.Common.{refl, sym, ap, subst}
 use Rattle.std.specs.Result.{IsErrOf}
+use Rattle.pr_ends.specs.Ends.{Ends}
 use Rattle.pr_input.specs.Kinds.{kind_name}
 use Rattle.pr_io.specs.Faults.{Rose}
 use Rattle.pr_output.specs.Output.{AppendsSome, refusal_text}
@@ -9,7 +10,7 @@ use Rattle.pr_scen.specs.Refusals.{ScenFault}
 use Rattle.pr_drive.specs.Going.{SeatsState}
 use Rattle.pr_drive.specs.Inputs.{Input, from_start}
 use Rattle.pr_drive.specs.Rounds.{RoundsState}
-use Rattle.pr_drive.specs.Served.{AnsweredLines, CutAbove, CutsEnd, Drove, Ends}
+use Rattle.pr_drive.specs.Served.{AnsweredLines, CutAbove, CutsEnd, Drove}
 use Rattle.pr_drive.specs.Served.{IsWhole, UnreadAbove, WasUnread}
 use Rattle.pr_drive.specs.Served.{Opened, OpensAs, RefusedText, RefusedWhole, TellsEnd, TellsRefusal, WasCut, WasCutOff}
 use Rattle.pr_drive.specs.Served.{WasDriven, WasEnded}

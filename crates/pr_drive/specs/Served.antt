@@ -2,6 +2,7 @@ use Rattle.std.specs.Prelude.{◌≡◌, ◌≢◌, ◌≤◌, ◌<◌, ◌+◌,
 use Rattle.std.specs.Prelude.{Ok, Err, codes, length, All}
 use Rattle.std.specs.List.{flat_map}
 use Rattle.std.specs.Str.{bytes_eq}
+use Rattle.pr_ends.specs.Ends.{Ends}
 use Rattle.pr_input.specs.Kinds.{kind_name}
 use Rattle.pr_io.specs.Faults.{Rose}
 use Rattle.pr_io.specs.Known.{with_end}
@@ -150,13 +151,6 @@ OpensAs (opening.Refused fault) old new = RefusedText fault old new ⊎ RefusedW
 
 -- ---- a session
 
--- What the source and the sink tell at one moment.
-pub record Ends : Type 0 where
-  pub left : Option (List ℕ)
-  pub read_faults : ℕ
-  pub written : Option (List ℕ)
-  pub write_faults : ℕ
-
 -- what is written at the end of a session
 abbrev pub end_text : Bool → SeatsState → Status → List ℕ
 end_text quiet s status =
@@ -304,17 +298,6 @@ pub record UnreadBehind (old new : Ends) : Type 0 where
 -- whenever more is read of the source than up to the end of a line, all that is to be written for those is written.
 abbrev pub WasUnread : Ends → Ends → Type 0
 WasUnread old new = UnreadBefore old new ⊎ UnreadBehind old new
-
--- what a source and a sink tell, by what each of them tells
-abbrev pub ends_of : {S K : Type 0} → (S → Option (List ℕ)) → (S → ℕ) → (K → Option (List ℕ)) → (K → ℕ) → S → K → Ends
-ends_of left read_faults written write_faults source sink =
-    record {
-      left = left source;
-      read_faults = read_faults source;
-      written = written sink;
-      write_faults = write_faults
-          sink;
-    }
 
 -- Nothing failed.
 pub record IsWhole (status : Status) : Type 0 where

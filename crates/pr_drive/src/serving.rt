@@ -1,10 +1,11 @@
 //! Sessions from a source to a sink.
 ghost use Rattle.std.specs.Prelude.{◌≡◌, ◌≢◌, Err, IfOk, IsErrOf, OnErr};
 ghost use Rattle.pr_drive.specs.Served.{CutsEnd, Drove, EndsWith, TellsEnd, TellsRefusal, WasCut, WasCutOff, WasDriven};
-ghost use Rattle.pr_drive.specs.Served.{WasEnded, WasUnread, ends_of, usage_line};
+ghost use Rattle.pr_drive.specs.Served.{WasEnded, WasUnread, usage_line};
 ghost use Rattle.pr_drive.specs.Sessions.{AnsweredUnread};
 ghost use Rattle.pr_drive.specs.Statuses.{CountsFaults};
 ghost use Rattle.pr_drive.specs.declared.ends.Status.TheVariants.{OutOfMemory, ReadFailed, Usage, WriteFailed};
+ghost use Rattle.pr_ends.specs.Ends.{ends_of};
 ghost use Rattle.pr_input.specs.Kinds.{kind_name};
 ghost use Rattle.pr_io.specs.Known.{with_end};
 ghost use Rattle.pr_io.specs.Writing.{AppendsFront};

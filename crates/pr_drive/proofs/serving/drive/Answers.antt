@@ -1,6 +1,6 @@
 use Rattle.std.proofs.Common.{refl}
 use Rattle.std.proofs.lemmas.Result.{IfOk-weaker, on_err_weaker}
-use Rattle.pr_drive.specs.Served.{ends_of}
+use Rattle.pr_ends.specs.Ends.{ends_of}
 use Rattle.pr_drive.proofs.InputLemmas.{input}
 use Rattle.pr_drive.proofs.ServeLemmas.{opened-as, refused-as, refused-cut, refused-told, went-cut, went-on}
 use Rattle.pr_drive.proofs.serving.drive.Goals as goal

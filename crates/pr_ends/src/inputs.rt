@@ -1,16 +1,14 @@
-//! The reading of the input.
+//! The reading of an input.
 ghost use Rattle.std.specs.Prelude.{◌≡◌, ◌≢◌, ◌≤◌, length, IfOk, IfSome, Err};
+ghost use Rattle.pr_ends.specs.Inputs.{Took};
 ghost use Rattle.pr_io.specs.Faults.{Rose};
-ghost use Rattle.pr_io.specs.Reading.{CameWithin};
-ghost use Rattle.pr_num.specs.Limits.{checked_limit};
-ghost use Rattle.phist.specs.Answers.{Took};
+ghost use Rattle.pr_io.specs.Reading.{Came, CameWithin};
 
 use pr_io::{ReadEnd, Source, read_all};
-use pr_num::limits::CHECKED_LIMIT;
 use pr_num::{Bytes, NoMemory};
 use std::alloc::Global;
 
-/// Why an input was not answered.
+/// Why an input was not read, or not answered.
 #[derive(Clone, Copy, Debug, PartialEq, Eq)]
 pub enum Unread {
     /// A read failed.
@@ -19,7 +17,7 @@ pub enum Unread {
 }
 
 impl From<NoMemory> for Unread {
-    ghost use Rattle.phist.specs.declared.inputs.Unread.TheVariants as variants;
+    ghost use Rattle.pr_ends.specs.declared.inputs.Unread.TheVariants as variants;
 
     ghost from_gives = { λ _ e. e ≡ variants.NoMemory };
 
@@ -28,16 +26,20 @@ impl From<NoMemory> for Unread {
     }
 }
 
-/// Reads the input to its end; `None` where it has more bytes than it may have.
-pub fn take_input<S: Source>(alloc: Global, source: &mut S) -> Result<Option<Bytes>, Unread>
-    ensures took { IfOk result (λ input. Took checked_limit (S.left source.old) (S.left source.new) input) }
-    ensures small { IfOk result (λ input. IfSome input (λ bytes. length bytes ≤ checked_limit)) }
+/// Reads an input to its end; `None` where it has more bytes than the limit.
+pub fn take_input<S: Source>(
+    alloc: Global,
+    source: &mut S,
+    limit: usize,
+) -> Result<Option<Bytes>, Unread>
+    ensures took { IfOk result (λ input. Took limit (S.left source.old) (S.left source.new) input) }
+    ensures small { IfOk result (λ input. IfSome input (λ bytes. length bytes ≤ limit)) }
     ensures failed { result ≡ Err Unread.Failed → Rose (S.faults source.old) (S.faults source.new) }
-    ensures failed_within { result ≡ Err Unread.Failed
-        → CameWithin checked_limit (S.left source.old) (S.left source.new) }
+    ensures failed_within { result ≡ Err Unread.Failed → CameWithin limit (S.left source.old) (S.left source.new) }
+    ensures out_of_memory { result ≡ Err Unread.NoMemory → Came (S.left source.old) (S.left source.new) }
     ensures no_fault { result ≢ Err Unread.Failed → S.faults source.new ≡ S.faults source.old }
 {
-    match read_all(alloc, source, CHECKED_LIMIT) {
+    match read_all(alloc, source, limit) {
         Ok(bytes) => Ok(Some(bytes)),
         Err(ReadEnd::TooLong) => Ok(None),
         Err(ReadEnd::Failed) => Err(Unread::Failed),

@@ -2,7 +2,7 @@ use Rattle.std.proofs.Common.{rules}
 use Rattle.std.specs.Vec.Iter.{into_iter_items}
 use Rattle.std.proofs.lemmas.Iterator.{items_from_collect}
 use Rattle.std.proofs.lemmas.Iterator.Adapters.{YieldsList-from_vec, YieldsList-from_skip}
-use Rattle.proclab.proofs.words_after_name.Goals as goal
+use Rattle.pr_ends.proofs.words.words_after_name.Goals as goal
 
 pub returns : goal.returns
 returns c =
