@@ -1,4 +1,4 @@
-use Rattle.std.specs.Prelude.{◌≡◌, ◌≤◌, ◌⊎◌, ℕ, false, List, [], Option, Ok, Err, length}
+use Rattle.std.specs.Prelude.{◌≡◌, ◌≤◌, ◌⊎◌, ℕ, List, [], Option, Ok, Err, length}
 use Rattle.pr_ends.specs.Ends.{Ends}
 use Rattle.pr_io.specs.Faults.{Rose}
 use Rattle.pr_io.specs.Known.{with_end}
@@ -7,6 +7,7 @@ use Rattle.pr_io.specs.Writing.{AppendsFront}
 use Rattle.pr_model.specs.declared.events.Entry.{Entry}
 use Rattle.pr_num.specs.Limits.{scenario_limit}
 use Rattle.pr_output.specs.Output.{AppendsSome, run_text}
+use Rattle.pr_output.specs.declared.runs.Showing.TheVariants.{Whole}
 use Rattle.pr_scen.specs.Reading.{scenario_of}
 use Rattle.pr_scen.specs.Refusals.{ScenFault}
 use Rattle.pr_scen.specs.Scenarios.{Scenario}
@@ -56,7 +57,7 @@ IsUnread OutOfMemory left now before after = (Came left now ⊎ WasTaken left no
 pub record TellsSo (s : Scenario) (Came : List ℕ → Type 0) : Type 0 where
   pub history : List Entry
   pub is : IsHistoryOf s history
-  pub came : Came (run_text false history [] 0)
+  pub came : Came (run_text Whole history [] 0)
 
 -- What came of a scenario, a row for each status: the text of a history of it was written; a write failed, and a prefix
 -- of such a text was written that lacks some bytes; or memory ran out, before anything was written or after a prefix.

@@ -15,7 +15,7 @@ use pr_io::{ReadEnd, Sink, Source, read_all};
 use pr_model::History;
 use pr_num::limits::SCENARIO_LIMIT;
 use pr_num::{Bytes, NoMemory};
-use pr_output::{Cut, write_run};
+use pr_output::{Cut, Showing, write_run};
 use pr_scen::{ScenRefusal, Scenario, read_scenario};
 use std::alloc::Global;
 
@@ -42,7 +42,7 @@ fn tell<K: Sink>(alloc: Global, scenario: Scenario, sink: &mut K) -> Status
     let Ok(history) = history_of(alloc, scenario) else {
         return Status::OutOfMemory;
     };
-    match write_run(alloc, sink, false, &history, &[], 0) {
+    match write_run(alloc, sink, Showing::Whole, &history, &[], 0) {
         Ok(()) => Status::Done,
         Err(Cut::WriteFailed) => Status::WriteFailed,
         Err(Cut::NoMemory) => Status::OutOfMemory,

@@ -103,7 +103,7 @@ unfoldable pub spelled : List ℕ → Answered
 spelled line = spelled_or (bytes_of_line line)
 
 -- how the program is called
-unfoldable pub usage_line : List ℕ
+abbrev pub usage_line : List ℕ
 usage_line = codes "usage: phist [lanes [-w WIDTH] | svg] [-v] [-p PID | -c K | -l P/L] [-n FROM-TO] | bytes TEXT\n"
 
 unfoldable pub explained : Answered

@@ -4,7 +4,7 @@ ghost use Rattle.pr_ends.specs.Ends.{ends_of};
 ghost use Rattle.pr_io.specs.Faults.{Rose};
 ghost use Rattle.pr_io.specs.Reading.{CameWithin};
 ghost use Rattle.pr_num.specs.Limits.{checked_limit};
-ghost use Rattle.phist.specs.Answers.{Answers, IsAnswerStatus, usage_line};
+ghost use Rattle.phist.specs.Answers.{Answers, IsAnswerStatus};
 ghost use Rattle.phist.specs.Telling.{EndsAs, Gives, IsExplained, SpellsLine, TellsHistory};
 
 use crate::answers::{Answer, answer_to, spelled};
@@ -15,13 +15,9 @@ use pr_io::{Sink, Source, write_all};
 use pr_num::limits::CHECKED_LIMIT;
 use std::alloc::Global;
 
-/// How the program is called.
-#[tactic(auto, unfolding(crate::specs::Answers::usage_line))]
-fn usage_line() -> &'static [u8]
-    ensures { result.now ≡ usage_line }
-{
-    b"usage: phist [lanes [-w WIDTH] | svg] [-v] [-p PID | -c K | -l P/L] [-n FROM-TO] | bytes TEXT\n"
-}
+/// What is told of words that ask for nothing.
+const USAGE: &[u8] =
+    b"usage: phist [lanes [-w WIDTH] | svg] [-v] [-p PID | -c K | -l P/L] [-n FROM-TO] | bytes TEXT\n";
 
 /// Writes a text, and ends with a status. Takes no memory.
 fn put<K: Sink>(sink: &mut K, text: &[u8], status: Status) -> Status
@@ -69,7 +65,7 @@ fn explain<S: Source, K: Sink>(source: &mut S, sink: &mut K) -> Status
         (ends_of S.left S.faults K.written K.faults source.new sink.new) result }
 {
     let _ = source;
-    put(sink, usage_line(), Status::Usage)
+    put(sink, USAGE, Status::Usage)
 }
 
 /// Writes the bytes that a line spells, in hex.

@@ -19,7 +19,7 @@ use Rattle.pr_commands.specs.Giving.{IsGiven, IsCutShort, RanOutLate, Responds}
 use Rattle.pr_commands.specs.Histories.{IsLedTo, Making, RanOutEarly, by_threads, in_rounds, no_run}
 use Rattle.pr_commands.specs.Inputs.{scenario_of_input, taken_of}
 use Rattle.pr_commands.specs.Statuses.{IsWhole, number}
-use Rattle.pr_commands.specs.declared.commands.Showing.{Showing}
+use Rattle.pr_output.specs.declared.runs.Showing.{Showing}
 use Rattle.pr_commands.specs.declared.commands.Work.{Work}
 use Rattle.pr_commands.specs.declared.commands.Work.TheVariants.{Checks, Explains, Generates, Runs, Shares, ShowsCore, Strips}
 use Rattle.pr_commands.specs.declared.outcomes.Status.{Status}

@@ -9,7 +9,7 @@ ghost use Rattle.pr_commands.specs.Histories.{HistoryIsKept, by_threads, in_roun
 ghost use Rattle.pr_commands.specs.Rows.{DoesWork, EndsBy, IsThe, Reads, making_of, reads_nothing, row_of};
 
 use crate::answers::{explain, generate};
-use crate::commands::{Showing, Work};
+use crate::commands::Work;
 use crate::core_inputs::CORE_LIMIT;
 use crate::cores::show_core;
 use crate::judgements::judge_input;
@@ -21,6 +21,7 @@ use pr_ends::{Unread, take_input};
 use pr_io::{Gate, Sink, Source};
 use pr_model::ToolKind;
 use pr_num::limits::{CHECKED_LIMIT, SCENARIO_LIMIT};
+use pr_output::Showing;
 use std::alloc::Global;
 use std::sync::Wait;
 use std::thread::Threads;
