@@ -1,4 +1,4 @@
-use Rattle.std.specs.Prelude.{◌++◌, ℕ, List, Option, Some, None, Result, Ok, Err, codes, slice_get, length, ◌-◌}
+use Rattle.std.specs.Prelude.{◌++◌, ℕ, List, Option, Some, Result, Ok, Err, codes, slice_get, length, ◌-◌}
 use Rattle.pr_model.specs.declared.calls.Reply.TheVariants.{Handle}
 use Rattle.pr_scen.specs.Reading.{scenario_of}
 use Rattle.pr_scen.specs.Scenarios.{Scenario}

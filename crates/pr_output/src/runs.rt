@@ -84,5 +84,12 @@ pub fn write_run<K: Sink>(
     ensures { Puts result (K.written sink.old) (K.written sink.new) (K.faults sink.old) (K.faults sink.new)
         (run_text showing history.now.entries reports.now status) }
 {
-    put_run(&mut Vec::new(alloc), sink, showing, history, reports, status)
+    put_run(
+        &mut Vec::new(alloc),
+        sink,
+        showing,
+        history,
+        reports,
+        status,
+    )
 }

@@ -8,14 +8,14 @@ pub returns-in-Quiet : goal.returns-in-Quiet
 unfolding shown_history history_text
 returns-in-Quiet g c = rw c.in-Quiet.is (Puts-none _ _)
 
-pub returns-in-Whole-in_err-put_heading : goal.returns-in-Whole-in_err-put_heading
+pub returns-in_err-put_heading-in-Whole : goal.returns-in_err-put_heading-in-Whole
 unfolding shown_history history_text
-returns-in-Whole-in_err-put_heading g c =
-    let cut = rw c.len.ensures at c.in_err-put_heading.ensures in
+returns-in_err-put_heading-in-Whole g c =
+    let cut = rw c.len.ensures at c.in_err-put_heading-in-Whole.ensures in
     rw c.in-Whole.is (Puts-cut _ _ _ _ _ _ _ _ (search rules) cut)
 
-pub returns-in-Whole : goal.returns-in-Whole
+pub returns-in_ok-put_heading-in-Whole : goal.returns-in_ok-put_heading-in-Whole
 unfolding shown_history history_text
-returns-in-Whole g c =
-    let heading = rw c.len.ensures at c.in_ok-put_heading.ensures in
+returns-in_ok-put_heading-in-Whole g c =
+    let heading = rw c.len.ensures at c.in_ok-put_heading-in-Whole.ensures in
     rw c.in-Whole.is (Puts-second _ _ _ _ _ _ _ _ _ heading.all (heading.no_fault (λ is. cc)) c.put_entries.ensures)
