@@ -1,5 +1,5 @@
 -- What the program answers to an input, where nothing fails.
-use Rattle.std.specs.Prelude.{◌≡◌, ◌==◌, ◌≤◌, ◌⊎◌, ℕ, Bool, List, [], ◌++◌, Option, Some, None, Result, Ok, Err, codes, length, take, if◌then◌else◌}
+use Rattle.std.specs.Prelude.{◌≡◌, ◌==◌, ◌⊎◌, ℕ, Bool, List, [], ◌++◌, Option, Some, None, Result, Ok, Err, codes, take, if◌then◌else◌}
 use Rattle.std.specs.List.{starts_with}
 use Rattle.pr_ends.specs.Inputs.{Took}
 use Rattle.pr_hist.specs.Drawings.{chart_of}
