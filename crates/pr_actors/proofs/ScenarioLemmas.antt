@@ -1,5 +1,5 @@
 -- A kernel takes what a scenario has within its limits, and a world its controllers.
-use Rattle.std.proofs.Common.{◌≡◌, ◌≤◌, ◌+◌, ℕ, true, List, length, map, sym, ◌∙◌, ap, arith}
+use Rattle.std.proofs.Common.{◌≡◌, ◌≤◌, ◌+◌, true, List, length, map, sym, ◌∙◌, ap, arith}
 use Rattle.std.specs.List.{slice_get, sum_by}
 use Rattle.std.proofs.lemmas.List.{length-map}
 use Rattle.pr_kern.specs.Starts.{stored}

@@ -1,4 +1,6 @@
+use Rattle.std.proofs.Common.{◌∙◌, ap}
 use Rattle.pr_kern.specs.Starts.{stored}
+use Rattle.pr_scen.specs.Scenarios.{Scenario}
 use Rattle.own_tracer.proofs.RunLemmas.{first-holds, first-stands}
 use Rattle.own_tracer.proofs.ScenarioLemmas.{history-is}
 use Rattle.own_tracer.proofs.telling.history_of.Goals as goal
@@ -14,5 +16,6 @@ run-requires-clause-stands c =
 pub returns : goal.returns
 returns c =
     let made = c.in_ok-kern.ensures in
+    let places = made.places ∙ ap (λ (s : Scenario). s.turns) c.scenario.view_is in
     history-is c.args.scenario c.in_ok-kern.kern c.run.new.kern c.into_history.result.entries c.new.result
-    c.new.ensures made.state made.history made.places c.in_ok-run.ensures c.into_history.ensures
+    c.new.ensures made.state made.history places c.in_ok-run.ensures c.into_history.ensures
