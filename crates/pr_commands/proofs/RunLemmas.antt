@@ -42,7 +42,8 @@ first-seen s w state history places controllers schedule last =
 
 -- The world that is made of a kernel and the parts of a scenario is its first world.
 pub first-made : (r : Result (WorldOf Kernel) NoMemory) (s : Scenario) (k : Kernel) (controllers : List ControllerState)
-    (schedule : List Actor) → k.state ≡ first_state_of s → k.history ≡ [] → k.places ≡ s.turns → controllers ≡ controllers_of s → schedule ≡ s.schedule
+    (schedule : List Actor) → k.state ≡ first_state_of s → k.history ≡ [] → k.places ≡ s.turns
+    → controllers ≡ controllers_of s → schedule ≡ s.schedule
     → IfOk r
     (λ world. world
     ≡ record { kernel = k; controllers = controllers; schedule = schedule; last = None; made = false })

@@ -18,7 +18,13 @@ pub fn reports_of(alloc: Global, world: &World<Kern>) -> Result<Vec<Report>, NoM
     let mut reports = Vec::new(alloc);
     for number in 0..world.controllers() {
         let controller = world.controller(number);
-        add_report(alloc, world.kernel().programs(), number, controller, &mut reports)?;
+        add_report(
+            alloc,
+            world.kernel().programs(),
+            number,
+            controller,
+            &mut reports,
+        )?;
     }
     Ok(reports)
 }

@@ -64,8 +64,8 @@ lines-answered old left above first begun end replies opened left_is all =
       alone = alone-runs s above (stand begun first) end old.written replies all opened.opened.begins;
     }
 
-pub session-told : (showing : Showing) (old new : Ends) (status : Status) (above : ℕ) (first : RoundsState) (begun : Input)
-    (end : Stand) (replies : Option (List ℕ)) → Opened above first (from_start old.left) begun
+pub session-told : (showing : Showing) (old new : Ends) (status : Status) (above : ℕ) (first : RoundsState)
+    (begun : Input) (end : Stand) (replies : Option (List ℕ)) → Opened above first (from_start old.left) begun
     → new.left ≡ end.input.left → AnsweredAll above (stand begun first) end old.written replies
     → TellsEnd showing end.rounds.seats status replies new.written → WasDriven showing old new status
 session-told showing old new status above first begun end replies opened left_is all told =
@@ -104,8 +104,8 @@ lines-unread old new above first begun opened unread =
     inr (record { above = above; begun = stand begun first; opened = opened; answered = unread })
 
 -- above the mark
-pub cut-before : (showing : Showing) (held : List ℕ) (old new : Ends) → held ≡ [] → CutAbove (input held old.left) new.left
-    → new.written ≡ old.written → WasCut showing old new
+pub cut-before : (showing : Showing) (held : List ℕ) (old new : Ends) → held ≡ []
+    → CutAbove (input held old.left) new.left → new.written ≡ old.written → WasCut showing old new
 cut-before showing held old new none cut same =
     inl (record {
       above = subst (λ (x : List ℕ). CutAbove (input x old.left) new.left) none cut;
@@ -159,7 +159,8 @@ refused-as held left begun o fault is none h = subst (λ (x : Opening). OpensAs 
 
 pub went-on : (showing : Showing) (old new : Ends) (status : Status) (above : ℕ) (first : RoundsState) (begun : Input)
     → Opened above first (from_start old.left) begun
-    → WasEnded showing above (stand begun first) new.left old.written new.written status → WasDriven showing old new status
+    → WasEnded showing above (stand begun first) new.left old.written new.written status
+    → WasDriven showing old new status
 went-on showing old new status above first begun opened h = session-told showing old new status above first begun h.end
     h.replies opened h.left_is h.answered h.told
 
@@ -167,8 +168,8 @@ pub went-cut : (showing : Showing) (old new : Ends) (above : ℕ) (first : Round
     → Opened above first (from_start old.left) begun
     → WasCutOff showing above (stand begun first) new.left old.written new.written → WasCut showing old new
 went-cut showing old new above first begun opened (inl some) = lines-cut showing old new above first begun opened some
-went-cut showing old new above first begun opened (inr behind) = session-cut showing old new above first begun behind.end
-    behind.replies opened behind.left_is behind.answered behind.cut
+went-cut showing old new above first begun opened (inr behind) = session-cut showing old new above first begun
+    behind.end behind.replies opened behind.left_is behind.answered behind.cut
 
 -- ---- statuses
 
@@ -179,7 +180,8 @@ ends-whole s Spent h = record { read = λ e. cc; wrote = λ e. cc; had_memory = 
 ends-whole s Stuck h = record { read = λ e. cc; wrote = λ e. cc; had_memory = λ e. cc }
 ends-whole s _ h = absurd h
 
-driven-whole : (showing : Showing) (old new : Ends) (status : Status) → WasDriven showing old new status → IsWhole status
+driven-whole : (showing : Showing) (old new : Ends) (status : Status) → WasDriven showing old new status
+    → IsWhole status
 driven-whole showing old new status (inl refused) =
     subst IsWhole (sym refused.told.status_is) (record { read = λ e. cc; wrote = λ e. cc; had_memory = λ e. cc })
 driven-whole showing old new status (inr told) = ends-whole told.last status told.told.ends
@@ -207,7 +209,8 @@ pub held-whole : (showing : Showing) (old new : Ends) (status : Status) → WasD
     → (◌≢◌ {A = Result Status CutOff} (Ok status) (Err cut.ReadFailed) → new.read_faults ≡ old.read_faults)
     → (◌≢◌ {A = Result Status CutOff} (Ok status) (Err cut.WriteFailed) → new.write_faults ≡ old.write_faults)
     → Drove showing old new status
-held-whole showing old new status h reads writes = drove-whole showing old new status h (reads (λ e. cc)) (writes (λ e. cc))
+held-whole showing old new status h reads writes =
+    drove-whole showing old new status h (reads (λ e. cc)) (writes (λ e. cc))
 
 pub drove-cut : (showing : Showing) (old new : Ends) (c : CutOff) → WasCut showing old new
     → (c ≡ cut.ReadFailed → WasUnread old new)

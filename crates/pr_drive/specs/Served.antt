@@ -158,7 +158,8 @@ end_text showing s status =
     run_text showing s.kernel.history (reports_from s.kernel.state.system.programs 0 s.controllers) (number status)
 
 -- The end of a session was told, which stands so.
-pub record TellsEnd (showing : Showing) (s : SeatsState) (status : Status) (before after : Option (List ℕ)) : Type 0 where
+pub record TellsEnd (showing : Showing) (s : SeatsState) (status : Status)
+    (before after : Option (List ℕ)) : Type 0 where
   pub ends : EndsAs s status
   pub written : after ≡ with_end before (end_text showing s status)
 

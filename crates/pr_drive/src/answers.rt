@@ -82,7 +82,12 @@ fn put_answer<K: Sink>(
 }
 
 /// Puts why a line asks for nothing.
-fn put_refusal<K: Sink>(alloc: Global, number: u32, kind: AskKind, sink: &mut K) -> Result<(), CutOff>
+fn put_refusal<K: Sink>(
+    alloc: Global,
+    number: u32,
+    kind: AskKind,
+    sink: &mut K,
+) -> Result<(), CutOff>
     ensures put { OnOk result
         (K.written sink.new ≡ with_end (K.written sink.old) (refusal_text number (name_of kind))) }
     ensures cut { OnErr result
