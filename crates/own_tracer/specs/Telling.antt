@@ -1,4 +1,5 @@
-use Rattle.std.specs.Prelude.{◌≡◌, ◌≤◌, ◌⊎◌, ℕ, false, List, [], Option, Ok, Err, length}
+use Rattle.std.specs.Prelude.{◌≡◌, ◌≤◌, ◌⊎◌, ℕ, List, [], Option, Ok, Err, length}
+use Rattle.pr_ends.specs.Ends.{Ends}
 use Rattle.pr_io.specs.Faults.{Rose}
 use Rattle.pr_io.specs.Known.{with_end}
 use Rattle.pr_io.specs.Reading.{Came, CameAbove, CameWithin, ReadsAll}
@@ -6,6 +7,7 @@ use Rattle.pr_io.specs.Writing.{AppendsFront}
 use Rattle.pr_model.specs.declared.events.Entry.{Entry}
 use Rattle.pr_num.specs.Limits.{scenario_limit}
 use Rattle.pr_output.specs.Output.{AppendsSome, run_text}
+use Rattle.pr_output.specs.declared.runs.Showing.TheVariants.{Whole}
 use Rattle.pr_scen.specs.Reading.{scenario_of}
 use Rattle.pr_scen.specs.Refusals.{ScenFault}
 use Rattle.pr_scen.specs.Scenarios.{Scenario}
@@ -55,7 +57,7 @@ IsUnread OutOfMemory left now before after = (Came left now ⊎ WasTaken left no
 pub record TellsSo (s : Scenario) (Came : List ℕ → Type 0) : Type 0 where
   pub history : List Entry
   pub is : IsHistoryOf s history
-  pub came : Came (run_text false history [] 0)
+  pub came : Came (run_text Whole history [] 0)
 
 -- What came of a scenario, a row for each status: the text of a history of it was written; a write failed, and a prefix
 -- of such a text was written that lacks some bytes; or memory ran out, before anything was written or after a prefix.
@@ -68,22 +70,6 @@ CameOf WriteFailed s old new before after = TellsSo s (AppendsFront old new) × 
 CameOf OutOfMemory s old new before after = ((new ≡ old) ⊎ TellsSo s (AppendsSome old new)) × (after ≡ before)
 
 -- ---- the program
-
--- What the source and the sink tell at one moment.
-pub record Ends : Type 0 where
-  pub left : Option (List ℕ)
-  pub read_faults : ℕ
-  pub written : Option (List ℕ)
-  pub write_faults : ℕ
-
--- what a source and a sink tell, by what each of them tells
-abbrev pub ends_of : {S K : Type 0} → (S → Option (List ℕ)) → (S → ℕ) → (K → Option (List ℕ)) → (K → ℕ) → S → K → Ends
-ends_of left read_faults written write_faults source sink = record {
-  left = left source;
-  read_faults = read_faults source;
-  written = written sink;
-  write_faults = write_faults sink;
-}
 
 -- No scenario was read, and nothing was written.
 pub record IsRefusal (status : Status) (old new : Ends) : Type 0 where

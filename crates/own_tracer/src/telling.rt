@@ -1,20 +1,21 @@
 //! The program: a scenario is read, and the history of its run beside the injector is written.
 ghost use Rattle.std.specs.Prelude.{◌≡◌, ◌≤◌, length, IfErr, IfOk, OnOk};
+ghost use Rattle.pr_ends.specs.Ends.{ends_of};
 ghost use Rattle.pr_io.specs.Reading.{ReadsAll};
 ghost use Rattle.pr_num.specs.Limits.{scenario_limit};
 ghost use Rattle.pr_scen.specs.Scenarios.{IsWithinLimits};
 ghost use Rattle.own_tracer.specs.Running.{IsHistoryOf};
-ghost use Rattle.own_tracer.specs.Telling.{EndsAs, CameOf, IsUnread, WasRead, ends_of};
+ghost use Rattle.own_tracer.specs.Telling.{EndsAs, CameOf, IsUnread, WasRead};
 
 use crate::faults::Faults;
 use crate::running::run;
 use crate::statuses::Status;
+use pr_actors::kern_of;
 use pr_io::{ReadEnd, Sink, Source, read_all};
-use pr_kern::Kern;
 use pr_model::History;
 use pr_num::limits::SCENARIO_LIMIT;
 use pr_num::{Bytes, NoMemory};
-use pr_output::{Cut, write_run};
+use pr_output::{Cut, Showing, write_run};
 use pr_scen::{ScenRefusal, Scenario, read_scenario};
 use std::alloc::Global;
 
@@ -22,19 +23,12 @@ use std::alloc::Global;
 const PID: u32 = 1;
 
 /// The history of a scenario's programs, which run beside the injector. Its controllers and its schedule are left out.
-#[tactic(auto, using(crate::proofs::ScenarioLemmas::scenarios))]
 fn history_of(alloc: Global, scenario: Scenario) -> Result<History, NoMemory>
     requires limits { IsWithinLimits scenario }
     ensures { IfOk result (λ history. IsHistoryOf scenario history.entries) }
 {
-    let Scenario {
-        turns,
-        programs,
-        files,
-        spawns,
-        ..
-    } = scenario;
-    let mut kern = Kern::new(alloc, programs, files, spawns.as_slice(), turns)?;
+    let turns = scenario.turns;
+    let mut kern = kern_of(alloc, scenario, turns)?;
     run(&mut kern, alloc, PID, Faults::new(2, 2))?;
     Ok(kern.into_history())
 }
@@ -48,7 +42,7 @@ fn tell<K: Sink>(alloc: Global, scenario: Scenario, sink: &mut K) -> Status
     let Ok(history) = history_of(alloc, scenario) else {
         return Status::OutOfMemory;
     };
-    match write_run(alloc, sink, false, &history, &[], 0) {
+    match write_run(alloc, sink, Showing::Whole, &history, &[], 0) {
         Ok(()) => Status::Done,
         Err(Cut::WriteFailed) => Status::WriteFailed,
         Err(Cut::NoMemory) => Status::OutOfMemory,

@@ -1,5 +1,5 @@
 -- Each program of a scenario has its own lines in the text from which the scenario was read.
-use Rattle.std.proofs.Common.{◌≡◌, ℕ, ◌+◌, ◌||◌, Bool, true, false, cond, Some, List, [], ◌∷◌, ◌++◌, drop, length, map, take, Ok, IfOk, refl, sym, ap, ap₂, ◌∙◌, subst, append_assoc, append-nil, arith}
+use Rattle.std.proofs.Common.{◌≡◌, ℕ, ◌+◌, ◌||◌, Bool, true, false, cond, Some, List, [], ◌∷◌, ◌++◌, drop, length, map, Ok, IfOk, refl, sym, ap, ◌∙◌, subst, append_assoc, append-nil, arith}
 use Rattle.std.specs.Prelude.{codes}
 use Rattle.std.specs.List.{All, flat_map}
 use Rattle.std.proofs.lemmas.List.{drop_at, length-append, length-map, map-append, take_at}
@@ -25,7 +25,7 @@ use Rattle.pr_text.specs.TextLines.{lines_of}
 use Rattle.pr_text.specs.Words.{texts_of}
 use Rattle.phist.proofs.CodeLemmas.{block-program, coded, numbers-coded, numbers-push}
 use Rattle.phist.proofs.DraftLemmas.{Has, endless-refused, line-keeps, program-adds, script-keeps}
-use Rattle.phist.specs.Sources.{HasItsLines, block_after, code_after, code_from, code_lines, code_numbers, instruction_at, is_code, is_code_of, listing_of, listings_of, names_in}
+use Rattle.phist.specs.Sources.{HasItsLines, block_after, code_after, code_from, code_lines, code_numbers, instruction_at, is_code, is_code_of, listings_of, names_in}
 use Rattle.phist.specs.declared.sources.Block.{Block}
 use Rattle.phist.specs.declared.sources.Block.TheVariants.{Outside, Program, Script}
 

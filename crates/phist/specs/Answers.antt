@@ -1,6 +1,7 @@
 -- What the program answers to an input, where nothing fails.
-use Rattle.std.specs.Prelude.{◌≡◌, ◌==◌, ◌≤◌, ◌⊎◌, ℕ, Bool, List, [], ◌++◌, Option, Some, None, Result, Ok, Err, codes, length, take, if◌then◌else◌}
+use Rattle.std.specs.Prelude.{◌≡◌, ◌==◌, ◌⊎◌, ℕ, Bool, List, [], ◌++◌, Option, Some, None, Result, Ok, Err, codes, take, if◌then◌else◌}
 use Rattle.std.specs.List.{starts_with}
+use Rattle.pr_ends.specs.Inputs.{Took}
 use Rattle.pr_hist.specs.Drawings.{chart_of}
 use Rattle.pr_hist.specs.Entries.{text_of}
 use Rattle.pr_hist.specs.Names.{Names}
@@ -10,7 +11,6 @@ use Rattle.pr_hist.specs.Spellings.{bytes_of_line}
 use Rattle.pr_input.specs.Kinds.{kind_name}
 use Rattle.pr_input.specs.Marks.{line_below, mark_place, text_below}
 use Rattle.pr_input.specs.declared.marks.Mark.TheVariants.{History}
-use Rattle.pr_io.specs.Reading.{ReadsAll, CameAbove}
 use Rattle.pr_model.specs.declared.events.Entry.{Entry}
 use Rattle.pr_num.specs.Limits.{scenario_limit}
 use Rattle.pr_output.specs.Output.{refusal_text}
@@ -103,21 +103,11 @@ unfoldable pub spelled : List ℕ → Answered
 spelled line = spelled_or (bytes_of_line line)
 
 -- how the program is called
-unfoldable pub usage_line : List ℕ
+abbrev pub usage_line : List ℕ
 usage_line = codes "usage: phist [lanes [-w WIDTH] | svg] [-v] [-p PID | -c K | -l P/L] [-n FROM-TO] | bytes TEXT\n"
 
 unfoldable pub explained : Answered
 explained = record { status = Usage; text = usage_line }
-
--- All that was left was read, and it is no more than an input may have.
-pub record TookAll (limit : ℕ) (old new : Option (List ℕ)) (input : List ℕ) : Type 0 where
-  pub read : ReadsAll old new input
-  pub within : length input ≤ limit
-
--- All that was left was read, or, where there is no input, more than it may have.
-abbrev pub Took : ℕ → Option (List ℕ) → Option (List ℕ) → Option (List ℕ) → Type 0
-Took limit old new None = CameAbove limit old new
-Took limit old new (Some input) = TookAll limit old new input
 
 -- The answer to what was read.
 pub record Answers (work : Work) (limit : ℕ) (old new : Option (List ℕ)) (answer : Answered) : Type 0 where

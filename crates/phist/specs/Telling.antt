@@ -1,11 +1,13 @@
 -- How a call of the program ends.
 use Rattle.std.specs.Prelude.{◌≡◌, ◌≢◌, ℕ, List, Option}
+use Rattle.pr_ends.specs.Ends.{Ends}
+use Rattle.pr_ends.specs.Inputs.{Took}
 use Rattle.pr_io.specs.Faults.{Rose}
 use Rattle.pr_io.specs.Known.{with_end}
 use Rattle.pr_io.specs.Reading.{CameWithin}
 use Rattle.pr_io.specs.Writing.{AppendsFront}
 use Rattle.pr_num.specs.Limits.{checked_limit}
-use Rattle.phist.specs.Answers.{Answered, Took, answer_to, explained, spelled}
+use Rattle.phist.specs.Answers.{Answered, answer_to, explained, spelled}
 use Rattle.phist.specs.declared.statuses.Status.{Status}
 use Rattle.phist.specs.declared.statuses.Status.TheVariants.{Done, Usage, Refused, ReadFailed, WriteFailed, OutOfMemory}
 use Rattle.phist.specs.declared.words.Work.{Work}
@@ -26,23 +28,6 @@ pub record Gives (answer : Answered) (old new : Option (List ℕ)) (before after
   pub cut : status ≡ WriteFailed → AppendsFront old new answer.text
   pub rose : status ≡ WriteFailed → Rose before after
   pub no_fault : status ≢ WriteFailed → after ≡ before
-
--- What the source and the sink tell at one moment: the bytes that are left and those that were written, where they are
--- told, and the faults.
-pub record Ends : Type 0 where
-  pub left : Option (List ℕ)
-  pub read_faults : ℕ
-  pub written : Option (List ℕ)
-  pub write_faults : ℕ
-
--- what a source and a sink tell, by what each of them tells
-abbrev pub ends_of : {S K : Type 0} → (S → Option (List ℕ)) → (S → ℕ) → (K → Option (List ℕ)) → (K → ℕ) → S → K → Ends
-ends_of left read_faults written write_faults source sink = record {
-  left = left source;
-  read_faults = read_faults source;
-  written = written sink;
-  write_faults = write_faults sink;
-}
 
 -- an answer was given by what both tell
 abbrev pub GivesTo : Ends → Ends → Answered → Status → Type 0

@@ -10,8 +10,8 @@ use Rattle.pr_hist.specs.declared.selections.Who.TheVariants.{Controller, Proces
 use Rattle.pr_text.specs.NumberWords.{id_of, number_of}
 use Rattle.pr_hist.specs.Texts.{spaced_text}
 use Rattle.phist.specs.declared.words.Asking.{Asking}
-use Rattle.phist.specs.declared.words.Opt.{Opt}
-use Rattle.phist.specs.declared.words.Opt.TheVariants as opt
+use Rattle.phist.specs.declared.words.Operand.{Operand}
+use Rattle.phist.specs.declared.words.Operand.TheVariants as operand
 use Rattle.phist.specs.declared.words.Work.{Work}
 use Rattle.phist.specs.declared.words.Work.TheVariants.{Tells, Selects, Draws, Spells, Explains}
 
@@ -49,7 +49,7 @@ range_of w = range_by (cut_at 45 w)
 
 -- options, none of which awaits its operand, with this selection
 abbrev pub ready : Asking → Selection → Asking
-ready a s = record { chart = a.chart; selection = s; opt = None }
+ready a s = record { chart = a.chart; selection = s; operand = None }
 
 -- whose entries are told; once one is named, no other may be
 abbrev pub with_who : Asking → Option Who → Option Asking
@@ -68,18 +68,18 @@ is_width n = nat_le 20 n && nat_le n 1000
 abbrev pub with_width : Asking → Option ℕ → Option Asking
 with_width a None = None
 with_width a (Some n) =
-    if is_width n then Some (record { chart = Some (Lanes n); selection = a.selection; opt = None }) else None
+    if is_width n then Some (record { chart = Some (Lanes n); selection = a.selection; operand = None }) else None
 
 -- an option with its operand, a row an option
-unfoldable pub with_operand : Asking → Opt → List ℕ → Option Asking
-with_operand a opt.Process w = with_who a (option_map Process (id_of w))
-with_operand a opt.Controller w = with_who a (option_map Controller (id_of w))
-with_operand a opt.Lwp w = with_who a (lwp_of w)
-with_operand a opt.Numbers w = with_range a (range_of w)
-with_operand a opt.Width w = with_width a (number_of w)
+unfoldable pub with_operand : Asking → Operand → List ℕ → Option Asking
+with_operand a operand.Process w = with_who a (option_map Process (id_of w))
+with_operand a operand.Controller w = with_who a (option_map Controller (id_of w))
+with_operand a operand.Lwp w = with_who a (lwp_of w)
+with_operand a operand.Numbers w = with_range a (range_of w)
+with_operand a operand.Width w = with_width a (number_of w)
 
-abbrev pub waiting : Asking → Opt → Asking
-waiting a o = record { chart = a.chart; selection = a.selection; opt = Some o }
+abbrev pub waiting : Asking → Operand → Asking
+waiting a o = record { chart = a.chart; selection = a.selection; operand = Some o }
 
 -- whether lines are drawn, which have a width
 abbrev pub has_width : Option Chart → Bool
@@ -91,20 +91,20 @@ has_width (Some Picture) = false
 unfoldable pub with_flag : Asking → List ℕ → Option Asking
 with_flag a w =
     if bytes_eq w (codes "-v") then Some (ready a (record a.selection { full = true }))
-    else (if bytes_eq w (codes "-p") then Some (waiting a opt.Process)
-    else (if bytes_eq w (codes "-c") then Some (waiting a opt.Controller)
-    else (if bytes_eq w (codes "-l") then Some (waiting a opt.Lwp)
-    else (if bytes_eq w (codes "-n") then Some (waiting a opt.Numbers)
-    else (if bytes_eq w (codes "-w") && has_width a.chart then Some (waiting a opt.Width)
+    else (if bytes_eq w (codes "-p") then Some (waiting a operand.Process)
+    else (if bytes_eq w (codes "-c") then Some (waiting a operand.Controller)
+    else (if bytes_eq w (codes "-l") then Some (waiting a operand.Lwp)
+    else (if bytes_eq w (codes "-n") then Some (waiting a operand.Numbers)
+    else (if bytes_eq w (codes "-w") && has_width a.chart then Some (waiting a operand.Width)
     else None)))))
 
 -- one word more
-abbrev pub word_by : Asking → List ℕ → Option Opt → Option Asking
+abbrev pub word_by : Asking → List ℕ → Option Operand → Option Asking
 word_by a w None = with_flag a w
 word_by a w (Some o) = with_operand a o w
 
 unfoldable pub with_word : Asking → List ℕ → Option Asking
-with_word a w = word_by a w a.opt
+with_word a w = word_by a w a.operand
 
 unfoldable pub with_words : Asking → List (List ℕ) → Option Asking
 with_words a [] = Some a
@@ -116,17 +116,17 @@ every = record { who = None; from = 0; to = 2 ^ 64 - 1; full = false }
 
 -- before the first option
 abbrev pub begun : Option Chart → Asking
-begun c = record { chart = c; selection = every; opt = None }
+begun c = record { chart = c; selection = every; operand = None }
 
 -- what options ask for, none of which may await its operand
-abbrev pub work_by : Selection → Option Opt → Option Chart → Work
+abbrev pub work_by : Selection → Option Operand → Option Chart → Work
 work_by s (Some o) c = Explains
 work_by s None None = Selects s
 work_by s None (Some c) = Draws c s
 
 abbrev pub work_with : Option Asking → Work
 work_with None = Explains
-work_with (Some a) = work_by a.selection a.opt a.chart
+work_with (Some a) = work_by a.selection a.operand a.chart
 
 -- what options ask for, with this chart or with words
 unfoldable pub asked_for : Option Chart → List (List ℕ) → Work

@@ -1,19 +1,19 @@
 //! What is answered to an input.
 ghost use Rattle.std.specs.Prelude.{◌≡◌, ◌≢◌, ◌≤◌, Err, ◌+◌, ◌<◌, ◌^◌, ◌++◌, codes, length, IfOk, IfSome, OnOk};
 ghost use Rattle.pr_num.specs.Limits.{checked_limit};
-ghost use Rattle.pr_output.specs.Output.{refusal_text};
 ghost use Rattle.pr_plain.specs.EntryReading.{history_of};
 ghost use Rattle.phist.specs.Answers.{IsAnswerStatus, answer_alone, answer_at, answer_of, answer_to, answer_to_text, begins_history, drawn_or, in_words, refused_at, shown, shown_text, spelled, spelled_or};
 
-use crate::inputs::Unread;
 use crate::sources::names_of;
 use crate::statuses::Status;
 use crate::words::Work;
+use pr_ends::Unread;
 use pr_hist::{Names, bytes_of_line, chart_of, selected_text, text_of, write_hex_bytes};
 use pr_input::{Mark, kind_name, lines_above};
 use pr_model::History;
 use pr_num::limits::SCENARIO_LIMIT;
 use pr_num::{Bytes, NoMemory};
+use pr_output::refusal_line;
 use pr_plain::{HistRefusal, read_history};
 use pr_scen::{ScenRefusal, read_scenario};
 use pr_text::Text;
@@ -26,29 +26,16 @@ pub struct Answer {
     pub text: Bytes,
 }
 
-/// The line of a refusal.
-#[tactic(auto, unfolding(pr_output::specs::Output::refusal_text))]
-fn write_refusal(text: &mut Text, line: u32, kind: &[u8]) -> Result<(), NoMemory>
-    ensures { OnOk result (text.new ≡ text.old ++ refusal_text line kind.now) }
-{
-    text.text(b"line ")?;
-    text.decimal(u64::from(line))?;
-    text.text(b": ")?;
-    text.text(kind)?;
-    text.text(b"\n")
-}
-
 /// The input is refused, at a line for a reason.
 #[tactic(auto, unfolding(crate::specs::Answers::refused_at))]
 fn refuse(alloc: Global, line: u32, kind: &[u8]) -> Result<Answer, NoMemory>
     ensures answer { IfOk result (λ a. record { status = a.status; text = a.text } ≡ refused_at line kind.now) }
     ensures status { IfOk result (λ a. IsAnswerStatus a.status) }
 {
-    let mut text = Text::new(alloc)?;
-    write_refusal(&mut text, line, kind)?;
+    let text = refusal_line(alloc, line, kind)?;
     Ok(Answer {
         status: Status::Refused,
-        text: text.into_bytes(),
+        text,
     })
 }
 

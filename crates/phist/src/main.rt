@@ -2,7 +2,6 @@
 #![tactic(auto)]
 
 mod answers;
-mod inputs;
 mod sources;
 mod statuses;
 mod telling;
@@ -17,19 +16,13 @@ ghost use Rattle.std.specs.declared.io.ErrorKind.TheVariants.{OutOfMemory};
 use crate::statuses::{Status, number};
 use crate::telling::serve;
 use crate::words::{Work, work_of};
+use pr_ends::words_after_name;
 use pr_io::{StdSink, StdSource};
-use std::alloc::{AllocError, Global};
+use std::alloc::Global;
 use std::env::Args;
 use std::io::ErrorKind;
 use std::process::ExitCode;
 use std::{env, io};
-
-// The words after the program's name, in their order.
-fn words_after_name(alloc: Global, arguments: Args) -> Result<Vec<String>, AllocError>
-    ensures { IfOk result (λ words. words.items ≡ drop 1 (into_iter_items arguments)) }
-{
-    arguments.skip(1).collect(alloc)
-}
 
 // What a program is asked for that was given these arguments, or was not for this error; `None` where memory ran out.
 // An argument that is no text asks for nothing.

@@ -1,25 +1,23 @@
 //! A history, told from the source to the sink.
 ghost use Rattle.std.specs.Prelude.{◌≡◌, ◌≢◌, Err, IfOk};
+ghost use Rattle.pr_ends.specs.Ends.{ends_of};
 ghost use Rattle.pr_io.specs.Faults.{Rose};
 ghost use Rattle.pr_io.specs.Reading.{CameWithin};
 ghost use Rattle.pr_num.specs.Limits.{checked_limit};
-ghost use Rattle.phist.specs.Answers.{Answers, IsAnswerStatus, usage_line};
-ghost use Rattle.phist.specs.Telling.{EndsAs, Gives, IsExplained, SpellsLine, TellsHistory, ends_of};
+ghost use Rattle.phist.specs.Answers.{Answers, IsAnswerStatus};
+ghost use Rattle.phist.specs.Telling.{EndsAs, Gives, IsExplained, SpellsLine, TellsHistory};
 
 use crate::answers::{Answer, answer_to, spelled};
-use crate::inputs::{Unread, take_input};
 use crate::statuses::Status;
 use crate::words::Work;
+use pr_ends::{Unread, take_input};
 use pr_io::{Sink, Source, write_all};
+use pr_num::limits::CHECKED_LIMIT;
 use std::alloc::Global;
 
-/// How the program is called.
-#[tactic(auto, unfolding(crate::specs::Answers::usage_line))]
-fn usage_line() -> &'static [u8]
-    ensures { result.now ≡ usage_line }
-{
-    b"usage: phist [lanes [-w WIDTH] | svg] [-v] [-p PID | -c K | -l P/L] [-n FROM-TO] | bytes TEXT\n"
-}
+/// What is told of words that ask for nothing.
+const USAGE: &[u8] =
+    b"usage: phist [lanes [-w WIDTH] | svg] [-v] [-p PID | -c K | -l P/L] [-n FROM-TO] | bytes TEXT\n";
 
 /// Writes a text, and ends with a status. Takes no memory.
 fn put<K: Sink>(sink: &mut K, text: &[u8], status: Status) -> Status
@@ -44,7 +42,7 @@ fn answer_source<S: Source>(alloc: Global, work: &Work, source: &mut S) -> Resul
         → CameWithin checked_limit (S.left source.old) (S.left source.new) }
     ensures no_fault { result ≢ Err Unread.Failed → S.faults source.new ≡ S.faults source.old }
 {
-    let input = take_input(alloc, source)?;
+    let input = take_input(alloc, source, CHECKED_LIMIT)?;
     answer_to(alloc, work, input)
 }
 
@@ -67,7 +65,7 @@ fn explain<S: Source, K: Sink>(source: &mut S, sink: &mut K) -> Status
         (ends_of S.left S.faults K.written K.faults source.new sink.new) result }
 {
     let _ = source;
-    put(sink, usage_line(), Status::Usage)
+    put(sink, USAGE, Status::Usage)
 }
 
 /// Writes the bytes that a line spells, in hex.

@@ -24,7 +24,7 @@ pub enum Work {
 
 /// An option whose operand is still to come.
 #[derive(Clone, Copy, Debug, PartialEq, Eq)]
-pub enum Opt {
+pub enum Operand {
     /// `-p`
     Process,
     /// `-c`
@@ -44,7 +44,7 @@ pub struct Asking {
     pub chart: Option<Chart>,
     pub selection: Selection,
     /// The option that awaits its operand.
-    pub opt: Option<Opt>,
+    pub operand: Option<Operand>,
 }
 
 /// The place of the first byte of a kind.
@@ -95,7 +95,7 @@ fn ready(asking: Asking, selection: Selection) -> Option<Asking>
     Some(Asking {
         chart: asking.chart,
         selection,
-        opt: None,
+        operand: None,
     })
 }
 
@@ -144,31 +144,31 @@ fn with_width(asking: Asking, width: Option<u64>) -> Option<Asking>
     Some(Asking {
         chart: Some(Chart::Lanes(width)),
         selection: asking.selection,
-        opt: None,
+        operand: None,
     })
 }
 
 /// An option with its operand.
 #[tactic(auto, unfolding(crate::specs::Words::with_operand))]
-fn with_operand(asking: Asking, opt: Opt, word: &[u8]) -> Option<Asking>
-    ensures { result ≡ with_operand asking opt word.now }
+fn with_operand(asking: Asking, operand: Operand, word: &[u8]) -> Option<Asking>
+    ensures { result ≡ with_operand asking operand word.now }
 {
-    match opt {
-        Opt::Process => with_who(asking, id_of(word).map(|pid| Who::Process(pid))),
-        Opt::Controller => with_who(asking, id_of(word).map(|k| Who::Controller(k))),
-        Opt::Lwp => with_who(asking, lwp_of(word)),
-        Opt::Numbers => with_range(asking, range_of(word)),
-        Opt::Width => with_width(asking, number_of(word)),
+    match operand {
+        Operand::Process => with_who(asking, id_of(word).map(|pid| Who::Process(pid))),
+        Operand::Controller => with_who(asking, id_of(word).map(|k| Who::Controller(k))),
+        Operand::Lwp => with_who(asking, lwp_of(word)),
+        Operand::Numbers => with_range(asking, range_of(word)),
+        Operand::Width => with_width(asking, number_of(word)),
     }
 }
 
-fn waiting(asking: Asking, opt: Opt) -> Option<Asking>
-    ensures { result ≡ Some (waiting asking opt) }
+fn waiting(asking: Asking, operand: Operand) -> Option<Asking>
+    ensures { result ≡ Some (waiting asking operand) }
 {
     Some(Asking {
         chart: asking.chart,
         selection: asking.selection,
-        opt: Some(opt),
+        operand: Some(operand),
     })
 }
 
@@ -195,15 +195,15 @@ fn with_flag(asking: Asking, word: &[u8]) -> Option<Asking>
         };
         ready(asking, selection)
     } else if word == b"-p".as_slice() {
-        waiting(asking, Opt::Process)
+        waiting(asking, Operand::Process)
     } else if word == b"-c".as_slice() {
-        waiting(asking, Opt::Controller)
+        waiting(asking, Operand::Controller)
     } else if word == b"-l".as_slice() {
-        waiting(asking, Opt::Lwp)
+        waiting(asking, Operand::Lwp)
     } else if word == b"-n".as_slice() {
-        waiting(asking, Opt::Numbers)
+        waiting(asking, Operand::Numbers)
     } else if word == b"-w".as_slice() && has_width(asking.chart) {
-        waiting(asking, Opt::Width)
+        waiting(asking, Operand::Width)
     } else {
         None
     }
@@ -214,9 +214,9 @@ fn with_flag(asking: Asking, word: &[u8]) -> Option<Asking>
 fn with_word(asking: Asking, word: &[u8]) -> Option<Asking>
     ensures { result ≡ with_word asking word.now }
 {
-    match asking.opt {
+    match asking.operand {
         None => with_flag(asking, word),
-        Some(opt) => with_operand(asking, opt, word),
+        Some(operand) => with_operand(asking, operand, word),
     }
 }
 
@@ -250,7 +250,7 @@ fn begun(chart: Option<Chart>) -> Asking
     Asking {
         chart,
         selection: every(),
-        opt: None,
+        operand: None,
     }
 }
 
@@ -260,7 +260,7 @@ fn work_with(asking: Option<Asking>) -> Work
 {
     match asking {
         None => Work::Explains,
-        Some(asking) => match (asking.opt, asking.chart) {
+        Some(asking) => match (asking.operand, asking.chart) {
             (Some(_), _) => Work::Explains,
             (None, None) => Work::Selects(asking.selection),
             (None, Some(chart)) => Work::Draws(chart, asking.selection),

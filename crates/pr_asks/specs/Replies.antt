@@ -1,4 +1,4 @@
-use Rattle.std.specs.Prelude.{◌++◌, ℕ, List, [], ◌∷◌, codes, decimal}
+use Rattle.std.specs.Prelude.{◌++◌, ℕ, List, codes, decimal}
 use Rattle.pr_model.specs.declared.calls.Reply.{Reply}
 use Rattle.pr_plain.specs.HistoryText.{reply_words}
 use Rattle.pr_text.specs.SpacedWords.{joined}

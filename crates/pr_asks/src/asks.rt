@@ -34,7 +34,7 @@ pub enum Ask {
 
 /// Why a line asks for nothing.
 #[derive(Clone, Copy, Debug, PartialEq, Eq)]
-pub enum Kind {
+pub enum AskKind {
     /// It has more bytes than a line may have.
     TooLong,
     /// It is no call, and none of what else can be asked.
@@ -43,16 +43,16 @@ pub enum Kind {
     Message(ScenKind),
 }
 
-impl Kind {
+impl AskKind {
     /// Its name.
     #[tactic(auto, unfolding(crate::specs::Asks::name_of))]
     pub fn name(self) -> &'static [u8]
         ensures { result.now ≡ name_of self }
     {
         match self {
-            Kind::TooLong => b"TooLong",
-            Kind::NoCall => b"NoCall",
-            Kind::Message(kind) => kind_name(kind),
+            AskKind::TooLong => b"TooLong",
+            AskKind::NoCall => b"NoCall",
+            AskKind::Message(kind) => kind_name(kind),
         }
     }
 }
@@ -61,7 +61,7 @@ impl Kind {
 #[derive(Clone, Copy, Debug, PartialEq, Eq)]
 pub enum Unasked {
     /// It asks for nothing.
-    Refused(Kind),
+    Refused(AskKind),
     NoMemory,
 }
 
@@ -105,7 +105,7 @@ fn messages_behind(alloc: Global, operands: &[u8]) -> Result<Ask, Unasked>
     let (word, messages) = split_word(operands);
     match id_of(word) {
         Some(handle) => Ok(Ask::Messages(messages_of(alloc, handle, messages)?)),
-        None => Err(Unasked::Refused(Kind::NoCall)),
+        None => Err(Unasked::Refused(AskKind::NoCall)),
     }
 }
 
@@ -134,7 +134,7 @@ fn moves_of(word: &[u8]) -> Result<Ask, Unasked>
 {
     match number_of(word) {
         Some(times) => Ok(Ask::Moves(times)),
-        None => Err(Unasked::Refused(Kind::NoCall)),
+        None => Err(Unasked::Refused(AskKind::NoCall)),
     }
 }
 
@@ -144,7 +144,7 @@ pub fn read_ask(alloc: Global, line: &[u8]) -> Result<Ask, Unasked>
     ensures { Gives result (ask_of line.now) }
 {
     if line.len() > LINE_BYTES {
-        return Err(Unasked::Refused(Kind::TooLong));
+        return Err(Unasked::Refused(AskKind::TooLong));
     }
     let (word, operands) = split_word(line);
     if line == b"%end".as_slice() {

@@ -4,7 +4,7 @@ ghost use Rattle.pr_asks.specs.Asks.{Gives};
 ghost use Rattle.pr_asks.specs.Calls.{actor_of, call_of, entries_or, first_actor, first_call, framed};
 ghost use Rattle.pr_plain.specs.EntryReading.{history_of};
 
-use crate::asks::{Kind, Unasked};
+use crate::asks::{AskKind, Unasked};
 use pr_model::{Act, Actor, Call, History};
 use pr_num::NoMemory;
 use pr_plain::{HistRefusal, read_history};
@@ -25,10 +25,10 @@ fn framed(alloc: Global, above: &[u8], text: &[u8], below: &[u8]) -> Result<Vec<
 fn first_call(alloc: Global, history: &History) -> Result<Call, Unasked>
     ensures { Gives result (first_call history.now.entries) }
 {
-    let entry = history.get(0).ok_or(Unasked::Refused(Kind::NoCall))?;
+    let entry = history.get(0).ok_or(Unasked::Refused(AskKind::NoCall))?;
     match &entry.act {
         Act::Call(call, _) => Ok(call.copy(alloc)?),
-        Act::Turn(_) | Act::Tick(_) => Err(Unasked::Refused(Kind::NoCall)),
+        Act::Turn(_) | Act::Tick(_) => Err(Unasked::Refused(AskKind::NoCall)),
     }
 }
 
@@ -38,7 +38,7 @@ fn first_actor(history: &History) -> Result<Actor, Unasked>
 {
     match history.get(0) {
         Some(entry) => Ok(entry.actor),
-        None => Err(Unasked::Refused(Kind::NoCall)),
+        None => Err(Unasked::Refused(AskKind::NoCall)),
     }
 }
 
@@ -51,7 +51,7 @@ pub fn call_of(alloc: Global, line: &[u8]) -> Result<Call, Unasked>
     let text = framed(alloc, b"history 1\n0 c0 ", line, b" -> done\n")?;
     match read_history(alloc, &text, 0) {
         Ok(history) => first_call(alloc, &history),
-        Err(HistRefusal::Line(_)) => Err(Unasked::Refused(Kind::NoCall)),
+        Err(HistRefusal::Line(_)) => Err(Unasked::Refused(AskKind::NoCall)),
         Err(HistRefusal::NoMemory) => Err(Unasked::NoMemory),
     }
 }
@@ -65,7 +65,7 @@ pub fn actor_of(alloc: Global, word: &[u8]) -> Result<Actor, Unasked>
     let text = framed(alloc, b"history 1\n0 ", word, b" ran\n")?;
     match read_history(alloc, &text, 0) {
         Ok(history) => first_actor(&history),
-        Err(HistRefusal::Line(_)) => Err(Unasked::Refused(Kind::NoCall)),
+        Err(HistRefusal::Line(_)) => Err(Unasked::Refused(AskKind::NoCall)),
         Err(HistRefusal::NoMemory) => Err(Unasked::NoMemory),
     }
 }

@@ -7,5 +7,5 @@ mod call_lines;
 mod message_lines;
 mod replies;
 
-pub use asks::{Ask, Kind, Unasked, read_ask};
+pub use asks::{Ask, AskKind, Unasked, read_ask};
 pub use replies::{write_count, write_entries, write_reply};

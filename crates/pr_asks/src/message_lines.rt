@@ -3,7 +3,7 @@ ghost use Rattle.std.specs.Prelude.{◌≡◌, ◌+◌, ◌<◌, ◌^◌, length
 ghost use Rattle.pr_asks.specs.Asks.{Gives};
 ghost use Rattle.pr_asks.specs.Messages.{messages_of, scenario_text, script_of};
 
-use crate::asks::{Kind, Unasked};
+use crate::asks::{AskKind, Unasked};
 use pr_model::Reply;
 use pr_num::NoMemory;
 use pr_scen::{Plan, ScenRefusal, Scenario, Script, read_scenario};
@@ -30,7 +30,7 @@ fn script_of(scenario: Scenario) -> Result<Script, Unasked>
     } = scenario;
     match controllers.pop() {
         Some(Plan::Script(script)) => Ok(script),
-        _ => Err(Unasked::Refused(Kind::NoCall)),
+        _ => Err(Unasked::Refused(AskKind::NoCall)),
     }
 }
 
@@ -47,7 +47,7 @@ pub fn messages_of(alloc: Global, handle: u32, messages: &[u8]) -> Result<Script
             script.feed(&Reply::Handle(handle));
             Ok(script)
         }
-        Err(ScenRefusal::Fault(fault)) => Err(Unasked::Refused(Kind::Message(fault.kind))),
+        Err(ScenRefusal::Fault(fault)) => Err(Unasked::Refused(AskKind::Message(fault.kind))),
         Err(ScenRefusal::NoMemory) => Err(Unasked::NoMemory),
     }
 }

@@ -1,5 +1,6 @@
 -- What the command `check` answers.
 use Rattle.std.proofs.Common.{◌≡◌, ◌⊎◌, inl, inr, ⊎_elim, ℕ, List, [], Option, Some, None, Result, Ok, Err, IfOk, IfSome, length, refl, ◌∙◌, ap, subst}
+use Rattle.pr_ends.specs.Ends.{Ends}
 use Rattle.pr_judge.proofs.FirstLemmas.{first-judges}
 use Rattle.pr_model.specs.declared.events.Entry.{Entry}
 use Rattle.pr_num.specs.Limits.{checked_limit}
@@ -11,7 +12,7 @@ use Rattle.pr_commands.specs.Checks.{checked_of_input}
 use Rattle.pr_commands.specs.Giving.{IsGiven}
 use Rattle.pr_commands.specs.Histories.{RanOutEarly, no_run}
 use Rattle.pr_commands.specs.Inputs.{taken_of}
-use Rattle.pr_commands.specs.Rows.{Ends, GivesOne, IsJudged, IsThe, OneRanOut, RanOutAfter, RanOutReading, Reads}
+use Rattle.pr_commands.specs.Rows.{GivesOne, IsJudged, IsThe, OneRanOut, RanOutAfter, RanOutReading, Reads}
 use Rattle.pr_commands.specs.Statuses.{IsWhole}
 use Rattle.pr_commands.specs.declared.wrongs.Wrong.{Wrong}
 use Rattle.pr_commands.specs.declared.wrongs.Wrong.TheVariants as wrong

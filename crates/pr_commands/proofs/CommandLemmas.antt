@@ -9,8 +9,8 @@ use Rattle.pr_model.specs.declared.tools.ToolKind.{ToolKind}
 use Rattle.pr_num.specs.Limits.{child_limit, worker_limit}
 use Rattle.pr_num.proofs.SearchLemmas.{All-find}
 use Rattle.pr_commands.specs.Commands.{HasWorkers, core_shown, core_tool_of_name, generation, number_up_to, of_four_words, of_one_word, of_three_words, of_two_words, shared_run, work_of}
-use Rattle.pr_commands.specs.declared.commands.Showing.{Showing}
-use Rattle.pr_commands.specs.declared.commands.Showing.TheVariants.{Whole, Quiet}
+use Rattle.pr_output.specs.declared.runs.Showing.{Showing}
+use Rattle.pr_output.specs.declared.runs.Showing.TheVariants.{Whole, Quiet}
 use Rattle.pr_commands.specs.declared.commands.Work.{Work}
 use Rattle.pr_commands.specs.declared.commands.Work.TheVariants.{Checks, Explains, Generates, Runs, Shares, ShowsCore, Strips}
 

@@ -4,6 +4,7 @@ use Rattle.pr_core.specs.CoreBytes.{core_bytes}
 use Rattle.pr_core.specs.CoreRanges.{IsCore}
 use Rattle.pr_core.specs.CoreTools.{tool_over_core}
 use Rattle.pr_core.specs.Cores.{CoreState}
+use Rattle.pr_ends.specs.Ends.{Ends}
 use Rattle.pr_model.specs.declared.events.Entry.{Entry}
 use Rattle.pr_model.specs.declared.tools.ToolKind.{ToolKind}
 use Rattle.pr_num.specs.Programs.{Program}
@@ -14,7 +15,7 @@ use Rattle.pr_commands.specs.Answers.{Answer, MayShowCore, MayShowRead, ShowsCor
 use Rattle.pr_commands.specs.CoreInputs.{ReadCore, core_limit, core_of_input}
 use Rattle.pr_commands.specs.Giving.{Responds, RespondsOne, RespondsWith, StopsEarly}
 use Rattle.pr_commands.specs.Histories.{RanOutEarly, no_run}
-use Rattle.pr_commands.specs.Rows.{Ends, OneRanOut, RanOutAfter, RanOutReading, Reads}
+use Rattle.pr_commands.specs.Rows.{OneRanOut, RanOutAfter, RanOutReading, Reads}
 use Rattle.pr_commands.specs.Statuses.{IsWhole}
 use Rattle.pr_commands.specs.declared.outcomes.Status.{Status}
 use Rattle.pr_commands.specs.declared.outcomes.Status.TheVariants.{OutOfMemory, ReadFailed, WriteFailed}

@@ -9,7 +9,6 @@ pub mod MadeLemmas
 pub mod OnwardLemmas
 pub mod PieceLemmas
 pub mod ReadingLemmas
-pub mod ReportLemmas
 pub mod RunEndLemmas
 pub mod RunLemmas
 pub mod SeenLemmas

@@ -2,13 +2,15 @@
 use Rattle.std.proofs.Common.{◌≡◌, ◌≤◌, ◌<◌, inl, inr, ⊎_elim, ℕ, Bool, true, false, List, ◌++◌, Option, Some, None, length, nat_le, cond, IfSome, sym, ◌∙◌, ap, subst, arith, length-append}
 use Rattle.std.proofs.lemmas.Bool.Decides.{nat_tests}
 use Rattle.std.proofs.lemmas.Option.{same_Some}
+use Rattle.pr_ends.specs.Ends.{Ends}
+use Rattle.pr_ends.specs.Inputs.{Took}
 use Rattle.pr_io.specs.Known.{with_front}
 use Rattle.pr_model.specs.declared.events.Entry.{Entry}
 use Rattle.pr_commands.specs.Answers.{Answer}
 use Rattle.pr_commands.specs.Giving.{Responds, RespondsOne, StopsEarly}
 use Rattle.pr_commands.specs.Histories.{Making, RanOutEarly}
-use Rattle.pr_commands.specs.Inputs.{Took, taken_of}
-use Rattle.pr_commands.specs.Rows.{Ends, GivesOne, Reads}
+use Rattle.pr_commands.specs.Inputs.{taken_of}
+use Rattle.pr_commands.specs.Rows.{GivesOne, Reads}
 use Rattle.pr_commands.specs.declared.outcomes.Status.{Status}
 use Rattle.pr_commands.specs.declared.outcomes.Status.TheVariants.{OutOfMemory}
 

@@ -1,6 +1,8 @@
 -- What is kept of a run, and how its status is caused.
 use Rattle.std.proofs.Common.{◌≡◌, ◌⊎◌, inl, inr, ⊎_elim, ℕ, Bool, true, false, List, [], Option, Some, None, is_some, Result, Ok, Err, IfOk, IfSome, refl, sym, ◌∙◌, ap, subst, arith}
 use Rattle.std.proofs.lemmas.List.{append-nil}
+use Rattle.pr_ends.specs.Ends.{Ends}
+use Rattle.pr_ends.specs.Inputs.{Took}
 use Rattle.pr_model.specs.declared.events.Actor.{Actor}
 use Rattle.pr_model.specs.declared.events.Entry.{Entry}
 use Rattle.pr_num.specs.Limits.{scenario_limit}
@@ -18,8 +20,8 @@ use Rattle.pr_commands.proofs.UnseenLemmas.{kept-unseen}
 use Rattle.pr_commands.specs.Answers.{Answer, CommandText, answer_of, answer_to, end_status, ran, ran_so, refused_at}
 use Rattle.pr_commands.specs.Ends.{EndsAs}
 use Rattle.pr_commands.specs.Histories.{HistoryIsKept, IsAfterMoves, RanOutEarly, in_rounds}
-use Rattle.pr_commands.specs.Inputs.{Took, scenario_of_input, taken_of}
-use Rattle.pr_commands.specs.Rows.{Ends, EndsRounds, GivesOne, IsThe, OneRanOut, RanOutAfter, RanOutReading, Reads, TellsEnd}
+use Rattle.pr_commands.specs.Inputs.{scenario_of_input, taken_of}
+use Rattle.pr_commands.specs.Rows.{EndsRounds, GivesOne, IsThe, OneRanOut, RanOutAfter, RanOutReading, Reads, TellsEnd}
 use Rattle.pr_commands.specs.Statuses.{IsWhole}
 use Rattle.pr_commands.specs.declared.outcomes.Status.{Status}
 use Rattle.pr_commands.specs.declared.outcomes.Status.TheVariants.{Done, Usage, Refused, Spent, Stuck, ReadFailed, WriteFailed, OutOfMemory, NotLegal}

@@ -1,54 +1,25 @@
 -- The run of a scenario: its first world, and what the driver says of the last.
-use Rattle.std.proofs.Common.{◌≡◌, ◌≤◌, ◌+◌, ◌-◌, ℕ, Bool, true, false, List, [], Option, Some, None, Result, Ok, Err, IfOk, OnErr, length, refl, sym, ◌∙◌, ap, map, subst, arith}
-use Rattle.std.specs.List.{slice_get, sum_by}
-use Rattle.std.proofs.lemmas.List.{length-map}
+use Rattle.std.proofs.Common.{◌≡◌, ◌≤◌, ◌-◌, ℕ, Bool, true, false, List, [], Option, Some, None, Result, Ok, Err, IfOk, OnErr, length, refl, sym, ◌∙◌, ap, subst, arith}
 use Rattle.pr_api.specs.Views.{KernelView, kernel_of}
 use Rattle.pr_kern.specs.Kernels.{Kernel}
-use Rattle.pr_kern.specs.Starts.{stored}
-use Rattle.pr_model.specs.FirstState.{first_state, size_at_start}
 use Rattle.pr_model.specs.State.{TracedState}
 use Rattle.pr_model.specs.declared.events.Actor.{Actor}
 use Rattle.pr_model.specs.declared.events.Entry.{Entry}
-use Rattle.pr_num.specs.Limits.{all_mappings_limit, process_limit}
 use Rattle.pr_num.specs.declared.memory.NoMemory.{NoMemory}
-use Rattle.pr_parts.specs.FileTables.{names_differ}
 use Rattle.pr_run.specs.OneRuns.{end_of_run}
-use Rattle.pr_run_laws.specs.ScenarioRuns.{controller_of, controllers_of, first_state_of, first_world, run_of}
+use Rattle.pr_run_laws.specs.ScenarioRuns.{controllers_of, first_state_of, first_world, run_of}
 use Rattle.pr_run_laws.proofs.KeptRuns.KeptLemmas.{first-fresh, first-told}
-use Rattle.pr_scen.specs.Scenarios.{IsWithinLimits, Scenario}
-use Rattle.pr_scen.specs.declared.plans.Plan.{Plan}
+use Rattle.pr_scen.specs.Scenarios.{Scenario}
 use Rattle.pr_world.proofs.RunLemmas.{run-function, run-longer, run-places}
 use Rattle.pr_world.specs.Runs.{IsFresh, StoppedIn, TellsMachine, after_moves}
 use Rattle.pr_world.specs.Worlds.{WorldOf, WorldState, end_of, ended_as, goes_on, seen}
-use Rattle.pr_world.specs.ControllerStates.{ControllerState, state_of}
-use Rattle.pr_world.specs.declared.controllers.Controller.{Controller}
+use Rattle.pr_world.specs.ControllerStates.{ControllerState}
 use Rattle.pr_world.specs.declared.ends.End.{End}
 use Rattle.pr_commands.specs.Made.{IsWorldsWay, kern_view}
 
 pub first_world-places : (s : Scenario) → (first_world s).kernel.places ≡ s.turns
 unfolding first_world kernel_of
 first_world-places s = refl
-
--- ---- spawns: a scenario within its limits has room for what it spawns
-
-pub spawns-few : (s : Scenario) → IsWithinLimits s → length s.spawns + 1 ≤ process_limit
-spawns-few s limits = omega (arith, limits.spawns)
-
-pub spawns-map : (s : Scenario) → IsWithinLimits s
-    → sum_by (λ place. size_at_start (slice_get s.programs place)) s.spawns ≤ all_mappings_limit
-spawns-map s limits = omega (arith, limits.mapped)
-
--- ---- files: the kernel takes them as the scenario has them
-
-pub own-names : (s : Scenario) → IsWithinLimits s → names_differ (stored s.files) ≡ true
-own-names s limits = limits.own_names
-
--- ---- controllers: one of a plan
-
-pub controllers-few : (plans : List Plan) (controllers : List Controller)
-    → map state_of controllers ≡ map controller_of plans → length controllers ≡ length plans
-controllers-few plans controllers same =
-    sym (length-map controllers state_of) ∙ ap length same ∙ length-map plans controller_of
 
 -- ---- the first world
 
@@ -57,8 +28,8 @@ made : TracedState → List Entry → ℕ → List ControllerState → List Acto
 made s h n controllers schedule last =
     record { kernel = kernel_of s h n; controllers = controllers; schedule = schedule; last = last }
 
-pub first-seen : (s : Scenario) (w : WorldOf Kernel) → w.kernel.state ≡ first_state s.programs (stored s.files) s.spawns
-    → w.kernel.history ≡ [] → w.kernel.places ≡ s.turns → w.controllers ≡ controllers_of s → w.schedule ≡ s.schedule
+pub first-seen : (s : Scenario) (w : WorldOf Kernel) → w.kernel.state ≡ first_state_of s → w.kernel.history ≡ []
+    → w.kernel.places ≡ s.turns → w.controllers ≡ controllers_of s → w.schedule ≡ s.schedule
     → w.last ≡ None → seen kern_view w ≡ first_world s
 unfolding first_world made
 first-seen s w state history places controllers schedule last =
@@ -71,8 +42,8 @@ first-seen s w state history places controllers schedule last =
 
 -- The world that is made of a kernel and the parts of a scenario is its first world.
 pub first-made : (r : Result (WorldOf Kernel) NoMemory) (s : Scenario) (k : Kernel) (controllers : List ControllerState)
-    (schedule : List Actor) → k.state ≡ first_state s.programs (stored s.files) s.spawns → k.history ≡ []
-    → k.places ≡ s.turns → controllers ≡ controllers_of s → schedule ≡ s.schedule
+    (schedule : List Actor) → k.state ≡ first_state_of s → k.history ≡ [] → k.places ≡ s.turns
+    → controllers ≡ controllers_of s → schedule ≡ s.schedule
     → IfOk r
     (λ world. world
     ≡ record { kernel = k; controllers = controllers; schedule = schedule; last = None; made = false })
@@ -134,5 +105,3 @@ run-stopped (Err e) first w told s within =
 pub last-way : (first w : WorldState) → w ≡ after_moves first.kernel.places first → IsWorldsWay first w.kernel.history
 last-way first w is =
     record { moves = first.kernel.places; within = omega arith; is = ap (λ (x : WorldState). x.kernel.history) is }
-
-pub ruleset runs = (first_world-places, spawns-few, spawns-map, own-names, controllers-few)

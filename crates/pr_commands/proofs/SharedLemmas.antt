@@ -2,10 +2,13 @@
 use Rattle.std.proofs.Common.{◌≡◌, ◌≤◌, ◌⊎◌, inl, inr, ⊎_elim, ℕ, Bool, true, false, ◌&&◌, List, [], Option, Some, None, is_some, Result, Ok, Err, IfOk, IfSome, OnErr, OnOk, length, nat_lt, refl, sym, ◌∙◌, ap, subst, arith}
 use borrow.Author.Tests.{ltb-false}
 use Rattle.pr_api.specs.Views.{IsLawful}
+use Rattle.pr_ends.specs.Ends.{Ends}
+use Rattle.pr_ends.specs.Inputs.{Took}
 use Rattle.pr_model.specs.declared.events.Actor.{Actor}
 use Rattle.pr_model.specs.declared.events.Entry.{Entry}
 use Rattle.pr_num.specs.Limits.{scenario_limit}
 use Rattle.pr_num.specs.declared.memory.NoMemory.{NoMemory}
+use Rattle.pr_output.specs.Output.{run_text}
 use Rattle.pr_run_laws.specs.Prefixes.{IsPrefix}
 use Rattle.pr_run_laws.specs.ScenarioRanges.{IsScenarioInRange}
 use Rattle.pr_run_laws.specs.ScenarioRuns.{IsKept, first_world}
@@ -22,15 +25,15 @@ use Rattle.pr_commands.proofs.UnseenLemmas.{kept-unseen}
 use Rattle.pr_commands.proofs.OnwardLemmas.{HasEnd, first-end, led-end, led-places}
 use Rattle.pr_commands.proofs.ReadingLemmas.{taken}
 use Rattle.pr_commands.proofs.RunEndLemmas.{status_cases}
-use Rattle.pr_commands.specs.Answers.{Answer, IsEndOf, MayAnswer, MayAnswerRead, RunText, ShowsEnd, end_status, ran, ran_so, refused_at, run_shown}
+use Rattle.pr_commands.specs.Answers.{Answer, IsEndOf, MayAnswer, MayAnswerRead, RunText, ShowsEnd, end_status, ran, ran_so, refused_at}
 use Rattle.pr_commands.specs.Ends.{EndsAs}
 use Rattle.pr_commands.specs.Giving.{IsCutShort, RanOutLate, Responds, RespondsOne, StopsEarly}
 use Rattle.pr_commands.specs.Histories.{HistoryIsKept, IsLedTo, IsMadeByThreads, RanOutEarly, by_threads}
-use Rattle.pr_commands.specs.Inputs.{Took, scenario_of_input, taken_of}
+use Rattle.pr_commands.specs.Inputs.{scenario_of_input, taken_of}
 use Rattle.pr_commands.specs.Made.{LeftWith, StoppedThreads}
-use Rattle.pr_commands.specs.Rows.{Ends, EndsRun, EndsUnsaid, GivesOne, OneRanOut, RanOutAfter, RanOutReading, Reads, TellsEndOfOne, WouldEnd}
+use Rattle.pr_commands.specs.Rows.{EndsRun, EndsUnsaid, GivesOne, OneRanOut, RanOutAfter, RanOutReading, Reads, TellsEndOfOne, WouldEnd}
 use Rattle.pr_commands.specs.Statuses.{IsWhole}
-use Rattle.pr_commands.specs.declared.commands.Showing.{Showing}
+use Rattle.pr_output.specs.declared.runs.Showing.{Showing}
 use Rattle.pr_commands.specs.declared.outcomes.Status.{Status}
 use Rattle.pr_commands.specs.declared.outcomes.Status.TheVariants.{ReadFailed, WriteFailed, OutOfMemory}
 
@@ -126,18 +129,18 @@ pub shown-one : (showing : Showing) (s : Scenario) (w : WorldState) (end : Resul
     (h : List Entry) (old new : Option (List ℕ)) (before after : ℕ) → CameFrom (first_world s) w → TellsMachine w
     → length w.kernel.history ≤ w.kernel.places → IfOk end (λ end. ended_as w ≡ Some end)
     → OnOk end
-    (Responds (ran (run_shown showing) w) (LeftWith w.kernel.history h old new) status h old new before after)
+    (Responds (ran (run_text showing) w) (LeftWith w.kernel.history h old new) status h old new before after)
     → OnErr end (StopsEarly (LeftWith w.kernel.history h old new) status before after)
     → RespondsOne (ShowsEnd showing s) (StoppedThreads s h old new) status h old new before after
 shown-one showing s w (Ok end) status h old new before after came told within ended shown stopped =
     inl (record {
-      answer = ran (run_shown showing) w;
+      answer = ran (run_text showing) w;
       may = record {
         world = w;
         ends = record { came = came; told = told; over = is-over w end ended; within = within };
         is = refl;
       };
-      responds = responds-left (ran (run_shown showing) w) s w status h old new before after came told within shown;
+      responds = responds-left (ran (run_text showing) w) s w status h old new before after came told within shown;
     })
 shown-one showing s w (Err e) status h old new before after came told within ended shown stopped =
     inr (record {
@@ -154,7 +157,7 @@ module _ (showing : Showing) where
       → IsLedTo s h
   led-shown s answer h shown is =
       let w = shown.world in
-      let same = is ∙ (ap (λ (a : Answer). a.history) shown.is ∙ shown-history (run_shown showing) w) in
+      let same = is ∙ (ap (λ (a : Answer). a.history) shown.is ∙ shown-history (run_text showing) w) in
       record {
         world = w;
         came = shown.ends.came;
@@ -227,7 +230,7 @@ shown-ends : (showing : Showing) (s : Scenario) (answer : Answer) (h : List Entr
 unfolding led-shown
 shown-ends showing s answer h shown is =
     let w = shown.world in
-    let status = ap (λ (a : Answer). a.status) shown.is ∙ shown-status (run_shown showing) w in
+    let status = ap (λ (a : Answer). a.status) shown.is ∙ shown-status (run_text showing) w in
     record {
       led = led-shown showing s answer h shown is;
       ends = subst (EndsAs s.turns w) (sym status) (end-ends s w shown.ends);
@@ -272,14 +275,14 @@ module _ (showing : Showing) (old new : Ends) (status : Status) (h : List Entry)
       → WouldEnd showing s old new h
   would_end s input read early =
       let w = end.world in
-      let answer = ran (run_shown showing) w in
+      let answer = ran (run_text showing) w in
       let shows : ShowsEnd showing s answer = record { world = w; ends = end.ends; is = refl } in
       record {
         unwritten = early.unwritten;
         answer = answer;
         shows = shows;
         ends = shown-ends showing s answer answer.history shows refl;
-        begins = subst (IsPrefix h) (sym (shown-history (run_shown showing) w)) end.begins;
+        begins = subst (IsPrefix h) (sym (shown-history (run_text showing) w)) end.begins;
       }
     where
       range : IsScenarioInRange s

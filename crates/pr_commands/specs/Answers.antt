@@ -1,4 +1,4 @@
-use Rattle.std.specs.Prelude.{◌≡◌, ◌≤◌, ℕ, true, false, List, [], ◌++◌, Option, Some, None, Result, Ok, Err, codes, decimal, length}
+use Rattle.std.specs.Prelude.{◌≡◌, ◌≤◌, ℕ, false, List, [], ◌++◌, Option, Some, None, Result, Ok, Err, codes, decimal, length}
 use Rattle.pr_core.specs.CoreBytes.{core_bytes}
 use Rattle.pr_core.specs.CoreRanges.{IsCore}
 use Rattle.pr_core.specs.CoreTools.{tool_over_core}
@@ -22,6 +22,7 @@ use Rattle.pr_world.specs.Worlds.{WorldState, end_of, goes_on}
 use Rattle.pr_world.specs.declared.ends.End.{End}
 use Rattle.pr_world.specs.declared.ends.End.TheVariants as end
 use Rattle.pr_output.specs.declared.reports.Report.{Report}
+use Rattle.pr_output.specs.declared.runs.Showing.{Showing}
 use Rattle.pr_commands.specs.Checks.{checked_of_input}
 use Rattle.pr_commands.specs.CoreInputs.{ReadCore, core_of_input}
 use Rattle.pr_commands.specs.Hidings.{hiders_in}
@@ -31,8 +32,6 @@ use Rattle.pr_commands.specs.Statuses.{number}
 use Rattle.pr_commands.specs.Usage.{usage_line}
 use Rattle.pr_commands.specs.declared.wrongs.Wrong.{Wrong}
 use Rattle.pr_commands.specs.declared.wrongs.Wrong.TheVariants as wrong
-use Rattle.pr_commands.specs.declared.commands.Showing.{Showing}
-use Rattle.pr_commands.specs.declared.commands.Showing.TheVariants.{Whole, Quiet}
 use Rattle.pr_commands.specs.declared.outcomes.Status.{Status}
 use Rattle.pr_commands.specs.declared.outcomes.Status.TheVariants.{Done, Usage, Refused, Spent, Stuck, NotLegal}
 
@@ -73,12 +72,8 @@ abbrev pub CommandText : Type 0
 CommandText = Scenario → RunText
 
 -- what `run` writes, whatever the scenario is: the history, or not, the reports, and the status
-unfoldable pub run_shown : Showing → RunText
-run_shown Whole history reports status = run_text false history reports status
-run_shown Quiet history reports status = run_text true history reports status
-
 abbrev pub run_text_of : Showing → CommandText
-run_text_of showing s = run_shown showing
+run_text_of showing s = run_text showing
 
 -- what programs see of a run from this state, where these controllers hide what they do: the steps of its history and
 -- its trace, each without what is hidden, and the status
@@ -128,7 +123,7 @@ pub record IsEndOf (s : Scenario) (w : WorldState) : Type 0 where
 pub record ShowsEnd (showing : Showing) (s : Scenario) (answer : Answer) : Type 0 where
   pub world : WorldState
   pub ends : IsEndOf s world
-  pub is : answer ≡ ran (run_shown showing) world
+  pub is : answer ≡ ran (run_text showing) world
 
 abbrev pub MayAnswerRead : Showing → Result Scenario ScenFault → Answer → Type 0
 MayAnswerRead showing (Err fault) answer = answer ≡ refused_at fault.line (kind_name fault.kind)

@@ -6,8 +6,8 @@ use Rattle.pr_model.specs.ToolNames.{is_tool_named}
 use Rattle.pr_model.specs.declared.tools.ToolKind.{ToolKind}
 use Rattle.pr_model.specs.declared.tools.ToolKind.TheVariants.{Pfiles, Pflags, Pmap, Psig, Pstack}
 use Rattle.pr_num.specs.Limits.{child_limit, worker_limit}
-use Rattle.pr_commands.specs.declared.commands.Showing.{Showing}
-use Rattle.pr_commands.specs.declared.commands.Showing.TheVariants.{Whole, Quiet}
+use Rattle.pr_output.specs.declared.runs.Showing.{Showing}
+use Rattle.pr_output.specs.declared.runs.Showing.TheVariants.{Whole, Quiet}
 use Rattle.pr_commands.specs.declared.commands.Work.{Work}
 use Rattle.pr_commands.specs.declared.commands.Work.TheVariants.{Checks, Explains, Generates, Runs, Shares, ShowsCore, Strips}
 

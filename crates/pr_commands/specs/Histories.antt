@@ -1,4 +1,5 @@
 use Rattle.std.specs.Prelude.{◌≡◌, ◌≤◌, ◌⊎◌, ℕ, List, [], Option, Ok, length}
+use Rattle.pr_ends.specs.Inputs.{Took}
 use Rattle.pr_model.specs.declared.events.Entry.{Entry}
 use Rattle.pr_num.specs.Limits.{scenario_limit}
 use Rattle.pr_run_laws.specs.Prefixes.{IsPrefix}
@@ -7,7 +8,7 @@ use Rattle.pr_scen.specs.Scenarios.{Scenario}
 use Rattle.pr_world.specs.Runs.{CameFrom, TellsMachine}
 use Rattle.pr_world.specs.Worlds.{WorldState}
 use Rattle.pr_commands.specs.Hidings.{AreUnseen}
-use Rattle.pr_commands.specs.Inputs.{Took, scenario_of_input}
+use Rattle.pr_commands.specs.Inputs.{scenario_of_input}
 
 -- The histories that a call may leave.
 

@@ -1,4 +1,6 @@
 use Rattle.std.specs.Prelude.{◌≡◌, ◌≢◌, ◌⊎◌, ℕ, Bool, true, false, List, [], Option, IfSome, IfOk, length}
+use Rattle.pr_ends.specs.Ends.{Ends}
+use Rattle.pr_ends.specs.Inputs.{Took}
 use Rattle.pr_io.specs.Faults.{Rose}
 use Rattle.pr_io.specs.Reading.{Came, CameWithin}
 use Rattle.pr_judge.specs.Judgements.{Judges}
@@ -15,9 +17,9 @@ use Rattle.pr_commands.specs.CoreInputs.{core_limit}
 use Rattle.pr_commands.specs.Ends.{EndsAs}
 use Rattle.pr_commands.specs.Giving.{IsGiven, IsCutShort, RanOutLate, Responds}
 use Rattle.pr_commands.specs.Histories.{IsLedTo, Making, RanOutEarly, by_threads, in_rounds, no_run}
-use Rattle.pr_commands.specs.Inputs.{Took, scenario_of_input, taken_of}
+use Rattle.pr_commands.specs.Inputs.{scenario_of_input, taken_of}
 use Rattle.pr_commands.specs.Statuses.{IsWhole, number}
-use Rattle.pr_commands.specs.declared.commands.Showing.{Showing}
+use Rattle.pr_output.specs.declared.runs.Showing.{Showing}
 use Rattle.pr_commands.specs.declared.commands.Work.{Work}
 use Rattle.pr_commands.specs.declared.commands.Work.TheVariants.{Checks, Explains, Generates, Runs, Shares, ShowsCore, Strips}
 use Rattle.pr_commands.specs.declared.outcomes.Status.{Status}
@@ -63,25 +65,6 @@ is_unread (shows_core kind) = false
 
 abbrev pub reads_nothing : Work → Bool
 reads_nothing work = is_unread (row_of work)
-
--- What the source and the sink tell at one moment: the bytes that are left and those that were written, where they are
--- told, and the faults.
-pub record Ends : Type 0 where
-  pub left : Option (List ℕ)
-  pub read_faults : ℕ
-  pub written : Option (List ℕ)
-  pub write_faults : ℕ
-
--- what a source and a sink tell, by what each of them tells
-abbrev pub ends_of : {S K : Type 0} → (S → Option (List ℕ)) → (S → ℕ) → (K → Option (List ℕ)) → (K → ℕ) → S → K → Ends
-ends_of left read_faults written write_faults source sink =
-    record {
-      left = left source;
-      read_faults = read_faults source;
-      written = written sink;
-      write_faults =
-          write_faults sink;
-    }
 
 -- ---- a command that reads nothing
 

@@ -11,6 +11,7 @@ use pr_output::Cut;
 use pr_plain::generated_pieces;
 use std::alloc::Global;
 
+/// What is told of words that ask for nothing.
 const USAGE: &[u8] = b"usage: proclab run [-q] [-j N] | check | plain | gen N | core TOOL\n";
 
 /// The status where a text of this status was written, or was not.

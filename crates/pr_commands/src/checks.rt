@@ -57,7 +57,7 @@ fn scenario_of(alloc: Global, text: &[u8]) -> Result<Scenario, Misread>
 }
 
 /// A judge of histories with as many controllers as a scenario has, of the machine that begins as it says.
-#[tactic(auto, using(crate::proofs::RunLemmas::runs))]
+#[tactic(auto, using(pr_actors::proofs::ScenarioLemmas::scenarios))]
 fn judge_of(alloc: Global, scenario: Scenario) -> Result<Judge, NoMemory>
     requires { IsWithinLimits scenario }
     ensures heard { IfOk result (λ judge. HasHeard (first_state_of scenario) [] judge) }

@@ -5,13 +5,7 @@ ghost use Rattle.pr_commands.specs.Commands.{work_of, number_up_to, shared_run, 
 use itoa::Buffer;
 use pr_model::{ToolKind, tool_name};
 use pr_num::limits::{CHILD_LIMIT, WORKER_LIMIT};
-
-/// Whether the command `run` writes the history of its run.
-#[derive(Clone, Copy, Debug, PartialEq, Eq)]
-pub enum Showing {
-    Whole,
-    Quiet,
-}
+use pr_output::Showing;
 
 /// What the words after the program's name ask for.
 #[derive(Clone, Copy, Debug, PartialEq, Eq)]

@@ -1,13 +1,13 @@
 //! What the controllers of a scenario hide of what they do, and what is left of a history without it.
-ghost use Rattle.std.specs.Prelude.{◌≡◌, ◌<◌, ◌^◌, [], length, map, IfOk};
+ghost use Rattle.std.specs.Prelude.{◌≡◌, ◌<◌, ◌^◌, length, map, IfOk};
 ghost use Rattle.pr_hidden.specs.HiddenSteps.{hidden_steps};
 ghost use Rattle.pr_model.specs.Legal.{IsLegal};
 ghost use Rattle.pr_run_laws.specs.ScenarioRuns.{first_state_of};
 ghost use Rattle.pr_scen.specs.Scenarios.{IsWithinLimits};
 ghost use Rattle.pr_commands.specs.Hidings.{hider_of, hiders_in, patch_of};
 
+use pr_actors::kern_of;
 use pr_hide::{Hider, Patch};
-use pr_kern::Kern;
 use pr_line::Function;
 use pr_model::{History, Steps};
 use pr_num::{Bytes, NoMemory, Table};
@@ -58,25 +58,6 @@ pub fn hiders_of(alloc: Global, plans: &[Plan]) -> Result<Vec<Hider>, NoMemory>
         who.push(hider_of(alloc, plan)?)?;
     }
     Ok(who)
-}
-
-/// A kernel in the first state of a scenario, with places for so many entries.
-#[tactic(auto, using(crate::proofs::RunLemmas::runs))]
-fn kern_of(alloc: Global, scenario: Scenario, places: u32) -> Result<Kern, NoMemory>
-    requires { IsWithinLimits scenario }
-    ensures state { IfOk result (λ kern. kern.state ≡ first_state_of scenario) }
-    ensures history { IfOk result (λ kern. kern.history ≡ []) }
-    ensures places { IfOk result (λ kern. kern.places ≡ places) }
-{
-    let Scenario {
-        turns: _,
-        programs,
-        files,
-        spawns,
-        controllers: _,
-        schedule: _,
-    } = scenario;
-    Kern::new(alloc, programs, files, spawns.as_slice(), places)
 }
 
 /// The untraced steps of a history of a scenario without what its controllers hide: of each truss the breakpoints at

@@ -20,7 +20,7 @@ mod showings;
 mod stripping;
 mod wrongs;
 
-pub use commands::{Showing, Work, work_of};
+pub use commands::{Work, work_of};
 pub use hidings::strip_hidden;
 pub use outcomes::{Ending, Status, number};
 pub use running::carry_out;

@@ -57,8 +57,7 @@ pub fn without_history(alloc: Global, status: Status) -> Ending
     }
 }
 
-/// An end where memory ran out, with the history as far as it was made. Takes the refusal, so that no status 7 is made
-/// without one.
+/// An end where memory ran out, with the history as far as it was made. Takes the refusal where there is one.
 pub fn out_of_memory(_error: NoMemory, history: History) -> Ending
     ensures status { result.status ≡ OutOfMemory }
     ensures history { result.history.entries ≡ history.entries }

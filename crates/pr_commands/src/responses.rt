@@ -10,7 +10,6 @@ ghost use Rattle.pr_commands.specs.Histories.{RanOutEarly, in_rounds};
 ghost use Rattle.pr_commands.specs.Made.{LeftWith, StoppedRun};
 
 use crate::answers::status_after;
-use crate::commands::Showing;
 use crate::inputs::scenario_of_input;
 use crate::outcomes::{Ending, Status, end_status, number, out_of_memory, without_history};
 use crate::runs::{Made, Ran, make_run};
@@ -19,7 +18,7 @@ use pr_input::kind_name;
 use pr_io::Sink;
 use pr_model::History;
 use pr_num::Bytes;
-use pr_output::write_refusal;
+use pr_output::{Showing, write_refusal};
 use pr_scen::{ScenFault, ScenRefusal, Scenario};
 use std::alloc::Global;
 

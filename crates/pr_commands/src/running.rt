@@ -1,25 +1,27 @@
 //! Commands from a source to a sink.
 ghost use Rattle.std.specs.Prelude.{◌≡◌, ◌≤◌, [], true};
+ghost use Rattle.pr_ends.specs.Ends.{ends_of};
 ghost use Rattle.pr_num.specs.Limits.{checked_limit, scenario_limit, worker_limit};
 ghost use Rattle.pr_commands.specs.Answers.{MayAnswer, MayShowCore, answer_to, check_of, plain_shown, run_text_of};
 ghost use Rattle.pr_commands.specs.Commands.{HasWorkers};
 ghost use Rattle.pr_commands.specs.CoreInputs.{core_limit};
 ghost use Rattle.pr_commands.specs.Histories.{HistoryIsKept, by_threads, in_rounds, no_run};
-ghost use Rattle.pr_commands.specs.Rows.{DoesWork, EndsBy, IsThe, Reads, ends_of, making_of, reads_nothing, row_of};
+ghost use Rattle.pr_commands.specs.Rows.{DoesWork, EndsBy, IsThe, Reads, making_of, reads_nothing, row_of};
 
 use crate::answers::{explain, generate};
-use crate::commands::{Showing, Work};
+use crate::commands::Work;
 use crate::core_inputs::CORE_LIMIT;
 use crate::cores::show_core;
-use crate::inputs::{Unread, take_input};
 use crate::judgements::judge_input;
 use crate::outcomes::{Ending, Status, without_history};
 use crate::responses::respond;
 use crate::sharing::share;
 use crate::stripping::strip_input;
+use pr_ends::{Unread, take_input};
 use pr_io::{Gate, Sink, Source};
 use pr_model::ToolKind;
 use pr_num::limits::{CHECKED_LIMIT, SCENARIO_LIMIT};
+use pr_output::Showing;
 use std::alloc::Global;
 use std::sync::Wait;
 use std::thread::Threads;

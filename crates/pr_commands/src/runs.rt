@@ -1,83 +1,31 @@
 //! The run of a scenario, on one thread.
-ghost use Rattle.std.specs.Prelude.{◌≡◌, map, IfOk, OnOk, OnErr};
-ghost use Rattle.pr_run_laws.specs.ScenarioRuns.{controller_of, first_world, run_of, truss_of};
+ghost use Rattle.std.specs.Prelude.{◌≡◌, IfOk, OnOk, OnErr};
+ghost use Rattle.pr_run_laws.specs.ScenarioRuns.{first_world, run_of};
 ghost use Rattle.pr_scen.specs.Scenarios.{IsWithinLimits};
-ghost use Rattle.pr_truss.specs.Marks.{has_functions};
-ghost use Rattle.pr_world.specs.ControllerStates.{state_of};
 ghost use Rattle.pr_world.specs.Runs.{IsFresh, TellsMachine, after_moves};
 ghost use Rattle.pr_world.specs.Worlds.{end_of, seen};
 ghost use Rattle.pr_commands.specs.Made.{IsBroughtSoFar, IsWorldsWay, kern_view};
 ghost use Rattle.pr_commands.specs.Reports.{reports_of};
 
 use crate::reports::reports_of;
-use pr_bpt::FnTruss;
-use pr_core::Gcore;
+use pr_actors::actors_of;
 use pr_kern::Kern;
-use pr_line::Options;
 use pr_model::History;
 use pr_num::NoMemory;
 use pr_output::Report;
-use pr_probe::Probe;
 use pr_run::run_one;
-use pr_scen::{Plan, Scenario};
-use pr_tools::Tool;
-use pr_truss::Truss;
-use pr_world::{Controller, End, World};
+use pr_scen::Scenario;
+use pr_world::{End, World};
 use std::alloc::Global;
 
-/// A truss before its first call, which shows calls of functions where there are some.
-#[tactic(auto, unfolding(pr_world::specs::ControllerStates::state_of))]
-fn truss_of(alloc: Global, options: Options) -> Result<Controller, NoMemory>
-    ensures { IfOk result (λ controller. state_of controller ≡ truss_of options (has_functions options)) }
-{
-    if options.functions.is_empty() {
-        return Ok(Controller::Truss(Truss::new(alloc, options)?));
-    }
-    Ok(Controller::FnTruss(FnTruss::new(alloc, options)?))
-}
-
-/// The controller of a plan before its first call.
-#[tactic(auto, unfolding(pr_run_laws::specs::ScenarioRuns::controller_of, pr_world::specs::ControllerStates::state_of))]
-fn controller_of(alloc: Global, plan: Plan) -> Result<Controller, NoMemory>
-    ensures { IfOk result (λ controller. state_of controller ≡ controller_of plan) }
-{
-    Ok(match plan {
-        Plan::Script(script) => Controller::Script(script),
-        Plan::Truss(options) => truss_of(alloc, options)?,
-        Plan::Tool(kind, pid) => Controller::Tool(Tool::new(alloc, kind, pid)?),
-        Plan::Gcore(pid) => Controller::Gcore(Gcore::new(alloc, pid)?),
-        Plan::Probe(pid) => Controller::Probe(Probe::new(alloc, pid)?),
-    })
-}
-
-/// The controllers of plans before their first calls.
-fn controllers_of(alloc: Global, plans: Vec<Plan>) -> Result<Vec<Controller>, NoMemory>
-    ensures { IfOk result (λ controllers. map state_of controllers.items ≡ map controller_of plans.items) }
-{
-    let mut controllers = Vec::with_capacity(alloc, plans.len())?;
-    for plan in plans {
-        controllers.push(controller_of(alloc, plan)?)?;
-    }
-    Ok(controllers)
-}
-
 /// The world of a scenario before its first move.
-#[tactic(auto, unfolding(pr_run_laws::specs::ScenarioRuns::first_world), using(crate::proofs::RunLemmas::runs))]
+#[tactic(auto, unfolding(pr_run_laws::specs::ScenarioRuns::first_world), using(pr_actors::proofs::ScenarioLemmas::scenarios))]
 pub fn first_world(alloc: Global, scenario: Scenario) -> Result<World<Kern>, NoMemory>
     requires limits { IsWithinLimits scenario }
     ensures { IfOk result (λ world. seen kern_view world ≡ first_world scenario) }
 {
-    let Scenario {
-        turns,
-        programs,
-        files,
-        spawns,
-        controllers,
-        schedule,
-    } = scenario;
-    let controllers = controllers_of(alloc, controllers)?;
-    let kern = Kern::new(alloc, programs, files, spawns.as_slice(), turns)?;
-    World::new(alloc, kern, controllers, schedule)
+    let actors = actors_of(alloc, scenario)?;
+    World::new(alloc, actors.kern, actors.controllers, actors.schedule)
 }
 
 /// How a run ended, and what its controllers print then.

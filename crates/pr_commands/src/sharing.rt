@@ -1,14 +1,14 @@
 //! What the command `run` on several threads answers to an input.
 ghost use Rattle.std.specs.Prelude.{◌≡◌, ◌≤◌, length, Some, IfOk, IfSome, OnErr, OnOk};
 ghost use Rattle.pr_num.specs.Limits.{scenario_limit, worker_limit};
+ghost use Rattle.pr_output.specs.Output.{run_text};
 ghost use Rattle.pr_scen.specs.Scenarios.{IsWithinLimits};
 ghost use Rattle.pr_world.specs.Worlds.{ended_as, seen};
-ghost use Rattle.pr_commands.specs.Answers.{MayAnswer, ShowsEnd, ran, run_shown};
+ghost use Rattle.pr_commands.specs.Answers.{MayAnswer, ShowsEnd, ran};
 ghost use Rattle.pr_commands.specs.Giving.{Responds, RespondsOne, StopsEarly};
 ghost use Rattle.pr_commands.specs.Histories.{RanOutEarly, by_threads};
 ghost use Rattle.pr_commands.specs.Made.{LeftWith, StoppedThreads, kern_view};
 
-use crate::commands::Showing;
 use crate::inputs::scenario_of_input;
 use crate::outcomes::{Ending, Status, out_of_memory, without_history};
 use crate::reports::reports_of;
@@ -19,6 +19,7 @@ use pr_kern::Kern;
 use pr_lock::NewNo;
 use pr_model::History;
 use pr_num::{Bytes, NoMemory};
+use pr_output::Showing;
 use pr_run::run_many;
 use pr_scen::{ScenRefusal, Scenario};
 use pr_world::{End, World};
@@ -35,7 +36,7 @@ fn show_world<K: Sink>(
     sink: &mut K,
 ) -> Ending
     requires { ended_as (seen kern_view world) ≡ Some end }
-    ensures { Responds (ran (run_shown showing) (seen kern_view world))
+    ensures { Responds (ran (run_text showing) (seen kern_view world))
         (LeftWith world.kernel.history result.history.entries (K.written sink.old) (K.written sink.new))
         result.status result.history.entries
         (K.written sink.old) (K.written sink.new) (K.faults sink.old) (K.faults sink.new) }
@@ -57,7 +58,7 @@ fn show_end<K: Sink>(
     sink: &mut K,
 ) -> Ending
     requires { IfOk end (λ end. ended_as (seen kern_view world) ≡ Some end) }
-    ensures ended { OnOk end (Responds (ran (run_shown showing) (seen kern_view world))
+    ensures ended { OnOk end (Responds (ran (run_text showing) (seen kern_view world))
         (LeftWith world.kernel.history result.history.entries (K.written sink.old) (K.written sink.new))
         result.status result.history.entries
         (K.written sink.old) (K.written sink.new) (K.faults sink.old) (K.faults sink.new)) }

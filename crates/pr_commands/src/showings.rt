@@ -5,17 +5,16 @@ ghost use Rattle.pr_hidden.specs.HiddenSteps.{hidden_steps, hidden_trace};
 ghost use Rattle.pr_model.specs.UntracedMachine.{traced_step};
 ghost use Rattle.pr_model.specs.UntracedSteps.{untraced_steps, untraced_trace};
 ghost use Rattle.pr_model.specs.declared.events.Entry.{Entry};
-ghost use Rattle.pr_output.specs.Output.{plain_run_text};
+ghost use Rattle.pr_output.specs.Output.{plain_run_text, run_text};
 ghost use Rattle.pr_output.specs.Puts.{Puts};
 ghost use Rattle.pr_run_laws.specs.ScenarioRuns.{first_state_of};
-ghost use Rattle.pr_commands.specs.Answers.{RunText, plain_shown, run_shown, untraced_shown};
+ghost use Rattle.pr_commands.specs.Answers.{RunText, plain_shown, untraced_shown};
 ghost use Rattle.pr_commands.specs.Hidings.{IsOf, hiders_in};
 
-use crate::commands::Showing;
 use crate::hidings::strip_hidden;
 use pr_io::Sink;
 use pr_model::{History, Steps};
-use pr_output::{Cut, Report, write_plain, write_run};
+use pr_output::{Cut, Report, Showing, write_plain, write_run};
 use pr_scen::Scenario;
 use pr_strip::{strip, trace, trace_of_steps};
 use std::alloc::Global;
@@ -43,9 +42,8 @@ pub trait Shows: Drop {
 }
 
 /// The history, or not, the reports and the status.
-#[tactic(auto, unfolding(crate::specs::Answers::run_shown))]
 impl Shows for Showing {
-    ghost text = { run_shown };
+    ghost text = { run_text };
 
     fn write<K: Sink>(
         self,
@@ -55,10 +53,7 @@ impl Shows for Showing {
         status: u8,
         sink: &mut K,
     ) -> Result<(), Cut> {
-        match self {
-            Showing::Whole => write_run(alloc, sink, false, history, reports, status),
-            Showing::Quiet => write_run(alloc, sink, true, history, reports, status),
-        }
+        write_run(alloc, sink, self, history, reports, status)
     }
 }
 

@@ -10,7 +10,7 @@ use Rattle.pr_api.specs.Views.{kernel_of, next_of, turns_after}
 use Rattle.pr_asks.specs.Asks.{ask_of}
 use Rattle.pr_asks.specs.declared.asks.Ask.{Ask}
 use Rattle.pr_asks.specs.declared.asks.Ask.TheVariants as ask
-use Rattle.pr_asks.specs.declared.asks.Kind.{Kind}
+use Rattle.pr_asks.specs.declared.asks.AskKind.{AskKind}
 use Rattle.pr_model.specs.Calls.{Answer, answer_to}
 use Rattle.pr_model.specs.Legal.{IsLegalEntry, after}
 use Rattle.pr_model.specs.LwpTurns.{LwpTurn}
@@ -392,7 +392,7 @@ ran-asked s (ask.Call c) over r q text lets ran h = cc
 ran-asked s (ask.Messages script) over r q text lets ran h = cc
 ran-asked s (ask.Move actor) over r q text lets ran h = cc
 
-ran-read : (s : Scenario) (number : ℕ) (read : Result Ask Kind) (over : Bool) (r q : RoundsState) (text : List ℕ)
+ran-read : (s : Scenario) (number : ℕ) (read : Result Ask AskKind) (over : Bool) (r q : RoundsState) (text : List ℕ)
     → lets_others read ≡ true → Ran s r → AnswersRead number read over r q text → Ran s q × (over ≡ false)
 ran-read s number (Err kind) over r q text lets ran h = (ran-same s r q ran h.1.same, h.0)
 ran-read s number (Ok asked) over r q text lets ran h = ran-asked s asked over r q text lets ran h.1

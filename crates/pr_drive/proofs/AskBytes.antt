@@ -13,7 +13,7 @@ use Rattle.pr_asks.specs.Calls.{actor_of, call_in, call_of, call_text, entries_o
 use Rattle.pr_asks.specs.Messages.{messages_in, messages_of, opened, scenario_text, script_in, script_of}
 use Rattle.pr_asks.specs.declared.asks.Ask.{Ask}
 use Rattle.pr_asks.specs.declared.asks.Ask.TheVariants as ask
-use Rattle.pr_asks.specs.declared.asks.Kind.{Kind}
+use Rattle.pr_asks.specs.declared.asks.AskKind.{AskKind}
 use Rattle.pr_lines.specs.Lines.{line_bytes}
 use Rattle.pr_model.specs.declared.calls.Call.{Call}
 use Rattle.pr_model.specs.declared.calls.Reply.TheVariants.{Handle}
@@ -247,7 +247,7 @@ plan-lines plans i all = of (slice_get plans i) refl
     of (Some (plan.Gcore pid)) found = tt
     of (Some (plan.Probe pid)) found = tt
 
-opened-lines : (handle : ℕ) (r : Result ScriptState Kind) → IfOk r HasLines → IfOk (opened handle r) HasLines
+opened-lines : (handle : ℕ) (r : Result ScriptState AskKind) → IfOk r HasLines → IfOk (opened handle r) HasLines
 opened-lines handle (Ok s) h = subst (All IsLineOfBytes) (sym (fed-lines s (Handle handle))) h
 opened-lines handle (Err kind) h = tt
 
@@ -273,19 +273,19 @@ moves-so : (o : Option ℕ) → IfOk (as_moves o) AsksForBytes
 moves-so (Some times) = tt
 moves-so None = tt
 
-move-so : (r : Result Actor Kind) → IfOk (as_move r) AsksForBytes
+move-so : (r : Result Actor AskKind) → IfOk (as_move r) AsksForBytes
 move-so (Ok actor) = tt
 move-so (Err kind) = tt
 
 to-so : (o : Option ℕ) (messages : List ℕ) → IfOk (messages_to o messages) AsksForBytes
 to-so (Some handle) messages = of (messages_of handle messages) (messages-so handle messages)
   where
-    of : (r : Result ScriptState Kind) → IfOk r HasLines → IfOk (as_messages r) AsksForBytes
+    of : (r : Result ScriptState AskKind) → IfOk r HasLines → IfOk (as_messages r) AsksForBytes
     of (Ok s) h = h
     of (Err kind) h = tt
 to-so None messages = tt
 
-or-so : (line : List ℕ) (r : Result Call Kind) → IfOk r IsOfBytes → IfOk (or_messages line r) AsksForBytes
+or-so : (line : List ℕ) (r : Result Call AskKind) → IfOk r IsOfBytes → IfOk (or_messages line r) AsksForBytes
 unfolding messages_behind
 or-so line (Ok c) h = h
 or-so line (Err kind) h =

@@ -4,7 +4,7 @@ use Rattle.std.proofs.Common.{arith, append_assoc, append-nil, length-append}
 use Rattle.std.proofs.lemmas.List.{take_all}
 use Rattle.pr_asks.specs.Asks.{ask_of, name_of}
 use Rattle.pr_asks.specs.declared.asks.Ask.{Ask}
-use Rattle.pr_asks.specs.declared.asks.Kind.{Kind}
+use Rattle.pr_asks.specs.declared.asks.AskKind.{AskKind}
 use Rattle.pr_io.specs.Known.{with_end}
 use Rattle.pr_io.specs.Writing.{AppendsFront}
 use Rattle.pr_io.specs.declared.sources.ReadEnd.{ReadEnd}
@@ -92,18 +92,18 @@ put-cut asked over a b before after old new none h front = record {
       (front-some old new after front);
 }
 
-answers-read : (number : ℕ) (read : Result Ask Kind) (asked : Ask) (over : Bool) (a b : RoundsState) (text : List ℕ)
+answers-read : (number : ℕ) (read : Result Ask AskKind) (asked : Ask) (over : Bool) (a b : RoundsState) (text : List ℕ)
     → read ≡ Ok asked → is_end asked ≡ false → Answers asked over a b text → AnswersRead number read over a b text
-answers-read number read asked over a b text is on h = let P : Result Ask Kind
+answers-read number read asked over a b text is on h = let P : Result Ask AskKind
     → Type 0 = λ r. AnswersRead number r over a b text in subst P (sym is) (on, h)
 
-refused-read : (number : ℕ) (read : Result Ask Kind) (kind : Kind) (a : RoundsState) → read ≡ Err kind
+refused-read : (number : ℕ) (read : Result Ask AskKind) (kind : AskKind) (a : RoundsState) → read ≡ Err kind
     → AnswersRead number read false a a (refusal_text number (name_of kind))
 refused-read number read kind a is =
-    let P : Result Ask Kind → Type 0 = λ r. AnswersRead number r false a a (refusal_text number (name_of kind)) in
+    let P : Result Ask AskKind → Type 0 = λ r. AnswersRead number r false a a (refusal_text number (name_of kind)) in
     subst P (sym is) (refl, record { same = refl; told = refl })
 
-asks-end : (read : Result Ask Kind) (asked : Ask) → read ≡ Ok asked → is_end asked ≡ true → AsksEnd read
+asks-end : (read : Result Ask AskKind) (asked : Ask) → read ≡ Ok asked → is_end asked ≡ true → AsksEnd read
 asks-end read asked is on = subst AsksEnd (sym is) on
 
 pub line-end : (number : ℕ) (line : List ℕ) (asked : Ask) (a : RoundsState) (w : Option (List ℕ))
@@ -142,13 +142,13 @@ line-cut number line asked a old new is on (inr h) =
       written = h.written;
     })
 
-pub line-refused : (number : ℕ) (line : List ℕ) (kind : Kind) (a : RoundsState) (old new : Option (List ℕ))
+pub line-refused : (number : ℕ) (line : List ℕ) (kind : AskKind) (a : RoundsState) (old new : Option (List ℕ))
     → ask_of line ≡ Err kind → new ≡ with_end old (refusal_text number (name_of kind))
     → CameOf came.Still number line a a old new
 line-refused number line kind a old new is told = record
     { text = refusal_text number (name_of kind); answers = refused-read number (ask_of line) kind a is; written = told }
 
-pub refusal-cut : (number : ℕ) (line : List ℕ) (kind : Kind) (a : RoundsState) (old new : Option (List ℕ))
+pub refusal-cut : (number : ℕ) (line : List ℕ) (kind : AskKind) (a : RoundsState) (old new : Option (List ℕ))
     → ask_of line ≡ Err kind → AppendsSome old new (refusal_text number (name_of kind)) → CutAt number line a old new
 refusal-cut number line kind a old new is told =
     inr (record {

@@ -5,7 +5,7 @@ use Rattle.std.proofs.lemmas.List.Elements.{All-append, All-cons, All-nil}
 use Rattle.pr_api.specs.Entries.{call_entry}
 use Rattle.pr_asks.specs.declared.asks.Ask.{Ask}
 use Rattle.pr_asks.specs.declared.asks.Ask.TheVariants as ask
-use Rattle.pr_asks.specs.declared.asks.Kind.{Kind}
+use Rattle.pr_asks.specs.declared.asks.AskKind.{AskKind}
 use Rattle.pr_asks.specs.Asks.{ask_of}
 use Rattle.pr_model.specs.Legal.{IsLegal, IsLegalEntry, after, state_after}
 use Rattle.pr_model.specs.State.{TracedState}
@@ -264,7 +264,7 @@ answers-keep (ask.Move actor) over a b text bytes h = one-keep actor a b text h.
 answers-keep ask.Run over a b text bytes h = until-keep a b h.1.moves
 answers-keep ask.End over a b text bytes h = keeps-same a.seats b.seats (ap (λ (r : RoundsState). r.seats) h.1.same)
 
-line-keep : (number : ℕ) (read : Result Ask Kind) (over : Bool) (a b : RoundsState) (text : List ℕ)
+line-keep : (number : ℕ) (read : Result Ask AskKind) (over : Bool) (a b : RoundsState) (text : List ℕ)
     → IfOk read AsksForBytes → AnswersRead number read over a b text → Keeps a.seats b.seats
 line-keep number (Err kind) over a b text bytes h =
     keeps-same a.seats b.seats (ap (λ (r : RoundsState). r.seats) h.1.same)

@@ -8,7 +8,6 @@ mod InputLemmas
 mod KeptLemmas
 mod MoveLemmas
 mod ReadLemmas
-mod ReportLemmas
 mod RoundLemmas
 mod SeatLemmas
 mod ServeLemmas

@@ -1,5 +1,5 @@
 use Rattle.std.proofs.Common.{◌≡◌, ◌≤◌, ◌+◌, ◌-◌, ◌⊎◌, inl, inr, ℕ, zero, suc, Bool, true, false, Option, Some}
-use Rattle.std.proofs.Common.{None, is_some, List, [], ◌∷◌, length, cond, find, refl, sym, ap, subst, ◌∙◌, arith}
+use Rattle.std.proofs.Common.{None, is_some, Result, Ok, Err, IfOk, OnOk, List, [], ◌∷◌, length, cond, find, refl, sym, ap, subst, ◌∙◌, arith}
 use Rattle.std.specs.List.{range_with_len}
 use Rattle.std.specs.Option.{option_map, option_or}
 use Rattle.std.proofs.lemmas.Bool.{le-ltb, lt-ltb}
@@ -12,6 +12,7 @@ use Rattle.pr_model.specs.declared.events.Actor.{Actor}
 use Rattle.pr_model.specs.declared.events.Actor.TheVariants.{Controller, Lwp, Clock}
 use Rattle.pr_model.specs.declared.events.Entry.{Entry}
 use Rattle.pr_num.proofs.SearchLemmas.{find-passes}
+use Rattle.pr_num.specs.declared.memory.NoMemory.{NoMemory}
 use Rattle.pr_proc.specs.Orders.{asked_after, next_asked}
 use Rattle.pr_world.proofs.RestLemmas.{either, from_lwp-next, mapped-back, rounds-rest}
 use Rattle.pr_world.proofs.SearchLemmas.{search-end}
@@ -220,6 +221,12 @@ stepped until moved a b is h = subst (λ (m : Bool). StepsIf m until a b) is h
 
 pub rested : (until : ℕ) (moved : Bool) (a b : RoundsState) → moved ≡ false → StepsIf moved until a b → Rests until a b
 rested until moved a b is h = subst (λ (m : Bool). StepsIf m until a b) is h
+
+-- where somebody moved, this came of both
+pub moved-then : {More Made Then : Type 0} (r : Result Bool NoMemory) → IfOk r (λ moved. moved ≡ true → More)
+    → OnOk r Made → (More → Made → Then) → IfOk r (λ moved. moved ≡ true → Then)
+moved-then (Ok moved) more made makes = λ somebody. makes (more somebody) made
+moved-then (Err e) more made makes = tt
 
 -- ---- past the outside's turn
 

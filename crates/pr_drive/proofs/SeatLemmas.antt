@@ -1,42 +1,24 @@
 use Rattle.std.proofs.Common.{◌≡◌, ◌<◌, ◌≤◌, ◌+◌, ◌-◌, ◌&&◌, ◌||◌, ℕ, Bool, true, false, Option, Some, None, is_some}
 use Rattle.std.proofs.Common.{List, ◌∷◌, length, map, drop, find, nat_lt, refl, sym, ap, ◌∙◌, arith}
-use Rattle.std.specs.List.{slice_get, slice_index_or, list_any, range_with_len, sum_by}
+use Rattle.std.specs.List.{slice_get, slice_index_or, list_any, range_with_len}
 use Rattle.std.specs.Option.{option_map}
 use Rattle.std.proofs.lemmas.Bool.{le-ltb, lt-ltb}
 use Rattle.std.proofs.lemmas.List.{length-map}
 use Rattle.std.proofs.lemmas.Option.{slice_get-map, slice_get-get_or, slice_get_past}
 use Rattle.pr_api.specs.Sleepers.{some_sleeper}
 use Rattle.pr_api.specs.Views.{kernel_of}
-use Rattle.pr_kern.specs.Starts.{stored}
 use Rattle.pr_model.specs.Calls.{answer_to}
-use Rattle.pr_model.specs.FirstState.{size_at_start}
 use Rattle.pr_model.specs.LwpTurns.{can_move as lwp_can_move}
 use Rattle.pr_model.specs.declared.calls.Call.{Call}
 use Rattle.pr_model.specs.declared.events.Actor.TheVariants.{Controller as ByNumber, Lwp, Clock}
 use Rattle.pr_num.proofs.ListLemmas.{drop-at}
-use Rattle.pr_num.specs.Limits.{all_mappings_limit, clock_limit, process_limit}
-use Rattle.pr_parts.specs.FileTables.{names_differ}
-use Rattle.pr_scen.specs.Scenarios.{IsWithinLimits, Scenario}
+use Rattle.pr_num.specs.Limits.{clock_limit}
 use Rattle.pr_world.specs.ControllerStates.{state_of}
 use Rattle.pr_world.specs.Controllers.{awaits_clock, call_by, is_clock_awaited}
 use Rattle.pr_world.proofs.SearchLemmas.{search-end, search-here, search-on}
 use Rattle.pr_world.specs.Worlds.{can_act, controller_acts, first_controller, is_answered}
 use Rattle.pr_world.specs.declared.controllers.Controller.{Controller}
 use Rattle.pr_drive.specs.Going.{SeatsState, can_move, world_of}
-
--- A kernel takes what a scenario has.
-
-pub spawns-few : (s : Scenario) → IsWithinLimits s → length s.spawns + 1 ≤ process_limit
-spawns-few s limits = omega (arith, limits.spawns)
-
-pub spawns-map : (s : Scenario) → IsWithinLimits s
-    → sum_by (λ place. size_at_start (slice_get s.programs place)) s.spawns ≤ all_mappings_limit
-spawns-map s limits = omega (arith, limits.mapped)
-
-pub own-names : (s : Scenario) → IsWithinLimits s → names_differ (stored s.files) ≡ true
-own-names s limits = limits.own_names
-
-pub ruleset scenarios = (spawns-few, spawns-map, own-names)
 
 -- ---- the cores of controllers, of which one is asked
 

@@ -1,15 +1,17 @@
-use Rattle.std.proofs.Common.{◌≡◌, ◌≢◌, ◌⊎◌, inl, inr, ℕ, Bool, List, [], Option, Result, Ok, Err}
+use Rattle.std.proofs.Common.{◌≡◌, ◌≢◌, ◌⊎◌, inl, inr, ℕ, List, [], Option, Result, Ok, Err}
 use Rattle.std.proofs.Common.{refl, sym, ap, subst}
 use Rattle.std.specs.Result.{IsErrOf}
+use Rattle.pr_ends.specs.Ends.{Ends}
 use Rattle.pr_input.specs.Kinds.{kind_name}
 use Rattle.pr_io.specs.Faults.{Rose}
 use Rattle.pr_output.specs.Output.{AppendsSome, refusal_text}
+use Rattle.pr_output.specs.declared.runs.Showing.{Showing}
 use Rattle.pr_run_laws.proofs.ScenariosInRange.ScenarioRangeLemmas.{scenario-range}
 use Rattle.pr_scen.specs.Refusals.{ScenFault}
 use Rattle.pr_drive.specs.Going.{SeatsState}
 use Rattle.pr_drive.specs.Inputs.{Input, from_start}
 use Rattle.pr_drive.specs.Rounds.{RoundsState}
-use Rattle.pr_drive.specs.Served.{AnsweredLines, CutAbove, CutsEnd, Drove, Ends}
+use Rattle.pr_drive.specs.Served.{AnsweredLines, CutAbove, CutsEnd, Drove}
 use Rattle.pr_drive.specs.Served.{IsWhole, UnreadAbove, WasUnread}
 use Rattle.pr_drive.specs.Served.{Opened, OpensAs, RefusedText, RefusedWhole, TellsEnd, TellsRefusal, WasCut, WasCutOff}
 use Rattle.pr_drive.specs.Served.{WasDriven, WasEnded}
@@ -62,11 +64,11 @@ lines-answered old left above first begun end replies opened left_is all =
       alone = alone-runs s above (stand begun first) end old.written replies all opened.opened.begins;
     }
 
-pub session-told : (quiet : Bool) (old new : Ends) (status : Status) (above : ℕ) (first : RoundsState) (begun : Input)
-    (end : Stand) (replies : Option (List ℕ)) → Opened above first (from_start old.left) begun
+pub session-told : (showing : Showing) (old new : Ends) (status : Status) (above : ℕ) (first : RoundsState)
+    (begun : Input) (end : Stand) (replies : Option (List ℕ)) → Opened above first (from_start old.left) begun
     → new.left ≡ end.input.left → AnsweredAll above (stand begun first) end old.written replies
-    → TellsEnd quiet end.rounds.seats status replies new.written → WasDriven quiet old new status
-session-told quiet old new status above first begun end replies opened left_is all told =
+    → TellsEnd showing end.rounds.seats status replies new.written → WasDriven showing old new status
+session-told showing old new status above first begun end replies opened left_is all told =
     inr (record {
       scenario = opened.opened.scenario;
       last = end.rounds.seats;
@@ -75,11 +77,11 @@ session-told quiet old new status above first begun end replies opened left_is a
       told = told;
     })
 
-pub session-cut : (quiet : Bool) (old new : Ends) (above : ℕ) (first : RoundsState) (begun : Input) (end : Stand)
+pub session-cut : (showing : Showing) (old new : Ends) (above : ℕ) (first : RoundsState) (begun : Input) (end : Stand)
     (replies : Option (List ℕ)) → Opened above first (from_start old.left) begun
     → new.left ≡ end.input.left → AnsweredAll above (stand begun first) end old.written replies
-    → CutsEnd quiet end.rounds.seats replies new.written → WasCut quiet old new
-session-cut quiet old new above first begun end replies opened left_is all cuts =
+    → CutsEnd showing end.rounds.seats replies new.written → WasCut showing old new
+session-cut showing old new above first begun end replies opened left_is all cuts =
     inr (inr (inr (record {
       scenario = opened.opened.scenario;
       last = end.rounds.seats;
@@ -88,10 +90,10 @@ session-cut quiet old new above first begun end replies opened left_is all cuts 
       cut = cuts;
     })))
 
-pub lines-cut : (quiet : Bool) (old new : Ends) (above : ℕ) (first : RoundsState) (begun : Input)
+pub lines-cut : (showing : Showing) (old new : Ends) (above : ℕ) (first : RoundsState) (begun : Input)
     → Opened above first (from_start old.left) begun
-    → AnsweredSome above (stand begun first) new.left old.written new.written → WasCut quiet old new
-lines-cut quiet old new above first begun opened some =
+    → AnsweredSome above (stand begun first) new.left old.written new.written → WasCut showing old new
+lines-cut showing old new above first begun opened some =
     inr (inr (inl (record { above = above; begun = stand begun first; opened = opened; answered = some })))
 
 -- a read failed behind lines of the outside
@@ -102,17 +104,17 @@ lines-unread old new above first begun opened unread =
     inr (record { above = above; begun = stand begun first; opened = opened; answered = unread })
 
 -- above the mark
-pub cut-before : (quiet : Bool) (held : List ℕ) (old new : Ends) → held ≡ [] → CutAbove (input held old.left) new.left
-    → new.written ≡ old.written → WasCut quiet old new
-cut-before quiet held old new none cut same =
+pub cut-before : (showing : Showing) (held : List ℕ) (old new : Ends) → held ≡ []
+    → CutAbove (input held old.left) new.left → new.written ≡ old.written → WasCut showing old new
+cut-before showing held old new none cut same =
     inl (record {
       above = subst (λ (x : List ℕ). CutAbove (input x old.left) new.left) none cut;
       unwritten = same;
     })
 
-pub cut-unread : (quiet : Bool) (old new : Ends) → new.left ≡ old.left → new.written ≡ old.written
-    → WasCut quiet old new
-cut-unread quiet old new left same =
+pub cut-unread : (showing : Showing) (old new : Ends) → new.left ≡ old.left → new.written ≡ old.written
+    → WasCut showing old new
+cut-unread showing old new left same =
     let begun = took-none [] (from_start old.left) refl in
     inl (record {
       above = subst (CutAbove (from_start old.left)) (sym left)
@@ -128,17 +130,17 @@ unread-before held old new none unread same =
       unwritten = same;
     })
 
-pub refused-told : (quiet : Bool) (old new : Ends) (status : Status) (fault : ScenFault) (begun : Input)
+pub refused-told : (showing : Showing) (old new : Ends) (status : Status) (fault : ScenFault) (begun : Input)
     → RefusedText fault (from_start old.left) begun ⊎ RefusedWhole fault (from_start old.left) begun
-    → new.left ≡ begun.left → TellsRefusal fault status old.written new.written → WasDriven quiet old new status
-refused-told quiet old new status fault begun refused left_is told = inl
+    → new.left ≡ begun.left → TellsRefusal fault status old.written new.written → WasDriven showing old new status
+refused-told showing old new status fault begun refused left_is told = inl
     (record { fault = fault; input = begun; refused = refused; left_is = left_is; told = told })
 
-pub refused-cut : (quiet : Bool) (old new : Ends) (fault : ScenFault) (begun : Input)
+pub refused-cut : (showing : Showing) (old new : Ends) (fault : ScenFault) (begun : Input)
     → RefusedText fault (from_start old.left) begun ⊎ RefusedWhole fault (from_start old.left) begun
     → new.left ≡ begun.left
-    → AppendsSome old.written new.written (refusal_text fault.line (kind_name fault.kind)) → WasCut quiet old new
-refused-cut quiet old new fault begun refused left_is some =
+    → AppendsSome old.written new.written (refusal_text fault.line (kind_name fault.kind)) → WasCut showing old new
+refused-cut showing old new fault begun refused left_is some =
     inr (inl (record { fault = fault; input = begun; refused = refused; left_is = left_is; written = some }))
 
 -- ---- from an opening on
@@ -155,18 +157,19 @@ pub refused-as : (held : List ℕ) (left : Option (List ℕ)) (begun : Input) (o
 refused-as held left begun o fault is none h = subst (λ (x : Opening). OpensAs x (from_start left) begun) is
     (from-first held left begun o none h)
 
-pub went-on : (quiet : Bool) (old new : Ends) (status : Status) (above : ℕ) (first : RoundsState) (begun : Input)
+pub went-on : (showing : Showing) (old new : Ends) (status : Status) (above : ℕ) (first : RoundsState) (begun : Input)
     → Opened above first (from_start old.left) begun
-    → WasEnded quiet above (stand begun first) new.left old.written new.written status → WasDriven quiet old new status
-went-on quiet old new status above first begun opened h = session-told quiet old new status above first begun h.end
+    → WasEnded showing above (stand begun first) new.left old.written new.written status
+    → WasDriven showing old new status
+went-on showing old new status above first begun opened h = session-told showing old new status above first begun h.end
     h.replies opened h.left_is h.answered h.told
 
-pub went-cut : (quiet : Bool) (old new : Ends) (above : ℕ) (first : RoundsState) (begun : Input)
+pub went-cut : (showing : Showing) (old new : Ends) (above : ℕ) (first : RoundsState) (begun : Input)
     → Opened above first (from_start old.left) begun
-    → WasCutOff quiet above (stand begun first) new.left old.written new.written → WasCut quiet old new
-went-cut quiet old new above first begun opened (inl some) = lines-cut quiet old new above first begun opened some
-went-cut quiet old new above first begun opened (inr behind) = session-cut quiet old new above first begun behind.end
-    behind.replies opened behind.left_is behind.answered behind.cut
+    → WasCutOff showing above (stand begun first) new.left old.written new.written → WasCut showing old new
+went-cut showing old new above first begun opened (inl some) = lines-cut showing old new above first begun opened some
+went-cut showing old new above first begun opened (inr behind) = session-cut showing old new above first begun
+    behind.end behind.replies opened behind.left_is behind.answered behind.cut
 
 -- ---- statuses
 
@@ -177,15 +180,16 @@ ends-whole s Spent h = record { read = λ e. cc; wrote = λ e. cc; had_memory = 
 ends-whole s Stuck h = record { read = λ e. cc; wrote = λ e. cc; had_memory = λ e. cc }
 ends-whole s _ h = absurd h
 
-driven-whole : (quiet : Bool) (old new : Ends) (status : Status) → WasDriven quiet old new status → IsWhole status
-driven-whole quiet old new status (inl refused) =
+driven-whole : (showing : Showing) (old new : Ends) (status : Status) → WasDriven showing old new status
+    → IsWhole status
+driven-whole showing old new status (inl refused) =
     subst IsWhole (sym refused.told.status_is) (record { read = λ e. cc; wrote = λ e. cc; had_memory = λ e. cc })
-driven-whole quiet old new status (inr told) = ends-whole told.last status told.told.ends
+driven-whole showing old new status (inr told) = ends-whole told.last status told.told.ends
 
-pub drove-whole : (quiet : Bool) (old new : Ends) (status : Status) → WasDriven quiet old new status
-    → new.read_faults ≡ old.read_faults → new.write_faults ≡ old.write_faults → Drove quiet old new status
-drove-whole quiet old new status h reads writes =
-    let w = driven-whole quiet old new status h in
+pub drove-whole : (showing : Showing) (old new : Ends) (status : Status) → WasDriven showing old new status
+    → new.read_faults ≡ old.read_faults → new.write_faults ≡ old.write_faults → Drove showing old new status
+drove-whole showing old new status h reads writes =
+    let w = driven-whole showing old new status h in
     record {
       told = λ whole. h;
       read_cut = λ e. absurd (w.read e);
@@ -201,20 +205,21 @@ drove-whole quiet old new status h reads writes =
 same-err : {T : Type 0} (x y : CutOff) → ◌≡◌ {A = Result T CutOff} (Err x) (Err y) → x ≡ y
 same-err x y e = cc
 
-pub held-whole : (quiet : Bool) (old new : Ends) (status : Status) → WasDriven quiet old new status
+pub held-whole : (showing : Showing) (old new : Ends) (status : Status) → WasDriven showing old new status
     → (◌≢◌ {A = Result Status CutOff} (Ok status) (Err cut.ReadFailed) → new.read_faults ≡ old.read_faults)
     → (◌≢◌ {A = Result Status CutOff} (Ok status) (Err cut.WriteFailed) → new.write_faults ≡ old.write_faults)
-    → Drove quiet old new status
-held-whole quiet old new status h reads writes = drove-whole quiet old new status h (reads (λ e. cc)) (writes (λ e. cc))
+    → Drove showing old new status
+held-whole showing old new status h reads writes =
+    drove-whole showing old new status h (reads (λ e. cc)) (writes (λ e. cc))
 
-pub drove-cut : (quiet : Bool) (old new : Ends) (c : CutOff) → WasCut quiet old new
+pub drove-cut : (showing : Showing) (old new : Ends) (c : CutOff) → WasCut showing old new
     → (c ≡ cut.ReadFailed → WasUnread old new)
     → (c ≡ cut.ReadFailed → Rose old.read_faults new.read_faults)
     → (c ≡ cut.WriteFailed → Rose old.write_faults new.write_faults)
     → ((c ≡ cut.ReadFailed → ⊥) → new.read_faults ≡ old.read_faults)
-    → ((c ≡ cut.WriteFailed → ⊥) → new.write_faults ≡ old.write_faults) → Drove quiet old new (status_of c)
+    → ((c ≡ cut.WriteFailed → ⊥) → new.write_faults ≡ old.write_faults) → Drove showing old new (status_of c)
 unfolding status_of
-drove-cut quiet old new cut.ReadFailed h vain unread unwritten reads writes = record {
+drove-cut showing old new cut.ReadFailed h vain unread unwritten reads writes = record {
   told = λ whole. absurd (whole.read refl);
   read_cut = λ e. vain refl;
   read_failed = λ e. unread refl;
@@ -224,7 +229,7 @@ drove-cut quiet old new cut.ReadFailed h vain unread unwritten reads writes = re
   no_read_fault = λ differs. absurd (differs refl);
   no_write_fault = λ differs. writes (λ e. cc);
 }
-drove-cut quiet old new cut.WriteFailed h vain unread unwritten reads writes = record {
+drove-cut showing old new cut.WriteFailed h vain unread unwritten reads writes = record {
   told = λ whole. absurd (whole.wrote refl);
   read_cut = λ e. cc;
   read_failed = λ e. cc;
@@ -234,7 +239,7 @@ drove-cut quiet old new cut.WriteFailed h vain unread unwritten reads writes = r
   no_read_fault = λ differs. reads (λ e. cc);
   no_write_fault = λ differs. absurd (differs refl);
 }
-drove-cut quiet old new cut.NoMemory h vain unread unwritten reads writes = record {
+drove-cut showing old new cut.NoMemory h vain unread unwritten reads writes = record {
   told = λ whole. absurd (whole.had_memory refl);
   read_cut = λ e. cc;
   read_failed = λ e. cc;
@@ -245,15 +250,15 @@ drove-cut quiet old new cut.NoMemory h vain unread unwritten reads writes = reco
   no_write_fault = λ differs. writes (λ e. cc);
 }
 
-pub held-cut : (quiet : Bool) (old new : Ends) (c : CutOff) (status : Status) → status ≡ status_of c
-    → WasCut quiet old new → (IsErrOf {T = Status} (Err c) cut.ReadFailed → WasUnread old new)
+pub held-cut : (showing : Showing) (old new : Ends) (c : CutOff) (status : Status) → status ≡ status_of c
+    → WasCut showing old new → (IsErrOf {T = Status} (Err c) cut.ReadFailed → WasUnread old new)
     → (IsErrOf {T = Status} (Err c) cut.ReadFailed → Rose old.read_faults new.read_faults)
     → (IsErrOf {T = Status} (Err c) cut.WriteFailed → Rose old.write_faults new.write_faults)
     → (◌≢◌ {A = Result Status CutOff} (Err c) (Err cut.ReadFailed) → new.read_faults ≡ old.read_faults)
     → (◌≢◌ {A = Result Status CutOff} (Err c) (Err cut.WriteFailed) → new.write_faults ≡ old.write_faults)
-    → Drove quiet old new status
-held-cut quiet old new c status is h vain unread unwritten reads writes =
-    subst (Drove quiet old new) (sym is)
-    (drove-cut quiet old new c h (λ e. vain (ap Err e)) (λ e. unread (ap Err e)) (λ e. unwritten (ap Err e))
+    → Drove showing old new status
+held-cut showing old new c status is h vain unread unwritten reads writes =
+    subst (Drove showing old new) (sym is)
+    (drove-cut showing old new c h (λ e. vain (ap Err e)) (λ e. unread (ap Err e)) (λ e. unwritten (ap Err e))
     (λ differs. reads (λ e. differs (same-err {T = Status} c cut.ReadFailed e)))
     (λ differs. writes (λ e. differs (same-err {T = Status} c cut.WriteFailed e))))

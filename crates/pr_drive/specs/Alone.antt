@@ -2,7 +2,7 @@ use Rattle.std.specs.Prelude.{◌≡◌, Bool, true, false, List, Result, Ok, Er
 use Rattle.pr_asks.specs.Asks.{ask_of}
 use Rattle.pr_asks.specs.declared.asks.Ask.{Ask}
 use Rattle.pr_asks.specs.declared.asks.Ask.TheVariants as ask
-use Rattle.pr_asks.specs.declared.asks.Kind.{Kind}
+use Rattle.pr_asks.specs.declared.asks.AskKind.{AskKind}
 use Rattle.pr_model.specs.declared.events.Entry.{Entry}
 use Rattle.pr_run_laws.specs.ScenarioRuns.{history_after}
 use Rattle.pr_scen.specs.Scenarios.{Scenario}
@@ -11,7 +11,7 @@ use Rattle.pr_drive.specs.Sessions.{Exchange}
 -- A session in which the outside makes no call has the history of a run on one thread.
 
 -- whether a line only lets others move in their rounds: it asks for that, or for nothing
-abbrev pub lets_others : Result Ask Kind → Bool
+abbrev pub lets_others : Result Ask AskKind → Bool
 lets_others (Err kind) = true
 lets_others (Ok (ask.Moves times)) = true
 lets_others (Ok ask.Run) = true

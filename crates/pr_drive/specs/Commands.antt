@@ -1,5 +1,6 @@
-use Rattle.std.specs.Prelude.{ℕ, List, [], ◌∷◌, true, false, codes, if◌then◌else◌}
+use Rattle.std.specs.Prelude.{ℕ, List, [], ◌∷◌, codes, if◌then◌else◌}
 use Rattle.std.specs.Str.{bytes_eq}
+use Rattle.pr_output.specs.declared.runs.Showing.TheVariants.{Whole, Quiet}
 use Rattle.pr_drive.specs.declared.commands.Work.{Work}
 use Rattle.pr_drive.specs.declared.commands.Work.TheVariants.{Drives, Explains}
 
@@ -7,9 +8,9 @@ use Rattle.pr_drive.specs.declared.commands.Work.TheVariants.{Drives, Explains}
 -- words ask for nothing, and get the usage line.
 
 unfoldable pub of_one_word : List ℕ → Work
-of_one_word word = if bytes_eq word (codes "-q") then Drives true else Explains
+of_one_word word = if bytes_eq word (codes "-q") then Drives Quiet else Explains
 
 unfoldable pub work_of : List (List ℕ) → Work
-work_of [] = Drives false
+work_of [] = Drives Whole
 work_of (word ∷ []) = of_one_word word
 work_of _ = Explains

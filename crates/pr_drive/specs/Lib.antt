@@ -4,7 +4,6 @@ pub mod Commands
 pub mod Exchanges
 pub mod Going
 pub mod Inputs
-pub mod Reports
 pub mod Rounds
 pub mod Served
 pub mod Sessions

@@ -2,12 +2,14 @@ use Rattle.std.specs.Prelude.{◌≡◌, ◌≢◌, ◌≤◌, ◌<◌, ◌+◌,
 use Rattle.std.specs.Prelude.{Ok, Err, codes, length, All}
 use Rattle.std.specs.List.{flat_map}
 use Rattle.std.specs.Str.{bytes_eq}
+use Rattle.pr_ends.specs.Ends.{Ends}
 use Rattle.pr_input.specs.Kinds.{kind_name}
 use Rattle.pr_io.specs.Faults.{Rose}
 use Rattle.pr_io.specs.Known.{with_end}
 use Rattle.pr_io.specs.Writing.{AppendsFront}
 use Rattle.pr_num.specs.Limits.{controller_limit, scenario_limit}
 use Rattle.pr_output.specs.Output.{AppendsSome, refusal_text, run_text}
+use Rattle.pr_output.specs.declared.runs.Showing.{Showing}
 use Rattle.pr_run_laws.specs.ScenarioRuns.{controllers_of, first_state_of}
 use Rattle.pr_scen.specs.Reading.{scenario_of}
 use Rattle.pr_scen.specs.Refusals.{ScenFault}
@@ -19,7 +21,7 @@ use Rattle.pr_drive.specs.Alone.{IsPartOfRun, OnlyLetOthers}
 use Rattle.pr_drive.specs.Beside.{IsKeptBeside}
 use Rattle.pr_drive.specs.Going.{SeatsState}
 use Rattle.pr_drive.specs.Inputs.{Asked, AskedInVain, FoundEnd, Input, Took, from_start}
-use Rattle.pr_drive.specs.Reports.{reports_from}
+use Rattle.pr_actors.specs.Reports.{reports_from}
 use Rattle.pr_drive.specs.Rounds.{FinishesRound, GoesBySchedule, RoundsState, first_controllers}
 use Rattle.pr_drive.specs.Sessions.{AnsweredAll, AnsweredSome, AnsweredUnread, IsHistoryFrom, Stand}
 use Rattle.pr_drive.specs.Starts.{first_seats}
@@ -150,52 +152,46 @@ OpensAs (opening.Refused fault) old new = RefusedText fault old new ⊎ RefusedW
 
 -- ---- a session
 
--- What the source and the sink tell at one moment.
-pub record Ends : Type 0 where
-  pub left : Option (List ℕ)
-  pub read_faults : ℕ
-  pub written : Option (List ℕ)
-  pub write_faults : ℕ
-
 -- what is written at the end of a session
-abbrev pub end_text : Bool → SeatsState → Status → List ℕ
-end_text quiet s status =
-    run_text quiet s.kernel.history (reports_from s.kernel.state.system.programs 0 s.controllers) (number status)
+abbrev pub end_text : Showing → SeatsState → Status → List ℕ
+end_text showing s status =
+    run_text showing s.kernel.history (reports_from s.kernel.state.system.programs 0 s.controllers) (number status)
 
 -- The end of a session was told, which stands so.
-pub record TellsEnd (quiet : Bool) (s : SeatsState) (status : Status) (before after : Option (List ℕ)) : Type 0 where
+pub record TellsEnd (showing : Showing) (s : SeatsState) (status : Status)
+    (before after : Option (List ℕ)) : Type 0 where
   pub ends : EndsAs s status
-  pub written : after ≡ with_end before (end_text quiet s status)
+  pub written : after ≡ with_end before (end_text showing s status)
 
 -- A prefix of it was, or nothing.
-pub record CutEnd (quiet : Bool) (s : SeatsState) (before after : Option (List ℕ)) : Type 0 where
+pub record CutEnd (showing : Showing) (s : SeatsState) (before after : Option (List ℕ)) : Type 0 where
   pub status : Status
   pub ends : EndsAs s status
-  pub written : AppendsSome before after (end_text quiet s status)
+  pub written : AppendsSome before after (end_text showing s status)
 
-abbrev pub CutsEnd : Bool → SeatsState → Option (List ℕ) → Option (List ℕ) → Type 0
-CutsEnd quiet s before after = (after ≡ before) ⊎ CutEnd quiet s before after
+abbrev pub CutsEnd : Showing → SeatsState → Option (List ℕ) → Option (List ℕ) → Type 0
+CutsEnd showing s before after = (after ≡ before) ⊎ CutEnd showing s before after
 
 -- Lines were answered from where a session stands, and its end was told. That much is left of the source.
-pub record WasEnded (quiet : Bool) (above : ℕ) (a : Stand) (left before after : Option (List ℕ))
+pub record WasEnded (showing : Showing) (above : ℕ) (a : Stand) (left before after : Option (List ℕ))
     (status : Status) : Type 0 where
   pub end : Stand
   pub left_is : left ≡ end.input.left
   pub replies : Option (List ℕ)
   pub answered : AnsweredAll above a end before replies
-  pub told : TellsEnd quiet end.rounds.seats status replies after
+  pub told : TellsEnd showing end.rounds.seats status replies after
 
 -- Lines were answered, and the session was cut off in its end. So much is left of the source.
-pub record CutBehind (quiet : Bool) (above : ℕ) (a : Stand) (left before after : Option (List ℕ)) : Type 0 where
+pub record CutBehind (showing : Showing) (above : ℕ) (a : Stand) (left before after : Option (List ℕ)) : Type 0 where
   pub end : Stand
   pub left_is : left ≡ end.input.left
   pub replies : Option (List ℕ)
   pub answered : AnsweredAll above a end before replies
-  pub cut : CutsEnd quiet end.rounds.seats replies after
+  pub cut : CutsEnd showing end.rounds.seats replies after
 
-abbrev pub WasCutOff : Bool → ℕ → Stand → Option (List ℕ) → Option (List ℕ) → Option (List ℕ) → Type 0
-WasCutOff quiet above a left before after = AnsweredSome above a left before after
-    ⊎ CutBehind quiet above a left before after
+abbrev pub WasCutOff : Showing → ℕ → Stand → Option (List ℕ) → Option (List ℕ) → Option (List ℕ) → Type 0
+WasCutOff showing above a left before after = AnsweredSome above a left before after
+    ⊎ CutBehind showing above a left before after
 
 -- The refusal of a scenario was written.
 pub record TellsRefusal (fault : ScenFault) (status : Status) (before after : Option (List ℕ)) : Type 0 where
@@ -227,15 +223,15 @@ pub record AnsweredLines (old : Ends) (left replies : Option (List ℕ)) (s : Sc
 
 -- A session was written: the replies to its lines, and behind them its history, what the controllers print, and the
 -- status, which says how it ended.
-pub record WroteSession (quiet : Bool) (old new : Ends) (status : Status) : Type 0 where
+pub record WroteSession (showing : Showing) (old new : Ends) (status : Status) : Type 0 where
   pub scenario : Scenario
   pub last : SeatsState
   pub replies : Option (List ℕ)
   pub answered : AnsweredLines old new.left replies scenario last
-  pub told : TellsEnd quiet last status replies new.written
+  pub told : TellsEnd showing last status replies new.written
 
-abbrev pub WasDriven : Bool → Ends → Ends → Status → Type 0
-WasDriven quiet old new status = WasRefused old new status ⊎ WroteSession quiet old new status
+abbrev pub WasDriven : Showing → Ends → Ends → Status → Type 0
+WasDriven showing old new status = WasRefused old new status ⊎ WroteSession showing old new status
 
 -- ---- a session that is cut off
 
@@ -275,16 +271,16 @@ pub record CutInLines (old new : Ends) : Type 0 where
   pub answered : AnsweredSome above begun new.left old.written new.written
 
 -- while the end was told
-pub record CutInEnd (quiet : Bool) (old new : Ends) : Type 0 where
+pub record CutInEnd (showing : Showing) (old new : Ends) : Type 0 where
   pub scenario : Scenario
   pub last : SeatsState
   pub replies : Option (List ℕ)
   pub answered : AnsweredLines old new.left replies scenario last
-  pub cut : CutsEnd quiet last replies new.written
+  pub cut : CutsEnd showing last replies new.written
 
 -- Nothing was written, or a prefix of what is written of a session; and what is left of the source.
-abbrev pub WasCut : Bool → Ends → Ends → Type 0
-WasCut quiet old new = CutBefore old new ⊎ (CutRefusal old new ⊎ (CutInLines old new ⊎ CutInEnd quiet old new))
+abbrev pub WasCut : Showing → Ends → Ends → Type 0
+WasCut showing old new = CutBefore old new ⊎ (CutRefusal old new ⊎ (CutInLines old new ⊎ CutInEnd showing old new))
 
 -- ---- a read that failed
 
@@ -305,17 +301,6 @@ pub record UnreadBehind (old new : Ends) : Type 0 where
 abbrev pub WasUnread : Ends → Ends → Type 0
 WasUnread old new = UnreadBefore old new ⊎ UnreadBehind old new
 
--- what a source and a sink tell, by what each of them tells
-abbrev pub ends_of : {S K : Type 0} → (S → Option (List ℕ)) → (S → ℕ) → (K → Option (List ℕ)) → (K → ℕ) → S → K → Ends
-ends_of left read_faults written write_faults source sink =
-    record {
-      left = left source;
-      read_faults = read_faults source;
-      written = written sink;
-      write_faults = write_faults
-          sink;
-    }
-
 -- Nothing failed.
 pub record IsWhole (status : Status) : Type 0 where
   pub read : status ≢ ReadFailed
@@ -324,13 +309,13 @@ pub record IsWhole (status : Status) : Type 0 where
 
 -- A session: it is told whole, or cut off; only a read that failed raises the count of the source, and only a write
 -- that failed that of the sink.
-pub record Drove (quiet : Bool) (old new : Ends) (status : Status) : Type 0 where
-  pub told : IsWhole status → WasDriven quiet old new status
+pub record Drove (showing : Showing) (old new : Ends) (status : Status) : Type 0 where
+  pub told : IsWhole status → WasDriven showing old new status
   pub read_cut : status ≡ ReadFailed → WasUnread old new
   pub read_failed : status ≡ ReadFailed → Rose old.read_faults new.read_faults
-  pub write_cut : status ≡ WriteFailed → WasCut quiet old new
+  pub write_cut : status ≡ WriteFailed → WasCut showing old new
   pub write_failed : status ≡ WriteFailed → Rose old.write_faults new.write_faults
-  pub memory : status ≡ OutOfMemory → WasCut quiet old new
+  pub memory : status ≡ OutOfMemory → WasCut showing old new
   pub no_read_fault : status ≢ ReadFailed → new.read_faults ≡ old.read_faults
   pub no_write_fault : status ≢ WriteFailed → new.write_faults ≡ old.write_faults
 
@@ -354,4 +339,4 @@ pub record WasExplained (old new : Ends) (status : Status) : Type 0 where
 -- How a call ends, by its work.
 abbrev pub EndsWith : Work → Ends → Ends → Status → Type 0
 EndsWith Explains old new status = WasExplained old new status
-EndsWith (Drives quiet) old new status = Drove quiet old new status
+EndsWith (Drives showing) old new status = Drove showing old new status

@@ -4,7 +4,7 @@ use Rattle.std.specs.List.{flat_map}
 use Rattle.pr_asks.specs.Asks.{ask_of, name_of}
 use Rattle.pr_asks.specs.declared.asks.Ask.{Ask}
 use Rattle.pr_asks.specs.declared.asks.Ask.TheVariants as ask
-use Rattle.pr_asks.specs.declared.asks.Kind.{Kind}
+use Rattle.pr_asks.specs.declared.asks.AskKind.{AskKind}
 use Rattle.pr_io.specs.Known.{with_end}
 use Rattle.pr_model.specs.Legal.{IsLegal, state_after}
 use Rattle.pr_model.specs.State.{TracedState}
@@ -24,7 +24,7 @@ use Rattle.pr_drive.specs.declared.answers.Came.TheVariants as came
 -- ---- one line
 
 -- A line that asks for nothing is answered by its number and why, and nothing changes.
-pub record RefusesLine (number : ℕ) (kind : Kind) (old new : RoundsState) (text : List ℕ) : Type 0 where
+pub record RefusesLine (number : ℕ) (kind : AskKind) (old new : RoundsState) (text : List ℕ) : Type 0 where
   pub same : new ≡ old
   pub told : text ≡ refusal_text number (name_of kind)
 
@@ -34,14 +34,14 @@ is_end ask.End = true
 is_end _ = false
 
 -- What is done and answered for a line, and whether the outside's turn is over then. The end is not answered.
-abbrev pub AnswersRead : ℕ → Result Ask Kind → Bool → RoundsState → RoundsState → List ℕ → Type 0
+abbrev pub AnswersRead : ℕ → Result Ask AskKind → Bool → RoundsState → RoundsState → List ℕ → Type 0
 AnswersRead number (Err kind) over old new text = (over ≡ false) × RefusesLine number kind old new text
 AnswersRead number (Ok a) over old new text = (is_end a ≡ false) × Answers a over old new text
 
 abbrev pub AnswersLine : ℕ → List ℕ → Bool → RoundsState → RoundsState → List ℕ → Type 0
 AnswersLine number line over old new text = AnswersRead number (ask_of line) over old new text
 
-abbrev pub AsksEnd : Result Ask Kind → Type 0
+abbrev pub AsksEnd : Result Ask AskKind → Type 0
 AsksEnd (Ok a) = is_end a ≡ true
 AsksEnd (Err kind) = ⊥
 

@@ -11,7 +11,7 @@ ghost use Rattle.pr_output.specs.Output.{AppendsSome, refusal_text};
 
 use crate::ends::CutOff;
 use crate::sessions::Session;
-use pr_asks::{Ask, Kind, Unasked, read_ask};
+use pr_asks::{Ask, AskKind, Unasked, read_ask};
 use pr_io::{Sink, Source, write_all};
 use pr_lines::Lines;
 use pr_num::NoMemory;
@@ -82,7 +82,12 @@ fn put_answer<K: Sink>(
 }
 
 /// Puts why a line asks for nothing.
-fn put_refusal<K: Sink>(alloc: Global, number: u32, kind: Kind, sink: &mut K) -> Result<(), CutOff>
+fn put_refusal<K: Sink>(
+    alloc: Global,
+    number: u32,
+    kind: AskKind,
+    sink: &mut K,
+) -> Result<(), CutOff>
     ensures put { OnOk result
         (K.written sink.new ≡ with_end (K.written sink.old) (refusal_text number (name_of kind))) }
     ensures cut { OnErr result

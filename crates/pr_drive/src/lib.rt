@@ -6,7 +6,6 @@ mod answers;
 mod commands;
 mod ends;
 mod moves;
-mod openings;
 mod places;
 mod readings;
 mod reports;

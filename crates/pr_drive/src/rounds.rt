@@ -95,8 +95,7 @@ impl Rounds {
         if moved {
             return Ok(true);
         }
-        let again = self.finish_round(until)?;
-        Ok(again)
+        self.finish_round(until)
     }
 
     /// Who is next moves, also past the outside's turn. Says whether somebody did; else nobody can.
@@ -107,8 +106,7 @@ impl Rounds {
         if moved {
             return Ok(true);
         }
-        let again = self.step(until)?;
-        Ok(again)
+        self.step(until)
     }
 
     /// Whether one of the others can move, were there a place for the entry.

@@ -17,9 +17,9 @@ ghost use Rattle.pr_world.specs.ControllerStates.{state_of};
 ghost use Rattle.pr_world.specs.Controllers.{awaits_clock, call_by, has_finished};
 ghost use Rattle.pr_world.specs.Worlds.{first_controller};
 
-use crate::openings::controllers_of;
 use crate::places::Place;
 use crate::waits::wait_end_of;
+use pr_actors::{Actors, actors_of};
 use pr_asm::Program;
 use pr_kern::Kern;
 use pr_model::{Actor, Call, History, Reply};
@@ -52,23 +52,18 @@ impl Model for Seats {
 }
 
 /// The kernel and the controllers of a scenario before the first move, and who is to move first.
-#[tactic(auto, using(crate::proofs::SeatLemmas::scenarios), unfolding(crate::specs::Starts::first_seats))]
+#[tactic(auto, using(pr_actors::proofs::ScenarioLemmas::scenarios), unfolding(crate::specs::Starts::first_seats))]
 pub fn seats_of(alloc: Global, scenario: Scenario) -> Result<(Seats, Vec<Actor>), NoMemory>
     requires limits { IsWithinLimits scenario }
     requires few { length scenario.controllers < controller_limit }
     ensures seats { IfOk result (λ made. made.0 ≡ first_seats scenario) }
     ensures schedule { IfOk result (λ made. made.1.items ≡ scenario.schedule) }
 {
-    let Scenario {
-        turns,
-        programs,
-        files,
-        spawns,
+    let Actors {
+        kern,
         controllers,
         schedule,
-    } = scenario;
-    let controllers = controllers_of(alloc, controllers)?;
-    let kern = Kern::new(alloc, programs, files, spawns.as_slice(), turns)?;
+    } = actors_of(alloc, scenario)?;
     let seats = Seats {
         alloc,
         kern,

@@ -1,10 +1,11 @@
 //! Sessions from a source to a sink.
 ghost use Rattle.std.specs.Prelude.{◌≡◌, ◌≢◌, Err, IfOk, IsErrOf, OnErr};
 ghost use Rattle.pr_drive.specs.Served.{CutsEnd, Drove, EndsWith, TellsEnd, TellsRefusal, WasCut, WasCutOff, WasDriven};
-ghost use Rattle.pr_drive.specs.Served.{WasEnded, WasUnread, ends_of, usage_line};
+ghost use Rattle.pr_drive.specs.Served.{WasEnded, WasUnread, usage_line};
 ghost use Rattle.pr_drive.specs.Sessions.{AnsweredUnread};
 ghost use Rattle.pr_drive.specs.Statuses.{CountsFaults};
 ghost use Rattle.pr_drive.specs.declared.ends.Status.TheVariants.{OutOfMemory, ReadFailed, Usage, WriteFailed};
+ghost use Rattle.pr_ends.specs.Ends.{ends_of};
 ghost use Rattle.pr_input.specs.Kinds.{kind_name};
 ghost use Rattle.pr_io.specs.Known.{with_end};
 ghost use Rattle.pr_io.specs.Writing.{AppendsFront};
@@ -20,7 +21,7 @@ use crate::sessions::Session;
 use pr_input::kind_name;
 use pr_io::{Sink, Source, write_all};
 use pr_lines::Lines;
-use pr_output::{write_refusal, write_run};
+use pr_output::{Showing, write_refusal, write_run};
 use pr_scen::ScenFault;
 use std::alloc::Global;
 
@@ -30,13 +31,13 @@ const USAGE: &[u8] = b"usage: pdrive [-q]\n";
 /// Writes the history of a session, what the controllers print, and its status.
 fn tell_end<K: Sink>(
     alloc: Global,
-    quiet: bool,
+    showing: Showing,
     session: &Session,
     sink: &mut K,
 ) -> Result<Status, CutOff>
     ensures told { IfOk result (λ status.
-        TellsEnd quiet session.now.seats status (K.written sink.old) (K.written sink.new)) }
-    ensures cut { OnErr result (CutsEnd quiet session.now.seats (K.written sink.old) (K.written sink.new)) }
+        TellsEnd showing session.now.seats status (K.written sink.old) (K.written sink.new)) }
+    ensures cut { OnErr result (CutsEnd showing session.now.seats (K.written sink.old) (K.written sink.new)) }
     ensures unwritten { IsErrOf result CutOff.WriteFailed → Rose (K.faults sink.old) (K.faults sink.new) }
     ensures no_write_fault { result ≢ Err CutOff.WriteFailed → K.faults sink.new ≡ K.faults sink.old }
     ensures not_read { result ≢ Err CutOff.ReadFailed }
@@ -47,7 +48,7 @@ fn tell_end<K: Sink>(
     write_run(
         alloc,
         sink,
-        quiet,
+        showing,
         seats.history(),
         reports.as_slice(),
         number(status),
@@ -58,17 +59,17 @@ fn tell_end<K: Sink>(
 /// Answers the lines of the outside, and tells the history.
 fn go_on<S: Source, K: Sink>(
     alloc: Global,
-    quiet: bool,
+    showing: Showing,
     mut session: Session,
     above: u32,
     lines: &mut Lines,
     source: &mut S,
     sink: &mut K,
 ) -> Result<Status, CutOff>
-    ensures told { IfOk result (λ status. WasEnded quiet above
+    ensures told { IfOk result (λ status. WasEnded showing above
         (record { input = record { held = lines.old.held; left = S.left source.old }; rounds = session })
         (S.left source.new) (K.written sink.old) (K.written sink.new) status) }
-    ensures cut { OnErr result (WasCutOff quiet above
+    ensures cut { OnErr result (WasCutOff showing above
         (record { input = record { held = lines.old.held; left = S.left source.old }; rounds = session })
         (S.left source.new) (K.written sink.old) (K.written sink.new)) }
     ensures unended { IsErrOf result CutOff.ReadFailed → AnsweredUnread above
@@ -78,7 +79,7 @@ fn go_on<S: Source, K: Sink>(
         (S.faults source.old) (S.faults source.new) (K.faults sink.old) (K.faults sink.new) }
 {
     answer_lines(alloc, &mut session, above, lines, source, sink)?;
-    tell_end(alloc, quiet, &session, sink)
+    tell_end(alloc, showing, &session, sink)
 }
 
 /// Tells that the scenario is refused.
@@ -97,14 +98,14 @@ fn refuse<K: Sink>(alloc: Global, fault: ScenFault, sink: &mut K) -> Result<Stat
 /// Reads a scenario, answers the lines of the outside, and tells the history.
 fn drive<S: Source, K: Sink>(
     alloc: Global,
-    quiet: bool,
+    showing: Showing,
     source: &mut S,
     sink: &mut K,
 ) -> Result<Status, CutOff>
-    ensures told { IfOk result (λ status. WasDriven quiet
+    ensures told { IfOk result (λ status. WasDriven showing
         (ends_of S.left S.faults K.written K.faults source.old sink.old)
         (ends_of S.left S.faults K.written K.faults source.new sink.new) status) }
-    ensures cut { OnErr result (WasCut quiet
+    ensures cut { OnErr result (WasCut showing
         (ends_of S.left S.faults K.written K.faults source.old sink.old)
         (ends_of S.left S.faults K.written K.faults source.new sink.new)) }
     ensures unended { IsErrOf result CutOff.ReadFailed → WasUnread
@@ -117,19 +118,19 @@ fn drive<S: Source, K: Sink>(
     let opening = read_opening(alloc, &mut lines, source)?;
     match opening {
         Opening::Session(session, above) => {
-            go_on(alloc, quiet, session, above, &mut lines, source, sink)
+            go_on(alloc, showing, session, above, &mut lines, source, sink)
         }
         Opening::Refused(fault) => refuse(alloc, fault, sink),
     }
 }
 
 /// A session, and how it ended.
-fn hold<S: Source, K: Sink>(alloc: Global, quiet: bool, source: &mut S, sink: &mut K) -> Status
-    ensures { Drove quiet
+fn hold<S: Source, K: Sink>(alloc: Global, showing: Showing, source: &mut S, sink: &mut K) -> Status
+    ensures { Drove showing
         (ends_of S.left S.faults K.written K.faults source.old sink.old)
         (ends_of S.left S.faults K.written K.faults source.new sink.new) result }
 {
-    match drive(alloc, quiet, source, sink) {
+    match drive(alloc, showing, source, sink) {
         Ok(status) => status,
         Err(cut) => status_of(cut),
     }
@@ -162,6 +163,6 @@ pub fn serve<S: Source, K: Sink>(alloc: Global, work: Work, source: &mut S, sink
 {
     match work {
         Work::Explains => explain(sink),
-        Work::Drives { quiet } => hold(alloc, quiet, source, sink),
+        Work::Drives { showing } => hold(alloc, showing, source, sink),
     }
 }

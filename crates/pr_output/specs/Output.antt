@@ -1,4 +1,4 @@
-use Rattle.std.specs.Prelude.{◌≡◌, ℕ, Bool, true, false, List, [], ◌++◌, Option, codes, decimal, take}
+use Rattle.std.specs.Prelude.{◌≡◌, ℕ, List, [], ◌++◌, Option, codes, decimal, take}
 use Rattle.pr_io.specs.Known.{with_end}
 use Rattle.pr_model.specs.declared.events.Entry.{Entry}
 use Rattle.pr_model.specs.declared.steps.Step.{Step}
@@ -7,18 +7,20 @@ use Rattle.pr_plain.specs.HistoryText.{status_text}
 use Rattle.pr_plain.specs.PlainText.{plain_text}
 use Rattle.pr_output.specs.Reports.{reports_text}
 use Rattle.pr_output.specs.declared.reports.Report.{Report}
+use Rattle.pr_output.specs.declared.runs.Showing.{Showing}
+use Rattle.pr_output.specs.declared.runs.Showing.TheVariants.{Whole, Quiet}
 
 -- What the program writes.
 
 -- a history, or nothing where it is left out
-unfoldable pub shown_history : Bool → List Entry → List ℕ
-shown_history true h = []
-shown_history false h = history_text h
+unfoldable pub shown_history : Showing → List Entry → List ℕ
+shown_history Whole h = history_text h
+shown_history Quiet h = []
 
 -- a run: its history, or not where that is left out; what its controllers print; and the status with which the program
 -- ends
-unfoldable pub run_text : Bool → List Entry → List Report → ℕ → List ℕ
-run_text quiet h reports status = shown_history quiet h ++ (reports_text reports ++ status_text status)
+unfoldable pub run_text : Showing → List Entry → List Report → ℕ → List ℕ
+run_text showing h reports status = shown_history showing h ++ (reports_text reports ++ status_text status)
 
 -- a run as the machine without controllers makes it: its steps, its trace, and the status with which the program ends
 unfoldable pub plain_run_text : List Step → List Step → ℕ → List ℕ

@@ -10,6 +10,6 @@ mod runs;
 
 pub use cuts::Cut;
 pub use plains::write_plain;
-pub use refusals::write_refusal;
+pub use refusals::{refusal_line, write_refusal};
 pub use reports::{Printer, Report};
-pub use runs::write_run;
+pub use runs::{Showing, write_run};

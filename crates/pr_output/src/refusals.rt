@@ -1,11 +1,11 @@
-ghost use Rattle.std.specs.Prelude.{◌≡◌, ◌++◌, OnOk};
+ghost use Rattle.std.specs.Prelude.{◌≡◌, ◌++◌, IfOk, OnOk};
 ghost use Rattle.pr_output.specs.Output.{refusal_text};
 ghost use Rattle.pr_output.specs.Puts.{Puts};
 
 use crate::Cut;
 use crate::lines::put;
 use pr_io::Sink;
-use pr_num::NoMemory;
+use pr_num::{Bytes, NoMemory};
 use std::alloc::Global;
 
 // Writes the line of a refusal into a buffer.
@@ -20,7 +20,16 @@ fn write_line(out: &mut Vec<u8>, line: u32, kind: &[u8]) -> Result<(), NoMemory>
     Ok(out.extend_from_slice(b"\n")?)
 }
 
-/// Writes to a sink why an input is refused: the first line at fault, which counts from 1, and what is wrong with it.
+/// The line that tells why an input is refused: the first line at fault, which counts from 1, and what is wrong with it.
+pub fn refusal_line(alloc: Global, line: u32, kind: &[u8]) -> Result<Bytes, NoMemory>
+    ensures { IfOk result (λ text. text ≡ refusal_text line kind.now) }
+{
+    let mut text = Vec::new(alloc);
+    write_line(&mut text, line, kind)?;
+    Ok(Bytes::from_vec(text))
+}
+
+/// Writes to a sink why an input is refused.
 ///
 /// Where a write fails, the sink has a prefix of the text that lacks some bytes; where memory runs out, a prefix of it.
 pub fn write_refusal<K: Sink>(
@@ -32,7 +41,6 @@ pub fn write_refusal<K: Sink>(
     ensures { Puts result (K.written sink.old) (K.written sink.new) (K.faults sink.old) (K.faults sink.new)
         (refusal_text line kind.now) }
 {
-    let mut text = Vec::new(alloc);
-    write_line(&mut text, line, kind)?;
-    put(sink, &text)
+    let text = refusal_line(alloc, line, kind)?;
+    put(sink, text.as_slice())
 }

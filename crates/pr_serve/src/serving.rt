@@ -1,8 +1,9 @@
 ghost use Rattle.std.specs.Prelude.{◌≡◌, map, string_bytes, true};
 ghost use Rattle.pr_commands.specs.Commands.{work_of};
 ghost use Rattle.pr_commands.specs.Histories.{HistoryIsKept};
-ghost use Rattle.pr_commands.specs.Rows.{EndsWith, ends_of, making_of, reads_nothing};
+ghost use Rattle.pr_commands.specs.Rows.{EndsWith, making_of, reads_nothing};
 ghost use Rattle.pr_commands.specs.Statuses.{number};
+ghost use Rattle.pr_ends.specs.Ends.{ends_of};
 
 use pr_commands::{Ending, carry_out, number, work_of};
 use pr_io::{Gate, Sink, Source};

@@ -1,6 +1,7 @@
 -- The history that a call of `serve` leaves is a legal one of the scenario that its input is.
 use Rattle.std.proofs.Common.{◌≡◌, ◌∙◌, ◌⊎◌, inl, inr, ℕ, List, [], Option, Some, None, Result, Ok, Err, IfOk, length, refl, sym, subst}
 use Rattle.std.proofs.lemmas.List.{length-map}
+use Rattle.pr_ends.specs.Inputs.{Took}
 use Rattle.pr_model.specs.Legal.{IsLegal}
 use Rattle.pr_model.specs.declared.events.Entry.{Entry}
 use Rattle.pr_num.specs.Limits.{scenario_limit}
@@ -9,7 +10,7 @@ use Rattle.pr_scen.specs.Reading.{scenario_of}
 use Rattle.pr_scen.specs.Refusals.{ScenFault}
 use Rattle.pr_scen.specs.Scenarios.{Scenario}
 use Rattle.pr_commands.specs.Histories.{HistoryIsKept, Making, by_threads, in_rounds, no_run}
-use Rattle.pr_commands.specs.Inputs.{Took, scenario_of_input, too_long}
+use Rattle.pr_commands.specs.Inputs.{scenario_of_input, too_long}
 
 -- the scenario that was read is the one of the bytes that were there
 same-scenario : (left : List ℕ) (new input : Option (List ℕ)) (s t : Scenario)

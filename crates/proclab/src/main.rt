@@ -6,20 +6,14 @@ ghost use Rattle.std.specs.IoError.{error_kind};
 ghost use Rattle.std.specs.Vec.Iter.{into_iter_items};
 ghost use Rattle.std.specs.declared.io.ErrorKind.TheVariants.{OutOfMemory};
 
+use pr_ends::words_after_name;
 use pr_io::{OpenGate, StdSink, StdSource};
 use pr_serve::{Status, number, serve};
-use std::alloc::{AllocError, Global};
+use std::alloc::Global;
 use std::env::Args;
 use std::io::ErrorKind;
 use std::process::ExitCode;
 use std::{env, io};
-
-// The words after the program's name, in their order.
-fn words_after_name(alloc: Global, arguments: Args) -> Result<Vec<String>, AllocError>
-    ensures { IfOk result (λ words. words.items ≡ drop 1 (into_iter_items arguments)) }
-{
-    arguments.skip(1).collect(alloc)
-}
 
 // The words of a program that was given these arguments, or was not for this error; none where an argument is no text,
 // since words of no shape have such a word.

@@ -3,7 +3,7 @@ use Rattle.std.specs.List.{slice_get, sum_by}
 use Rattle.pr_model.specs.FirstState.{size_at_start}
 use Rattle.pr_num.specs.Limits.{all_mappings_limit}
 use Rattle.pr_scen.specs.Scenarios.{IsWithinLimits}
-use Rattle.pr_commands.proofs.RunLemmas.{spawns-map}
+use Rattle.pr_actors.proofs.ScenarioLemmas.{spawns-map}
 use Rattle.pr_commands.proofs.checks.judge_of.Goals as goal
 
 pub new-requires-clause-mapped : goal.new-requires-clause-mapped

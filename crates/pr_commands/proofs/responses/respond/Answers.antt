@@ -1,7 +1,8 @@
 use Rattle.std.proofs.Common.{◌≡◌, sym, ap, Err}
 use Rattle.pr_input.specs.Kinds.{kind_name}
+use Rattle.pr_output.specs.Output.{run_text}
 use Rattle.pr_run_laws.specs.ScenarioRuns.{run_of}
-use Rattle.pr_commands.specs.Answers.{answer_of, answer_to, ran, refused_at, run_shown, run_text_of}
+use Rattle.pr_commands.specs.Answers.{answer_of, answer_to, ran, refused_at, run_text_of}
 use Rattle.pr_commands.specs.Giving.{Responds}
 use Rattle.pr_commands.specs.Inputs.{scenario_of_input}
 use Rattle.pr_commands.proofs.EarlyLemmas.{stopped-early}
@@ -12,7 +13,7 @@ pub returns-in-Ok : goal.returns-in-Ok
 unfolding answer_of answer_to
 returns-in-Ok g c =
     let read = c.in-Ok.ensures.read in
-    gives-else (ran (run_shown c.args.showing) (run_of c.in-Ok.scenario))
+    gives-else (ran (run_text c.args.showing) (run_of c.in-Ok.scenario))
     (answer_to (run_text_of c.args.showing) c.args.input) _ _ _ _ _ _ _ _
     (sym (ap (answer_of (run_text_of c.args.showing)) read))
     (λ stopped. stopped-early _ _ _ _ _ read stopped) c.run_scenario.ensures

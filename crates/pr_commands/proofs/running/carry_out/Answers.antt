@@ -2,7 +2,7 @@ use Rattle.std.proofs.Common.{◌≡◌, ◌≤◌, ℕ, refl}
 use Rattle.pr_num.specs.Limits.{worker_limit}
 use Rattle.pr_commands.specs.Commands.{HasWorkers}
 use Rattle.pr_commands.specs.Rows.{row_of}
-use Rattle.pr_commands.specs.declared.commands.Showing.{Showing}
+use Rattle.pr_output.specs.declared.runs.Showing.{Showing}
 use Rattle.pr_commands.specs.declared.commands.Work.{Work}
 use Rattle.pr_commands.specs.declared.commands.Work.TheVariants.{Shares}
 use Rattle.pr_commands.proofs.CheckLemmas.{judges-history, leaves-nothing}

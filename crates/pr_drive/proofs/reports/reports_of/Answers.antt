@@ -1,8 +1,8 @@
 use Rattle.std.proofs.Common.{◌∙◌, ◌++◌, List, ap, arith}
 use Rattle.pr_num.specs.Programs.{Program}
 use Rattle.pr_world.specs.ControllerStates.{state_of}
-use Rattle.pr_drive.specs.Reports.{report_of}
-use Rattle.pr_drive.proofs.ReportLemmas.{reports-none, reports-step, reports-whole}
+use Rattle.pr_actors.specs.Reports.{report_of}
+use Rattle.pr_actors.proofs.ReportLemmas.{reports-none, reports-step, reports-whole}
 use Rattle.pr_drive.proofs.reports.reports_of.Goals as goal
 
 pub loop-number-init : goal.loop-number-init

@@ -1,5 +1,5 @@
 use Rattle.std.proofs.Common.{◌≡◌, take}
-use Rattle.pr_drive.specs.Reports.{reports_from}
+use Rattle.pr_actors.specs.Reports.{reports_from}
 use Rattle.pr_drive.proofs.reports.reports_of.Given as goal
 
 -- what the controllers so far print
