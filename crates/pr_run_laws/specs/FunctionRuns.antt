@@ -101,7 +101,7 @@ pub record IsFunctionTrussKept (controllers : List ControllerState) (first : Tra
   -- polls is told by its functions, the control files that it has open, and the interrupts.
   pub named_looks : LooksAtWhatIsNamed k first h
   pub looks : LooksInPlaceOf k o first h
-  pub polls : PollsByItsFilesOf k o first h
+  pub polls_soon : PollsByItsFilesOf k o first h
   -- its functions are as a scenario names them, and each breakpoint that it meets is that of one of them
   pub names : AreShowable o
   pub meets : MeetsWhatWasNamed k o first
