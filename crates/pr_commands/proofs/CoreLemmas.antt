@@ -13,7 +13,7 @@ use Rattle.pr_commands.proofs.GivingLemmas.{gives-else}
 use Rattle.pr_commands.proofs.RunEndLemmas.{status_cases}
 use Rattle.pr_commands.specs.Answers.{Answer, MayShowCore, MayShowRead, ShowsCore, refused_at, refused_for, text_written}
 use Rattle.pr_commands.specs.CoreInputs.{ReadCore, core_limit, core_of_input}
-use Rattle.pr_commands.specs.Giving.{Responds, RespondsOne, RespondsWith, StopsEarly}
+use Rattle.pr_commands.specs.Giving.{Responds, RespondsOne}
 use Rattle.pr_commands.specs.Histories.{RanOutEarly, no_run}
 use Rattle.pr_commands.specs.Rows.{OneRanOut, RanOutAfter, RanOutReading, Reads}
 use Rattle.pr_commands.specs.Statuses.{IsWhole}

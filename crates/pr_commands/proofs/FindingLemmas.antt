@@ -1,5 +1,5 @@
 -- What is found of a history, of which each entry is judged as it is read.
-use Rattle.std.proofs.Common.{◌≡◌, ◌+◌, ◌<◌, ℕ, List, [], ◌∷◌, ◌++◌, Option, Result, Ok, Err, length, refl, sym, ◌∙◌, ap, subst}
+use Rattle.std.proofs.Common.{◌≡◌, ◌<◌, ℕ, List, [], ◌∷◌, ◌++◌, Option, Result, Ok, Err, length, refl, sym, ◌∙◌, ap, subst}
 use Rattle.pr_judge.proofs.FirstLemmas.{judged-first}
 use Rattle.pr_judge.specs.Hearings.{HasHeard, Hearing}
 use Rattle.pr_judge.specs.Judgements.{first_illegal}
@@ -7,7 +7,7 @@ use Rattle.pr_model.specs.State.{TracedState}
 use Rattle.pr_model.specs.declared.events.Entry.{Entry}
 use Rattle.pr_plain.proofs.EntryLoop.{lines-bad, lines-end, lines-more, with_entries, with_none}
 use Rattle.pr_plain.specs.EntryLines.{EntriesAhead, entries_left, next_of}
-use Rattle.pr_plain.specs.Readings.{Answers, Stops}
+use Rattle.pr_plain.specs.Readings.{Stops}
 use Rattle.pr_plain.specs.declared.refusals.HistRefusal.{HistRefusal}
 use Rattle.pr_plain.specs.declared.refusals.HistRefusal.TheVariants as refusal
 use Rattle.pr_run_laws.specs.ScenarioRuns.{first_state_of}

@@ -12,7 +12,7 @@ use Rattle.pr_hide.specs.declared.hiders.Hider.{Hider}
 use Rattle.pr_model.specs.Legal.{IsLegal}
 use Rattle.pr_model.specs.State.{TracedState}
 use Rattle.pr_model.specs.UntracedMachine.{traced_step}
-use Rattle.pr_model.specs.UntracedSteps.{untraced_steps, untraced_trace}
+use Rattle.pr_model.specs.UntracedSteps.{untraced_trace}
 use Rattle.pr_model.specs.declared.events.Entry.{Entry}
 use Rattle.pr_model.specs.declared.steps.Step.{Step}
 use Rattle.pr_output.specs.Output.{plain_run_text}
@@ -29,7 +29,7 @@ use Rattle.pr_world.specs.Worlds.{WorldState}
 use Rattle.pr_commands.proofs.OnwardLemmas.{run-short}
 use Rattle.pr_commands.specs.Answers.{RunText, plain_shown, ran, seen_shown, untraced_shown}
 use Rattle.pr_commands.specs.Giving.{Responds}
-use Rattle.pr_commands.specs.Hidings.{IsOf, hider_of, hiders_in}
+use Rattle.pr_commands.specs.Hidings.{IsOf, hider_of}
 use Rattle.pr_commands.specs.declared.outcomes.Status.{Status}
 
 -- ---- the history of a run is legal

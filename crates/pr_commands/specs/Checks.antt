@@ -1,4 +1,4 @@
-use Rattle.std.specs.Prelude.{ℕ, List, Option, Some, None, Result, Ok, Err, length, nat_le, take, if◌then◌else◌}
+use Rattle.std.specs.Prelude.{ℕ, List, Option, Some, None, Result, Err, length, nat_le, take, if◌then◌else◌}
 use Rattle.pr_input.specs.Marks.{line_below, mark_place, text_below}
 use Rattle.pr_input.specs.declared.marks.Mark.TheVariants.{History}
 use Rattle.pr_model.specs.declared.events.Entry.{Entry}

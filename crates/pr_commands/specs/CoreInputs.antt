@@ -1,4 +1,4 @@
-use Rattle.std.specs.Prelude.{ℕ, List, Option, Some, None, Result, Ok, Err, take}
+use Rattle.std.specs.Prelude.{ℕ, List, Option, Some, None, Result, Err, take}
 use Rattle.pr_core.specs.CoreBytes.{core_bytes}
 use Rattle.pr_core.specs.Cores.{CoreState}
 use Rattle.pr_core_text.specs.CoreTexts.{core_of}

@@ -1,4 +1,4 @@
-use Rattle.std.proofs.Common.{rules, ◌≡◌, ◌∙◌, ◌≤◌, List, ℕ, length, sym, ap, subst}
+use Rattle.std.proofs.Common.{◌≤◌, List, ℕ, sym, subst}
 use Rattle.std.specs.List.{slice_get, sum_by}
 use Rattle.pr_model.specs.FirstState.{size_at_start}
 use Rattle.pr_num.specs.Limits.{all_mappings_limit}

@@ -1,4 +1,4 @@
-use Rattle.std.proofs.Common.{◌∙◌, [], ◌∷◌}
+use Rattle.std.proofs.Common.{◌∙◌}
 use Rattle.std.proofs.lemmas.List.{append-nil}
 use Rattle.pr_commands.proofs.GivingLemmas.{gives, puts-same, whole-done}
 use Rattle.pr_commands.specs.Answers.{text_written}

@@ -1,4 +1,4 @@
-use Rattle.std.proofs.Common.{◌≡◌, ◌∙◌, sym, ap, Err, Ok}
+use Rattle.std.proofs.Common.{◌≡◌, Err}
 use Rattle.pr_commands.specs.Answers.{check_of, judged, refused_for}
 use Rattle.pr_commands.specs.Checks.{checked_of_input}
 use Rattle.pr_commands.specs.Findings.{finding_of}

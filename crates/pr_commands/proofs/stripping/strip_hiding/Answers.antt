@@ -1,4 +1,4 @@
-use Rattle.std.proofs.Common.{rules, ◌≡◌, inl, ap, is_ok, refl, subst, sym}
+use Rattle.std.proofs.Common.{rules, inl, ap, is_ok, refl, subst, sym}
 use Rattle.pr_run_laws.specs.ScenarioRuns.{run_of}
 use Rattle.pr_scen.specs.Scenarios.{Scenario}
 use Rattle.pr_commands.proofs.GivingLemmas.{gives-nothing}

@@ -1,4 +1,4 @@
-use Rattle.std.proofs.Common.{◌∙◌, List, ap, sym}
+use Rattle.std.proofs.Common.{◌∙◌, ap, sym}
 use Rattle.pr_hide.specs.Hidings.{hiders_of}
 use Rattle.pr_run_laws.specs.ScenarioRuns.{run_of}
 use Rattle.pr_commands.proofs.SeenLemmas.{ran-alike, untraced-plain}
