@@ -6,7 +6,7 @@ use Rattle.pr_truss.specs.Counts.{counts_text}
 use Rattle.pr_truss.specs.NextCalls.{next_call_of}
 use Rattle.pr_truss.specs.Printing.{printed}
 use Rattle.pr_truss.specs.Reports.{all_reports, pending_at, refusal_or_nothing, report_lines, report_text}
-use Rattle.pr_truss.specs.Trusses.{TrussState, traced_at}
+use Rattle.pr_truss.specs.Trusses.{TrussState}
 use Rattle.pr_truss.specs.declared.processes.Traced.{Traced}
 use Rattle.pr_truss.specs.declared.reports.Report.{Report}
 use Rattle.pr_truss.specs.declared.reports.Report.TheVariants as report
@@ -32,13 +32,15 @@ pub reports-no-other : (o : Options) (s : TrussState) → ReportsNoOther o (ordi
 unfolding all_reports next_call_of
 reports-no-other o s (all_told is) =
     let reports = ordinary_among s.reports in
-    let none : pending_at s s.stage ≡ [] = sym (pending-ordinary s s.stage)
-        ∙ append_cancel_left reports (pending_at (ordinary s) s.stage) [] (is ∙ sym (append-nil reports)) in
+    let none : pending_at s s.stage ≡ [] =
+    sym (pending-ordinary s s.stage)
+    ∙ append_cancel_left reports (pending_at (ordinary s) s.stage) [] (is ∙ sym (append-nil reports)) in
     all_told (ap (λ (rs : List Report). s.reports ++ rs) none ∙ append-nil s.reports)
 reports-no-other o s (one_more pid l is reads) =
-    let last : pending_at s s.stage ≡ report.Event pid l None ∷ [] = sym (pending-ordinary s s.stage)
-        ∙ append_cancel_left (ordinary_among s.reports) (pending_at (ordinary s) s.stage)
-        (report.Event pid l None ∷ []) is in
+    let last : pending_at s s.stage ≡ report.Event pid l None ∷ [] =
+    sym (pending-ordinary s s.stage)
+    ∙ append_cancel_left (ordinary_among s.reports) (pending_at (ordinary s) s.stage)
+    (report.Event pid l None ∷ []) is in
     one_more pid l (ap (λ (rs : List Report). s.reports ++ rs) last) (record {
       event = reads.event;
       tells = reads.tells;
