@@ -39,7 +39,7 @@ use Rattle.pr_truss.specs.declared.stages.Stage.{Stage}
 use Rattle.pr_truss.specs.declared.stages.Stage.TheVariants.{Opening, ReadingStatus, ReadingText, Running, Closing, ReadingLwps}
 use Rattle.pr_truss_laws.specs.Business.{DoesItsBusiness}
 use Rattle.pr_truss_laws.specs.Exchanges.{Exchange, Makes, errno_in, truss_after}
-use Rattle.pr_truss_laws.specs.Lines.{line_of}
+use Rattle.pr_truss_laws.specs.Lines.{ReportsNoOther, line_of}
 use Rattle.pr_truss_laws.specs.Sent.{sends}
 use Rattle.pr_truss_laws.specs.Soon.{PollsSoon}
 use Rattle.pr_function_laws.specs.Calls.{is_call}
@@ -205,19 +205,23 @@ pub data AreLike : TrussState → List Exchange → List Exchange → Type 0 whe
 
 -- ---- its lines
 
--- What truss has reported after some of its exchanges it has reported after all, first, and in the same order. Without
--- -c it prints a line for each report, and nothing else.
+-- What truss has reported after some of its exchanges it has reported after all, first, and in the same order. What it
+-- prints after some of them is what it has reported then, the calls of functions too, and behind that at most one event
+-- of which the memory is still to be read: the call of its stage reads just that, before which it sees to its
+-- breakpoints at most. Without -c it prints a line for each report, and nothing else.
 pub record PrintsInOrder (o : Options) (xs : List Exchange) : Type 0 where
   pub reports : (before after : List Exchange) → xs ≡ before ++ after
       → (more : List Report) × ((functions_after (first_truss o) xs).reports
       ≡ (functions_after (first_truss o) before).reports ++ more)
+  pub no_other : (before after : List Exchange) → xs ≡ before ++ after
+      → ReportsNoOther o (functions_after (first_truss o) before)
   pub lines : o.count ≡ false → printed (functions_after (first_truss o) xs)
       ≡ flat_map (line_of o) (all_reports (functions_after (first_truss o) xs))
 
 -- There are exchanges of a truss without calls of functions, like those of this one, by which that truss does its own
 -- business, polls soon, and runs just what a poll has named last, once for each poll, but where it ends an opening; and
--- it has reported what this one has reported, but for the calls. All reports of this one, of calls too, stand in the
--- order in which it learnt them.
+-- it has reported what this one has reported, but for the calls. All reports of this one, of calls too, are printed, and
+-- stand in the order in which it learnt them.
 pub record IsTrussBeside (o : Options) (xs : List Exchange) : Type 0 where
   pub others : List Exchange
   pub like : AreLike (first_truss o) xs others

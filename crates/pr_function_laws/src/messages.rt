@@ -5,7 +5,7 @@ ghost use Rattle.pr_function_laws.specs.BreakpointCalls.{AreBreakpointCalls};
 ghost use Rattle.pr_function_laws.specs.SentSets.{TracesItsWords};
 
 /// The messages by which truss reads the code of a function, plants its breakpoint and lifts it, byte for byte: each is
-/// of the 16 bytes at the address of that function.
+/// of the 16 bytes at the address of that function. And each wait has the bytes of the message that it is for.
 pub fn what_truss_reads_plants_and_lifts()
     ensures { (o : Options) (control function : ℕ) (f : Function) → slice_get o.functions function ≡ Some f
         → AreBreakpointCalls o control function f }

@@ -1,9 +1,11 @@
-use Rattle.std.specs.Prelude.{◌≡◌, ℕ, true, false, List, [], ◌∷◌, ◌++◌, None, Some, codes, decimal, slice_get}
+use Rattle.std.specs.Prelude.{◌≡◌, ℕ, true, false, List, [], ◌∷◌, ◌++◌, Option, None, Some, codes, decimal, slice_get}
 use Rattle.std.specs.List.{flat_map}
 use Rattle.pr_line.specs.EventLines.{event_text}
 use Rattle.pr_line.specs.Events.{event_of}
+use Rattle.pr_line.specs.FunctionLines.{function_text}
 use Rattle.pr_line.specs.Selections.{is_selected}
 use Rattle.pr_line.specs.declared.events.Event.{Event}
+use Rattle.pr_line.specs.declared.functions.Function.{Function}
 use Rattle.pr_line.specs.declared.options.Options.{Options}
 use Rattle.pr_model.specs.declared.calls.Call.TheVariants.{Read}
 use Rattle.pr_num.specs.Errnos.{errno_name}
@@ -12,7 +14,7 @@ use Rattle.pr_rec.specs.declared.lwps.LwpStatus.{LwpStatus}
 use Rattle.pr_text.specs.TextLines.{newline}
 use Rattle.pr_truss.specs.NextCalls.{next_call_of}
 use Rattle.pr_truss.specs.Printing.{printed}
-use Rattle.pr_truss.specs.Reports.{all_reports, call_line}
+use Rattle.pr_truss.specs.Reports.{all_reports}
 use Rattle.pr_truss.specs.Stops.{asked_range}
 use Rattle.pr_truss.specs.Trusses.{TrussState, first_truss}
 use Rattle.pr_truss.specs.declared.reports.Report.{Report}
@@ -80,13 +82,20 @@ abbrev pub refusal_line : List ℕ → List ℕ → Errno → List ℕ
 refusal_line what name errno =
     codes "truss: cannot " ++ what ++ name ++ codes ": " ++ errno_name errno ++ newline ∷ []
 
+-- a call of a function: its text, if the options name a function there
+abbrev pub line_of_call : Options → ℕ → ℕ → List ℕ → Option Function → List ℕ
+line_of_call o pid lwp arguments None = []
+line_of_call o pid lwp arguments (Some f) = function_text o pid lwp f.name arguments ++ newline ∷ []
+
 -- The line of a report. That of an event is its text, as the options ask for it, with the process, the lwp as it was
--- read, and the memory that was read for it.
+-- read, and the memory that was read for it. That of a call is its text, with the process, the lwp, the name of the
+-- function at this place among those of the options, and the arguments.
 abbrev pub line_of : Options → Report → List ℕ
 line_of o (report.CannotStart program errno) = refusal_line (codes "start ") program errno
 line_of o (report.CannotTrace pid errno) = refusal_line (codes "trace ") (decimal pid) errno
 line_of o (report.Event pid l text) = event_text o pid l text ++ newline ∷ []
-line_of o (report.Called pid lwp function arguments) = call_line o pid lwp arguments (slice_get o.functions function)
+line_of o (report.Called pid lwp function arguments) =
+    line_of_call o pid lwp arguments (slice_get o.functions function)
 
 -- Without -c truss prints one line for each report, in their order, and nothing else.
 pub record PrintsItsReports (o : Options) (xs : List Exchange) : Type 0 where

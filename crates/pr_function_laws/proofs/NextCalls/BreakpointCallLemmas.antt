@@ -1,4 +1,4 @@
-use Rattle.std.proofs.Common.{◌≡◌, ℕ, Some, [], ap, ◌∙◌}
+use Rattle.std.proofs.Common.{◌≡◌, ℕ, Some, [], refl, ap, ◌∙◌}
 use Rattle.std.specs.List.{slice_get}
 use Rattle.pr_line.specs.declared.functions.Function.{Function}
 use Rattle.pr_line.specs.declared.options.Options.{Options}
@@ -26,4 +26,5 @@ module _ (o : Options) (control function : ℕ) (f : Function) (named : slice_ge
     plants = ap (λ at. call.Ctl control (spelling (message.Write at instruction_size) breakpoint)) at-address;
     lifts = ap (λ at. call.Ctl control (spelling (message.Write at instruction_size) (code_of o function))) at-address
         ∙ ap (λ code. call.Ctl control (spelling (message.Write f.at instruction_size) code)) its-code;
+    waits = λ until m. refl;
   }

@@ -1,4 +1,4 @@
-use Rattle.std.proofs.Common.{◌≡◌, ◌≢◌, ◌++◌, ℕ, true, false, cond, Some, List, [], ◌∷◌, length, refl, sym, subst, ap, ◌∙◌}
+use Rattle.std.proofs.Common.{◌≡◌, ◌≢◌, ◌++◌, ℕ, true, false, cond, Some, List, [], ◌∷◌, append-nil, length, refl, sym, subst, ap, ◌∙◌}
 use Rattle.std.proofs.lemmas.Bool.{false≢true}
 use Rattle.std.proofs.lemmas.List.Elements.{All-head, All-tail}
 use Rattle.std.specs.List.{All}
@@ -23,11 +23,13 @@ use Rattle.pr_truss_laws.proofs.Replies.FunctionOptionLemmas.{fed_functions-opti
 use Rattle.pr_truss_laws.proofs.Files.HeldLemmas.{Grown, grown-all, grown-same}
 use Rattle.pr_truss_laws.proofs.Soon.SoonLemmas.{polls-soon}
 use Rattle.pr_truss_laws.proofs.OwnBusiness.KnownLemmas.{Knows, first-knows}
+use Rattle.pr_truss_laws.proofs.OwnBusiness.LineLemmas.{prints-what-it-reports}
 use Rattle.pr_truss_laws.specs.Exchanges.{Exchange, Makes, truss_after}
+use Rattle.pr_truss_laws.specs.Lines.{ReportsNoOther}
 use Rattle.pr_function_laws.proofs.Marks.MarkLemmas.{AreRunFlags}
 use Rattle.pr_function_laws.proofs.OrdinaryTruss.OrdinaryCalls.{Likes, beside-sees, own-likes, refused-likes, stage-likes, write-still}
 use Rattle.pr_function_laws.proofs.OrdinaryTruss.OrdinaryReplies.{first-ordinary}
-use Rattle.pr_function_laws.proofs.OrdinaryTruss.OrdinaryLines.{prints-lines}
+use Rattle.pr_function_laws.proofs.OrdinaryTruss.OrdinaryLines.{prints-lines, reports-no-other}
 use Rattle.pr_function_laws.proofs.OrdinaryTruss.OrdinaryPatches.{function-row}
 use Rattle.pr_function_laws.proofs.OrdinaryTruss.OrdinaryRows.{Row, Step, feeds, is_beside, passes, refuses, stays, writes}
 use Rattle.pr_function_laws.proofs.OrdinaryTruss.OrdinaryStops.{FitsAside}
@@ -154,7 +156,7 @@ module _ (o : Options) (has : has_functions o ≡ true) (off : o.follow ≡ fals
         turned (beside_stage beside over is) = goes_out (sees beside) over is
         turned (on_stage it) = goes_on it.y it.like it.called it.comes
 
-  -- ---- all exchanges
+  -- ---- the first exchanges
 
   record Without (s : TrussState) (xs : List Exchange) : Type 0 where
     others : List Exchange
@@ -177,12 +179,22 @@ module _ (o : Options) (has : has_functions o ≡ true) (off : o.follow ≡ fals
     is = ap (λ u. truss_after u w.others) (sym now) ∙ w.is;
   }
 
-  without : (xs : List Exchange) (s : TrussState) → IsFit o s → MakesFunctionCalls s xs → All IsCalm xs → Without s xs
-  without [] s fit makes calm = record { others = []; like = none; makes = tt; is = refl }
-  without (x ∷ xs) s fit makes calm =
-      let still = All-head IsCalm x xs calm in
-      without-next s x xs (turn s x fit makes.0 still)
-      (without xs (fed_functions s x.reply) (next-fit s x fit makes.0 still) makes.1 (All-tail IsCalm x xs calm))
+  without : (before after : List Exchange) (s : TrussState) → IsFit o s → MakesFunctionCalls s (before ++ after)
+      → All IsCalm (before ++ after) → Without s before
+  without [] after s fit makes calm = record { others = []; like = none; makes = tt; is = refl }
+  without (x ∷ before) after s fit makes calm =
+      let still = All-head IsCalm x (before ++ after) calm in
+      without-next s x before (turn s x fit makes.0 still)
+      (without before after (fed_functions s x.reply) (next-fit s x fit makes.0 still) makes.1
+      (All-tail IsCalm x (before ++ after) calm))
+
+  -- what truss is then without its breakpoints, as one that began so
+  own-makes : (before : List Exchange) (w : Without (first_truss o) before) → Makes (first_truss o) w.others
+  own-makes before w = subst (λ u. Makes u w.others) (first-ordinary o) w.makes
+
+  own-is : (before : List Exchange) (w : Without (first_truss o) before)
+      → truss_after (first_truss o) w.others ≡ ordinary (functions_after (first_truss o) before)
+  own-is before w = ap (λ u. truss_after u w.others) (sym (first-ordinary o)) ∙ w.is
 
   -- ---- its lines
 
@@ -210,6 +222,13 @@ module _ (o : Options) (has : has_functions o ≡ true) (off : o.follow ≡ fals
       grows-from before after (fed_functions s x.reply) (next-fit s x fit makes.0 still) makes.1
       (All-tail IsCalm x (before ++ after) calm)
 
+  no-other : (before : List Exchange) → Without (first_truss o) before
+      → ReportsNoOther o (functions_after (first_truss o) before)
+  no-other before w =
+      let reported = prints-what-it-reports o w.others in
+      reports-no-other o (functions_after (first_truss o) before)
+      (subst (ReportsNoOther o) (own-is before w) (reported.each w.others [] (sym (append-nil w.others))))
+
   prints-in-order : (xs : List Exchange) → MakesFunctionCalls (first_truss o) xs → All IsCalm xs → PrintsInOrder o xs
   prints-in-order xs makes calm = record {
     reports = λ before after is.
@@ -219,6 +238,10 @@ module _ (o : Options) (has : has_functions o ≡ true) (off : o.follow ≡ fals
           grown.more,
           ap (λ ys. (functions_after (first_truss o) ys).reports) is ∙ grown.is,
         );
+    no_other = λ before after is.
+        no-other before
+        (without before after (first_truss o) first-fit (subst (MakesFunctionCalls (first_truss o)) is makes)
+        (subst (All IsCalm) is calm));
     lines = λ none.
         let it = later xs (first_truss o) first-fit makes calm in
         let fit = it.fit in
@@ -227,13 +250,16 @@ module _ (o : Options) (has : has_functions o ≡ true) (off : o.follow ≡ fals
 
   pub beside : (xs : List Exchange) → MakesFunctionCalls (first_truss o) xs → All IsCalm xs → IsTrussBeside o xs
   beside xs makes calm =
-      let w = without xs (first_truss o) first-fit makes calm in
-      let own : Makes (first_truss o) w.others = subst (λ u. Makes u w.others) (first-ordinary o) w.makes in
+      let whole = sym (append-nil xs) in
+      let w =
+      without xs [] (first_truss o) first-fit (subst (MakesFunctionCalls (first_truss o)) whole makes)
+      (subst (All IsCalm) whole calm) in
+      let own = own-makes xs w in
       record {
         others = w.others;
         like = w.like;
         makes = own;
-        is = ap (λ u. truss_after u w.others) (sym (first-ordinary o)) ∙ w.is;
+        is = own-is xs w;
         business = does-business o w.others own;
         polls_soon = polls-soon o w.others own;
         runs = runs-named o w.others own;

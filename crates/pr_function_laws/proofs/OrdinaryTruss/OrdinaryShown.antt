@@ -27,17 +27,16 @@ use Rattle.pr_truss.specs.NextCalls.{call_of, next_call_of}
 use Rattle.pr_truss.specs.Records.{event_stops, status_lwp}
 use Rattle.pr_truss.specs.Reports.{all_reports, pending_at}
 use Rattle.pr_truss.specs.Trusses.{TrussState, first_truss, traced_at}
-use Rattle.pr_truss.specs.declared.processes.Traced.{Traced}
 use Rattle.pr_truss.specs.declared.reports.Report.{Report}
 use Rattle.pr_truss.specs.declared.reports.Report.TheVariants.{CannotStart, CannotTrace, Called, Event as Shown}
 use Rattle.pr_truss.specs.declared.stages.Stage.{Stage}
-use Rattle.pr_truss.specs.declared.stages.Stage.TheVariants.{ReadingStatus, ReadingText, ReadingLwps}
+use Rattle.pr_truss.specs.declared.stages.Stage.TheVariants.{ReadingStatus, ReadingLwps}
 use Rattle.pr_truss_laws.specs.Exchanges.{Exchange, exchange_of, exchanges}
 use Rattle.pr_truss_laws.specs.Sent.{sends}
 use Rattle.pr_function_laws.proofs.OrdinaryTruss.OrdinaryCalls.{stands-sends}
 use Rattle.pr_function_laws.proofs.OrdinaryTruss.OrdinaryExchanges.{Turn, goes_on, goes_out, turn}
 use Rattle.pr_function_laws.proofs.OrdinaryTruss.OrdinaryFiles.{Follows, MakesOwn, entry-calm, own-next, run-halfway, with_own}
-use Rattle.pr_function_laws.proofs.OrdinaryTruss.OrdinaryReplies.{at-ordinary}
+use Rattle.pr_function_laws.proofs.OrdinaryTruss.OrdinaryLines.{pending-ordinary}
 use Rattle.pr_function_laws.proofs.OrdinaryTruss.OrdinaryRows.{no-lwps, no-status}
 use Rattle.pr_function_laws.specs.Opened.{IsFunctionRun, functions_at}
 use Rattle.pr_function_laws.specs.Ordinary.{IsLike, SeesTo, TellsOfOwnFault, in_place, ordinary, ordinary_among, own_fault, refused, same}
@@ -57,11 +56,6 @@ among-shows pid (CannotTrace of errno ∷ reports) = among-shows pid reports
 among-shows pid (Called of lwp function arguments ∷ reports) = among-shows pid reports
 among-shows pid (Shown of l text ∷ reports) =
     ap (cons_option (event_reported pid (Shown of l text))) (among-shows pid reports)
-
-pending-ordinary : (t : TrussState) (stage : Stage) → pending_at (ordinary t) stage ≡ pending_at t stage
-pending-ordinary t (ReadingText place l from len) =
-    ap (λ (u : Traced). Shown u.pid l None ∷ []) (at-ordinary t place)
-pending-ordinary t _ = refl
 
 pub shown-ordinary : (pid : ℕ) (t : TrussState) → shown pid (ordinary t) ≡ shown pid t
 unfolding shown all_reports
