@@ -219,8 +219,8 @@ pub record PrintsInOrder (o : Options) (xs : List Exchange) : Type 0 where
       ≡ flat_map (line_of o) (all_reports (functions_after (first_truss o) xs))
 
 -- There are exchanges of a truss without calls of functions, like those of this one, by which that truss does its own
--- business, polls soon, and runs just what a poll has named last, once for each poll, but where it ends an opening; and
--- it has reported what this one has reported, but for the calls. All reports of this one, of calls too, are printed, and
+-- business, polls soon, and runs just what a poll has named last, once for each poll, but where it ends an opening; it
+-- has reported what this one has reported, but for the calls. All reports of this one, of calls too, are printed, and
 -- stand in the order in which it learnt them.
 pub record IsTrussBeside (o : Options) (xs : List Exchange) : Type 0 where
   pub others : List Exchange

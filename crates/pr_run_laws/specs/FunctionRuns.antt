@@ -167,8 +167,8 @@ pub record IsFunctionTrussKept (controllers : List ControllerState) (first : Tra
   -- own in place of some, which the definition lists, and with its reads of faults of its own counted as reads that
   -- gave no bytes, its exchanges are like those of a truss, which does its own business in them. In these it opens each
   -- process that it was given, or tells the refusal of it, in their order. All that it has reported, the calls too, it
-  -- prints. By its own calls: of the processes that it was given, and of no others, it gets hold in an entry, or says in
-  -- one that it cannot trace them, one after another. Once it has polled or has finished it has done so with each,
+  -- prints. By its own calls: of the processes that it was given, and of no others, it gets hold in an entry, or says
+  -- in one that it cannot trace them, one after another. Once it has polled or has finished it has done so with each,
   -- unless a call of it was interrupted before; and of one that it was given once it does not do both.
   pub ordinary : IsTrussBeside o (exchanges k h)
   pub handled : HandlesItsGiven o (exchanges k h) ordinary
