@@ -165,11 +165,12 @@ pub record IsFunctionTrussKept (controllers : List ControllerState) (first : Tra
   pub leaves : LeavesItsProcesses k o h
   -- Beside its breakpoints it is a truss: without the messages and waits by which it sees to them, with those of its
   -- own in place of some, which the definition lists, and with its reads of faults of its own counted as reads that
-  -- gave no bytes, its exchanges are like those of a truss, which does its own business in them. In these it opens each
-  -- process that it was given, or tells the refusal of it, in their order. All that it has reported, the calls too, it
-  -- prints. By its own calls: of the processes that it was given, and of no others, it gets hold in an entry, or says
-  -- in one that it cannot trace them, one after another. Once it has polled or has finished it has done so with each,
-  -- unless a call of it was interrupted before; and of one that it was given once it does not do both.
+  -- gave no bytes, its exchanges are like those of a truss, which does its own business in them. In these it opens
+  -- each process that it was given, or tells the refusal of it, in their order. All that it has reported, calls of
+  -- functions too, it prints. By its own calls: of the processes that it was given, and of no others, it gets hold in
+  -- an entry, or says in one that it cannot trace them, one after another. Once it has polled or has finished it has
+  -- done so with each, unless a call of it was interrupted before; and of one that it was given once it does not do
+  -- both.
   pub ordinary : IsTrussBeside o (exchanges k h)
   pub handled : HandlesItsGiven o (exchanges k h) ordinary
   pub given : HoldsOrRefusesItsGiven k o h
