@@ -99,28 +99,29 @@ spared-left = record {
 
 -- ---- an entry
 
-abbrev Spares : ℕ → TracedSystem → TracedSystem → Type 0
-Spares pid s u = Became AreSpared ByKill (process_of s pid) (process_of u pid)
+-- what became of the process of this id
+abbrev Passes : ℕ → TracedSystem → TracedSystem → Type 0
+Passes pid s u = Became AreSpared ByKill (process_of s pid) (process_of u pid)
 
 module _ (n : ℕ) (s : TracedState) (k pid : ℕ) (lawful : IsLawful s) (sole : HasNoOtherWriter k pid s.opens)
     (x : TracedProcess) (before : live_process s.system pid ≡ Some x) where
-  entry-spares : (actor : Actor) (it : Act) → IsLegalEntry n s (record { actor = actor; act = it }) → IsOther k actor it
+  entry-passes : (actor : Actor) (it : Act) → IsLegalEntry n s (record { actor = actor; act = it }) → IsOther k actor it
       → ((id : ℕ) → actor ≢ Lwp pid id) → SendsNoStop pid s (record { actor = actor; act = it })
-      → Spares pid s.system (after s (record { actor = actor; act = it })).system
+      → Passes pid s.system (after s (record { actor = actor; act = it })).system
   unfolding IsLegalEntry after
-  entry-spares (Controller by) (act.Call c r) legal other apart sends =
+  entry-passes (Controller by) (act.Call c r) legal other apart sends =
       let a : Answer = record { state = legal.1.0; reply = r } in
       let answer : answer_to s by c ≡ Some a = legal.1.1 in
       rw answer (call-passes spared-left pid ByKill refl s by lawful x (found-live s.system pid x before).0 c a
       (λ m named g held writes. sole.none by m g other held writes)
       (λ number g is. sends.kill by number r g (ap (λ (d : Call). call_entry by d r) is)) answer)
-  entry-spares (Lwp acting id) (act.Turn turned) legal other apart sends =
+  entry-passes (Lwp acting id) (act.Turn turned) legal other apart sends =
       let t : LwpTurn = record { system = legal.0; turned = turned } in
       let taken : turn_of s.system acting id ≡ Some t = legal.1 in
       rw taken (turn-passes spared-left pid ByKill refl s.system acting id t x lawful.system before
       (λ same. apart id (ap (λ m. Lwp m id) same)) taken (λ p l. sends.turn acting id p l refl))
-  entry-spares Clock (act.Tick moment) legal other apart sends = same-passes spared-left pid ByKill s.system
-  entry-spares _ _ legal other apart sends = absurd legal
+  entry-passes Clock (act.Tick moment) legal other apart sends = same-passes spared-left pid ByKill s.system
+  entry-passes _ _ legal other apart sends = absurd legal
 
   -- a process that lives before and after it is spared
   pub sent-none : (actor : Actor) (it : Act) → IsLegalEntry n s (record { actor = actor; act = it })
@@ -130,4 +131,4 @@ module _ (n : ℕ) (s : TracedState) (k pid : ℕ) (lawful : IsLawful s) (sole :
       → (q.job_stop ≡ x.job_stop) × (pending_of_lwps q ≡ pending_of_lwps x)
   sent-none actor it legal other apart sends q live =
       let spared = passed-alone spared-left pid ByKill s.system (after s (record { actor = actor; act = it })).system x q
-      (entry-spares actor it legal other apart sends) before live in (spared.job_stop, spared.pending)
+      (entry-passes actor it legal other apart sends) before live in (spared.job_stop, spared.pending)

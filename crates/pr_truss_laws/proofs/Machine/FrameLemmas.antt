@@ -1,4 +1,4 @@
-use Rattle.std.proofs.Common.{◌≡◌, ◌≢◌, ◌==◌, ℕ, Bool, true, false, cond, get_or, is_none, None, Some, Option, List, [], ◌∷◌, refl, sym, subst, ap, ◌∙◌}
+use Rattle.std.proofs.Common.{◌≡◌, ◌≢◌, ◌==◌, ℕ, Bool, true, false, cond, get_or, is_none, None, Some, Option, List, [], ◌∷◌, refl, sym, ap, ◌∙◌}
 use Rattle.std.proofs.lemmas.Bool.{false≢true}
 use Rattle.std.proofs.lemmas.Option.{same_Some, none-some}
 use Rattle.std.specs.Option.{option_map}
@@ -251,8 +251,7 @@ module _ (pid : ℕ) where
   spared : (s u : TracedSystem) → Passes pid Whatever s u → Spares s u
   spared s u passes = record {
     from = λ q there live.
-        others.became-alone undisturbed-left pid Whatever (process_of s pid) (process_of u pid) q
-        passes there live;
+        others.became-alone undisturbed-left pid Whatever (process_of s pid) (process_of u pid) q passes there live;
   }
 
   pub made-spares : (p : TracedProcess) (s : TracedSystem) → s.made ≢ pid → Spares s (with_made p s)
@@ -265,8 +264,7 @@ module _ (pid : ℕ) where
       (others.same-passes undisturbed-left pid Whatever s))
 
   pub reaped-spares : (gone : ℕ) (s : TracedSystem) → gone ≢ pid → Spares s (with_reaped gone s)
-  reaped-spares gone s other =
-      spared s _ (others.reaped-passes undisturbed-left pid Whatever gone s other)
+  reaped-spares gone s other = spared s _ (others.reaped-passes undisturbed-left pid Whatever gone s other)
 
   pub end-spares : (gone : ℕ) (p : TracedProcess) (status : ℕ) (s : TracedSystem)
       → Spares s (with_this_ended traced gone p status s)

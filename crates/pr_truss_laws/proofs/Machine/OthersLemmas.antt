@@ -1,8 +1,8 @@
-use Rattle.std.proofs.Common.{◌≡◌, ◌≢◌, ◌==◌, ◌&&◌, ◌<◌, ◌⊎◌, arith, length, ℕ, Bool, true, false, cond, not, None, Some, Option, List, [], ◌∷◌, refl, sym, subst, ap, ◌∙◌, inl, inr}
+use Rattle.std.proofs.Common.{◌≡◌, ◌≢◌, ◌==◌, ◌&&◌, ◌<◌, ◌⊎◌, arith, length, ℕ, Bool, true, false, cond, None, Some, Option, List, [], ◌∷◌, refl, sym, subst, ap, ◌∙◌, inl, inr}
 use Rattle.std.proofs.lemmas.Bool.{cases_Bool, cases_eq, eq-eqb, false≢true}
 use Rattle.std.proofs.lemmas.List.Elements.{All-head}
 use Rattle.std.proofs.lemmas.Option.{same_Some, none-some}
-use Rattle.std.specs.List.{All, slice_set}
+use Rattle.std.specs.List.{All}
 use Rattle.std.specs.Option.{option_map}
 use Rattle.pr_keeps.proofs.CallLemmas.{call-edit, close-edit}
 use Rattle.pr_keeps.proofs.KeepsLemmas.{choice}
@@ -20,7 +20,7 @@ use Rattle.pr_model.specs.Calls.{Answer, answer_to}
 use Rattle.pr_model.specs.Changes.{Change, changed, files_are, space_is, signals, signals_itself, takes_shared, job_stops, disposition_is, held_is, resumes, forks, reaps, becomes, all_changed, ended, Ending, ends_process, ends_lwp, with_fds, with_space}
 use Rattle.pr_model.specs.ControlMessages.{tail_of}
 use Rattle.pr_model.specs.Generation.{signalled}
-use Rattle.pr_model.specs.Handles.{after_last_close, handle_of, has_writer, is_writable, released, with_closed, with_opened}
+use Rattle.pr_model.specs.Handles.{handle_of, is_writable, released, with_closed, with_opened}
 use Rattle.pr_model.specs.Lawful.{IsFitting, IsLawful, IsLawfulSystem, IsNumberedBelow}
 use Rattle.pr_model.specs.Lives.{Birth, ended_if_live, forked, lent_to, new_process, orphaned, with_child, with_ended, with_lender_of, with_lent, with_loan_back, with_loans_passed, with_lwp_ended, with_made, with_parent_signalled, with_program, with_reaped, with_spawned, with_this_ended, zombie}
 use Rattle.pr_model.specs.LwpTurns.{LwpTurn, settled, turn_of, with_counted}
@@ -54,7 +54,7 @@ use Rattle.pr_truss_laws.proofs.Machine.StoresLemmas.{may_have_lent, row-stores,
 
 -- ---- one process
 
--- What such a relation has to give. A signal is sent to a process, or to one lwp of it.
+-- What such a relation has to give. A signal that may be sent is sent to the process, or to one lwp of it.
 pub record LeftByOthers (R : TracedProcess → TracedProcess → Type 0) (Told : Option ℕ → Sig → Type 0) : Type 0 where
   pub self : (p : TracedProcess) → R p p
   pub next : (p q r : TracedProcess) → R p q → R q r → R p r
