@@ -48,11 +48,12 @@ is_asked o (Left call arguments result) =
 is_asked o (Received signal disposition info) = is_chosen o (Received signal disposition info)
 is_asked o (Incurred fault pc) = is_chosen o (Incurred fault pc)
 
--- the calls that never return
+-- The calls that never return. This set and the next one are written out, and not taken from truss, which has them as
+-- `ending_calls` and `with_forks`: so what is traced is read here without a word of its own.
 abbrev pub calls_without_return : ℕ
 calls_without_return = with_number (with_number 0 (syscall_number Exit)) (syscall_number LwpExit)
 
--- these calls, and fork and vfork
+-- some calls, and fork and vfork
 abbrev pub and_forks : ℕ → ℕ
 and_forks calls = with_number (with_number calls (syscall_number Fork)) (syscall_number Vfork)
 

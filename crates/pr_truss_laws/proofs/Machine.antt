@@ -3,6 +3,7 @@
 pub mod ForeignLemmas
 pub mod FrameLemmas
 pub mod HaltLemmas
+pub mod OthersLemmas
 pub mod OutlastLemmas
 pub mod OverLemmas
 pub mod OwnMemoryLemmas
