@@ -13,3 +13,5 @@ mod SeatLemmas
 mod ServeLemmas
 mod SessionLemmas
 mod StepLemmas
+mod TurnLemmas
+mod WorldLemmas
