@@ -9,6 +9,7 @@ mod KeptLemmas
 mod MoveLemmas
 mod ReadLemmas
 mod RoundLemmas
+mod ScriptLemmas
 mod SeatLemmas
 mod ServeLemmas
 mod SessionLemmas

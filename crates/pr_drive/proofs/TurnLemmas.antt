@@ -1,6 +1,6 @@
-use Rattle.std.proofs.Common.{◌≡◌, ◌<◌, ◌≤◌, ◌+◌, ◌-◌, ◌++◌, ◌&&◌, ◌||◌, ℕ, zero, suc, Bool, true, false, List, [], ◌∷◌}
+use Rattle.std.proofs.Common.{◌≡◌, ◌<◌, ◌≤◌, ◌+◌, ◌-◌, ◌++◌, ◌&&◌, ◌||◌, ◌==◌, ℕ, zero, suc, Bool, true, false, List, [], ◌∷◌}
 use Rattle.std.proofs.Common.{Option, Some, None, length, cond, find, slice_get, nat_lt, refl, sym, ap, subst, ◌∙◌, arith, length-append}
-use Rattle.std.proofs.lemmas.Bool.{le-ltb}
+use Rattle.std.proofs.lemmas.Bool.{eqb-false, le-ltb}
 use Rattle.std.proofs.lemmas.List.Folds.{list_any-append}
 use Rattle.std.proofs.lemmas.Option.{slice_get_past}
 use Rattle.std.specs.List.{list_any, range_with_len}
@@ -28,10 +28,14 @@ use Rattle.pr_drive.specs.declared.places.Place.TheVariants as place
 
 -- ---- one controller more
 
+get-other : {X : Type 0} (xs : List X) (x : X) (k : ℕ) → (k ≡ length xs → ⊥) → slice_get (xs ++ x ∷ []) k ≡ slice_get xs k
+get-other [] x zero other = absurd (other refl)
+get-other [] x (suc k) other = refl
+get-other (y ∷ xs) x zero other = refl
+get-other (y ∷ xs) x (suc k) other = get-other xs x k (λ e. other (omega (arith, e)))
+
 pub get-before : {X : Type 0} (xs : List X) (x : X) (k : ℕ) → k < length xs → slice_get (xs ++ x ∷ []) k ≡ slice_get xs k
-get-before [] x k within = absurd (omega (arith, within))
-get-before (y ∷ xs) x zero within = refl
-get-before (y ∷ xs) x (suc k) within = get-before xs x k (omega (arith, within))
+get-before xs x k within = get-other xs x k (λ e. omega (arith, e, within))
 
 pub get-last : {X : Type 0} (xs : List X) (x : X) → slice_get (xs ++ x ∷ []) (length xs) ≡ Some x
 get-last [] x = refl
@@ -45,6 +49,12 @@ call-before cs c k within = ap (option_and_then next_call) (get-before cs c k wi
 pub call-last : (cs : List ControllerState) (c : ControllerState) → call_by (cs ++ c ∷ []) (length cs) ≡ next_call c
 unfolding call_by
 call-last cs c = ap (option_and_then next_call) (get-last cs c)
+
+-- a number that is not the last one is one of those before, or of nobody
+call-other : (cs : List ControllerState) (c : ControllerState) (k : ℕ) → (k == length cs) ≡ false
+    → call_by (cs ++ c ∷ []) k ≡ call_by cs k
+unfolding call_by
+call-other cs c k other = ap (option_and_then next_call) (get-other cs c k (eqb-false k (length cs) other))
 
 -- ---- searches
 
@@ -118,6 +128,13 @@ module _ (script : ScriptState) (s : SeatsState) (schedule : List Actor) (last :
   acts-before k within =
       ap (is_answered (kernel_of s.kernel.state s.kernel.history s.kernel.places) k)
       (call-before s.controllers (Script script) k within)
+
+  -- a controller that is neither of the scenario's nor the outside is none
+  pub acts-other : (k : ℕ) → (k == n) ≡ false → can_act w (Controller k) ≡ can_act v (Controller k)
+  unfolding can_act world_of kernel_of
+  acts-other k other =
+      ap (is_answered (kernel_of s.kernel.state s.kernel.history s.kernel.places) k)
+      (call-other s.controllers (Script script) k other)
 
   acts-last : can_act w (Controller n)
       ≡ is_answered (kernel_of s.kernel.state s.kernel.history s.kernel.places) n (next_call_of script)

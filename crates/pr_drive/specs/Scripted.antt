@@ -14,6 +14,7 @@ use Rattle.pr_scen.specs.declared.plans.Plan.TheVariants as plan
 use Rattle.pr_world.specs.ControllerStates.{Script}
 use Rattle.pr_world.specs.Controllers.{wait_end_of}
 use Rattle.pr_world.specs.Worlds.{WorldState, is_answered}
+use Rattle.pr_drive.specs.Exchanges.{wait_of}
 use Rattle.pr_drive.specs.Going.{SeatsState, outside_of}
 use Rattle.pr_drive.specs.Sessions.{Exchange}
 use Rattle.pr_drive.specs.declared.places.Place.{Place}
@@ -60,8 +61,8 @@ IsBefore outside (place.Controllers from) = from ≤ outside
 
 -- ---- what a session said
 
--- A line is the call that a script makes next, which waits for no moment; it was answered with a reply, so that it was
--- not taken back; and the script got that reply.
+-- A line is the call that a script makes next, which waits for no moment. It was answered with the line of a reply, so
+-- that it was not taken back; and a reply that has this line makes the script so.
 pub record SaysCall (x : Exchange) (before after : ScriptState) : Type 0 where
   pub call : Call
   pub asked : ask_of x.line ≡ Ok (ask.Call call)
@@ -69,7 +70,7 @@ pub record SaysCall (x : Exchange) (before after : ScriptState) : Type 0 where
   pub at_once : wait_end_of call ≡ 0
   pub reply : Reply
   pub told : x.reply ≡ reply_line reply
-  pub got : after ≡ fed before reply
+  pub got : (reply : Reply) → x.reply ≡ reply_line reply → after ≡ fed before reply
 
 -- A line asks for nothing.
 pub record SaysNothing (x : Exchange) (before after : ScriptState) : Type 0 where
@@ -77,8 +78,8 @@ pub record SaysNothing (x : Exchange) (before after : ScriptState) : Type 0 wher
   pub asked : ask_of x.line ≡ Err kind
   pub same : after ≡ before
 
--- The lines are the calls of a script, one after another, and it has no further one.
+-- The lines are the calls of a script, one after another; if it has a further one, that waits for no moment.
 abbrev pub AllSaid : List Exchange → ScriptState → Type 0
-AllSaid [] script = next_call_of script ≡ None
+AllSaid [] script = wait_of (next_call_of script) ≡ 0
 AllSaid (x ∷ xs) script =
     (s : ScriptState) × ((SaysCall x script s ⊎ SaysNothing x script s) × AllSaid xs s)
