@@ -1,6 +1,7 @@
 #!/usr/bin/env python3
 """Each scenario of examples/ and cases/ whose last controller is a script is driven from outside: the script is left out,
-and pdrive is given its calls, line by line. The history is that of the scenario's run, which stands beside it.
+and pdrive is given its calls, line by line. The history is that of the scenario's run, which stands beside it. Scenarios
+whose schedule names that script are left out: a session passes it over there, as pdrive(1) says.
 
     tests/scripts-from-outside.py [FILE ..]
 
@@ -22,12 +23,17 @@ NO_HANDLE = 4294967295
 CLOCK_GOES_ON = {"cases/limits/a-write-that-sleeps.in", "cases/truss/mix017.in"}
 
 
+def names_last(lines, last):
+    """Whether a schedule has the last controller: where that is driven from outside the schedule passes it over."""
+    schedules = [re.split(r"[,\s]+", line.split("#")[0]) for line in lines if line.split()[:1] == ["schedule"]]
+    return any(re.match(r"c%d(\*|$)" % last, word) for words in schedules for word in words)
+
+
 def parts(text):
     """A scenario without its last controller, and the lines of that, if it is a script; else None."""
     lines = text.splitlines()
     heads = [at for at, line in enumerate(lines) if re.match(r"\s*(script|truss|tool|gcore|apfiles)\b", line)]
-    # an actor of a schedule that is the outside is passed over
-    if any(line.split()[:1] == ["schedule"] for line in lines):
+    if names_last(lines, len(heads) - 1):
         return None
     if not heads or lines[heads[-1]].split("#")[0].split() != ["script"]:
         return None

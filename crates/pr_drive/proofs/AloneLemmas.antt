@@ -45,6 +45,7 @@ use Rattle.pr_drive.specs.Sessions.{AnsweredAll, AnswersRead, Exchange, Exchange
 use Rattle.pr_drive.specs.Starts.{first_seats}
 use Rattle.pr_drive.proofs.RoundLemmas.{at_last, last-acts, last-lwps, next_on-is, rounds-at, same-controller, same-lwp}
 use Rattle.pr_drive.proofs.RoundLemmas.{step-on}
+use Rattle.pr_drive.proofs.WorldLemmas.{moved-with, world_with}
 
 -- A session in which the outside makes no call goes as a run does.
 
@@ -52,12 +53,7 @@ use Rattle.pr_drive.proofs.RoundLemmas.{step-on}
 
 -- the world of a run that stands as a session does, with what is left of its schedule, and who moved last
 abbrev world : SeatsState → List Actor → Option Actor → WorldState
-world s schedule last = record {
-  kernel = kernel_of s.kernel.state s.kernel.history s.kernel.places;
-  controllers = s.controllers;
-  schedule = schedule;
-  last = last;
-}
+world s schedule last = world_with s.controllers s schedule last
 
 module _ (s : SeatsState) (schedule : List Actor) (last : Option Actor) where
   world-acts : (a : Actor) → can_act (world s schedule last) a ≡ can_act (world_of 0 s) a
@@ -110,102 +106,11 @@ module _ (s : SeatsState) (schedule : List Actor) (last : Option Actor) where
 
 -- ---- a move of both
 
--- what an actor does in its move is what the machine does
-same-act : (n : ℕ) (w v : WorldState) (t : TracedState) (actor : Actor) (act act' : Act) → n ≡ length w.controllers
-    → IsLegalEntry n t (record { actor = actor; act = act })
-    → IsOwnCall w.controllers (record { actor = actor; act = act })
-    → IsLegalEntry n t (record { actor = actor; act = act' }) → Does w v actor act' → act' ≡ act
-unfolding IsLegalEntry IsOwnCall Does
-same-act n w v t (Controller k) (Called c r) (Called d q) count legal own other does =
-    let call : d ≡ c = same_Some d c (sym does ∙ own (subst (λ (m : ℕ). k < m) count legal.0)) in
-    let here : answer_to t k c ≡ Some (record { state = other.1.0; reply = q }) = ap (answer_to t k) (sym call)
-    ∙ other.1.1 in
-    let answer : ◌≡◌ {A = Answer} (record { state = other.1.0; reply = q }) (record { state = legal.1.0; reply = r }) =
-    same_Some _ _ (sym here ∙ legal.1.1) in
-    ap (λ (x : Call). Called x q) call ∙ ap (λ (a : Answer). Called c a.reply) answer
-same-act n w v t (Controller k) (Called c r) (Turn did) count legal own other does = absurd other
-same-act n w v t (Controller k) (Called c r) (Tick m) count legal own other does = absurd other
-same-act n w v t (Lwp p l) (Turn did) (Turn did') count legal own other does =
-    let turn : ◌≡◌ {A = LwpTurn} (record { system = other.0; turned = did' })
-    (record { system = legal.0; turned = did }) = same_Some _ _ (sym other.1 ∙ legal.1) in
-    ap (λ (x : LwpTurn). Turn x.turned) turn
-same-act n w v t (Lwp p l) (Turn did) (Called c r) count legal own other does = absurd other
-same-act n w v t (Lwp p l) (Turn did) (Tick m) count legal own other does = absurd other
-same-act n w v t Clock (Tick m) (Tick m') count legal own other does = ap Tick (other.1 ∙ sym legal.1)
-same-act n w v t Clock (Tick m) (Called c r) count legal own other does = absurd other
-same-act n w v t Clock (Tick m) (Turn did) count legal own other does = absurd other
-same-act n w v t _ _ act' count legal own other does = absurd legal
-
-world-told : (s : SeatsState) (schedule : List Actor) (last : Option Actor) → TellsMachine (world s schedule last)
-unfolding kernel_of
-world-told s schedule last = record { machine = s.kernel.state; is = refl }
-
--- a world that was led to by a move is the one of the state behind its entry
-module _ (s : SeatsState) (schedule : List Actor) (last : Option Actor) (p : Pick) (e : Entry) (move : IsMove 0 s e)
-    (v : WorldState)
-    (leads : Leads (with_pick p (world s schedule last)) e.actor v) where
-  abbrev e' : Entry
-  e' = entry_of e.actor leads.act
-
-  made : IsMachines (outside_of s) e' v.kernel.machine s.kernel.state
-  unfolding with_pick kernel_of
-  made = leads.machine
-
-  its-act : leads.act ≡ e.act
-  unfolding with_pick
-  its-act =
-      same-act (outside_of s) (with_pick p (world s schedule last)) v s.kernel.state e.actor e.act leads.act refl
-      move.legal move.own made.legal leads.does
-
-  its-entry : e' ≡ e
-  its-entry = ap (entry_of e.actor) its-act
-
-  its-history : (kernel_of s.kernel.state s.kernel.history s.kernel.places).history ++ e' ∷
-      [] ≡ s.kernel.history ++ e' ∷ []
-  unfolding kernel_of
-  its-history = refl
-
-  its-places : (kernel_of s.kernel.state s.kernel.history s.kernel.places).places ≡ s.kernel.places
-  unfolding kernel_of
-  its-places = refl
-
-  its-kernel : v.kernel ≡ kernel_of (after s.kernel.state e) (s.kernel.history ++ e ∷ []) s.kernel.places
-  unfolding with_pick
-  its-kernel =
-      let history : v.kernel.history ≡ (kernel_of s.kernel.state s.kernel.history s.kernel.places).history ++ e' ∷ [] =
-      leads.history in
-      leads.lawful.told (after s.kernel.state e') made.state
-      ∙ ap (λ (h : List Entry). kernel_of (after s.kernel.state e') h v.kernel.places) (history ∙ its-history)
-      ∙ ap (kernel_of (after s.kernel.state e') (s.kernel.history ++ e' ∷ [])) (leads.places ∙ its-places)
-      ∙ ap (λ (x : Entry). kernel_of (after s.kernel.state x) (s.kernel.history ++ x ∷ []) s.kernel.places) its-entry
-
-  led-world : v ≡ world (after_entry e s) p.schedule p.last
-  unfolding with_pick
-  led-world =
-      let cs : v.controllers ≡ controllers_after s.controllers e = leads.controllers
-      ∙ ap (controllers_after s.controllers) its-entry in
-      ap (λ k. let x : WorldState = record
-      { kernel = k; controllers = v.controllers; schedule = v.schedule; last = v.last } in x) its-kernel
-      ∙ ap (λ (c : List ControllerState). let x : WorldState = record {
-        kernel = kernel_of (after s.kernel.state e) (s.kernel.history ++ e ∷ []) s.kernel.places;
-        controllers = c;
-        schedule = v.schedule;
-        last = v.last;
-      } in x) cs
-      ∙ ap (λ (q : List Actor). world (after_entry e s) q v.last) leads.schedule
-      ∙ ap (world (after_entry e s) p.schedule) leads.last
-
 moved-world : (s : SeatsState) (schedule : List Actor) (last : Option Actor) (p : Pick) (e : Entry) → IsMove 0 s e
     → p.actor ≡ e.actor → next_pick (world s schedule last) ≡ Some p
     → after_next (world s schedule last) ≡ world (after_entry e s) p.schedule p.last
 moved-world s schedule last p e move its next =
-    let w = world s schedule last in
-    let step = next-leads w p (world-told s schedule last) next in
-    let picked : step.pick ≡ p = same_Some step.pick p (sym step.next ∙ next) in
-    let leads : Leads (with_pick p w) p.actor (after_next w) = subst
-    (λ (q : Pick). Leads (with_pick q w) q.actor (after_next w)) picked step.leads in
-    led-world s schedule last p e move (after_next w)
-    (subst (λ (a : Actor). Leads (with_pick p w) a (after_next w)) its leads)
+    moved-with s.controllers s schedule last p e move.legal move.own its next
 
 -- ---- rounds
 
@@ -226,7 +131,7 @@ stands-history : (r : RoundsState) (w : WorldState) → StandsAs r w → r.seats
 unfolding kernel_of
 stands-history r w st = ap (λ (x : WorldState). x.kernel.history) (sym st.is)
 
-behind-at : (outside : ℕ) (a : Actor) → last_at outside (place_behind a) ≡ Some a
+pub behind-at : (outside : ℕ) (a : Actor) → last_at outside (place_behind a) ≡ Some a
 unfolding last_at place_behind
 behind-at outside (Lwp pid id) = refl
 behind-at outside Clock = refl
@@ -234,14 +139,14 @@ behind-at outside (Controller k) =
     let number : k + 1 ≡ suc k = omega arith in
     ap (λ (m : ℕ). last_at outside (place.Controllers m)) number
 
-picked-next : (w : WorldState) (a : Actor) → first_scheduled w w.schedule ≡ None → next_in_rounds w ≡ Some a
+pub picked-next : (w : WorldState) (a : Actor) → first_scheduled w w.schedule ≡ None → next_in_rounds w ≡ Some a
     → next_pick w ≡ Some (in_rounds a)
 unfolding next_pick
 picked-next w a over next =
     ap (λ (o : Option Pick). option_or o (option_map in_rounds (next_in_rounds w))) over
     ∙ ap (option_map in_rounds) next
 
-none-scheduled : (w : WorldState) → first_scheduled w [] ≡ None
+pub none-scheduled : (w : WorldState) → first_scheduled w [] ≡ None
 unfolding first_scheduled
 none-scheduled w = refl
 
@@ -263,7 +168,7 @@ stands-step r w e st one =
     }
 
 -- so many moves, and one more
-one-more : (s : Scenario) (h : List Entry) (e : Entry)
+pub one-more : (s : Scenario) (h : List Entry) (e : Entry)
     → world_after (length (h ++ e ∷ [])) s ≡ after_next (world_after (length h) s)
 unfolding after_moves
 one-more s h e =
@@ -274,7 +179,7 @@ ran-as : (s : Scenario) (r : RoundsState) → StandsAs r (world_after (length r.
 unfolding IsPartOfRun
 ran-as s r st = record { history = stands-history r (world_after (length r.seats.kernel.history) s) st; cases = inl st }
 
-has-place : (until : ℕ) (s : SeatsState) (e : Entry) (P : Type 0) → IsMove until s e → has_place s ≡ false → P
+pub has-place : (until : ℕ) (s : SeatsState) (e : Entry) (P : Type 0) → IsMove until s e → has_place s ≡ false → P
 has-place until s e P move full =
     let place : has_place s ≡ true = lt-ltb (length s.kernel.history) s.kernel.places move.place in
     let no : true ≡ false = sym place ∙ full in cc
@@ -428,7 +333,7 @@ followed-as : (s : Scenario) (b : SeatsState) (rest : List Actor)
 unfolding IsPartOfRun kernel_of
 followed-as s b rest st = record { history = ap (λ (x : WorldState). x.kernel.history) (sym st.is); cases = inl st }
 
-abbrev pick_of : Actor → List Actor → Pick
+abbrev pub pick_of : Actor → List Actor → Pick
 pick_of a rest = record { actor = a; schedule = rest; last = None }
 
 scheduled-first : (b : SeatsState) (schedule : List Actor) (a : Actor) (rest : List Actor) (can : Bool)
@@ -440,7 +345,7 @@ scheduled-first b schedule a rest can is =
     ap (λ (x : Bool). cond x (Some (pick_of a rest)) (first_scheduled (world b schedule None) rest))
     (world-acts b schedule None a ∙ is)
 
-picked-first : (w : WorldState) (p : Pick) → first_scheduled w w.schedule ≡ Some p → next_pick w ≡ Some p
+pub picked-first : (w : WorldState) (p : Pick) → first_scheduled w w.schedule ≡ Some p → next_pick w ≡ Some p
 unfolding next_pick
 picked-first w p e = ap (λ (o : Option Pick). option_or o (option_map in_rounds (next_in_rounds w))) e
 

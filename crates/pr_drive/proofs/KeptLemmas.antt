@@ -93,7 +93,7 @@ legal-by n s (Lwp p l) (Turn t) h = h
 legal-by n s Clock (Tick m) h = h
 legal-by n s _ _ h = absurd h
 
-legal-more : (n : ℕ) (s : TracedState) (e : Entry) → IsLegalEntry n s e → IsLegalEntry (n + 1) s e
+pub legal-more : (n : ℕ) (s : TracedState) (e : Entry) → IsLegalEntry n s e → IsLegalEntry (n + 1) s e
 legal-more n s e h = legal-by n s e.actor e.act h
 
 moves-legal : (n : ℕ) (es : List Entry) (until : ℕ) (s : SeatsState) → outside_of s ≡ n → AreMoves until s es
@@ -165,11 +165,11 @@ goes-keep until a b goes = record {
   is = goes.is;
 }
 
-outside-own : (cs : List ControllerState) (c : Call) (r : _) → IsOwnCall cs (call_entry (length cs) c r)
+pub outside-own : (cs : List ControllerState) (c : Call) (r : _) → IsOwnCall cs (call_entry (length cs) c r)
 unfolding IsOwnCall
 outside-own cs c r = λ (within : length cs < length cs). absurd (omega arith)
 
-outside-legal : (s : SeatsState) (c : Call) (t : SeatsState) (called : OutsideCalled c s t)
+pub outside-legal : (s : SeatsState) (c : Call) (t : SeatsState) (called : OutsideCalled c s t)
     → IsLegalEntry (outside_of s + 1) s.kernel.state (call_entry (outside_of s) c called.answer.reply)
 unfolding IsLegalEntry
 outside-legal s c t called = (omega arith, (called.answer.state, called.answered))

@@ -9,7 +9,10 @@ mod KeptLemmas
 mod MoveLemmas
 mod ReadLemmas
 mod RoundLemmas
+mod ScriptLemmas
 mod SeatLemmas
 mod ServeLemmas
 mod SessionLemmas
 mod StepLemmas
+mod TurnLemmas
+mod WorldLemmas

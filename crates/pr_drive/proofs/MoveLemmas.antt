@@ -163,7 +163,7 @@ controller-moved until s k c new items x y view within at next place made fed =
     }
 
 -- the outside is none of the controllers, and gets the reply alone
-outside-fed : (cs : List ControllerState) (r : Reply) → with_fed (length cs) r cs ≡ cs
+pub outside-fed : (cs : List ControllerState) (r : Reply) → with_fed (length cs) r cs ≡ cs
 unfolding with_fed
 outside-fed cs r = ap (feed_at (length cs) r cs) (slice_get_past cs (length cs) (omega arith))
 

@@ -30,6 +30,7 @@ use Rattle.pr_drive.proofs.EndLemmas.{stand}
 use Rattle.pr_drive.proofs.InputLemmas.{input, unasked}
 use Rattle.pr_drive.proofs.KeptLemmas.{all-keep, begins-keep, history-from, keeps-then, others-bytes}
 use Rattle.pr_drive.proofs.ReadLemmas.{cut-asking, took-none}
+use Rattle.pr_drive.proofs.ScriptLemmas.{scripted-runs}
 
 -- What a call of the program does.
 
@@ -62,6 +63,7 @@ lines-answered old left above first begun end replies opened left_is all =
           kept-beside s end.rounds.seats.kernel.history (scenario-range opened.text s opened.opened.read) history.legal
           history.own (others-bytes s end.rounds.seats keeps);
       alone = alone-runs s above (stand begun first) end old.written replies all opened.opened.begins;
+      scripted = scripted-runs s above (stand begun first) end old.written replies all opened.opened.begins;
     }
 
 pub session-told : (showing : Showing) (old new : Ends) (status : Status) (above : ℕ) (first : RoundsState)

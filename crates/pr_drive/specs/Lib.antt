@@ -5,6 +5,7 @@ pub mod Exchanges
 pub mod Going
 pub mod Inputs
 pub mod Rounds
+pub mod Scripted
 pub mod Served
 pub mod Sessions
 pub mod Starts

@@ -14,6 +14,7 @@ use Rattle.pr_run_laws.specs.ScenarioRuns.{controllers_of, first_state_of}
 use Rattle.pr_scen.specs.Reading.{scenario_of}
 use Rattle.pr_scen.specs.Refusals.{ScenFault}
 use Rattle.pr_scen.specs.Scenarios.{Scenario}
+use Rattle.pr_scen.specs.Scripts.{ScriptState}
 use Rattle.pr_scen.specs.declared.refusals.ScenKind.{ScenKind}
 use Rattle.pr_scen.specs.declared.refusals.ScenKind.TheVariants.{NoEnd, TooLong, TooMany}
 use Rattle.pr_text.specs.TextLines.{newline}
@@ -23,6 +24,7 @@ use Rattle.pr_drive.specs.Going.{SeatsState}
 use Rattle.pr_drive.specs.Inputs.{Asked, AskedInVain, FoundEnd, Input, Took, from_start}
 use Rattle.pr_actors.specs.Reports.{reports_from}
 use Rattle.pr_drive.specs.Rounds.{FinishesRound, GoesBySchedule, RoundsState, first_controllers}
+use Rattle.pr_drive.specs.Scripted.{AllSaid, IsUnnamed, with_script}
 use Rattle.pr_drive.specs.Sessions.{AnsweredAll, AnsweredSome, AnsweredUnread, IsHistoryFrom, Stand}
 use Rattle.pr_drive.specs.Starts.{first_seats}
 use Rattle.pr_drive.specs.Statuses.{EndsAs, number}
@@ -220,6 +222,8 @@ pub record AnsweredLines (old : Ends) (left replies : Option (List ℕ)) (s : Sc
   pub history : IsHistoryFrom (first_state_of s) (controllers_of s) s.turns last
   pub kept : IsKeptBeside s last.kernel.history
   pub alone : OnlyLetOthers answered.exchanges → IsPartOfRun s last.kernel.history
+  pub scripted : (script : ScriptState) → AllSaid answered.exchanges script → IsUnnamed s
+      → IsPartOfRun (with_script script s) last.kernel.history
 
 -- A session was written: the replies to its lines, and behind them its history, what the controllers print, and the
 -- status, which says how it ended.

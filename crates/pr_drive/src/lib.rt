@@ -5,6 +5,7 @@
 mod answers;
 mod commands;
 mod ends;
+mod laws;
 mod moves;
 mod places;
 mod readings;
