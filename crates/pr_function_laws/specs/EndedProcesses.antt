@@ -12,9 +12,8 @@ use Rattle.pr_truss.specs.FunctionCalls.{lift_call}
 use Rattle.pr_truss_laws.specs.Exchanges.{exchange_of, exchanges}
 use Rattle.pr_function_laws.specs.Holds.{HasHoldWithFunctions}
 
--- In this entry truss, which was not interrupted before, lifts a breakpoint of a process of which it has no hold. So it
--- is where the opening of the process was refused: then truss lifts all that it has planted there, whatever the replies
--- are.
+-- In this entry truss, which was not interrupted before, lifts a breakpoint of a process of which it has no hold. Of
+-- such a lift this says nothing: where the opening was refused, truss goes on with its lifts.
 pub record LiftsUnheld (k : ℕ) (o : Options) (pid : ℕ) (first : TracedState) (before : List Entry) (e : Entry) : Type 0
   where
     pub control : ℕ
@@ -25,7 +24,7 @@ pub record LiftsUnheld (k : ℕ) (o : Options) (pid : ℕ) (first : TracedState)
     pub unbroken : WasInterrupted k before → ⊥
 
 -- Where truss is told that a process has ended, by whatever call to a handle of the process, it closes each file of it
--- that it has open, before it calls anything else; but for that lift.
+-- that it has open, before it calls anything else; but for such a lift.
 pub record ClosesAllThatEndedOf (k : ℕ) (o : Options) (first : TracedState) (h : List Entry) : Type 0 where
   pub each : (before later : List Entry) (e : Entry) (pid : ℕ) → h ≡ before ++ e ∷ later
       → IsToldOfEnd k pid (state_after first before) e → (LiftsUnheld k o pid first before e → ⊥)

@@ -1,5 +1,5 @@
 -- When truss with calls of functions looks at a process: at its status right after a poll has named it; and at the
--- statuses of its lwps once while it opens the process, and as it leaves it.
+-- statuses of its lwps while it opens the process, and as it leaves it.
 use Rattle.std.specs.Prelude.{◌≡◌, ◌++◌, ℕ, List, [], ◌∷◌, Some}
 use Rattle.pr_line.specs.declared.options.Options.{Options}
 use Rattle.pr_model.specs.Legal.{state_after}
@@ -25,25 +25,26 @@ pub record IsNamedNowOf (k : ℕ) (o : Options) (pid : ℕ) (first : TracedState
   pub has : HasFile k pid Ctl control (state_after first h)
   pub named : WasNamedNow control (exchanges k h)
 
--- The calls by which truss brings a process to the stop at which it leaves it: PCSTOP, PCWSTOP, and the waits for them.
+-- The calls by which truss asks for the stop at which it leaves a process: PCSTOP, PCWSTOP, and the waits for them.
 pub data BringsToStop (control : ℕ) : Call → Type 0 where
   directs : BringsToStop control (message_call control message.Stop)
   waits : {until : ℕ} → BringsToStop control (call.CtlWait control until (spelling message.Stop []))
   asks_again : BringsToStop control (message_call control message.Wstop)
   waits_again : {until : ℕ} → BringsToStop control (call.CtlWait control until (spelling message.Wstop []))
 
--- the last of these exchanges is such a call
+-- the last of these exchanges is such a call, whatever the reply
 pub record WasBroughtToStop (control : ℕ) (xs : List Exchange) : Type 0 where
   pub earlier : List Exchange
   pub last : Exchange
   pub is : xs ≡ earlier ++ last ∷ []
   pub halts : BringsToStop control last.call
 
--- When truss looks at the lwps of a process: right behind the wait of its opening, that was granted; or where truss was
--- interrupted, has hold of the process, and has just brought it to a stop. With that look it lets the process go, so
--- that there is no second one.
+-- When truss looks at the lwps of a process: where it has no hold of it, right behind the wait of its opening, that was
+-- granted; or where truss was interrupted, has hold of the process, and its last call is PCSTOP or PCWSTOP to it, or
+-- the wait for one of these, whatever the reply. With that look it lets the process go, so that there is no second one.
 pub data MayLookAtLwpsOf (k : ℕ) (o : Options) (pid : ℕ) (first : TracedState) (h : List Entry) : Type 0 where
   in_opening : (control until : ℕ) → HasFile k pid Ctl control (state_after first h)
+      → (HasHoldWithFunctions k o pid first h → ⊥)
       → WasLastGranted (call.CtlWait control until (spelling message.Stop [])) (exchanges k h)
       → MayLookAtLwpsOf k o pid first h
   leaving : (control : ℕ) → HasFile k pid Ctl control (state_after first h) → HasHoldWithFunctions k o pid first h

@@ -21,7 +21,7 @@ interrupts [] = 0
 interrupts (x ∷ xs) = interrupts_in x.reply + interrupts xs
 
 -- How many calls come at most for each one of a truss without calls of functions: it, and two messages for each
--- function and one more, by which breakpoints are read, planted, lifted and cleared.
+-- function and one more, by which code is read, breakpoints are planted and lifted, and a fault is cleared.
 abbrev pub times_as_many : Options → ℕ
 times_as_many o = 2 + 2 * length o.functions
 

@@ -21,8 +21,8 @@ ghost use Rattle.pr_function_laws.specs.Soon.{IsCalm};
 /// besides, runs a process with PRCFAULT or PRSTEP, and begins to leave one by PCSTOP. What it reads of faults of its
 /// own counts as nothing. Then its exchanges are those of a truss, which has reported what this one has, but for the
 /// calls. So that truss does its own business in these exchanges, and nothing else, and polls soon. All that it has
-/// reported, calls too, stands in the order in which it learnt it, a line for each. This is so whatever it was replied,
-/// as long as only waits are interrupted.
+/// reported, calls too, stands in the order in which it learnt it, without -c a line for each. This is so whatever it
+/// was replied, as long as only waits are interrupted.
 #[tactic(auto, using(crate::proofs::OrdinaryTruss::OrdinaryExchanges::ordinaries))]
 pub fn beside_its_breakpoints_it_is_a_truss()
     ensures { (o : Options) (xs : List Exchange) → has_functions o ≡ true → o.follow ≡ false

@@ -96,9 +96,10 @@ pub record IsFunctionTrussKept (controllers : List ControllerState) (first : Tra
   pub named_soon : IsSoonRunOrClosed k o first h
   pub before_polls : RunsBeforeItPollsOf k first h
   -- Right after a poll has named a process it reads the status of that process, and it reads a status nowhere else; the
-  -- statuses of the lwps of a process it reads right behind the wait of its opening, and, once truss was interrupted,
-  -- right behind the stop to which it brought a process of which it has hold. How many calls come at most before it
-  -- polls is told by its functions, the control files that it has open, and the interrupts.
+  -- statuses of the lwps of a process it reads right behind the wait of its opening, where it has no hold of it, and
+  -- where truss was interrupted, has hold of the process, and its last call is PCSTOP or PCWSTOP to it, or the wait for
+  -- one of these, whatever the reply. How many calls come at most before it polls is told by its functions, the control
+  -- files that it has open, and the interrupts.
   pub named_looks : LooksAtWhatIsNamed k first h
   pub looks : LooksInPlaceOf k o first h
   pub polls_soon : PollsByItsFilesOf k o first h
@@ -175,8 +176,9 @@ pub record IsFunctionTrussKept (controllers : List ControllerState) (first : Tra
   pub handled : HandlesItsGiven o (exchanges k h) ordinary
   pub given : HoldsOrRefusesItsGiven k o h
   -- Where it is told that a process has ended, by whatever call to a handle of it, it closes each file of the process
-  -- that it has open before it calls anything else; but that it lifts what it has planted first, where the opening was
-  -- refused.
+  -- that it has open before it calls anything else; but for an entry in which truss, not interrupted before, lifts a
+  -- breakpoint of a process of which it has no hold. Of such a lift this says nothing: where the opening was refused,
+  -- truss goes on with its lifts.
   pub ended : ClosesAllThatEndedOf k o first h
   -- It watches a process just while it has hold of it, which its calls and their replies alone tell: from the PCRUN of
   -- a whole opening of the process, to the call to a handle of the process that is refused with ENOENT, or to its read

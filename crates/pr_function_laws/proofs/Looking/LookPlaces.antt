@@ -1,5 +1,5 @@
-use Rattle.std.proofs.Common.{◌≡◌, ◌<◌, ◌++◌, ℕ, true, Some, List, ◌∷◌, length, refl, sym, subst, ap, ◌∙◌}
-use Rattle.std.proofs.lemmas.Bool.{false≢true}
+use Rattle.std.proofs.Common.{◌≡◌, ◌<◌, ◌++◌, ℕ, false, true, Some, List, ◌∷◌, length, refl, sym, subst, ap, ◌∙◌}
+use Rattle.std.proofs.lemmas.Bool.{eq-eqb, false≢true}
 use Rattle.std.proofs.lemmas.Option.{same_Some}
 use Rattle.pr_line.specs.declared.options.Options.{Options}
 use Rattle.pr_model.specs.Handles.{handle_of}
@@ -17,6 +17,7 @@ use Rattle.pr_num.specs.Limits.{read_limit}
 use Rattle.pr_truss.specs.NextCalls.{call_of, next_call_of, opening_call, read_record}
 use Rattle.pr_truss.specs.Trusses.{TrussState, traced_at}
 use Rattle.pr_truss.specs.declared.stages.OpeningStep.TheVariants as opening
+use Rattle.pr_truss.specs.declared.stages.Stage.{Stage}
 use Rattle.pr_truss.specs.declared.stages.Stage.TheVariants.{Opening, ReadingStatus, ReadingLwps}
 use Rattle.pr_truss_laws.proofs.Files.HeldLemmas.{Fits}
 use Rattle.pr_truss_laws.proofs.Files.OwnLemmas.{Owns}
@@ -28,14 +29,15 @@ use Rattle.pr_report_laws.proofs.Files.FileLaws.{HasFiles, IsFileOf}
 use Rattle.pr_report_laws.proofs.Files.FileUses as uses
 use Rattle.pr_report_laws.proofs.Files.WatchHistories.{Reaches}
 use Rattle.pr_report_laws.proofs.Invariant.StandLemmas.{Leaves, Stands}
+use Rattle.pr_report_laws.proofs.Replies.Places.{unwatched-away}
 use Rattle.pr_report_laws.proofs.ToldForks.OldHolds.{ReadsBy, look, lwps, next-reads, status, text}
 use Rattle.pr_report_laws.proofs.ToldForks.ToldReads.{file-has}
 use Rattle.pr_report_laws.proofs.Watching.EndLaws.{stage-called}
 use Rattle.pr_report_laws.specs.Attachments.{HasFile}
 use Rattle.pr_report_laws.specs.Looks.{IsWhole}
-use Rattle.pr_report_laws.specs.Watching.{watches}
+use Rattle.pr_report_laws.specs.Watching.{is_away, place_of, watches}
 use Rattle.pr_function_laws.proofs.Holding.HoldEnds.{leaves-interrupted}
-use Rattle.pr_function_laws.proofs.Holding.HoldLaws.{watched-hold}
+use Rattle.pr_function_laws.proofs.Holding.HoldLaws.{hold-watched, watched-hold}
 use Rattle.pr_function_laws.proofs.Looking.LastCalls.{Recalls, recalls}
 use Rattle.pr_function_laws.proofs.OrdinaryTruss.OrdinaryCalls.{sees-sends, stands-sends}
 use Rattle.pr_function_laws.proofs.OrdinaryTruss.OrdinaryEntries as entries
@@ -117,6 +119,10 @@ module _ (n k : ℕ) (o : Options) (s : TracedState) (before later : List Entry)
   held-now : watches u pid ≡ true → HasHoldWithFunctions k o pid s before
   held-now on = watched-hold n k o pid s before front (sym (watches-ordinary t pid) ∙ on)
 
+  unheld-now : watches u pid ≡ false → HasHoldWithFunctions k o pid s before → ⊥
+  unheld-now off w =
+      false≢true (sym off ∙ watches-ordinary t pid ∙ hold-watched n k o pid s before front w)
+
   -- ---- a status
 
   status-look : HasFile k pid file.Status handle now → IsWhole from len × IsNamedNowOf k o pid s before
@@ -164,13 +170,17 @@ module _ (n k : ℕ) (o : Options) (s : TracedState) (before later : List Entry)
           same-file file.Lstatus mine _ _ file.Lstatus _
           (uses.opening-read k u now files fitting place is) alike in
           let f : Fits u.traced (Opening place opening.ReadLwps) = subst (Fits u.traced) is fitting in
+          let off : watches u pid ≡ false =
+          unwatched-away u pid place (subst (λ p. place_of u p ≡ Some place) w.1 (files.one place f.0))
+          (ap (λ (x : Stage). is_away u.leaving x place) is ∙ eq-eqb place place refl) in
           let waited : WasWaitedFor (traced_at u place).control (exchanges k before) =
           subst (Recalls (exchanges k before) u.traced) is knows in (
             whole _
                 (sym
                 (stage-called u x (Opening place opening.ReadLwps) (read_record (traced_at u place).lstatus) next
                 is refl)),
-            in_opening (traced_at u place).control waited.until (has-control place f.0 w.1) waited.waited,
+            in_opening (traced_at u place).control waited.until (has-control place f.0 w.1) (unheld-now off)
+                waited.waited,
           )
       by (status place is alike) =
           let w =
