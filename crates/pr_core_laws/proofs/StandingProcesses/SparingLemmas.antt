@@ -130,5 +130,6 @@ module _ (n : ℕ) (s : TracedState) (k pid : ℕ) (lawful : IsLawful s) (sole :
       → live_process (after s (record { actor = actor; act = it })).system pid ≡ Some q
       → (q.job_stop ≡ x.job_stop) × (pending_of_lwps q ≡ pending_of_lwps x)
   sent-none actor it legal other apart sends q live =
-      let spared = passed-alone spared-left pid ByKill s.system (after s (record { actor = actor; act = it })).system x q
+      let spared =
+      passed-alone spared-left pid ByKill s.system (after s (record { actor = actor; act = it })).system x q
       (entry-passes actor it legal other apart sends) before live in (spared.job_stop, spared.pending)
