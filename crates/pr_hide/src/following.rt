@@ -146,7 +146,7 @@ fn replaces_memory(did: Did) -> bool
 }
 
 /// What a turn of an lwp leaves hidden: an agent of a controller's that ends is there no more, and after a vfork or an
-/// exec that was granted no breakpoint is planted and no agent is left.
+/// exec that was granted to another lwp no patch is left, and no agent.
 fn follow_turn(
     table: &mut CoverTable,
     who: &[Hider],

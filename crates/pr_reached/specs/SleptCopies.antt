@@ -1,4 +1,5 @@
--- Lwps that are asleep in a fork(2), a vfork(2) or an exec(2). There are none, as no such call sleeps.
+-- Lwps that are asleep in a fork(2), a vfork(2) or an exec(2). None is in a state that the machine reaches, as no such
+-- call sleeps.
 use Rattle.std.specs.Prelude.{◌≡◌, ℕ, Bool, true, false, All}
 use Rattle.pr_model.specs.State.{TracedLwp, TracedProcess, TracedSystem}
 use Rattle.pr_model.specs.declared.lwps.Phase.{Phase}
@@ -7,7 +8,7 @@ use Rattle.pr_num.specs.Syscalls.{is_fork_call}
 use Rattle.pr_num.specs.declared.syscalls.Sysno.{Sysno}
 use Rattle.pr_num.specs.declared.syscalls.Sysno.TheVariants.{Exec}
 
--- a call that copies or replaces the memory of its process
+-- a call that makes a child with the memory of its process, or replaces that
 abbrev pub is_fork_or_exec : Sysno → Bool
 is_fork_or_exec Exec = true
 is_fork_or_exec call = is_fork_call call

@@ -50,8 +50,8 @@ pub record ReadsMemoryNext (o : Options) (s : TrussState) (l : LwpStatus) : Type
   pub handle : ℕ
   pub due : next_call_of s ≡ Some (Read handle from len)
 
--- What is printed is what was reported, and behind that at most one event of which the memory is still to be read: that
--- comes with the very next call.
+-- What is printed is what was reported, and behind that at most one event of which the memory is still to be read: the
+-- call of its stage reads just that.
 pub data ReportsNoOther (o : Options) (s : TrussState) : Type 0 where
   all_told : all_reports s ≡ s.reports → ReportsNoOther o s
   one_more : (pid : ℕ) (l : LwpStatus) → all_reports s ≡ s.reports ++ report.Event pid l None ∷ []
