@@ -218,10 +218,10 @@ replaces_memory did = false
 abbrev pub without_replaced : Did → Cover → Cover
 without_replaced did c = if replaces_memory did then with_own_agent false (with_patches [] c) else c
 
--- What the turn of an lwp leaves hidden of its process. A probe's agent that ends is there no more; each other turn of it
--- leaves all as it was. Another lwp that stops as it was directed stays where it was, and any other turn of it says
--- whether it stands at a fault of a controller's, and leaves no patch and no agent if it was a vfork or an exec that was
--- granted. An agent ends with its process too, and needs no row for that: no other process has its id.
+-- What the turn of an lwp leaves hidden of its process. A probe's agent that ends is there no more; each other turn of
+-- it leaves all as it was. Another lwp that stops as it was directed stays where it was, and any other turn of it says
+-- whether it stands at a fault of a controller's, and leaves no patch and no agent if it was a vfork or an exec that
+-- was granted. An agent ends with its process too, and needs no row for that: no other process has its id.
 abbrev pub cover_turned : Hiders → Covers → TracedState → ℕ → ℕ → Did → Cover → Cover
 cover_turned who covers s pid id did c =
     if not (keeps_lwp c id) then (if exits did then with_own_agent false c else c)
