@@ -1,50 +1,32 @@
-use Rattle.std.proofs.Common.{◌≡◌, ◌<◌, ◌+◌, ◌++◌, ◌||◌, ◌⊎◌, inl, inr, ℕ, suc, Bool, true, false, List, [], ◌∷◌}
-use Rattle.std.proofs.Common.{Option, Some, None, Result, Ok, Err, length, cond, refl, sym, ap, subst, ◌∙◌}
+use Rattle.std.proofs.Common.{◌≡◌, ◌+◌, ◌++◌, ◌||◌, ◌⊎◌, inl, inr, ℕ, suc, Bool, true, false, List, [], ◌∷◌}
+use Rattle.std.proofs.Common.{Option, Some, None, length, cond, refl, sym, ap, subst, ◌∙◌}
 use Rattle.std.proofs.Common.{arith, length-append}
 use Rattle.std.proofs.lemmas.Bool.{le-ltb, lt-ltb}
-use Rattle.std.proofs.lemmas.List.Elements.{All-head, All-tail}
-use Rattle.std.proofs.lemmas.Option.{same_Some}
 use Rattle.std.specs.Option.{option_map, option_or}
 use Rattle.pr_api.specs.Sleepers.{some_sleeper}
 use Rattle.pr_api.specs.Views.{kernel_of, next_of, turns_after}
-use Rattle.pr_asks.specs.Asks.{ask_of}
-use Rattle.pr_asks.specs.declared.asks.Ask.{Ask}
-use Rattle.pr_asks.specs.declared.asks.Ask.TheVariants as ask
-use Rattle.pr_asks.specs.declared.asks.AskKind.{AskKind}
-use Rattle.pr_model.specs.Calls.{Answer, answer_to}
-use Rattle.pr_model.specs.Legal.{IsLegalEntry, after}
-use Rattle.pr_model.specs.LwpTurns.{LwpTurn}
-use Rattle.pr_model.specs.State.{TracedState}
-use Rattle.pr_model.specs.declared.calls.Call.{Call}
-use Rattle.pr_model.specs.declared.events.Act.{Act}
-use Rattle.pr_model.specs.declared.events.Act.TheVariants.{Call as Called, Turn, Tick}
+use Rattle.pr_model.specs.Legal.{after}
 use Rattle.pr_model.specs.declared.events.Actor.{Actor}
 use Rattle.pr_model.specs.declared.events.Actor.TheVariants.{Controller, Lwp, Clock}
 use Rattle.pr_model.specs.declared.events.Entry.{Entry}
 use Rattle.pr_run_laws.specs.ScenarioRuns.{first_world, world_after}
 use Rattle.pr_scen.specs.Scenarios.{Scenario}
-use Rattle.pr_world.proofs.RunLemmas.{next-leads}
-use Rattle.pr_world.specs.ControllerStates.{ControllerState}
 use Rattle.pr_world.specs.Controllers.{is_clock_awaited}
-use Rattle.pr_world.specs.Moves.{Does, IsMachines, Leads, entry_of}
-use Rattle.pr_world.specs.Protocol.{controllers_after}
-use Rattle.pr_world.specs.Runs.{TellsMachine, after_moves, after_next}
+use Rattle.pr_world.specs.Runs.{after_moves, after_next}
 use Rattle.pr_world.specs.Worlds.{Pick, WorldState, can_act, first_lwp, first_scheduled, in_rounds, next_in_round}
-use Rattle.pr_world.specs.Worlds.{next_in_rounds, next_pick, with_pick}
-use Rattle.pr_drive.specs.Alone.{IsPartOfRun, OnlyLetOthers, lets_others}
-use Rattle.pr_drive.specs.Exchanges.{Answers, GoesFor, GoesUntil, MadeAll, MadeFewer, StopsAtRest, StopsReady}
-use Rattle.pr_tool_laws.specs.OwnCalls.{IsOwnCall}
+use Rattle.pr_world.specs.Worlds.{next_in_rounds, next_pick}
+use Rattle.pr_drive.specs.Alone.{IsPartOfRun, OnlyLetOthers}
 use Rattle.pr_drive.specs.Going.{IsMove, Moved, MovesIf, SeatsState, Stayed, after_entry, can_move}
 use Rattle.pr_drive.specs.Going.{has_place, outside_of, world_of}
-use Rattle.pr_drive.specs.Rounds.{AreSteps, AreStepsOn, FinishesRound, GoesBySchedule, IsAtRest, IsStepOn}
-use Rattle.pr_drive.specs.Rounds.{Rests, RoundsState, after_step, after_steps, first_controllers, first_place, last_at}
+use Rattle.pr_drive.specs.Rounds.{FinishesRound, GoesBySchedule, IsStepOn}
+use Rattle.pr_drive.specs.Rounds.{Rests, RoundsState, after_step, first_controllers, first_place, last_at}
 use Rattle.pr_drive.specs.Rounds.{next_from, next_left, next_on, place_behind}
 use Rattle.pr_drive.specs.declared.places.Place.TheVariants as place
 use Rattle.pr_drive.specs.Served.{Begins}
-use Rattle.pr_drive.specs.Sessions.{AnsweredAll, AnswersRead, Exchange, Exchanged, Exchanges, PassesTurn, Stand}
+use Rattle.pr_drive.specs.Sessions.{AnsweredAll, Stand}
 use Rattle.pr_drive.specs.Starts.{first_seats}
+use Rattle.pr_drive.proofs.LettingLemmas.{exchanges-kept, finish-kept}
 use Rattle.pr_drive.proofs.RoundLemmas.{at_last, last-acts, last-lwps, next_on-is, rounds-at, same-controller, same-lwp}
-use Rattle.pr_drive.proofs.RoundLemmas.{step-on}
 use Rattle.pr_drive.proofs.WorldLemmas.{moved-with, world_with}
 
 -- A session in which the outside makes no call goes as a run does.
@@ -247,74 +229,8 @@ ran-rests s r q ran rests = record {
         (stands-same r q (world_after (length r.seats.kernel.history) s) rests.same (rests-next r q rests) st))
     of (inr full) = inr (ap has_place rests.same ∙ full)
 
-ran-rest : (s : Scenario) (r q : RoundsState) → Ran s r → IsAtRest 0 r q → Ran s q
-ran-rest s r q ran rest = ran-rests s rest.between q (ran-rests s r rest.between ran rest.left) rest.round
-
-ran-on : (s : Scenario) (es : List Entry) (r : RoundsState) → Ran s r → AreStepsOn 0 r es → Ran s (after_steps es r)
-ran-on s [] r ran steps = ran
-ran-on s (e ∷ es) r ran steps = ran-on s es (after_step e r) (ran-step s r e ran steps.0) steps.1
-
-ran-steps : (s : Scenario) (es : List Entry) (r : RoundsState) → Ran s r → AreSteps 0 r es → Ran s (after_steps es r)
-ran-steps s [] r ran steps = ran
-ran-steps s (e ∷ es) r ran steps = ran-steps s es (after_step e r) (ran-step s r e ran (step-on 0 r e steps.0)) steps.1
-
 ran-finish : (s : Scenario) (r q : RoundsState) → Ran s r → FinishesRound 0 r q → Ran s q
-ran-finish s r q ran round = ran-rests s (after_steps round.entries r) q (ran-steps s round.entries r ran round.steps)
-    round.rests
-
-ran-same : (s : Scenario) (r q : RoundsState) → Ran s r → q ≡ r → Ran s q
-ran-same s r q ran same = subst (Ran s) (sym same) ran
-
-ran-for : (s : Scenario) (times : ℕ) (r q : RoundsState) → Ran s r → GoesFor times r q → Ran s q
-ran-for s times r q ran moves = of moves.end
-  where
-    there : Ran s (after_steps moves.entries r)
-    there = ran-on s moves.entries r ran moves.steps
-
-    of : MadeAll times moves.entries r q ⊎ MadeFewer times moves.entries r q → Ran s q
-    of (inl all) = ran-same s (after_steps moves.entries r) q there all.is
-    of (inr fewer) = ran-rest s (after_steps moves.entries r) q there fewer.rests
-
-ran-until : (s : Scenario) (r q : RoundsState) → Ran s r → GoesUntil r q → Ran s q
-ran-until s r q ran moves = of moves.over
-  where
-    there : Ran s (after_steps moves.entries r)
-    there = ran-on s moves.entries r ran moves.steps
-
-    of : StopsReady moves.entries r q ⊎ StopsAtRest moves.entries r q → Ran s q
-    of (inl stops) = ran-same s (after_steps moves.entries r) q there stops.is
-    of (inr stops) = ran-rest s (after_steps moves.entries r) q there stops.rests
-
--- ---- lines
-
--- such a line, and that the outside's turn goes on
-ran-asked : (s : Scenario) (asked : Ask) (over : Bool) (r q : RoundsState) (text : List ℕ)
-    → lets_others (Ok asked) ≡ true → Ran s r → Answers asked over r q text → Ran s q × (over ≡ false)
-ran-asked s (ask.Moves times) over r q text lets ran h = (ran-for s times r q ran h.1.moves, h.0)
-ran-asked s ask.Run over r q text lets ran h = (ran-until s r q ran h.1.moves, h.0)
-ran-asked s ask.End over r q text lets ran h = (ran-same s r q ran h.1.same, h.0)
-ran-asked s (ask.Call c) over r q text lets ran h = cc
-ran-asked s (ask.Messages script) over r q text lets ran h = cc
-ran-asked s (ask.Move actor) over r q text lets ran h = cc
-
-ran-read : (s : Scenario) (number : ℕ) (read : Result Ask AskKind) (over : Bool) (r q : RoundsState) (text : List ℕ)
-    → lets_others read ≡ true → Ran s r → AnswersRead number read over r q text → Ran s q × (over ≡ false)
-ran-read s number (Err kind) over r q text lets ran h = (ran-same s r q ran h.1.same, h.0)
-ran-read s number (Ok asked) over r q text lets ran h = ran-asked s asked over r q text lets ran h.1
-
-ran-exchange : (s : Scenario) (number : ℕ) (x : Exchange) (a b : Stand) → lets_others (ask_of x.line) ≡ true
-    → Ran s a.rounds → Exchanged number x a b → Ran s b.rounds
-ran-exchange s number x a b lets ran h =
-    let answered = ran-read s number (ask_of x.line) h.over a.rounds h.answered x.reply lets ran h.answers in
-    let same : b.rounds ≡ h.answered = subst (λ (o : Bool). PassesTurn o h.answered b.rounds) answered.1 h.passes in
-    ran-same s h.answered b.rounds answered.0 same
-
-ran-exchanges : (s : Scenario) (xs : List Exchange) (number : ℕ) (a b : Stand) → OnlyLetOthers xs → Ran s a.rounds
-    → Exchanges number xs a b → Ran s b.rounds
-ran-exchanges s [] number a b only ran h = ran-same s a.rounds b.rounds ran (ap (λ (x : Stand). x.rounds) h)
-ran-exchanges s (x ∷ xs) number a b only ran h =
-    ran-exchanges s xs (number + 1) h.0 b (All-tail (λ x. lets_others (ask_of x.line) ≡ true) x xs only)
-    (ran-exchange s number x a h.0 (All-head (λ x. lets_others (ask_of x.line) ≡ true) x xs only) ran h.1.0) h.1.1
+ran-finish s r q ran round = finish-kept (Ran s) (ran-step s) (ran-rests s) r q ran round
 
 -- ---- the schedule
 
@@ -438,6 +354,7 @@ pub alone-runs : (s : Scenario) (above : ℕ) (a b : Stand) (before after : Opti
     (all : AnsweredAll above a b before after) → Begins s a.rounds → OnlyLetOthers all.exchanges
     → IsPartOfRun s b.rounds.seats.kernel.history
 alone-runs s above a b before after all begins only =
-    let ran = ran-exchanges s all.exchanges (above + 1) a all.reached only (ran-begins s a.rounds begins) all.answered
-    in
-    (ran-same s all.reached.rounds b.rounds ran all.same).history
+    let ran =
+    exchanges-kept (Ran s) (ran-step s) (ran-rests s) all.exchanges (above + 1) a all.reached only
+    (ran-begins s a.rounds begins) all.answered in
+    (subst (Ran s) (sym all.same) ran).history

@@ -6,6 +6,7 @@ mod EntryLemmas
 mod HandleLemmas
 mod InputLemmas
 mod KeptLemmas
+mod LettingLemmas
 mod MoveLemmas
 mod ReadLemmas
 mod RoundLemmas

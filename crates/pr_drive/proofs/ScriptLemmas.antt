@@ -1,19 +1,16 @@
-use Rattle.std.proofs.Common.{◌≡◌, ◌<◌, ◌≤◌, ◌+◌, ◌++◌, ◌&&◌, ◌==◌, ◌⊎◌, inl, inr, ℕ, zero, suc, Bool, true, false, List, [], ◌∷◌}
-use Rattle.std.proofs.Common.{codes, Option, Some, None, Result, Ok, Err, is_some, length, cond, map, slice_get, slice_set, refl, sym, ap, subst, ◌∙◌}
+use Rattle.std.proofs.Common.{◌≡◌, ◌<◌, ◌+◌, ◌++◌, ◌&&◌, ◌⊎◌, inl, inr, ℕ, zero, suc, Bool, true, false, List, [], ◌∷◌}
+use Rattle.std.proofs.Common.{codes, Option, Some, None, Result, is_some, length, cond, slice_get, refl, sym, ap, subst, ◌∙◌}
 use Rattle.std.proofs.Common.{arith, length-append}
 use Rattle.std.proofs.Math.Seq.{set-append_seam}
-use Rattle.std.proofs.lemmas.Bool.{le-ltb, lt-ltb}
+use Rattle.std.proofs.lemmas.Bool.{lt-ltb}
 use Rattle.std.proofs.lemmas.List.{length-map, map-append, set-append_left}
 use Rattle.std.proofs.lemmas.List.Elements.{All-head, All-tail}
-use Rattle.std.proofs.lemmas.Option.{same_Some, slice_get_past}
-use Rattle.std.specs.Option.{option_and_then, option_map, option_or}
+use Rattle.std.specs.Option.{option_or}
 use Rattle.std.specs.List.{All}
 use Rattle.pr_api.specs.Entries.{call_entry}
 use Rattle.pr_api.specs.Views.{kernel_of}
-use Rattle.pr_asks.specs.Asks.{ask_of}
 use Rattle.pr_asks.specs.Replies.{reply_line}
 use Rattle.pr_asks.specs.declared.asks.Ask.{Ask}
-use Rattle.pr_asks.specs.declared.asks.Ask.TheVariants as ask
 use Rattle.pr_asks.specs.declared.asks.AskKind.{AskKind}
 use Rattle.pr_model.specs.Calls.{Answer, answer_to}
 use Rattle.pr_model.specs.Legal.{IsLegalEntry}
@@ -34,7 +31,7 @@ use Rattle.pr_scen.specs.declared.plans.Plan.TheVariants as plan
 use Rattle.pr_text.specs.SpacedWords.{joined}
 use Rattle.pr_tool_laws.specs.OwnCalls.{IsOwnCall}
 use Rattle.pr_world.specs.ControllerStates.{ControllerState, Script}
-use Rattle.pr_world.specs.Controllers.{after_reply, call_by, feed_at, next_call, wait_end_of, with_fed}
+use Rattle.pr_world.specs.Controllers.{after_reply, feed_at, next_call, wait_end_of, with_fed}
 use Rattle.pr_world.specs.Protocol.{controllers_after}
 use Rattle.pr_world.specs.Runs.{after_moves, after_next}
 use Rattle.pr_world.specs.Worlds.{Pick, WorldState, can_act, first_scheduled, in_rounds, is_answered, next_in_rounds}
@@ -43,19 +40,21 @@ use Rattle.pr_drive.specs.Alone.{IsPartOfRun}
 use Rattle.pr_drive.specs.Exchanges.{AnswersCall, Made, WaitsFor, is_answered_now, wait_of}
 use Rattle.pr_drive.specs.Going.{Called as OutsideCalled, IsMove, Moved, MovesIf, SeatsState, Stayed, after_entry}
 use Rattle.pr_drive.specs.Going.{can_move, has_place, outside_of, world_of}
-use Rattle.pr_drive.specs.Rounds.{AreSteps, FinishesRound, GoesBySchedule, GoesRound, IsStep, Rests, RoundsState}
+use Rattle.pr_drive.specs.Rounds.{AreSteps, FinishesRound, GoesBySchedule, GoesRound, IsStep, IsStepOn, Rests}
+use Rattle.pr_drive.specs.Rounds.{RoundsState, next_on}
 use Rattle.pr_drive.specs.Rounds.{after_step, after_steps, first_controllers, first_place, last_at, next_from, next_left}
 use Rattle.pr_drive.specs.Rounds.{place_behind}
-use Rattle.pr_drive.specs.Scripted.{AllSaid, IsBefore, IsUnnamed, SaysCall, SaysNothing, is_controller, outside_if}
+use Rattle.pr_drive.specs.Scripted.{AllSaid, IsBefore, IsUnnamed, SaysCall, SaysNothing, SaysNoMore, Says, is_controller, outside_if}
 use Rattle.pr_drive.specs.Scripted.{with_script}
 use Rattle.pr_drive.specs.Served.{Begins}
-use Rattle.pr_drive.specs.Sessions.{AnsweredAll, AnswersRead, Exchange, Exchanged, Exchanges, PassesTurn, Stand, is_end}
+use Rattle.pr_drive.specs.Sessions.{AnsweredAll, AnswersRead, Exchange, Exchanged, Exchanges, PassesTurn, Stand}
 use Rattle.pr_drive.specs.Starts.{first_seats}
 use Rattle.pr_drive.specs.declared.places.Place.{Place}
-use Rattle.pr_drive.specs.declared.places.Place.TheVariants as place
 use Rattle.pr_drive.proofs.AloneLemmas.{behind-at, has-place, none-scheduled, one-more, pick_of, picked-first, picked-next}
 use Rattle.pr_drive.proofs.KeptLemmas.{entry-outside, legal-more, outside-legal}
+use Rattle.pr_drive.proofs.LettingLemmas.{exchange-kept}
 use Rattle.pr_drive.proofs.MoveLemmas.{outside-fed}
+use Rattle.pr_drive.proofs.RoundLemmas.{next_on-is}
 use Rattle.pr_drive.proofs.TurnLemmas.{acts-clock, acts-lwp, acts-other, call-before, call-last, get-before, get-last}
 use Rattle.pr_drive.proofs.TurnLemmas.{next-at, next-none, next_of_all, until_of, world}
 use Rattle.pr_drive.proofs.WorldLemmas.{moved-with, world_with}
@@ -92,7 +91,8 @@ fed-more cs c t _ _ legal = absurd legal
 
 own-more : (cs : List ControllerState) (c : ControllerState) (t : TracedState) (actor : Actor) (act : Act)
     → IsLegalEntry (length cs) t (record { actor = actor; act = act })
-    → IsOwnCall cs (record { actor = actor; act = act }) → IsOwnCall (cs ++ c ∷ []) (record { actor = actor; act = act })
+    → IsOwnCall cs (record { actor = actor; act = act })
+    → IsOwnCall (cs ++ c ∷ []) (record { actor = actor; act = act })
 unfolding IsLegalEntry IsOwnCall
 own-more cs c t (Controller k) (Called d r) legal own = λ within. call-before cs c k legal.0 ∙ own legal.0
 own-more cs c t (Lwp p l) (Turn did) legal own = tt
@@ -447,9 +447,10 @@ says-wait : (xs : List Exchange) (script : ScriptState) → AllSaid xs script �
 says-wait [] script said = said
 says-wait (x ∷ xs) script said = of said.1.0 (says-wait xs said.0 said.1.1)
   where
-    of : SaysCall x script said.0 ⊎ SaysNothing x script said.0 → until_of said.0 ≡ 0 → until_of script ≡ 0
+    of : Says x script said.0 → until_of said.0 ≡ 0 → until_of script ≡ 0
     of (inl says) later = ap wait_of says.next ∙ says.at_once
-    of (inr nothing) later = ap until_of (sym nothing.same) ∙ later
+    of (inr (inl nothing)) later = ap until_of (sym nothing.same) ∙ later
+    of (inr (inr no_more)) later = ap wait_of no_more.over
 
 said-call : (script after : ScriptState) (run : Scenario) (number : ℕ) (x : Exchange) (a b : Stand)
     → until_of script ≡ 0 → until_of after ≡ 0 → SaysCall x script after → AtTurn script run a.rounds
@@ -467,32 +468,98 @@ said-call script after run number x a b still then says turn h =
         (subst (λ (s : ScriptState). InRound s run h.answered) (sym got) made_on) passes
     of false back passes = absurd (not-never says.reply (sym says.told ∙ back.reply))
 
-said-nothing : (script after : ScriptState) (run : Scenario) (number : ℕ) (x : Exchange) (a b : Stand)
-    → SaysNothing x script after → AtTurn script run a.rounds → Exchanged number x a b → AtTurn after run b.rounds
-said-nothing script after run number x a b says turn h =
+said-nothing : (script after : ScriptState) (P : ScriptState → RoundsState → Type 0) (number : ℕ) (x : Exchange)
+    (a b : Stand) → SaysNothing x script after → P script a.rounds → Exchanged number x a b → P after b.rounds
+said-nothing script after P number x a b says stands h =
     let answered = subst (λ (read : Result Ask AskKind). AnswersRead number read h.over a.rounds h.answered x.reply)
     says.asked h.answers in
     let same : b.rounds ≡ h.answered = subst (λ (o : Bool). PassesTurn o h.answered b.rounds) answered.0 h.passes in
-    subst (λ (s : ScriptState). AtTurn s run b.rounds) (sym says.same)
-    (subst (AtTurn script run) (sym (same ∙ answered.1.same)) turn)
+    subst (λ (s : ScriptState). P s b.rounds) (sym says.same)
+    (subst (P script) (sym (same ∙ answered.1.same)) stands)
 
--- such lines, and the script that is left
-record EndsAt (run : Scenario) (r : RoundsState) : Type 0 where
-  script : ScriptState
-  turn : AtTurn script run r
+-- ---- lines behind the script's end
+
+-- the outside makes no call any more
+over-out : (script : ScriptState) (s : SeatsState) → next_call_of script ≡ None → outside_if script s ≡ None
+unfolding outside_if
+over-out script s over =
+    ap (λ (o : Option Call).
+    cond (is_answered (kernel_of s.kernel.state s.kernel.history s.kernel.places) (outside_of s) o)
+    (Some (Controller (outside_of s))) None) over
+
+over-next : (script : ScriptState) (r : RoundsState) → next_call_of script ≡ None
+    → next_of_all script r.seats r.place ≡ next_on 0 r
+unfolding next_left
+over-next script r over =
+    let until = until_of script in
+    let still : until ≡ 0 = ap wait_of over in
+    ap (λ (o : Option Actor). option_or (next_from (world_of until r.seats) r.place)
+    (option_or o (next_from (world_of until r.seats) first_place))) (over-out script r.seats over)
+    ∙ ap (λ (m : ℕ).
+    option_or (next_from (world_of m r.seats) r.place) (next_from (world_of m r.seats) first_place)) still
+    ∙ sym (next_on-is 0 r)
+
+over-step : (script : ScriptState) (run : Scenario) (r : RoundsState) (e : Entry) → next_call_of script ≡ None
+    → InRound script run r → IsStepOn 0 r e → InRound script run (after_step e r)
+over-step script run r e over ran one =
+    ran-step script run r.seats (next_of_all script r.seats r.place) e ran one.move
+    (over-next script r over ∙ one.next)
+
+over-rests : (script : ScriptState) (run : Scenario) (r q : RoundsState) → next_call_of script ≡ None
+    → InRound script run r → Rests 0 r q → InRound script run q
+over-rests script run r q over ran rests =
+    idles script run q (in-rests script run r q (ap wait_of over) ran rests) (inr (over-out script q.seats over))
+
+-- The session stands at a turn of the outside; or the script has ended.
+abbrev StandsAt : Scenario → ScriptState → RoundsState → Type 0
+StandsAt run script r = AtTurn script run r ⊎ ((next_call_of script ≡ None) × InRound script run r)
+
+stands-over : (script : ScriptState) (run : Scenario) (r : RoundsState) → next_call_of script ≡ None
+    → StandsAt run script r → InRound script run r
+stands-over script run r over (inl turn) = idles script run r turn (inr (over-out script r.seats over))
+stands-over script run r over (inr ended) = ended.1
+
+said-no-more : (script after : ScriptState) (run : Scenario) (number : ℕ) (x : Exchange) (a b : Stand)
+    → SaysNoMore x script after → StandsAt run script a.rounds → Exchanged number x a b → StandsAt run after b.rounds
+said-no-more script after run number x a b says stands h =
+    let over = says.over in
+    let ran : InRound script run b.rounds =
+    exchange-kept (InRound script run) (λ r e now one. over-step script run r e over now one)
+    (λ r q now rests. over-rests script run r q over now rests) number x a b says.lets
+    (stands-over script run a.rounds over stands) h in
+    subst (λ (s : ScriptState). StandsAt run s b.rounds) (sym says.same) (inr (over, ran))
+
+-- a script that calls has not ended
+at-call : (script after : ScriptState) (run : Scenario) (x : Exchange) (r : RoundsState) → SaysCall x script after
+    → StandsAt run script r → AtTurn script run r
+at-call script after run x r says (inl turn) = turn
+at-call script after run x r says (inr ended) =
+    let no : ◌≡◌ {A = Option Call} None (Some says.call) = sym ended.0 ∙ says.next in cc
+
+said-one : (script after : ScriptState) (run : Scenario) (number : ℕ) (x : Exchange) (a b : Stand)
+    → until_of script ≡ 0 → until_of after ≡ 0 → Says x script after → StandsAt run script a.rounds
+    → Exchanged number x a b → StandsAt run after b.rounds
+said-one script after run number x a b still then (inl says) stands h =
+    inl (said-call script after run number x a b still then says
+    (at-call script after run x a.rounds says stands) h)
+said-one script after run number x a b still then (inr (inl nothing)) stands h =
+    said-nothing script after (StandsAt run) number x a b nothing stands h
+said-one script after run number x a b still then (inr (inr no_more)) stands h =
+    said-no-more script after run number x a b no_more stands h
+
+stands-ran : (script : ScriptState) (run : Scenario) (r : RoundsState) → StandsAt run script r
+    → IsPartOfRun run r.seats.kernel.history
+stands-ran script run r (inl turn) = turn.ran.history
+stands-ran script run r (inr ended) = ended.1.history
 
 said-all : (xs : List Exchange) (script : ScriptState) (run : Scenario) (number : ℕ) (a b : Stand) → AllSaid xs script
-    → AtTurn script run a.rounds → Exchanges number xs a b → EndsAt run b.rounds
-said-all [] script run number a b said turn h =
-    record { script = script; turn = subst (λ (x : Stand). AtTurn script run x.rounds) (sym h) turn }
-said-all (x ∷ xs) script run number a b said turn h =
-    said-all xs said.0 run (number + 1) h.0 b said.1.1 (of said.1.0) h.1.1
-  where
-    of : SaysCall x script said.0 ⊎ SaysNothing x script said.0 → AtTurn said.0 run h.0.rounds
-    of (inl says) =
-        said-call script said.0 run number x a h.0 (says-wait (x ∷ xs) script said) (says-wait xs said.0 said.1.1) says
-        turn h.1.0
-    of (inr nothing) = said-nothing script said.0 run number x a h.0 nothing turn h.1.0
+    → StandsAt run script a.rounds → Exchanges number xs a b → IsPartOfRun run b.rounds.seats.kernel.history
+said-all [] script run number a b said stands h =
+    subst (λ (x : Stand). IsPartOfRun run x.rounds.seats.kernel.history) (sym h) (stands-ran script run a.rounds stands)
+said-all (x ∷ xs) script run number a b said stands h =
+    said-all xs said.0 run (number + 1) h.0 b said.1.1
+    (said-one script said.0 run number x a h.0 (says-wait (x ∷ xs) script said) (says-wait xs said.0 said.1.1) said.1.0
+    stands h.1.0) h.1.1
 
 -- ---- the schedule
 
@@ -550,7 +617,8 @@ follows-moved script run a rest b m still other far moved =
         let w = world script b st.schedule None in
         let next : next_pick w ≡ Some (pick_of a rest) = picked-first w (pick_of a rest)
         (st.left ∙ scheduled-first script b st.schedule a rest true still other can) in
-        let made = others-moved script b st.schedule None (pick_of a rest) moved.entry moved.move (sym moved.its) next in
+        let made =
+        others-moved script b st.schedule None (pick_of a rest) moved.entry moved.move (sym moved.its) next in
         followed-as script run (after_entry moved.entry b) rest
         (record {
           schedule = rest;
@@ -612,7 +680,8 @@ follows-first script s =
     followed-as script (with_script script s) (first_seats s) s.schedule
     (record {
       schedule = s.schedule;
-      is = ap (λ (cs : List ControllerState). world_with cs (first_seats s) s.schedule None) (controllers-with script s);
+      is = ap (λ (cs : List ControllerState). world_with cs (first_seats s) s.schedule None)
+          (controllers-with script s);
       left = refl;
     })
 
@@ -654,5 +723,5 @@ pub scripted-runs : (s : Scenario) (above : ℕ) (a b : Stand) (before after : O
 scripted-runs s above a b before after all begins script said unnamed =
     let run = with_script script s in
     let turn = at-first-turn script s a.rounds (says-wait all.exchanges script said) unnamed begins in
-    let end = said-all all.exchanges script run (above + 1) a all.reached said turn all.answered in
-    subst (λ (r : RoundsState). IsPartOfRun run r.seats.kernel.history) (sym all.same) end.turn.ran.history
+    let ran = said-all all.exchanges script run (above + 1) a all.reached said (inl turn) all.answered in
+    subst (λ (r : RoundsState). IsPartOfRun run r.seats.kernel.history) (sym all.same) ran

@@ -1,8 +1,7 @@
 use Rattle.std.proofs.Common.{◌≡◌, ◌<◌, ◌≤◌, ◌+◌, ◌-◌, ◌++◌, ◌&&◌, ◌||◌, ◌==◌, ℕ, zero, suc, Bool, true, false, List, [], ◌∷◌}
-use Rattle.std.proofs.Common.{Option, Some, None, length, cond, find, slice_get, nat_lt, refl, sym, ap, subst, ◌∙◌, arith, length-append}
+use Rattle.std.proofs.Common.{Option, Some, None, length, cond, find, slice_get, nat_lt, refl, sym, ap, ◌∙◌, arith, length-append}
 use Rattle.std.proofs.lemmas.Bool.{eqb-false, le-ltb}
 use Rattle.std.proofs.lemmas.List.Folds.{list_any-append}
-use Rattle.std.proofs.lemmas.Option.{slice_get_past}
 use Rattle.std.specs.List.{list_any, range_with_len}
 use Rattle.std.specs.Option.{option_and_then, option_map, option_or}
 use Rattle.pr_api.specs.Sleepers.{some_sleeper}
@@ -23,18 +22,21 @@ use Rattle.pr_drive.specs.Rounds.{RoundsState, first_place, from_clock, from_lwp
 use Rattle.pr_drive.specs.Scripted.{IsBefore, beside, outside_if}
 use Rattle.pr_drive.specs.declared.places.Place.{Place}
 use Rattle.pr_drive.specs.declared.places.Place.TheVariants as place
+use Rattle.pr_drive.proofs.WorldLemmas.{world_with}
 
 -- Who is next in the rounds of a run in which a script is one more controller.
 
 -- ---- one controller more
 
-get-other : {X : Type 0} (xs : List X) (x : X) (k : ℕ) → (k ≡ length xs → ⊥) → slice_get (xs ++ x ∷ []) k ≡ slice_get xs k
+get-other : {X : Type 0} (xs : List X) (x : X) (k : ℕ) → (k ≡ length xs → ⊥)
+    → slice_get (xs ++ x ∷ []) k ≡ slice_get xs k
 get-other [] x zero other = absurd (other refl)
 get-other [] x (suc k) other = refl
 get-other (y ∷ xs) x zero other = refl
 get-other (y ∷ xs) x (suc k) other = get-other xs x k (λ e. other (omega (arith, e)))
 
-pub get-before : {X : Type 0} (xs : List X) (x : X) (k : ℕ) → k < length xs → slice_get (xs ++ x ∷ []) k ≡ slice_get xs k
+pub get-before : {X : Type 0} (xs : List X) (x : X) (k : ℕ) → k < length xs
+    → slice_get (xs ++ x ∷ []) k ≡ slice_get xs k
 get-before xs x k within = get-other xs x k (λ e. omega (arith, e, within))
 
 pub get-last : {X : Type 0} (xs : List X) (x : X) → slice_get (xs ++ x ∷ []) (length xs) ≡ Some x
@@ -86,14 +88,9 @@ map-if f false x = refl
 
 -- ---- the world with a script
 
--- the same with what is left of a schedule
+-- with what is left of a schedule
 abbrev pub world : ScriptState → SeatsState → List Actor → Option Actor → WorldState
-world script s schedule last = record {
-  kernel = kernel_of s.kernel.state s.kernel.history s.kernel.places;
-  controllers = s.controllers ++ Script script ∷ [];
-  schedule = schedule;
-  last = last;
-}
+world script s schedule last = world_with (s.controllers ++ Script script ∷ []) s schedule last
 
 -- the moment until which the script's next call waits
 abbrev pub until_of : ScriptState → ℕ
@@ -182,10 +179,11 @@ module _ (script : ScriptState) (s : SeatsState) (schedule : List Actor) (last :
   first-on from within =
       let more : length w.controllers - from ≡ suc (n - from) = omega (arith, count, within) in
       let ends : from + (n - from) ≡ n = omega (arith, within) in
-      let answered = is_answered (kernel_of s.kernel.state s.kernel.history s.kernel.places) n (next_call_of script) in
+      let numbers = range_with_len from (n - from) in
       ap (λ (m : ℕ). option_map Controller (find (controller_acts w) (range_with_len from m))) more
-      ∙ ap (option_map Controller) (find-more (controller_acts w) (controller_acts v) n (n - from) from ends acts-before)
-      ∙ map-or Controller (find (controller_acts v) (range_with_len from (n - from))) (cond (can_act w (Controller n)) (Some n) None)
+      ∙ ap (option_map Controller)
+      (find-more (controller_acts w) (controller_acts v) n (n - from) from ends acts-before)
+      ∙ map-or Controller (find (controller_acts v) numbers) (cond (can_act w (Controller n)) (Some n) None)
       ∙ ap (option_or (first_controller v from))
       (map-if Controller (can_act w (Controller n)) n
       ∙ ap (λ (b : Bool). cond b (Some (Controller n)) None) acts-last)

@@ -1,4 +1,4 @@
-use Rattle.std.specs.Prelude.{◌≡◌, ◌≤◌, ◌==◌, ◌++◌, ◌⊎◌, ℕ, Bool, false, List, [], ◌∷◌, Option, Some, None, Ok, Err, All, length, if◌then◌else◌}
+use Rattle.std.specs.Prelude.{◌≡◌, ◌≤◌, ◌==◌, ◌++◌, ◌⊎◌, ℕ, Bool, true, false, List, [], ◌∷◌, Option, Some, None, Ok, Err, All, length, if◌then◌else◌}
 use Rattle.pr_api.specs.Views.{kernel_of}
 use Rattle.pr_asks.specs.Asks.{ask_of}
 use Rattle.pr_asks.specs.Replies.{reply_line}
@@ -14,6 +14,7 @@ use Rattle.pr_scen.specs.declared.plans.Plan.TheVariants as plan
 use Rattle.pr_world.specs.ControllerStates.{Script}
 use Rattle.pr_world.specs.Controllers.{wait_end_of}
 use Rattle.pr_world.specs.Worlds.{WorldState, is_answered}
+use Rattle.pr_drive.specs.Alone.{lets_others}
 use Rattle.pr_drive.specs.Exchanges.{wait_of}
 use Rattle.pr_drive.specs.Going.{SeatsState, outside_of}
 use Rattle.pr_drive.specs.Sessions.{Exchange}
@@ -78,8 +79,17 @@ pub record SaysNothing (x : Exchange) (before after : ScriptState) : Type 0 wher
   pub asked : ask_of x.line ≡ Err kind
   pub same : after ≡ before
 
--- The lines are the calls of a script, one after another; if it has a further one, that waits for no moment.
+-- A line only lets others move, and the script has no call any more.
+pub record SaysNoMore (x : Exchange) (before after : ScriptState) : Type 0 where
+  pub over : next_call_of before ≡ None
+  pub lets : lets_others (ask_of x.line) ≡ true
+  pub same : after ≡ before
+
+abbrev pub Says : Exchange → ScriptState → ScriptState → Type 0
+Says x before after = SaysCall x before after ⊎ (SaysNothing x before after ⊎ SaysNoMore x before after)
+
+-- The lines are the calls of a script, one after another, and where it has ended others may be let move. If it has a
+-- further call, that waits for no moment.
 abbrev pub AllSaid : List Exchange → ScriptState → Type 0
 AllSaid [] script = wait_of (next_call_of script) ≡ 0
-AllSaid (x ∷ xs) script =
-    (s : ScriptState) × ((SaysCall x script s ⊎ SaysNothing x script s) × AllSaid xs s)
+AllSaid (x ∷ xs) script = (s : ScriptState) × (Says x script s × AllSaid xs s)
