@@ -1,7 +1,7 @@
 #!/usr/bin/env python3
 """Each scenario of examples/ and cases/ whose last controller is a script is driven from outside: the script is left out,
-and pdrive is given its calls, line by line. The history is that of the scenario's run, which stands beside it. Scenarios
-whose schedule names that script are left out: a session passes it over there, as pdrive(1) says.
+and pdrive is given its calls, line by line. The history is that of the scenario's run, which stands beside it.
+Scenarios whose schedule names that script are left out: a session passes it over there, as pdrive(1) says.
 
     tests/scripts-from-outside.py [FILE ..]
 

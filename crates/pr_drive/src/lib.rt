@@ -18,4 +18,5 @@ mod waits;
 
 pub use commands::{Work, work_of};
 pub use ends::{Status, number};
+pub use laws::the_outside_has_its_turn_behind_the_controllers;
 pub use serving::serve;
