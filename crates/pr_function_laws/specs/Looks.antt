@@ -35,8 +35,8 @@ pub data BringsToStop (control : ℕ) : Call → Type 0 where
   asks_again : BringsToStop control (message_call control message.Wstop)
   waits_again : {until : ℕ} → BringsToStop control (call.CtlWait control until (spelling message.Wstop []))
 
--- With which of these truss has done with the stop: a wait for it that was granted; or a call of these that was refused,
--- neither with EINTR nor because the process has ended. Such a refusal truss passes over.
+-- With which of these truss has done with the stop: a wait for it that was granted; or a call of these that was
+-- refused, neither with EINTR nor because the process has ended. Such a refusal truss passes over.
 pub data HasDoneWithStop (control : ℕ) (x : Exchange) : Type 0 where
   waited : {until : ℕ} → x.call ≡ call.CtlWait control until (spelling message.Stop []) → IsGranted x
       → HasDoneWithStop control x

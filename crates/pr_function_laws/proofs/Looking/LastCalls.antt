@@ -446,5 +446,6 @@ recalls n k o s h run =
     along (λ es. Recalls (exchanges k es) (functions_at k o es).aside (ordinary (functions_at k o es)).traced
     (functions_at k o es).stage)
     (subst (λ xs. Recalls xs (functions_after (first_truss o) xs).aside
-    (ordinary (functions_after (first_truss o) xs)).traced (functions_after (first_truss o) xs).stage) (sym (no-exchanges k)) (first-recalls o)) h
+    (ordinary (functions_after (first_truss o) xs)).traced (functions_after (first_truss o) xs).stage)
+    (sym (no-exchanges k)) (first-recalls o)) h
     (λ before later e is w. entry-recalls n k o s before later e (subst (IsFunctionRun n k o s) is run) w)
