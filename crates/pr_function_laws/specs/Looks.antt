@@ -1,6 +1,6 @@
 -- When truss with calls of functions looks at a process: at its status right after a poll has named it; and at the
 -- statuses of its lwps while it opens the process, and as it leaves it.
-use Rattle.std.specs.Prelude.{◌≡◌, ◌++◌, ℕ, List, [], ◌∷◌, Some}
+use Rattle.std.specs.Prelude.{◌≡◌, ◌≢◌, ◌++◌, ℕ, List, [], ◌∷◌, Some}
 use Rattle.pr_line.specs.declared.options.Options.{Options}
 use Rattle.pr_model.specs.Legal.{state_after}
 use Rattle.pr_model.specs.State.{TracedState}
@@ -8,11 +8,14 @@ use Rattle.pr_model.specs.declared.calls.Call.{Call}
 use Rattle.pr_model.specs.declared.calls.Call.TheVariants as call
 use Rattle.pr_model.specs.declared.calls.File.TheVariants.{Ctl, Lstatus, Status}
 use Rattle.pr_model.specs.declared.calls.Reply.{Reply}
+use Rattle.pr_model.specs.declared.calls.Reply.TheVariants as reply
 use Rattle.pr_model.specs.declared.events.Entry.{Entry}
 use Rattle.pr_num.specs.Messages.{spelling}
+use Rattle.pr_num.specs.declared.errnos.Errno.{Errno}
+use Rattle.pr_num.specs.declared.errnos.Errno.TheVariants.{Intr, Noent}
 use Rattle.pr_num.specs.declared.messages.Message.TheVariants as message
 use Rattle.pr_truss.specs.Messages.{message_call}
-use Rattle.pr_truss_laws.specs.Exchanges.{Exchange, exchange_of, exchanges}
+use Rattle.pr_truss_laws.specs.Exchanges.{Exchange, IsGranted, exchange_of, exchanges}
 use Rattle.pr_report_laws.specs.Attachments.{HasFile, WasInterrupted}
 use Rattle.pr_report_laws.specs.Looks.{IsWhole, WasNamedNow}
 use Rattle.pr_report_laws.specs.OwnOpens.{WasLastGranted}
@@ -32,16 +35,27 @@ pub data BringsToStop (control : ℕ) : Call → Type 0 where
   asks_again : BringsToStop control (message_call control message.Wstop)
   waits_again : {until : ℕ} → BringsToStop control (call.CtlWait control until (spelling message.Wstop []))
 
--- the last of these exchanges is such a call, whatever the reply
+-- With which of these truss has done with the stop: a wait for it that was granted; or a call of these that was
+-- refused, neither with EINTR nor because the process has ended. Such a refusal truss passes over.
+pub data HasDoneWithStop (control : ℕ) (x : Exchange) : Type 0 where
+  waited : {until : ℕ} → x.call ≡ call.CtlWait control until (spelling message.Stop []) → IsGranted x
+      → HasDoneWithStop control x
+  waited_once_more : {until : ℕ} → x.call ≡ call.CtlWait control until (spelling message.Wstop []) → IsGranted x
+      → HasDoneWithStop control x
+  passes_over : {errno : Errno} → BringsToStop control x.call → x.reply ≡ reply.Fail errno → errno ≢ Intr
+      → errno ≢ Noent → HasDoneWithStop control x
+
+-- the last of these exchanges is such a one
 pub record WasBroughtToStop (control : ℕ) (xs : List Exchange) : Type 0 where
   pub earlier : List Exchange
   pub last : Exchange
   pub is : xs ≡ earlier ++ last ∷ []
-  pub halts : BringsToStop control last.call
+  pub halts : HasDoneWithStop control last
 
 -- When truss looks at the lwps of a process: where it has no hold of it, right behind the wait of its opening, that was
--- granted; or where truss was interrupted, has hold of the process, and its last call is PCSTOP or PCWSTOP to it, or
--- the wait for one of these, whatever the reply. With that look it lets the process go, so that there is no second one.
+-- granted; or where truss was interrupted, has hold of the process, and its last call is the wait for PCSTOP or for
+-- PCWSTOP to it, that was granted, or one of these messages or waits that was refused, neither with EINTR nor because
+-- the process has ended. With that look it lets the process go, so that there is no second one.
 pub data MayLookAtLwpsOf (k : ℕ) (o : Options) (pid : ℕ) (first : TracedState) (h : List Entry) : Type 0 where
   in_opening : (control until : ℕ) → HasFile k pid Ctl control (state_after first h)
       → (HasHoldWithFunctions k o pid first h → ⊥)

@@ -9,8 +9,8 @@ ghost use Rattle.pr_function_laws.specs.Opened.{IsFunctionRun};
 /// In each legal history of truss with functions: it reads the status of a process nowhere but right after a poll has
 /// named the process, of which it has hold; and the statuses of its lwps nowhere but where it has no hold of it, right
 /// behind the wait of its opening, that was granted, or where truss was interrupted, has hold of the process, and its
-/// last call is PCSTOP or PCWSTOP to it, or the wait for one of these, whatever the reply. It reads each record
-/// whole.
+/// last call is the wait for PCSTOP or for PCWSTOP to it, that was granted, or one of these messages or waits that was
+/// refused, neither with EINTR nor because the process has ended. Each of these it reads whole.
 #[tactic(auto, using(crate::proofs::Looking::LookPlaces::look_places))]
 pub fn it_looks_at_a_process_in_place()
     ensures { (n k : ℕ) (o : Options) (s : TracedState) (h : List Entry) → IsFunctionRun n k o s h

@@ -97,9 +97,10 @@ pub record IsFunctionTrussKept (controllers : List ControllerState) (first : Tra
   pub before_polls : RunsBeforeItPollsOf k first h
   -- Right after a poll has named a process it reads the status of that process, and it reads a status nowhere else; the
   -- statuses of the lwps of a process it reads right behind the wait of its opening, where it has no hold of it, and
-  -- where truss was interrupted, has hold of the process, and its last call is PCSTOP or PCWSTOP to it, or the wait for
-  -- one of these, whatever the reply. How many calls come at most before it polls is told by its functions, the control
-  -- files that it has open, and the interrupts.
+  -- where truss was interrupted, has hold of the process, and its last call is the wait for PCSTOP or for PCWSTOP to
+  -- it, that was granted, or one of these messages or waits that was refused, neither with EINTR nor because the
+  -- process has ended. How many calls come at most before it polls is told by its functions, the control files that it
+  -- has open, and the interrupts.
   pub named_looks : LooksAtWhatIsNamed k first h
   pub looks : LooksInPlaceOf k o first h
   pub polls_soon : PollsByItsFilesOf k o first h

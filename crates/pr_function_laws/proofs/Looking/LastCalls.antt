@@ -1,4 +1,4 @@
-use Rattle.std.proofs.Common.{◌≡◌, ◌++◌, ℕ, Bool, true, Option, Some, None, List, [], ◌∷◌, append-nil, refl, sym, subst, ap, ◌∙◌}
+use Rattle.std.proofs.Common.{◌≡◌, ◌≢◌, ◌++◌, ℕ, Bool, true, Option, Some, None, List, [], ◌∷◌, append-nil, refl, sym, subst, ap, ◌∙◌}
 use Rattle.std.proofs.lemmas.Bool.{false≢true}
 use Rattle.std.proofs.lemmas.Option.{none-some, same_Some}
 use Rattle.std.specs.List.{cons_option, slice_get}
@@ -8,24 +8,30 @@ use Rattle.pr_model.specs.State.{TracedState}
 use Rattle.pr_model.specs.declared.calls.Call.{Call}
 use Rattle.pr_model.specs.declared.calls.Call.TheVariants as call
 use Rattle.pr_model.specs.declared.calls.Reply.{Reply}
+use Rattle.pr_model.specs.declared.calls.Reply.TheVariants as reply
 use Rattle.pr_model.specs.declared.events.Entry.{Entry}
+use Rattle.pr_num.specs.declared.errnos.Errno.{Errno}
+use Rattle.pr_num.specs.declared.errnos.Errno.TheVariants.{Noent}
 use Rattle.pr_num.specs.declared.messages.Message.TheVariants as message
 use Rattle.pr_truss.specs.Feeding.{fed, with_reply}
-use Rattle.pr_truss.specs.FunctionCalls.{function_call_of, next_function_call_of, wait_call}
-use Rattle.pr_truss.specs.Messages.{message_call}
-use Rattle.pr_truss.specs.NextCalls.{next_call_of}
+use Rattle.pr_truss.specs.FunctionCalls.{call_beside, function_call_of, next_function_call_of, wait_call}
+use Rattle.pr_truss.specs.FunctionFeeding.{fed_functions}
+use Rattle.pr_truss.specs.NextCalls.{call_of, next_call_of, read_record}
 use Rattle.pr_truss.specs.Replies.{answer_of}
 use Rattle.pr_truss.specs.Stops.{with_unfollowed}
 use Rattle.pr_truss.specs.Trusses.{TrussState, first_of_program, first_truss, idle, opening_or, traced_at}
-use Rattle.pr_truss.specs.declared.asides.Aside.TheVariants.{Nothing}
+use Rattle.pr_truss.specs.declared.asides.Aside.{Aside}
+use Rattle.pr_truss.specs.declared.asides.Aside.TheVariants.{Nothing, Reading, Planting, Patching, AwaitingStop, Asking, AwaitingAgain}
 use Rattle.pr_truss.specs.declared.processes.Traced.{Traced}
 use Rattle.pr_truss.specs.declared.replies.Answer.{Answer}
 use Rattle.pr_truss.specs.declared.replies.Answer.TheVariants.{Accepted, Interrupted, Gone, Refused}
+use Rattle.pr_truss.specs.declared.stages.AfterClosing.TheVariants.{GoOn}
 use Rattle.pr_truss.specs.declared.stages.OpeningStep.{OpeningStep}
 use Rattle.pr_truss.specs.declared.stages.OpeningStep.TheVariants as opening
 use Rattle.pr_truss.specs.declared.stages.Stage.{Stage}
 use Rattle.pr_truss.specs.declared.stages.Stage.TheVariants.{OpeningControl, Opening, Polling, ReadingStatus, ReadingText, OpeningChildControl, OpeningChild, Running, Closing, Unfollowing, ReadingLwps, FreeingChild, Finished}
 use Rattle.pr_truss_laws.proofs.Files.HeldLemmas.{at_place}
+use Rattle.pr_truss_laws.proofs.Replies.AnswerLemmas.{IsAnswer, Refuses, answer-is, other-refuses}
 use Rattle.pr_truss_laws.proofs.Replies.FedSteps.{fed-step}
 use Rattle.pr_truss_laws.proofs.Replies.ReplySteps as step
 use Rattle.pr_truss_laws.proofs.Replies.ReplySteps.{GoesOn, Learns, Opens, ReplyStep, StopOver, Turns}
@@ -37,18 +43,19 @@ use Rattle.pr_report_laws.proofs.Files.WatchHistories.{after-append, exchanges-p
 use Rattle.pr_report_laws.proofs.Watching.NamedSoon.{poll-stage}
 use Rattle.pr_report_laws.specs.Looks.{WasNamedNow}
 use Rattle.pr_function_laws.proofs.Holding.GivenSteps.{last-same}
-use Rattle.pr_function_laws.proofs.LeavingProcesses.LeavingLaws.{calm-exchanges}
-use Rattle.pr_function_laws.proofs.NextCalls.PatchCalls.{next-staged}
-use Rattle.pr_function_laws.proofs.OrdinaryTruss.OrdinaryCalls.{stands-sends}
+use Rattle.pr_function_laws.proofs.LeavingProcesses.LeavingLaws.{calm-exchanges, gone_to, halt_aside, halt_stage, halted-fed, next_aside, next_stage}
+use Rattle.pr_function_laws.proofs.NextCalls.PatchCalls.{next-beside, next-staged}
+use Rattle.pr_function_laws.proofs.OrdinaryTruss.OrdinaryCalls.{sees-sends, stands-sends}
 use Rattle.pr_function_laws.proofs.OrdinaryTruss.OrdinaryEntries as entries
 use Rattle.pr_function_laws.proofs.OrdinaryTruss.OrdinaryEntries.{along, front-run}
 use Rattle.pr_function_laws.proofs.OrdinaryTruss.OrdinaryExchanges.{IsFit, Turn, goes_on, goes_out, truss-beside}
 use Rattle.pr_function_laws.proofs.OrdinaryTruss.OrdinaryFiles.{Follows}
 use Rattle.pr_function_laws.proofs.OrdinaryTruss.OrdinaryReplies.{at-ordinary}
 use Rattle.pr_function_laws.proofs.OrdinaryTruss.OrdinaryStops.{FitsAside, none-beside}
-use Rattle.pr_function_laws.specs.Looks.{BringsToStop, WasBroughtToStop, asks_again as asks_so, directs, waits as waits_so, waits_again}
+use Rattle.pr_function_laws.specs.Leaving.{AsksAgain, Directs, HaltStep, Waits, WaitsAgain, halt_call, halt_next}
+use Rattle.pr_function_laws.specs.Looks.{BringsToStop, HasDoneWithStop, WasBroughtToStop, asks_again as asks_so, directs, passes_over, waited as was_waited, waited_once_more, waits as waits_so, waits_again}
 use Rattle.pr_function_laws.specs.Opened.{IsFunctionRun, functions_at}
-use Rattle.pr_function_laws.specs.Ordinary.{AwaitsStop, IsLike, IsTakenUp, IsTrussBeside, SeesTo, StandsFor, asks_again, awaits, awaits_again, common, entries as sets_entries, exits, faults, in_place, leaves, ordinary, own_fault, refused, runs, same, signals, waits}
+use Rattle.pr_function_laws.specs.Ordinary.{IsLike, IsTakenUp, IsTrussBeside, SeesTo, StandsFor, common, entries as sets_entries, exits, faults, in_place, leaves, ordinary, own_fault, refused, runs, same, signals, waits}
 use Rattle.pr_function_laws.specs.Runs.{functions_after}
 
 -- What the last call of truss with calls of functions was, where it is about to look at a process: the poll that named
@@ -56,11 +63,16 @@ use Rattle.pr_function_laws.specs.Runs.{functions_after}
 
 -- ---- what is known at a stage
 
-abbrev pub Recalls : List Exchange → List Traced → Stage → Type 0
-Recalls xs ts (Opening place now) = AtLook (at_place ts place).control xs now
-Recalls xs ts (ReadingStatus place) = WasNamedNow (at_place ts place).control xs
-Recalls xs ts ReadingLwps = WasBroughtToStop (at_place ts 0).control xs
-Recalls xs ts _ = Unit {0}
+-- where nothing comes before the last look any more
+abbrev pub StoppedBy : Aside → ℕ → List Exchange → Type 0
+StoppedBy Nothing control xs = WasBroughtToStop control xs
+StoppedBy _ control xs = Unit {0}
+
+abbrev pub Recalls : List Exchange → Aside → List Traced → Stage → Type 0
+Recalls xs aside ts (Opening place now) = AtLook (at_place ts place).control xs now
+Recalls xs aside ts (ReadingStatus place) = WasNamedNow (at_place ts place).control xs
+Recalls xs aside ts ReadingLwps = StoppedBy aside (at_place ts 0).control xs
+Recalls xs aside ts _ = Unit {0}
 
 -- ---- truss comes to its last look from the message before it alone
 
@@ -137,10 +149,17 @@ pub makes-join : (ys zs : List Exchange) (s : TrussState) → Makes s ys → Mak
 makes-join [] zs s makes later = later
 makes-join (y ∷ ys) zs s makes later = (makes.0, makes-join ys zs (fed s y.reply) makes.1 later)
 
-awaits-halts : {control : ℕ} {c : Call} → AwaitsStop control c → BringsToStop control c
-awaits-halts awaits = waits_so
-awaits-halts asks_again = asks_so
-awaits-halts awaits_again = waits_again
+halts-call : (t : Traced) (step : HaltStep) → BringsToStop t.control (halt_call t step)
+halts-call t Directs = directs
+halts-call t (Waits until) = waits_so
+halts-call t AsksAgain = asks_so
+halts-call t (WaitsAgain until) = waits_again
+
+-- a refusal that truss passes over does not tell that the process has ended
+refused-lives : (r : Reply) (errno : Errno) → answer_of r ≡ Refused errno → r ≡ reply.Fail errno → errno ≢ Noent
+unfolding answer_of
+refused-lives r errno is refuses ended =
+    let clash : Gone ≡ Refused errno = sym (ap answer_of (refuses ∙ ap reply.Fail ended)) ∙ is in cc
 
 -- a wait that was granted, and a poll, are the same
 module _ (t : TrussState) where
@@ -188,7 +207,7 @@ module _ (n k : ℕ) (o : Options) (s : TracedState) (before later : List Entry)
   done = exchanges k before
 
   abbrev RecallsAt : List Exchange → TrussState → Type 0
-  RecallsAt xs z = Recalls xs (ordinary z).traced z.stage
+  RecallsAt xs z = Recalls xs z.aside (ordinary z).traced z.stage
 
   front : IsFunctionRun n k o s before
   front = front-run n k o s before (e ∷ later) run
@@ -210,19 +229,89 @@ module _ (n k : ℕ) (o : Options) (s : TracedState) (before later : List Entry)
     made : next_function_call_of t ≡ Some x.call
     made = entries.made n k o s before later e run x own
 
+    pushed-is : v ≡ fed_functions t x.reply
+    pushed-is = entries.pushed n k o s before later e run x own
+
+    -- the calls for the stop
+    halt-called : (step : HaltStep) → t.stage ≡ halt_stage step → t.aside ≡ halt_aside step
+        → x.call ≡ halt_call (traced_at t 0) step
+    unfolding call_beside function_call_of
+    halt-called Directs at beside =
+        let f = fit in same_Some x.call _ (sym made ∙ next-staged o run.has t Unfollowing f.options beside at)
+    halt-called (Waits until) at beside =
+        let f = fit in
+        same_Some x.call _ (sym made ∙ next-beside o run.has t f.options ∙ ap (call_beside t t.stage) beside)
+    halt-called AsksAgain at beside =
+        let f = fit in
+        same_Some x.call _ (sym made ∙ next-beside o run.has t f.options ∙ ap (call_beside t t.stage) beside)
+    halt-called (WaitsAgain until) at beside =
+        let f = fit in
+        same_Some x.call _ (sym made ∙ next-beside o run.has t f.options ∙ ap (call_beside t t.stage) beside)
+
+    did : (control : ℕ) → HasDoneWithStop control x → WasBroughtToStop control then
+    did control w = record { earlier = done; last = x; is = refl; halts = w }
+
+    granted-by : answer_of x.reply ≡ Accepted → IsGranted x
+    unfolding IsAnswer
+    granted-by is = record { not_refused = subst (IsAnswer x.reply) is (answer-is x.reply) }
+
+    -- a row a step and an answer
+    halt-over : (step : HaltStep) (a : Answer) → answer_of x.reply ≡ a → x.call ≡ halt_call (traced_at t 0) step
+        → next_stage (halt_next step x.reply a) ≡ ReadingLwps
+        → StoppedBy (next_aside (halt_next step x.reply a)) (traced_at t 0).control then
+    halt-over step Gone is called at = absurd (let clash : Closing 0 GoOn ≡ ReadingLwps = at in cc)
+    halt-over step Interrupted is called at = tt
+    halt-over step (Refused errno) is called at =
+        let w : Refuses x.reply errno = other-refuses x.reply errno is in
+        did (traced_at t 0).control
+        (passes_over (subst (BringsToStop _) (sym called) (halts-call (traced_at t 0) step)) w.is w.not_interrupted
+        (refused-lives x.reply errno is w.is))
+    halt-over Directs Accepted is called at = tt
+    halt-over (Waits until) Accepted is called at = did (traced_at t 0).control (was_waited called (granted-by is))
+    halt-over AsksAgain Accepted is called at = tt
+    halt-over (WaitsAgain until) Accepted is called at =
+        did (traced_at t 0).control (waited_once_more called (granted-by is))
+
+    stopped-by : (step : HaltStep) → t.stage ≡ halt_stage step → t.aside ≡ halt_aside step → v.stage ≡ ReadingLwps
+        → StoppedBy v.aside (traced_at t 0).control then
+    stopped-by step at beside looks =
+        let f = fit in
+        let gone : v ≡ gone_to t (halt_next step x.reply (answer_of x.reply)) =
+        pushed-is ∙ halted-fed o run.has step t x.reply f.options at beside in
+        subst (λ (z : TrussState). StoppedBy z.aside (traced_at t 0).control then) (sym gone)
+        (halt-over step (answer_of x.reply) refl (halt-called step at beside)
+        (sym (ap (λ (z : TrussState). z.stage) gone) ∙ looks))
+
+    -- which step of the stop is made before the last look
+    which-step : (aside : Aside) → t.aside ≡ aside → t.stage ≡ ReadingLwps → FitsAside aside ReadingLwps
+        → sends x.call ≡ true → (step : HaltStep) × ((t.stage ≡ halt_stage step) × (t.aside ≡ halt_aside step))
+    unfolding function_call_of call_of
+    which-step Nothing idle at fits sent =
+        let f = fit in
+        let read : x.call ≡ read_record (traced_at t 0).lstatus =
+        same_Some x.call _ (sym made ∙ next-staged o run.has t ReadingLwps f.options idle at) in
+        absurd (false≢true (sym (ap sends read) ∙ sent))
+    which-step (AwaitingStop until) now at fits sent = (Waits until, (at, now))
+    which-step Asking now at fits sent = (AsksAgain, (at, now))
+    which-step (AwaitingAgain until) now at fits sent = (WaitsAgain until, (at, now))
+    which-step (Reading place function) now at fits sent = absurd fits
+    which-step (Planting place function) now at fits sent = absurd fits
+    which-step (Patching place plants lifts clear) now at fits sent = absurd fits.0
+
     -- a call that is left out
-    out-recalls : (stage : Stage) → SeesTo t stage x.call → Recalls then u.traced stage
-    out-recalls (Opening place opening.Start) sees = tt
-    out-recalls (Running place) sees = tt
-    out-recalls (ReadingText place l from len) sees = tt
-    out-recalls (Closing place next) sees = tt
-    out-recalls ReadingLwps sees = record {
-      earlier = done;
-      last = x;
-      is = refl;
-      halts = subst (λ (z : Traced). BringsToStop z.control x.call) (sym (at-ordinary t 0)) (awaits-halts sees);
-    }
-    out-recalls _ sees = absurd sees
+    out-recalls : (stage : Stage) → t.stage ≡ stage → v.stage ≡ stage → SeesTo t stage x.call
+        → Recalls then v.aside u.traced stage
+    out-recalls (Opening place opening.Start) at stays sees = tt
+    out-recalls (Running place) at stays sees = tt
+    out-recalls (ReadingText place l from len) at stays sees = tt
+    out-recalls (Closing place next) at stays sees = tt
+    out-recalls ReadingLwps at stays sees =
+        let f = fit in
+        let step =
+        which-step t.aside refl at (subst (FitsAside t.aside) at f.fits) (sees-sends t ReadingLwps x.call sees) in
+        subst (λ (z : Traced). StoppedBy v.aside z.control then) (sym (at-ordinary t 0))
+        (stopped-by step.0 step.1.0 step.1.1 stays)
+    out-recalls _ at stays sees = absurd sees
 
     module _ (y : Exchange) (like : IsLike t x y) (called : next_call_of u ≡ Some y.call)
         (comes : ordinary v ≡ fed u y.reply) where
@@ -286,8 +375,7 @@ module _ (n k : ℕ) (o : Options) (s : TracedState) (before later : List Entry)
             is = ap (λ (q : Exchange). done ++ q ∷ []) (alike ∙ is);
           }
 
-      stopped : v.stage ≡ ReadingLwps → WasBroughtToStop (at_place (ordinary v).traced 0).control then
-      unfolding function_call_of
+      stopped : v.stage ≡ ReadingLwps → StoppedBy v.aside (at_place (ordinary v).traced 0).control then
       stopped at =
           let f = fit in
           let stage : t.stage ≡ Unfollowing =
@@ -295,23 +383,15 @@ module _ (n k : ℕ) (o : Options) (s : TracedState) (before later : List Entry)
           let idle_so : t.aside ≡ Nothing =
           none-beside Unfollowing t.aside (λ place it. it) (λ place plants clear it. it) (λ e. cc)
           (subst (FitsAside t.aside) stage f.fits) in
-          let call_is : x.call ≡ message_call (traced_at t 0).control message.Stop =
-          same_Some x.call _
-          (sym made ∙ next-staged o run.has t Unfollowing f.options idle_so stage) in
           let traced_so : (ordinary v).traced ≡ u.traced =
           ap (λ (z : TrussState). z.traced) comes ∙ fed-traced u y.reply stage in
           let control : (traced_at t 0).control ≡ (at_place (ordinary v).traced 0).control =
           sym (ap (λ (ts : List Traced). (at_place ts 0).control) traced_so
           ∙ ap (λ (z : Traced). z.control) (at-ordinary t 0)) in
-          record {
-            earlier = done;
-            last = x;
-            is = refl;
-            halts = subst (BringsToStop _) (sym (call_is ∙ ap (λ m. message_call m message.Stop) control)) directs;
-          }
+          subst (λ c. StoppedBy v.aside c then) control (stopped-by Directs stage idle_so at)
 
       on-recalls : (stage : Stage) → v.stage ≡ stage → Minds o whole (ordinary v).traced stage
-          → Recalls then (ordinary v).traced stage
+          → Recalls then v.aside (ordinary v).traced stage
       on-recalls (Opening place now) at w = look-recalls _ now w
       on-recalls (ReadingStatus place) at w = named _ w
       on-recalls ReadingLwps at w = stopped at
@@ -319,8 +399,9 @@ module _ (n k : ℕ) (o : Options) (s : TracedState) (before later : List Entry)
 
     turn-recalls : Turn t x → RecallsAt then v
     turn-recalls (goes_out sees passes stay) =
-        subst (λ (z : TrussState). Recalls then z.traced z.stage)
-        (sym (ap ordinary (entries.pushed n k o s before later e run x own) ∙ stay)) (out-recalls t.stage sees)
+        let alike : ordinary v ≡ u = ap ordinary pushed-is ∙ stay in
+        subst (λ (z : TrussState). Recalls then v.aside z.traced z.stage) (sym alike)
+        (out-recalls t.stage refl (ap (λ (z : TrussState). z.stage) alike) sees)
     turn-recalls (goes_on y like called comes) =
         let now : ordinary v ≡ fed u y.reply =
         ap ordinary (entries.pushed n k o s before later e run x own) ∙ comes in
@@ -343,23 +424,28 @@ module _ (n k : ℕ) (o : Options) (s : TracedState) (before later : List Entry)
 
 -- ---- along a history
 
-first-recalls : (o : Options) → Recalls [] (ordinary (first_truss o)).traced (first_truss o).stage
+first-recalls : (o : Options)
+    → Recalls [] (first_truss o).aside (ordinary (first_truss o)).traced (first_truss o).stage
 unfolding first_truss
 first-recalls o = by o.program
   where
-    pids : (p : Option ℕ) → Recalls [] (ordinary (opening_or (idle o) (idle o) p)).traced
-        (opening_or (idle o) (idle o) p).stage
+    pids : (p : Option ℕ) → Recalls [] (opening_or (idle o) (idle o) p).aside
+        (ordinary (opening_or (idle o) (idle o) p)).traced (opening_or (idle o) (idle o) p).stage
     pids None = tt
     pids (Some pid) = tt
 
-    by : (p : Option (List ℕ)) → Recalls [] (ordinary (first_of_program o p)).traced (first_of_program o p).stage
+    by : (p : Option (List ℕ)) → Recalls [] (first_of_program o p).aside (ordinary (first_of_program o p)).traced
+        (first_of_program o p).stage
     by None = pids (slice_get o.pids 0)
     by (Some program) = tt
 
 pub recalls : (n k : ℕ) (o : Options) (s : TracedState) (h : List Entry) → IsFunctionRun n k o s h
-    → Recalls (exchanges k h) (ordinary (functions_at k o h)).traced (functions_at k o h).stage
+    → Recalls (exchanges k h) (functions_at k o h).aside (ordinary (functions_at k o h)).traced
+    (functions_at k o h).stage
 recalls n k o s h run =
-    along (λ es. Recalls (exchanges k es) (ordinary (functions_at k o es)).traced (functions_at k o es).stage)
-    (subst (λ xs. Recalls xs (ordinary (functions_after (first_truss o) xs)).traced
-    (functions_after (first_truss o) xs).stage) (sym (no-exchanges k)) (first-recalls o)) h
+    along (λ es. Recalls (exchanges k es) (functions_at k o es).aside (ordinary (functions_at k o es)).traced
+    (functions_at k o es).stage)
+    (subst (λ xs. Recalls xs (functions_after (first_truss o) xs).aside
+    (ordinary (functions_after (first_truss o) xs)).traced (functions_after (first_truss o) xs).stage)
+    (sym (no-exchanges k)) (first-recalls o)) h
     (λ before later e is w. entry-recalls n k o s before later e (subst (IsFunctionRun n k o s) is run) w)

@@ -1,4 +1,4 @@
-use Rattle.std.proofs.Common.{◌≡◌, ◌<◌, ◌++◌, ℕ, false, true, Some, List, ◌∷◌, length, refl, sym, subst, ap, ◌∙◌}
+use Rattle.std.proofs.Common.{◌≡◌, ◌<◌, ◌++◌, ℕ, false, true, Some, List, ◌∷◌, Option, None, length, refl, sym, subst, ap, ◌∙◌}
 use Rattle.std.proofs.lemmas.Bool.{eq-eqb, false≢true}
 use Rattle.std.proofs.lemmas.Option.{same_Some}
 use Rattle.pr_line.specs.declared.options.Options.{Options}
@@ -14,8 +14,12 @@ use Rattle.pr_model.specs.declared.calls.Reply.{Reply}
 use Rattle.pr_model.specs.declared.events.Entry.{Entry}
 use Rattle.pr_model.specs.declared.handles.Held.{Held}
 use Rattle.pr_num.specs.Limits.{read_limit}
+use Rattle.pr_truss.specs.FunctionCalls.{call_beside, patch_call}
+use Rattle.pr_truss.specs.Marks.{first_function}
 use Rattle.pr_truss.specs.NextCalls.{call_of, next_call_of, opening_call, read_record}
 use Rattle.pr_truss.specs.Trusses.{TrussState, traced_at}
+use Rattle.pr_truss.specs.declared.asides.Aside.{Aside}
+use Rattle.pr_truss.specs.declared.asides.Aside.TheVariants.{Nothing, Reading, Planting, Patching, AwaitingStop, Asking, AwaitingAgain}
 use Rattle.pr_truss.specs.declared.stages.OpeningStep.TheVariants as opening
 use Rattle.pr_truss.specs.declared.stages.Stage.{Stage}
 use Rattle.pr_truss.specs.declared.stages.Stage.TheVariants.{Opening, ReadingStatus, ReadingLwps}
@@ -39,10 +43,11 @@ use Rattle.pr_report_laws.specs.Watching.{is_away, place_of, watches}
 use Rattle.pr_function_laws.proofs.Holding.HoldEnds.{leaves-interrupted}
 use Rattle.pr_function_laws.proofs.Holding.HoldLaws.{hold-watched, watched-hold}
 use Rattle.pr_function_laws.proofs.Looking.LastCalls.{Recalls, recalls}
+use Rattle.pr_function_laws.proofs.NextCalls.PatchCalls.{next-beside}
 use Rattle.pr_function_laws.proofs.OrdinaryTruss.OrdinaryCalls.{sees-sends, stands-sends}
 use Rattle.pr_function_laws.proofs.OrdinaryTruss.OrdinaryEntries as entries
 use Rattle.pr_function_laws.proofs.OrdinaryTruss.OrdinaryEntries.{front-run, watches-ordinary}
-use Rattle.pr_function_laws.proofs.OrdinaryTruss.OrdinaryExchanges.{Turn, goes_on, goes_out}
+use Rattle.pr_function_laws.proofs.OrdinaryTruss.OrdinaryExchanges.{IsFit, Turn, goes_on, goes_out}
 use Rattle.pr_function_laws.proofs.OrdinaryTruss.OrdinaryFiles.{Follows}
 use Rattle.pr_function_laws.specs.Holds.{HasHoldWithFunctions}
 use Rattle.pr_function_laws.specs.Looks.{IsNamedNowOf, LooksInPlaceOf, MayLookAtLwpsOf, in_opening, leaving}
@@ -94,8 +99,34 @@ module _ (n k : ℕ) (o : Options) (s : TracedState) (before later : List Entry)
       by (goes_out sees passes stay) = absurd (false≢true (sees-sends t t.stage x.call sees))
       by (goes_on y like called comes) = called ∙ ap (λ c. Some c) (like-reads x y like refl)
 
-  knows : Recalls (exchanges k before) u.traced t.stage
+  knows : Recalls (exchanges k before) t.aside u.traced t.stage
   knows = recalls n k o s before front
+
+  -- what comes before the call of a stage is no read
+  patch-sends : (control : ℕ) (plant lift : Option ℕ) → sends (patch_call t.options control plant lift) ≡ true
+  patch-sends control (Some function) lift = refl
+  patch-sends control None (Some function) = refl
+  patch-sends control None None = refl
+
+  aside-reads : (aside : Aside) → call_beside t t.stage aside ≡ Some (call.Read handle from len) → aside ≡ Nothing
+  unfolding call_beside
+  aside-reads Nothing is = refl
+  aside-reads (Patching place plants lifts clear) is =
+      absurd (false≢true
+      (sym (ap sends (same_Some _ _ is))
+      ∙ patch-sends (traced_at t place).control (first_function plants) (first_function lifts)))
+  aside-reads (Reading place function) is = cc
+  aside-reads (Planting place function) is = cc
+  aside-reads (AwaitingStop until) is = cc
+  aside-reads Asking is = cc
+  aside-reads (AwaitingAgain until) is = cc
+
+  idle-now : t.aside ≡ Nothing
+  idle-now =
+      let f : Follows k o t now = entries.follows n k o s before later e run in
+      let fit : IsFit o t = f.fit in
+      aside-reads t.aside
+      (sym (next-beside o run.has t fit.options) ∙ entries.made n k o s before later e run x own)
 
   -- the file of the handle
   module _ (f : File) (mine : HasFile k pid f handle now) where
@@ -146,7 +177,7 @@ module _ (n k : ℕ) (o : Options) (s : TracedState) (before later : List Entry)
               held = held-now (status-watched k pid u now reached place is w.1);
               control = (traced_at u place).control;
               has = has-control place within w.1;
-              named = subst (Recalls (exchanges k before) u.traced) is knows;
+              named = subst (Recalls (exchanges k before) t.aside u.traced) is knows;
             },
           )
       by (text place l at size is alike) =
@@ -174,7 +205,7 @@ module _ (n k : ℕ) (o : Options) (s : TracedState) (before later : List Entry)
           unwatched-away u pid place (subst (λ p. place_of u p ≡ Some place) w.1 (files.one place f.0))
           (ap (λ (x : Stage). is_away u.leaving x place) is ∙ eq-eqb place place refl) in
           let waited : WasWaitedFor (traced_at u place).control (exchanges k before) =
-          subst (Recalls (exchanges k before) u.traced) is knows in (
+          subst (Recalls (exchanges k before) t.aside u.traced) is knows in (
             whole _
                 (sym
                 (stage-called u x (Opening place opening.ReadLwps) (read_record (traced_at u place).lstatus) next
@@ -200,7 +231,8 @@ module _ (n k : ℕ) (o : Options) (s : TracedState) (before later : List Entry)
             leaving (traced_at u 0).control (has-control 0 within w.1)
                 (held-now (lwps-watched k pid u now reached is w.1))
                 (leaves-interrupted n k o pid s before later e run on)
-                (subst (Recalls (exchanges k before) u.traced) is knows),
+                (subst (λ aside. Recalls (exchanges k before) aside u.traced ReadingLwps) idle-now
+                (subst (Recalls (exchanges k before) t.aside u.traced) is knows)),
           )
 
 pub looks-in-place : (n k : ℕ) (o : Options) (s : TracedState) (h : List Entry) → IsFunctionRun n k o s h
