@@ -11,6 +11,9 @@ mod MoveLemmas
 mod ReadLemmas
 mod RoundLemmas
 mod ScriptLemmas
+mod ScriptLines
+mod ScriptMoves
+mod ScriptTurns
 mod SeatLemmas
 mod ServeLemmas
 mod SessionLemmas
